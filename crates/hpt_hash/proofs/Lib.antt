@@ -1,0 +1,4 @@
+pub mod GroupBits
+pub mod RebuiltPage
+pub mod PageLemmas
+pub mod Rows

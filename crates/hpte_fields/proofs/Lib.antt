@@ -1,0 +1,4 @@
+pub mod Masks
+pub mod Again
+pub mod KeptBits
+mod Rows

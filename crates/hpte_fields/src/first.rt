@@ -1,0 +1,36 @@
+ghost use Rattle.std.specs.Prelude.{◌≡◌};
+ghost use Rattle.hpte_fields.specs.Fields.{tag_field, is_secondary, is_bolted, is_one_tb};
+
+/// H: the entry stands in its page's secondary group.
+const SECONDARY: u64 = 0x02;
+
+/// The software bit by which a guest marks an entry that is to stay.
+const BOLTED: u64 = 0x10;
+
+/// B and the abbreviated virtual page number, with the low seven bits 0.
+pub fn tag_of(dword0: u64) -> u64
+    ensures { result ≡ tag_field dword0 }
+{
+    dword0 & !0x7F
+}
+
+/// Whether the entry stands in its page's secondary group (H).
+pub fn secondary(dword0: u64) -> bool
+    ensures { result ≡ is_secondary dword0 }
+{
+    dword0 & SECONDARY == SECONDARY
+}
+
+/// Whether the guest marked the entry as one that a resize keeps.
+pub fn bolted(dword0: u64) -> bool
+    ensures { result ≡ is_bolted dword0 }
+{
+    dword0 & BOLTED == BOLTED
+}
+
+/// Whether the segment is one of 1 TB (B is 1).
+pub fn one_tb(dword0: u64) -> bool
+    ensures { result ≡ is_one_tb dword0 }
+{
+    dword0 >> 62 == 1
+}

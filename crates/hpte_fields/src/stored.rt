@@ -1,0 +1,27 @@
+ghost use Rattle.std.specs.Prelude.{◌≡◌, Some, IfSome};
+ghost use Rattle.hpte_fields.specs.Fields.{normal_words};
+
+use page_sizes::decode;
+
+/// V, in doubleword 0: the entry is valid.
+const VALID: u64 = 0x01;
+
+/// The bits of doubleword 0 that belong to the hypervisor.
+const HYPERVISOR: u64 = 0x60;
+
+/// The bit of doubleword 1 that no field uses.
+const RESERVED: u64 = 0x4000_0000_0000_0000;
+
+/// The doublewords that H_ENTER stores of those that it is given: V set, the hypervisor's bits and
+/// the reserved bit clear. `None` where B is above 1 or the page size is none of the table.
+/// Words that this gives, it gives back unchanged.
+pub fn normal(pteh: u64, ptel: u64) -> Option<(u64, u64)>
+    ensures words { result ≡ normal_words pteh ptel }
+    ensures again { IfSome result (λ w. normal_words w.0 w.1 ≡ Some w) }
+{
+    if pteh >> 62 > 1 {
+        return None;
+    }
+    decode(pteh, ptel)?;
+    Some((pteh & !HYPERVISOR | VALID, ptel & !RESERVED))
+}

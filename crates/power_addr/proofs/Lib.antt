@@ -1,0 +1,3 @@
+pub mod Ranges
+pub mod Tags
+pub mod Rows

@@ -1,0 +1,3 @@
+pub mod Hcalls
+pub mod ReturnCodes
+pub mod FlagBits

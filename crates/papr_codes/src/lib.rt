@@ -1,0 +1,16 @@
+//! The numbers of the hypervisor calls on the page table, their return codes and their flags.
+//!
+//! They are those of the Linux on Power Architecture Reference (LoPAR); the two resize calls have
+//! the numbers that Linux uses.
+#![tactic(auto)]
+
+mod calls;
+mod codes;
+mod flag_bits;
+
+pub use calls::Hcall;
+pub use codes::Rc;
+pub use flag_bits::CallFlags;
+
+#[cfg(test)]
+mod tests;

@@ -1,0 +1,5 @@
+pub mod Parts
+pub mod Accepting
+pub mod Holding
+pub mod Meeting
+mod Rows

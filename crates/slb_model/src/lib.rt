@@ -1,0 +1,16 @@
+//! The segment lookaside buffer (SLB) of one processor: which segment an effective address lies in.
+//!
+//! Power ISA Book III, hashed page table translation: the guest fills the 32 slots by `slbmte`.
+#![tactic(auto)]
+
+mod error;
+mod segment;
+mod slb;
+mod slot;
+
+pub use error::BadSlb;
+pub use segment::Segment;
+pub use slb::Slb;
+
+#[cfg(test)]
+mod tests;

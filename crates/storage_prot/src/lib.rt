@@ -1,0 +1,13 @@
+//! What a page's protection bits allow.
+//!
+//! Power ISA Book III, storage protection under hashed page table translation: three protection
+//! bits and the key of the access decide whether it may read and write.
+#![tactic(auto)]
+
+mod protection;
+#[cfg(test)]
+mod tests;
+mod want;
+
+pub use protection::allows;
+pub use want::Want;

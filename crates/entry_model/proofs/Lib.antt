@@ -1,0 +1,13 @@
+pub mod Exact
+pub mod Follows
+pub mod RunFollows
+pub mod OperationLaws
+pub mod LineLaws
+pub mod Sorted
+pub mod RunHistory
+pub mod Regroup
+pub mod Trials
+pub mod Plans
+pub mod Fronts
+pub mod CachedPages
+mod Rows

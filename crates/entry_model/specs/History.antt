@@ -1,0 +1,66 @@
+-- The history of an entry: its receipts, sorted by place.
+use Rattle.std.specs.Prelude.{◌≡◌, ℕ, ◌+◌, ◌*◌, ◌≤◌, ◌==◌, ◌&&◌, List, [], ◌∷◌, Bool, true, false, if◌then◌else◌, nat_le, filter, not, MatchBool}
+use Rattle.entry_model.specs.State.{State}
+use Rattle.entry_model.specs.declared.receipt.Receipt.{Receipt}
+use Rattle.entry_model.specs.Receipt.{after_of}
+
+-- How many of R and C are set.
+abbrev pub bits : State → ℕ
+bits s = (if s.referenced then 1 else 0) + (if s.changed then 1 else 0)
+
+-- The stamp and the number of bits, as one number that compares as the two do from the left.
+unfoldable pub pair_of : State → ℕ
+pair_of s = s.stamp * 4 + bits s
+
+abbrev pub bool_eq : Bool → Bool → Bool
+bool_eq true b = b
+bool_eq false b = not b
+
+unfoldable pub state_eq : State → State → Bool
+state_eq s t =
+    (bool_eq s.valid t.valid && (s.dword0 == t.dword0) && (s.dword1 == t.dword1)) && (bool_eq s.referenced t.referenced && bool_eq s.changed t.changed && (s.stamp == t.stamp))
+
+-- The place: the stamp before, the number of bits before, and 0 where nothing changed, else 1; compared from the left.
+unfoldable pub place : Receipt → ℕ
+place r = pair_of r.before * 2 + (if state_eq (after_of r) r.before then 0 else 1)
+
+-- ---- sorting
+-- x may stand before y in a history.
+abbrev pub precedes : Receipt → Receipt → Bool
+precedes x y = nat_le (place x) (place y)
+
+-- A receipt is put before the first that it may precede: receipts that tie stay in their order.
+abbrev pub put_in : Receipt → List Receipt → List Receipt
+put_in x [] = x ∷ []
+put_in x (y ∷ ys) = if precedes x y then x ∷ y ∷ ys else y ∷ put_in x ys
+
+abbrev pub by_place : List Receipt → List Receipt
+by_place [] = []
+by_place (x ∷ xs) = put_in x (by_place xs)
+
+-- The history of an entry over receipts that are listed by processor, each processor's in the order of its making: sorted by place, and those that tie stay as they are listed.
+abbrev pub history : ℕ → List Receipt → List Receipt
+history e all = by_place (filter (λ r. r.entry == e) all)
+
+-- ---- what a history has to be
+-- From a to b, each receipt on the state that the one before it left.
+abbrev pub IsLegal : State → List Receipt → State → Type 0
+IsLegal a [] b = b ≡ a
+IsLegal a (r ∷ rs) b = (r.before ≡ a) × IsLegal (after_of r) rs b
+
+-- The state after the last receipt; with no receipt the first state.
+abbrev pub last_after : State → List Receipt → State
+last_after s [] = s
+last_after s (r ∷ rs) = last_after (after_of r) rs
+
+-- No receipt of this entry comes before the front, and each sets the front to the pair of its state after. The list has one processor's receipts in its own order.
+abbrev pub KeepsFront : ℕ → ℕ → List Receipt → Type 0
+KeepsFront e front [] = Unit {0}
+KeepsFront e front (r ∷ rs) = MatchBool (r.entry == e) ((front ≤ pair_of r.before) × KeepsFront e (pair_of (after_of r)) rs) (KeepsFront e front rs)
+
+-- The same receipts, listed in another order.
+pub data Regrouped : List Receipt → List Receipt → Type 0 where
+  nothing : Regrouped [] []
+  kept : (r : Receipt) {xs ys : List Receipt} → Regrouped xs ys → Regrouped (r ∷ xs) (r ∷ ys)
+  swapped : (r s : Receipt) (xs : List Receipt) → Regrouped (r ∷ s ∷ xs) (s ∷ r ∷ xs)
+  twice : {xs ys zs : List Receipt} → Regrouped xs ys → Regrouped ys zs → Regrouped xs zs

@@ -1,0 +1,64 @@
+-- Receipts: one operation that was made on one entry.
+use Rattle.std.specs.Prelude.{refl, ◌≡◌, ℕ, Some, Bool, true, false}
+use Rattle.entry_model.specs.State.{State}
+use Rattle.entry_model.specs.declared.operation.Answer.{Answer}
+use Rattle.entry_model.specs.declared.operation.Answer.TheVariants.{Entered, Taken, Worn, NotFound, NoMatch, Denied, At}
+use Rattle.entry_model.specs.declared.operation.Op.{Op}
+use Rattle.entry_model.specs.declared.operation.Op.TheVariants.{Enter, Access}
+use Rattle.entry_model.specs.declared.receipt.Receipt.{Receipt}
+use Rattle.entry_model.specs.Reply.{reply_of}
+use Rattle.hpte_fields.specs.Fields.{normal_words}
+
+-- The state after a receipt.
+abbrev pub after_of : Receipt → State
+after_of r = (reply_of r.before r.op).1
+
+-- The receipt of this operation on an entry in this state.
+abbrev pub receipt_of : ℕ → State → Op → Receipt
+receipt_of e s op = record { entry = e; before = s; op = op; answer = (reply_of s op).0; lawful = refl }
+
+-- This receipt is of this entry and this operation.
+pub record IsReceiptOf (e : ℕ) (o : Op) (r : Receipt) : Type 0 where
+  pub entry : r.entry ≡ e
+  pub op : r.op ≡ o
+
+-- The words of an Enter came from `normal`, which gives them back unchanged.
+abbrev pub IsNormal : Op → Type 0
+IsNormal (Enter dword0 dword1) = normal_words dword0 dword1 ≡ Some (dword0, dword1)
+IsNormal other = Unit {0}
+
+-- ---- tests of answers
+abbrev pub is_taken : Answer → Bool
+is_taken Taken = true
+is_taken other = false
+
+abbrev pub is_entered : Answer → Bool
+is_entered Entered = true
+is_entered other = false
+
+abbrev pub is_worn : Answer → Bool
+is_worn Worn = true
+is_worn other = false
+
+abbrev pub is_not_found : Answer → Bool
+is_not_found NotFound = true
+is_not_found other = false
+
+abbrev pub is_no_match : Answer → Bool
+is_no_match NoMatch = true
+is_no_match other = false
+
+-- The answer used the entry's translation.
+abbrev pub is_decided : Answer → Bool
+is_decided Denied = true
+is_decided At = true
+is_decided other = false
+
+abbrev pub is_at : Answer → Bool
+is_at At = true
+is_at other = false
+
+-- ---- tests of operations
+abbrev pub is_access : Op → Bool
+is_access (Access tag base key no_execute want) = true
+is_access other = false

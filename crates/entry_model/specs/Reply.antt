@@ -1,0 +1,86 @@
+-- One entry by itself: what it answers to an operation, and its next state.
+use Rattle.std.specs.Prelude.{◌&&◌, ◌||◌, ℕ, ◌+◌, ◌==◌, Bool, true, false, if◌then◌else◌, bit_and, Option, Some, None}
+use Rattle.entry_model.specs.State.{State, empty_state}
+use Rattle.entry_model.specs.declared.operation.Op.{Op}
+use Rattle.entry_model.specs.declared.operation.Op.TheVariants.{Enter, Remove, Protect, Read, ClearRef, ClearMod, Access}
+use Rattle.entry_model.specs.declared.operation.Test.{Test}
+use Rattle.entry_model.specs.declared.operation.Answer.{Answer}
+use Rattle.entry_model.specs.declared.operation.Answer.TheVariants.{Entered, Taken, Removed, Protected, Was, Words, NotFound, NoMatch, Denied, At, Worn}
+use Rattle.hpte_fields.specs.Fields.{is_referenced, is_changed, without_rc, with_rc, protected_word, pp_of, is_no_execute}
+use Rattle.page_sizes.specs.Sizes.{size_of}
+use Rattle.page_sizes.specs.declared.size.PageSize.{PageSize}
+use Rattle.std.specs.Option.{option_map_or}
+use Rattle.storage_prot.specs.declared.want.Want.{Want}
+use Rattle.storage_prot.specs.declared.want.Want.TheVariants.{Load, Store, Fetch}
+use Rattle.storage_prot.specs.Protection.{allowed}
+
+-- The doublewords with R and C put back.
+abbrev pub words_of : State → ℕ × ℕ
+words_of s = (s.dword0, with_rc s.dword1 s.referenced s.changed)
+
+-- ---- the test of H_REMOVE and H_PROTECT
+-- Under H_AVPN doubleword 0 without its low seven bits has to be the given word.
+abbrev pub fits_avpn : ℕ → Option ℕ → Bool
+fits_avpn dword0 None = true
+fits_avpn dword0 (Some avpn) = bit_and dword0 0xFFFFFFFFFFFFFF80 == avpn
+
+-- Under H_ANDCOND no bit of the given word may be set in doubleword 0.
+abbrev pub fits_andcond : ℕ → Option ℕ → Bool
+fits_andcond dword0 None = true
+fits_andcond dword0 (Some andcond) = bit_and dword0 andcond == 0
+
+-- There is an entry, and it passes both.
+abbrev pub is_found : State → Test → Bool
+is_found s test = s.valid && (fits_avpn s.dword0 test.avpn && fits_andcond s.dword0 test.andcond)
+
+-- ---- changes
+-- A change raises the stamp by one. At the last stamp there is no further change.
+abbrev pub changed_to : State → Answer → State → Answer × State
+changed_to s answer next = if s.stamp == 0xFFFFFFFF then (Worn, s) else (answer, record next { stamp = s.stamp + 1 })
+
+-- The same where there is an entry to change.
+abbrev pub changed_where : Bool → State → Answer → State → Answer × State
+changed_where found s answer next = if found then changed_to s answer next else (NotFound, s)
+
+-- What H_ENTER makes of an empty entry, but for the stamp: R and C are those of the given doubleword.
+abbrev pub entered : ℕ → ℕ → State
+entered dword0 dword1 = record { valid = true; dword0 = dword0; dword1 = without_rc dword1; referenced = is_referenced dword1; changed = is_changed dword1; stamp = 0 }
+
+-- ---- accesses
+-- What an access compares of doubleword 0: B, the abbreviated virtual page number, H and V.
+abbrev pub compared : ℕ → ℕ
+compared dword0 = bit_and dword0 0xFFFFFFFFFFFFFF83
+
+-- The page size that the doublewords encode has this base size.
+unfoldable pub has_base : ℕ → ℕ → ℕ → Bool
+has_base dword0 dword1 base = option_map_or (λ (size : PageSize). size.base == base) (size_of dword0 dword1) false
+
+-- The entry translates pages with this tag and base size.
+abbrev pub is_match : State → ℕ → ℕ → Bool
+is_match s tag base = s.valid && ((compared s.dword0 == tag) && has_base s.dword0 s.dword1 base)
+
+abbrev pub is_store : Want → Bool
+is_store Load = false
+is_store Store = true
+is_store Fetch = false
+
+-- The same entry after an access that was allowed: R is set, and after a store C.
+abbrev pub touched : State → Want → State
+touched s want = record s { referenced = true; changed = s.changed || is_store want }
+
+-- What an entry that translates the page answers: its own N or G refuses fetches as the segment's N does.
+abbrev pub matched : State → Bool → Bool → Want → Answer × State
+matched s key no_execute want = if allowed (pp_of s.dword1) key (no_execute || is_no_execute s.dword1) want then (At, touched s want) else (Denied, s)
+
+abbrev pub accessed : State → ℕ → ℕ → Bool → Bool → Want → Answer × State
+accessed s tag base key no_execute want = if is_match s tag base then matched s key no_execute want else (NoMatch, s)
+
+-- ---- the table of operations
+abbrev pub reply_of : State → Op → Answer × State
+reply_of s (Enter dword0 dword1) = if s.valid then (Taken, s) else changed_to s Entered (entered dword0 dword1)
+reply_of s (Remove test) = changed_where (is_found s test) s Removed (empty_state 0)
+reply_of s (Protect test flags) = changed_where (is_found s test) s Protected (record s { dword1 = protected_word s.dword1 flags })
+reply_of s Read = (Words, s)
+reply_of s ClearRef = changed_where s.valid s Was (record s { referenced = false })
+reply_of s ClearMod = changed_where s.valid s Was (record s { changed = false })
+reply_of s (Access tag base key no_execute want) = accessed s tag base key no_execute want

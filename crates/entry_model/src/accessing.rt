@@ -1,0 +1,55 @@
+ghost use Rattle.std.specs.Prelude.{◌≡◌, true};
+ghost use Rattle.entry_model.specs.Reply as table;
+
+use crate::operation::Answer;
+use crate::state::EntryState;
+use hpte_fields::pp;
+use page_sizes::decode;
+use storage_prot::{Want, allows};
+
+/// B, the abbreviated virtual page number, H and V.
+const COMPARED: u64 = 0xFFFF_FFFF_FFFF_FF83;
+
+/// What an entry answers to an access, and its next state.
+pub fn accessed(
+    before: &EntryState,
+    tag: u64,
+    base: u8,
+    key: bool,
+    no_execute: bool,
+    want: Want,
+) -> (Answer, EntryState)
+    ensures { result ≡ table.accessed before.now tag base key no_execute want }
+{
+    if before.valid && before.dword0 & COMPARED == tag && has_base(before, base) {
+        matched(before, key, no_execute, want)
+    } else {
+        (Answer::NoMatch, *before)
+    }
+}
+
+/// Whether the entry's base pages have this size.
+#[tactic(auto, unfolding(crate::specs::Reply::has_base))]
+fn has_base(state: &EntryState, base: u8) -> bool
+    ensures { result ≡ table.has_base state.now.dword0 state.now.dword1 base }
+{
+    match decode(state.dword0, state.dword1) {
+        Some(size) => size.base == base,
+        None => false,
+    }
+}
+
+/// The answer of an entry that translates the page.
+fn matched(before: &EntryState, key: bool, no_execute: bool, want: Want) -> (Answer, EntryState)
+    requires { before.now.valid ≡ true }
+    ensures { result ≡ table.matched before.now key no_execute want }
+{
+    let no_fetch = no_execute || hpte_fields::no_execute(before.dword1);
+    if !allows(pp(before.dword1), key, no_fetch, want) {
+        return (Answer::Denied, *before);
+    }
+    let mut next = *before;
+    next.referenced = true;
+    next.changed = before.changed || matches!(want, Want::Store);
+    (Answer::At, next)
+}

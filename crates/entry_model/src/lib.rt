@@ -1,0 +1,32 @@
+//! One page table entry by itself: its state, the operations on it, their answers and receipts, and
+//! the trait of all stores of entries.
+//!
+//! The operations are those of LoPAR's page frame table calls on one entry, and the access of a
+//! processor by the entry's translation (Power ISA Book III, hashed page table translation and the
+//! recording of references and changes). Receipts place each operation in its entry's history
+//! (`specs/History.antt`).
+#![tactic(auto)]
+
+mod access_reply;
+mod accessing;
+mod answering;
+mod hreply;
+mod line;
+mod lists;
+mod operation;
+mod receipt;
+mod state;
+mod store;
+
+pub use access_reply::{AccessReply, By, Outcome};
+pub use answering::reply;
+pub use hreply::HReply;
+pub use line::Line;
+pub use lists::{Receipts, ReplyWords};
+pub use operation::{Answer, Op, Test};
+pub use receipt::Receipt;
+pub use state::EntryState;
+pub use store::EntryStore;
+
+#[cfg(test)]
+mod tests;

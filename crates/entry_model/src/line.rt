@@ -1,0 +1,26 @@
+use power_addr::Page;
+
+/// One cached translation: the page, and the entry that translated it, at the stamp and with the
+/// doublewords that the entry had then.
+#[derive(Clone, Copy, PartialEq, Eq, Debug)]
+pub struct Line {
+    pub page: Page,
+    /// The entry's index in its table.
+    pub entry: u32,
+    pub stamp: u32,
+    pub dword0: u64,
+    /// Doubleword 1, with R and C clear.
+    pub dword1: u64,
+}
+
+impl Default for Line {
+    fn default() -> Self {
+        Line {
+            page: Page::default(),
+            entry: 0,
+            stamp: 0,
+            dword0: 0,
+            dword1: 0,
+        }
+    }
+}

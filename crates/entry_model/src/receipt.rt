@@ -1,0 +1,18 @@
+ghost use Rattle.std.specs.Prelude.{◌≡◌};
+ghost use Rattle.entry_model.specs.Reply.{reply_of};
+
+use crate::operation::{Answer, Op};
+use crate::state::EntryState;
+
+/// One operation that was made on one entry: the state it found, and what it was answered.
+#[derive(Clone, Copy, Debug)]
+pub struct Receipt {
+    /// The entry's index in its table.
+    pub entry: u32,
+    pub before: EntryState,
+    pub op: Op,
+    pub answer: Answer,
+
+    // The answer is the entry's own to this operation on that state.
+    pub ghost lawful: { answer ≡ (reply_of before op).0 },
+}

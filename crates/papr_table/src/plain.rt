@@ -1,0 +1,106 @@
+ghost use Rattle.std.specs.Prelude.{◌≡◌, ◌≤◌, ◌<◌, ◌-◌, ◌^◌, vec_len};
+ghost use Rattle.entry_model.specs.Run.{state_at};
+
+use entry_model::{EntryState, EntryStore, Line, Op, Receipt, reply};
+use std::marker::Model;
+
+/// A table of 2^order bytes, so of 2^(order - 4) entries. Contracts see it as the list of their
+/// states and the order.
+#[derive(Drop)]
+pub struct PlainTable {
+    states: Vec<EntryState>,
+    order: u8,
+}
+
+impl Model for PlainTable {
+    ghost use Rattle.std.specs.Prelude.{◌≡◌, ◌≤◌, ◌-◌, ◌^◌, vec_len};
+    ghost use Rattle.papr_table.specs.Table.{Plain};
+
+    ghost Value = { Plain };
+
+    ghost view = { λ t. record { states = t.states.items; order = t.order } };
+
+    ghost invariant = { λ t. (18 ≤ t.order) × (t.order ≤ 22) × (vec_len t.states ≡ 2 ^ (t.order - 4)) };
+}
+
+impl PlainTable {
+    /// The table of these states.
+    pub fn open(states: Vec<EntryState>, order: u8) -> PlainTable
+        requires low { 18 ≤ order }
+        requires high { order ≤ 22 }
+        requires whole { vec_len states ≡ 2 ^ (order - 4) }
+        ensures states { result.states ≡ states.items }
+        ensures order { result.order ≡ order }
+    {
+        PlainTable { states, order }
+    }
+
+    /// The state of an entry.
+    pub fn state(&self, entry: u32) -> EntryState
+        requires { entry < 2 ^ (self.now.order - 4) }
+        ensures { result ≡ state_at self.now.states entry }
+    {
+        self.states[entry as usize]
+    }
+
+    /// Gives the states back.
+    pub fn close(self) -> Vec<EntryState>
+        ensures { result.items ≡ self.states }
+    {
+        let PlainTable { states, order: _ } = self;
+        states
+    }
+}
+
+impl EntryStore for PlainTable {
+    ghost use Rattle.std.specs.Prelude.{refl};
+    ghost use Rattle.papr_table.specs.Table.{IsMade, IsSeen, IsGone, made_more_of_plain, seen_stays_of_plain, shown_is_seen_of_plain, gone_stays_of_plain, gone_is_past_of_plain};
+
+    ghost made = { IsMade };
+
+    ghost seen = { IsSeen };
+
+    ghost gone = { IsGone };
+
+    ghost table_order = { λ t. t.order };
+
+    fn order(&self) -> u8 {
+        self.order
+    }
+
+    fn apply(&mut self, entry: u32, op: Op) -> Receipt {
+        let place = entry as usize;
+        let before = self.states[place];
+        let (answer, after) = reply(&before, &op);
+        self.states[place] = after;
+        Receipt {
+            entry,
+            before,
+            op,
+            answer,
+        }
+    }
+
+    fn apply_known(&mut self, known: &Line, op: Op) -> Option<Receipt> {
+        let state = self.states[known.entry as usize];
+        if state.valid && state.stamp == known.stamp {
+            Some(self.apply(known.entry, op))
+        } else {
+            None
+        }
+    }
+
+    ghost made_none = { λ s. record { run = refl; order = refl } };
+
+    ghost made_more = { made_more_of_plain };
+
+    ghost order_stays = { λ a b xs h. h.order };
+
+    ghost seen_stays = { seen_stays_of_plain };
+
+    ghost shown_is_seen = { shown_is_seen_of_plain };
+
+    ghost gone_stays = { gone_stays_of_plain };
+
+    ghost gone_is_past = { gone_is_past_of_plain };
+}

@@ -1,0 +1,39 @@
+-- The calls of H_ENTER are of entries of the table.
+use Rattle.std.proofs.Common.{◌≡◌, ℕ, zero, suc, ◌+◌, ◌-◌, ◌*◌, ◌/◌, ◌^◌, ◌<◌, ◌≤◌, List, true, false, Option, Some, None, ◌⊎◌, inl, inr, nat_lt, arith}
+use Rattle.std.specs.Prelude.{map}
+use Rattle.std.proofs.lemmas.Bool.{cases_Bool, ltb-true}
+use Rattle.hpte_fields.specs.Fields.{normal_words}
+use Rattle.papr_codes.specs.FlagBits.{has_flag}
+use Rattle.frame_grants.specs.declared.grant.Grant.{Grant}
+use Rattle.entry_model.specs.declared.operation.Op.{Op}
+use Rattle.entry_model.specs.declared.operation.Op.TheVariants.{Enter}
+use Rattle.entry_model.specs.Trial.{call}
+use Rattle.entry_model.proofs.Trials.{Within}
+use Rattle.h_enter.specs.Enter.{candidates}
+use Rattle.h_enter.specs.Checks.{h_enter_plan, words_plan, suits_grants}
+use Rattle.h_enter.proofs.Search.{groups_of_eight, trials_from}
+
+trials_within : (n : ℕ) (op : Op) (first count : ℕ) → first + count ≤ n → Within n (trials_from op first count)
+trials_within n op first zero h = tt
+trials_within n op first (suc count) h = (omega arith, trials_within n op (first + 1) count (omega arith))
+
+candidates_within : (order : ℕ) (op : Op) (flags ptex : ℕ) → 18 ≤ order → ptex < 2 ^ (order - 4) → Within (2 ^ (order - 4)) (map (call op) (candidates flags ptex))
+unfolding candidates
+candidates_within order op flags ptex low inside = at (cases_Bool (has_flag flags 0x8000000000)) where
+  at : (has_flag flags 0x8000000000 ≡ true) ⊎ (has_flag flags 0x8000000000 ≡ false) → Within (2 ^ (order - 4)) (map (call op) (candidates flags ptex))
+  at (inl exact) = rw exact (trials_within _ op ptex 1 (omega arith))
+  at (inr group) = let whole = groups_of_eight order low in rw group (trials_within _ op (ptex / 8 * 8) 8 (omega arith))
+
+words_within : (order : ℕ) (grants : List Grant) (flags ptex : ℕ) (words : Option (ℕ × ℕ)) → 18 ≤ order → ptex < 2 ^ (order - 4) → Within (2 ^ (order - 4)) (words_plan grants flags ptex words).calls
+words_within order grants flags ptex None low inside = tt
+words_within order grants flags ptex (Some w) low inside = at (cases_Bool (suits_grants grants w.0 w.1)) where
+  at : (suits_grants grants w.0 w.1 ≡ true) ⊎ (suits_grants grants w.0 w.1 ≡ false) → Within (2 ^ (order - 4)) (words_plan grants flags ptex (Some w)).calls
+  at (inl suits) = rw suits (candidates_within order (Enter w.0 w.1) flags ptex low inside)
+  at (inr refused) = rw refused tt
+
+pub h_enter_within : (order : ℕ) (grants : List Grant) (flags ptex pteh ptel : ℕ) → 18 ≤ order → Within (2 ^ (order - 4)) (h_enter_plan order grants flags ptex pteh ptel).calls
+unfolding h_enter_plan
+h_enter_within order grants flags ptex pteh ptel low = at (cases_Bool (nat_lt ptex (2 ^ (order - 4)))) where
+  at : (nat_lt ptex (2 ^ (order - 4)) ≡ true) ⊎ (nat_lt ptex (2 ^ (order - 4)) ≡ false) → Within (2 ^ (order - 4)) (h_enter_plan order grants flags ptex pteh ptel).calls
+  at (inl inside) = rw inside (words_within order grants flags ptex (normal_words pteh ptel) low (ltb-true _ _ inside))
+  at (inr outside) = rw outside tt

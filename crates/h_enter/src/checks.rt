@@ -1,0 +1,71 @@
+ghost use Rattle.std.specs.Prelude.{◌≡◌};
+ghost use Rattle.entry_model.specs.Trial.{IsReplyOf};
+ghost use Rattle.h_enter.specs.Checks.{suits_kind, suits_grants, h_enter_plan};
+
+use crate::words::enter_words;
+use entry_model::{EntryStore, HReply};
+use frame_grants::{Grants, Kind};
+use hpte_fields::{frame, normal, wimg};
+use page_sizes::decode;
+use papr_codes::Rc;
+
+/// I, M, G and W as `hpte_fields::wimg` counts them.
+const WRITE_THROUGH: u8 = 8;
+
+const INHIBITED: u8 = 4;
+
+const COHERENT: u8 = 2;
+
+const GUARDED: u8 = 1;
+
+/// Whether the storage control bits suit what lies behind the page.
+fn suits_kind(wimg: u8, kind: Kind) -> bool
+    ensures { result ≡ Rattle.h_enter.specs.Checks.suits_kind wimg kind }
+{
+    match kind {
+        Kind::Ram => wimg == COHERENT || wimg == WRITE_THROUGH | INHIBITED | COHERENT,
+        Kind::Io => wimg == INHIBITED || wimg == INHIBITED | GUARDED,
+    }
+}
+
+/// Whether one grant holds the whole page that the words map, and its storage control bits suit it.
+#[tactic(auto, unfolding(crate::specs::Checks::suits_grants))]
+fn suits_grants(grants: &Grants, dword0: u64, dword1: u64) -> bool
+    ensures { result ≡ Rattle.h_enter.specs.Checks.suits_grants grants.now.grants dword0 dword1 }
+{
+    let Some(size) = decode(dword0, dword1) else {
+        return false;
+    };
+    match grants.machine_of(frame(dword1, size.actual), 1 << size.actual) {
+        Some((_, kind)) => suits_kind(wimg(dword1), kind),
+        None => false,
+    }
+}
+
+/// H_ENTER: puts the translation of a page into the table. `flags` may have H_EXACT, `ptex` names
+/// the entry, or the group by one of its entries, `pteh` and `ptel` are the two doublewords.
+/// H_PARAMETER comes for an index past the table, for words that can't be stored, and for a page
+/// that no single grant holds with these storage control bits; nothing is tried then.
+#[tactic(auto, unfolding(crate::specs::Checks::h_enter_plan))]
+pub fn h_enter<T: EntryStore>(
+    store: &mut T,
+    grants: &Grants,
+    flags: u64,
+    ptex: u64,
+    pteh: u64,
+    ptel: u64,
+) -> HReply
+    ensures made { T.made store.old store.new result.receipts }
+    ensures reply { IsReplyOf (h_enter_plan (T.table_order store.old) grants.now.grants flags ptex pteh ptel) result }
+{
+    if ptex >= 1 << (store.order() - 4) {
+        return HReply::without_receipts(Rc::Parameter);
+    }
+    let Some((dword0, dword1)) = normal(pteh, ptel) else {
+        return HReply::without_receipts(Rc::Parameter);
+    };
+    if !suits_grants(grants, dword0, dword1) {
+        return HReply::without_receipts(Rc::Parameter);
+    }
+    enter_words(store, flags, ptex, dword0, dword1)
+}

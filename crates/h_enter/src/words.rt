@@ -1,0 +1,76 @@
+ghost use Rattle.std.specs.Prelude.{◌≡◌, ◌≤◌, ◌<◌, ◌-◌, ◌+◌, ◌^◌, Some, map};
+ghost use Rattle.hpte_fields.specs.Fields.{normal_words};
+ghost use Rattle.entry_model.specs.declared.operation.Op.TheVariants.{Enter};
+ghost use Rattle.entry_model.specs.Receipt.{is_taken, IsNormal};
+ghost use Rattle.entry_model.specs.Trial.{IsReplyOf, IsTrial, call, entries_from};
+ghost use Rattle.h_enter.specs.Enter.{enter_plan, enter_told};
+
+use entry_model::{Answer, EntryStore, HReply, Op, Receipts, ReplyWords};
+use papr_codes::{CallFlags, Rc};
+
+/// The entries of a page table entry group.
+const GROUP: u32 = 8;
+
+/// The part of H_ENTER after its checks: tries the named entry under H_EXACT, else the eight of its
+/// group in slot order, until one isn't taken. H_SUCCESS comes with the entry's index, H_PTEG_FULL
+/// where each was taken, and H_HARDWARE where the entry's stamp is at its last value.
+#[tactic(auto, unfolding(crate::specs::Enter::candidates))]
+pub fn enter_words<T: EntryStore>(
+    store: &mut T,
+    flags: u64,
+    ptex: u64,
+    dword0: u64,
+    dword1: u64,
+) -> HReply
+    requires in_table { ptex < 2 ^ (T.table_order store.old - 4) }
+    requires normal { normal_words dword0 dword1 ≡ Some (dword0, dword1) }
+    ensures made { T.made store.old store.new result.receipts }
+    ensures reply { IsReplyOf (enter_plan flags ptex dword0 dword1) result }
+{
+    let _order = store.order();
+    let op = Op::Enter { dword0, dword1 };
+    let index = ptex as u32;
+    if CallFlags::of(flags).has(CallFlags::EXACT) {
+        search(store, index, 1, op)
+    } else {
+        search(store, index / GROUP * GROUP, GROUP, op)
+    }
+}
+
+/// Tries entries one behind the other until one isn't taken.
+fn search<T: EntryStore>(store: &mut T, first: u32, count: u32, op: Op) -> HReply
+    requires few { count ≤ 8 }
+    requires in_table { first + count ≤ 2 ^ (T.table_order store.old - 4) }
+    requires small { first + count ≤ 2 ^ 22 }
+    requires normal { IsNormal op }
+    ensures made { T.made store.old store.new result.receipts }
+    ensures trial { IsTrial is_taken (map (call op) (entries_from first count)) result.receipts }
+    ensures told { (result.rc, result.words) ≡ enter_told result.receipts }
+{
+    let mut receipts = Receipts::new();
+    for i in 0..count {
+        let receipt = store.apply(first + i, op);
+        let answer = receipt.answer;
+        receipts.push(receipt);
+        match answer {
+            Answer::Taken => {}
+            Answer::Worn => return ended(Rc::Hardware, ReplyWords::new(), receipts),
+            _ => {
+                let mut words = ReplyWords::new();
+                words.push(u64::from(first + i));
+                return ended(Rc::Success, words, receipts);
+            }
+        }
+    }
+    ended(Rc::PtegFull, ReplyWords::new(), receipts)
+}
+
+fn ended(rc: Rc, words: ReplyWords, receipts: Receipts) -> HReply
+    ensures { result ≡ record { rc = rc; words = words; receipts = receipts } }
+{
+    HReply {
+        rc,
+        words,
+        receipts,
+    }
+}

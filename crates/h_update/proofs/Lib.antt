@@ -1,0 +1,5 @@
+pub mod ReadSteps
+pub mod RequestBits
+pub mod BulkSteps
+pub mod InTable
+mod Rows

@@ -1,0 +1,175 @@
+ghost use Rattle.std.specs.Prelude.{◌≡◌, ◌≤◌, ◌+◌, ◌%◌, ◌++◌, length, if◌then◌else◌};
+ghost use Rattle.entry_model.specs.Receipt.{is_worn};
+ghost use Rattle.entry_model.specs.Trial.{IsReplyOf};
+ghost use Rattle.h_update.specs.Bulk as plans;
+
+use entry_model::{Answer, EntryStore, HReply, Op, Receipt, Receipts, ReplyWords, Test};
+use papr_codes::Rc;
+
+/// The type of a pair's first word.
+const TYPE: u64 = 0xC000_0000_0000_0000;
+
+/// The type of a request to remove an entry.
+const REQUEST: u64 = 0x4000_0000_0000_0000;
+
+/// The type that ends the list.
+const END: u64 = 0xC000_0000_0000_0000;
+
+/// The flags of a request, which say how its second word tests the entry.
+const FLAGS: u64 = 0x0300_0000_0000_0000;
+
+/// No test.
+const ABSOLUTE: u64 = 0x0000_0000_0000_0000;
+
+/// No bit of the second word may be set in doubleword 0.
+const AND_COND: u64 = 0x0100_0000_0000_0000;
+
+/// The second word has to be the abbreviated virtual page number.
+const AVPN: u64 = 0x0200_0000_0000_0000;
+
+/// The index of the entry, in a request and in its response.
+const INDEX: u64 = 0x00FF_FFFF_FFFF_FFFF;
+
+/// The top byte of the response to a pair whose entry was removed. As in each of these, its low two
+/// bits are left to the flags.
+const REMOVED: u8 = 0x80;
+
+/// The top byte where the entry is empty or fails the test.
+const NOT_FOUND: u8 = 0x90;
+
+/// The top byte of an ill-formed pair.
+const ILL_FORMED: u8 = 0xA0;
+
+/// The top byte where the entry's stamp is at its last value.
+const WORN: u8 = 0xB0;
+
+/// R of the entry that was removed, in the top byte.
+const REFERENCED: u8 = 0x08;
+
+/// C of the entry that was removed, in the top byte.
+const CHANGED: u8 = 0x04;
+
+/// What a pair of words asks.
+#[derive(Clone, Copy)]
+enum Asked {
+    /// No more: the list ends here.
+    End,
+    /// To remove the entry where it passes the test.
+    Remove { entry: u32, test: Test },
+    /// Nothing that can be done, since the pair is ill formed.
+    Refused,
+}
+
+/// The test that the flags ask for, by the pair's second word. No test has both flags.
+#[tactic(auto, using(crate::proofs::RequestBits::flags_bits))]
+fn test_of(request: u64, word: u64) -> Option<Test>
+    ensures { result ≡ plans.test_by (plans.flags_of request) word }
+{
+    let (avpn, andcond) = match request & FLAGS {
+        ABSOLUTE => (None, None),
+        AND_COND => (None, Some(word)),
+        AVPN => (Some(word), None),
+        _ => return None,
+    };
+    Some(Test { avpn, andcond })
+}
+
+/// What a pair asks of a table of this order.
+#[tactic(auto, using(crate::proofs::RequestBits::type_bits), unfolding(crate::specs::Bulk::asked_by))]
+fn asked_by(order: u8, request: u64, word: u64) -> Asked
+    requires low { 18 ≤ order }
+    requires high { order ≤ 22 }
+    ensures { result ≡ plans.asked_by order (record { request = request; word = word }) }
+{
+    if request & TYPE == END {
+        return Asked::End;
+    }
+    let index = request & INDEX;
+    if request & TYPE != REQUEST || index >= 1 << (order - 4) {
+        return Asked::Refused;
+    }
+    match test_of(request, word) {
+        Some(test) => Asked::Remove {
+            entry: index as u32,
+            test,
+        },
+        None => Asked::Refused,
+    }
+}
+
+/// The top byte of the response that a receipt gives.
+fn status(receipt: &Receipt) -> u8
+    ensures value { result ≡ (if is_worn receipt.now.answer then plans.worn_status else plans.status_of receipt.now.answer receipt.now.before) }
+    ensures flags_clear { result % 4 ≡ 0 }
+{
+    match receipt.answer {
+        Answer::NotFound => NOT_FOUND,
+        Answer::Worn => WORN,
+        _ => {
+            let referenced = if receipt.before.referenced {
+                REFERENCED
+            } else {
+                0
+            };
+            let changed = if receipt.before.changed { CHANGED } else { 0 };
+            REMOVED | referenced | changed
+        }
+    }
+}
+
+/// The response to a request: this top byte, with the request's flags and index.
+fn response(status: u8, request: u64) -> u64
+    requires { status % 4 ≡ 0 }
+    ensures { result ≡ plans.response status request }
+{
+    u64::from(status) << 56 | request & (FLAGS | INDEX)
+}
+
+/// The reply whose words end with those that stay as they were.
+fn ended(rc: Rc, mut words: ReplyWords, unchanged: &[u64], receipts: Receipts) -> HReply
+    requires { length words + length unchanged.now ≤ 8 }
+    ensures { result ≡ record { rc = rc; words = words ++ unchanged.now; receipts = receipts } }
+{
+    for word in unchanged {
+        words.push(*word);
+    }
+    HReply {
+        rc,
+        words,
+        receipts,
+    }
+}
+
+/// H_BULK_REMOVE: four pairs of words, each a request to remove an entry and the word of its test.
+/// The pairs are taken in order until one ends the list, is ill formed (H_PARAMETER), or finds an
+/// entry whose stamp is at its last value (H_HARDWARE). The reply has all eight words, with a
+/// response in place of each request that was taken up.
+pub fn h_bulk_remove<T: EntryStore>(store: &mut T, pairs: &[u64; 8]) -> HReply
+    ensures made { T.made store.old store.new result.receipts }
+    ensures reply { IsReplyOf (plans.h_bulk_remove_plan (T.table_order store.old) pairs.now) result }
+{
+    let order = store.order();
+    let mut words = ReplyWords::new();
+    let mut receipts = Receipts::new();
+    for i in 0..4 {
+        let (request, word) = (pairs[2 * i], pairs[2 * i + 1]);
+        match asked_by(order, request, word) {
+            Asked::End => return ended(Rc::Success, words, &pairs[2 * i..], receipts),
+            Asked::Refused => {
+                words.push(response(ILL_FORMED, request));
+                return ended(Rc::Parameter, words, &pairs[2 * i + 1..], receipts);
+            }
+            Asked::Remove { entry, test } => {
+                let receipt = store.apply(entry, Op::Remove { test });
+                let answer = receipt.answer;
+                words.push(response(status(&receipt), request));
+                receipts.push(receipt);
+                if answer == Answer::Worn {
+                    return ended(Rc::Hardware, words, &pairs[2 * i + 1..], receipts);
+                }
+                words.push(word);
+            }
+        }
+    }
+    ended(Rc::Success, words, &[], receipts)
+}

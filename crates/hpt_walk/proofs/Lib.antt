@@ -1,0 +1,8 @@
+pub mod Search
+pub mod Tags
+pub mod Found
+pub mod Decided
+pub mod Walks
+pub mod Telling
+mod Rows
+pub mod Finding

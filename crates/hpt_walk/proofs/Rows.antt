@@ -1,0 +1,92 @@
+-- Worked walks and replies, computed from the definitions.
+use Rattle.std.proofs.Common.{◌≡◌, ℕ, List, [], ◌∷◌, true, false, refl}
+use Rattle.std.specs.Prelude.{map}
+use Rattle.storage_prot.specs.declared.want.Want.TheVariants.{Load, Store}
+use Rattle.storage_prot.specs.Protection.{permission, rows}
+use Rattle.power_addr.specs.Pages.{VirtualPage, virtual_page, tag_of}
+use Rattle.frame_grants.specs.declared.grant.Grant.{Grant}
+use Rattle.frame_grants.specs.declared.grant.Kind.TheVariants.{Ram}
+use Rattle.frame_grants.specs.Grants.{machine_range}
+use Rattle.hpt_hash.specs.Hash.{group_of}
+use Rattle.hpt_hash.specs.Entries.{page_at}
+use Rattle.entry_model.specs.State.{State, empty_state}
+use Rattle.entry_model.specs.declared.operation.Op.TheVariants as ops
+use Rattle.entry_model.specs.declared.access_reply.Outcome.TheVariants as outcomes
+use Rattle.entry_model.specs.declared.receipt.Receipt.{Receipt}
+use Rattle.entry_model.specs.Reply.{has_base}
+use Rattle.entry_model.specs.Receipt.{receipt_of}
+use Rattle.entry_model.specs.Trial.{Call}
+use Rattle.hpt_walk.specs.Walk.{access_op, walk_calls}
+use Rattle.hpt_walk.specs.Accesses.{logical_of, outcome_of}
+use Rattle.hpt_walk.specs.Translations.{translations}
+
+-- Page 5 of segment 1, in pages of 4 KB: its groups in the smallest table are 4 and 0x7FB.
+abbrev page : VirtualPage
+page = virtual_page false 1 12 5
+
+abbrev calls : List Call
+calls = walk_calls 18 page false false Load
+
+-- ---- the walk order
+entries : map (λ (c : Call). c.entry) calls ≡ 0x20 ∷ 0x21 ∷ 0x22 ∷ 0x23 ∷ 0x24 ∷ 0x25 ∷ 0x26 ∷ 0x27 ∷ 0x3FD8 ∷ 0x3FD9 ∷ 0x3FDA ∷ 0x3FDB ∷ 0x3FDC ∷ 0x3FDD ∷ 0x3FDE ∷ 0x3FDF ∷ []
+unfolding walk_calls group_of
+entries = refl
+
+-- With the segment's number at 2 ^ 12 and V; in the secondary group with H.
+first_op : access_op page false false Load false ≡ ops.Access 0x1001 12 false false Load
+unfolding tag_of
+first_op = refl
+
+second_op : access_op page true true Store true ≡ ops.Access 0x1003 12 true true Store
+unfolding tag_of
+second_op = refl
+
+-- ---- where an access ends
+-- An entry of the page that maps frame 0x3000, readable and writable.
+abbrev mapped : State
+mapped = record { valid = true; dword0 = 0x1001; dword1 = 0x3012; referenced = false; changed = false; stamp = 1 }
+
+-- One that is read-only.
+abbrev read_only : State
+read_only = record mapped { dword1 = 0x3013 }
+
+-- A 64 KB page at frame 0x50000.
+abbrev large : State
+large = record mapped { dword0 = 0x1005; dword1 = 0x51012 }
+
+abbrev grants : List Grant
+grants = record { logical = 0; machine = 0x2000000000; length = 0x40000000; kind = Ram } ∷ []
+
+abbrev load : ℕ → State → Receipt
+load e s = receipt_of e s (access_op page false false Load false)
+
+abbrev store : ℕ → State → Receipt
+store e s = receipt_of e s (access_op page false false Store false)
+
+in_small_page : logical_of 0x5678 mapped ≡ 0x3678
+in_small_page = refl
+
+in_large_page : logical_of 0x5678 large ≡ 0x55678
+in_large_page = refl
+
+at_granted : outcome_of grants 0x5678 (load 0x20 (empty_state 0) ∷ load 0x21 mapped ∷ []) ≡ outcomes.At 0x2000003678
+unfolding outcome_of machine_range tag_of has_base permission rows
+at_granted = refl
+
+denied : outcome_of grants 0x5678 (store 0x20 read_only ∷ []) ≡ outcomes.Denied
+unfolding outcome_of tag_of has_base permission rows
+denied = refl
+
+nothing : outcome_of grants 0x5678 (load 0x20 (empty_state 0) ∷ load 0x21 (empty_state 3) ∷ []) ≡ outcomes.NoPage
+unfolding outcome_of
+nothing = refl
+
+not_granted : outcome_of [] 0x5678 (load 0x20 mapped ∷ []) ≡ outcomes.Ungranted 0x3678
+unfolding outcome_of machine_range tag_of has_base permission rows
+not_granted = refl
+
+-- ---- translations
+-- Entry 1 is one of page 0 of segment 0. Entry 0 is one of no page, since its words encode 16 GB, and entry 2 is empty.
+listed : translations 18 (record mapped { dword0 = 0x5 } ∷ record mapped { dword0 = 0x1 } ∷ empty_state 0 ∷ []) ≡ record { page = virtual_page false 0 12 0; entry = 1 } ∷ []
+unfolding translations page_at group_of tag_of
+listed = refl

@@ -1,0 +1,6 @@
+pub mod Walk
+pub mod Lines
+pub mod Accesses
+pub mod CacheAfter
+pub mod Translations
+pub mod Laws

@@ -1,0 +1,88 @@
+ghost use Rattle.std.specs.Prelude.{◌≡◌, ◌≤◌, ◌<◌, ◌-◌, ◌+◌, ◌*◌, ◌^◌, ◌++◌, ◌↔◌, length, IsNone, IfSome};
+ghost use Rattle.entry_model.specs.Receipt.{IsNormal, is_no_match};
+ghost use Rattle.entry_model.specs.Trial.{IsTrial};
+ghost use Rattle.entry_model.specs.Lines.{ShowsLine};
+ghost use Rattle.hpt_walk.specs.Walk.{walk_calls, group_calls, found_of, added, AreAllNoMatch};
+ghost use Rattle.hpt_walk.specs.Lines.{line_of, TranslatesItsPage};
+
+use crate::access::access_op;
+use entry_model::{Answer, EntryStore, Op, Receipt, Receipts};
+use hpt_hash::groups;
+use power_addr::Page;
+use storage_prot::Want;
+
+/// The entries of a page table entry group.
+const GROUP: u32 = 8;
+
+/// What a walk found, and the receipts that it made, in their order.
+#[derive(Drop)]
+pub struct WalkAnswer {
+    /// The receipt of the entry that translates the page: the last one, which says At or Denied.
+    pub found: Option<Receipt>,
+    pub receipts: Receipts,
+}
+
+/// Makes an access of the page on the entries of its primary group, then on those of its secondary
+/// group, in slot order, up to the first that translates the page. `key` is the segment's key for
+/// the state of the processor, and `no_execute` says whether the segment refuses instruction
+/// fetches.
+#[tactic(auto, unfolding(crate::specs::Walk::walk_calls))]
+pub fn walk<T: EntryStore>(
+    store: &mut T,
+    page: &Page,
+    want: Want,
+    key: bool,
+    no_execute: bool,
+) -> WalkAnswer
+    ensures made { T.made store.old store.new result.receipts }
+    ensures trial { IsTrial is_no_match (walk_calls (T.table_order store.old) page.now key no_execute want) result.receipts }
+    ensures found { result.found ≡ found_of result.receipts }
+    ensures none { IsNone result.found ↔ AreAllNoMatch result.receipts }
+
+    // What a cache may keep of the entry.
+    ensures shown { IfSome result.found (λ r. ShowsLine (line_of page.now r) result.receipts) }
+    ensures translates { IfSome result.found (λ r. TranslatesItsPage (line_of page.now r)) }
+{
+    let (primary, secondary) = groups(page, store.order());
+    let mut receipts = Receipts::new();
+    let op = access_op(page, key, no_execute, want, false);
+    if let Some(receipt) = search(store, primary as u32, op, &mut receipts) {
+        return WalkAnswer {
+            found: Some(receipt),
+            receipts,
+        };
+    }
+    let op = access_op(page, key, no_execute, want, true);
+    let found = search(store, secondary as u32, op, &mut receipts);
+    WalkAnswer { found, receipts }
+}
+
+/// Makes an access on the entries of a group, in slot order, up to the first that doesn't say
+/// NoMatch, which it gives back.
+fn search<T: EntryStore>(
+    store: &mut T,
+    group: u32,
+    op: Op,
+    receipts: &mut Receipts,
+) -> Option<Receipt>
+    requires in_table { group * 8 + 8 ≤ 2 ^ (T.table_order store.old - 4) }
+    requires small { group < 2 ^ 15 }
+    requires normal { IsNormal op }
+    requires room { length receipts.old ≤ 8 }
+    ensures behind { receipts.new ≡ receipts.old ++ added receipts.old receipts.new }
+    ensures few { length receipts.new ≤ length receipts.old + 8 }
+    ensures made { T.made store.old store.new (added receipts.old receipts.new) }
+    ensures trial { IsTrial is_no_match (group_calls op group) (added receipts.old receipts.new) }
+    ensures found { result ≡ found_of (added receipts.old receipts.new) }
+{
+    for i in 0..GROUP {
+        let made = store.apply(group * GROUP + i, op);
+        let receipt = &made;
+        receipts.push(*receipt);
+        match receipt.answer {
+            Answer::NoMatch => {}
+            _ => return Some(*receipt),
+        }
+    }
+    None
+}

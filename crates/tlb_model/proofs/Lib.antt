@@ -1,0 +1,3 @@
+pub mod Apart
+pub mod Placed
+mod Rows

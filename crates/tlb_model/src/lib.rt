@@ -1,0 +1,13 @@
+//! The translation lookaside buffer (TLB) of one processor: which translations it has cached.
+//!
+//! The Power ISA leaves the form of the buffer to the implementation. This one has 32 sets of at
+//! most four lines each, and pushes out the line that was filled first.
+#![tactic(auto)]
+
+mod line_set;
+mod tlb;
+
+pub use tlb::Tlb;
+
+#[cfg(test)]
+mod tests;

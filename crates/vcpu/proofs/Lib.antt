@@ -1,0 +1,4 @@
+pub mod Hits
+pub mod Refills
+pub mod Offsets
+mod Rows

@@ -1,0 +1,68 @@
+ghost use Rattle.std.specs.Prelude.{◌≡◌, [], Some, IfSome, IfNone};
+ghost use Rattle.entry_model.specs.declared.access_reply.By.TheVariants.{Hit};
+ghost use Rattle.hpt_walk.specs.Lines.{TranslatesItsPage};
+ghost use Rattle.hpt_walk.specs.Accesses.{IsHit, IsByWay};
+ghost use Rattle.vcpu.specs.Requests.{setting_of, reach_of};
+
+use crate::landing::outcome_at;
+use crate::request::{Request, operation};
+use entry_model::{AccessReply, By, EntryStore, Line, Receipts};
+use frame_grants::Grants;
+use hpte_fields::secondary;
+use slb_model::Segment;
+
+/// The access by the line of its page that is cached. `None` where no line is, or where the line's
+/// entry has left the line's stamp; then nothing was made.
+pub fn by_cache<T: EntryStore>(
+    store: &mut T,
+    grants: &Grants,
+    segment: &Segment,
+    request: &Request,
+    cached: &Option<Line>,
+) -> Option<AccessReply>
+    requires seen { IfSome cached.now (T.seen store.old) }
+    requires translates { IfSome cached.now TranslatesItsPage }
+    requires page { IfSome cached.now (λ line. line.page ≡ segment.now.page) }
+    ensures reply { IfSome result (λ r. IsByWay (setting_of (T.table_order store.old) grants.now.grants) segment.now (reach_of request.now) cached.now r.by r) }
+    ensures by { IfSome result (λ r. r.by ≡ Some Hit) }
+    ensures made { IfSome result (λ r. T.made store.old store.new r.receipts) }
+    ensures nothing { IfNone result (T.made store.old store.new []) }
+    ensures left { IfNone result (IfSome cached.now (T.gone store.new)) }
+{
+    match cached {
+        None => None,
+        Some(line) => by_line(store, grants, segment, request, line),
+    }
+}
+
+fn by_line<T: EntryStore>(
+    store: &mut T,
+    grants: &Grants,
+    segment: &Segment,
+    request: &Request,
+    line: &Line,
+) -> Option<AccessReply>
+    requires seen { T.seen store.old line.now }
+    requires translates { TranslatesItsPage line.now }
+    requires page { line.now.page ≡ segment.now.page }
+    ensures hit { IfSome result (λ r. IsHit (setting_of (T.table_order store.old) grants.now.grants) segment.now (reach_of request.now) line.now r) }
+    ensures by { IfSome result (λ r. r.by ≡ Some Hit) }
+    ensures made { IfSome result (λ r. T.made store.old store.new r.receipts) }
+    ensures nothing { IfNone result (T.made store.old store.new []) }
+    ensures left { IfNone result (T.gone store.new line.now) }
+{
+    let op = operation(segment, request, secondary(line.dword0));
+    match store.apply_known(line, op) {
+        None => None,
+        Some(receipt) => {
+            let outcome = outcome_at(grants, request.ea, &receipt);
+            let mut receipts = Receipts::new();
+            receipts.push(receipt);
+            Some(AccessReply {
+                outcome,
+                by: Some(By::Hit),
+                receipts,
+            })
+        }
+    }
+}

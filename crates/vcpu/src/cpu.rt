@@ -1,0 +1,110 @@
+ghost use Rattle.std.specs.Prelude.{◌≡◌, Some, None, IfSome, MatchResult, OnOk, OnErr};
+ghost use Rattle.slb_model.specs.Buffer.{no_slots, slots_after, segment_of};
+ghost use Rattle.slb_model.specs.Refusals.{mte_refusal};
+ghost use Rattle.entry_model.specs.Cache.{AllCached, empty_cache};
+ghost use Rattle.entry_model.specs.Lines.{AllPast};
+ghost use Rattle.hpt_walk.specs.Accesses.{IsBySegment};
+ghost use Rattle.hpt_walk.specs.CacheAfter.{cache_after, past_line};
+ghost use Rattle.vcpu.specs.Requests.{setting_of, reach};
+
+use crate::passing::in_segment;
+use crate::request::Request;
+use entry_model::{AccessReply, EntryStore, Outcome, Receipts};
+use frame_grants::Grants;
+use slb_model::{BadSlb, Slb};
+use std::marker::Model;
+use storage_prot::Want;
+use tlb_model::Tlb;
+
+/// One processor: its segments, and the translations that it has cached.
+#[derive(Drop)]
+pub struct Cpu {
+    slb: Slb,
+    tlb: Tlb,
+}
+
+impl Model for Cpu {
+    ghost use Rattle.vcpu.specs.Seats.{Seat};
+    ghost use Rattle.entry_model.specs.Cache.{AllCached};
+    ghost use Rattle.hpt_walk.specs.Lines.{TranslatesItsPage};
+
+    ghost Value = { Seat };
+
+    ghost view = { λ cpu. record { slots = cpu.slb; cache = cpu.tlb } };
+
+    ghost invariant = { λ cpu. AllCached TranslatesItsPage cpu.tlb };
+}
+
+impl Cpu {
+    /// A processor without a segment and without a cached translation.
+    pub fn new() -> Cpu
+        ensures slots { result.slots ≡ no_slots }
+        ensures cache { result.cache ≡ empty_cache }
+    {
+        Cpu {
+            slb: Slb::new(),
+            tlb: Tlb::new(),
+        }
+    }
+
+    /// The instruction `slbmte`.
+    pub fn mte(&mut self, rb: u64, rs: u64) -> Result<(), BadSlb>
+        ensures told { MatchResult result (λ _. mte_refusal rb rs ≡ None) (λ e. mte_refusal rb rs ≡ Some e) }
+        ensures ok { OnOk result (self.new ≡ record self.old { slots = slots_after self.old.slots rb rs }) }
+        ensures err { OnErr result (self.new ≡ self.old) }
+    {
+        self.slb.mte(rb, rs)
+    }
+
+    /// Makes all segments invalid.
+    pub fn clear_slb(&mut self)
+        ensures { self.new ≡ record self.old { slots = no_slots } }
+    {
+        self.slb.clear();
+    }
+
+    /// Forgets all cached translations.
+    pub fn clear_cache(&mut self)
+        ensures { self.new ≡ record self.old { cache = empty_cache } }
+    {
+        self.tlb.clear();
+    }
+
+    /// An access to memory, at the page table in `store` and the granted memory. `user` says
+    /// whether the processor is in problem state.
+    ///
+    /// Without a segment it ends at once. By the line of its page that is cached, one operation is
+    /// made on the line's entry; where there is none, or its entry was changed since, the line goes
+    /// and a walk follows, and where it ended at a machine address the entry's line is cached.
+    pub fn access<T: EntryStore>(
+        &mut self,
+        store: &mut T,
+        grants: &Grants,
+        ea: u64,
+        want: Want,
+        user: bool,
+    ) -> AccessReply
+        requires seen { AllCached (T.seen store.old) self.old.cache }
+        ensures made { T.made store.old store.new result.receipts }
+        ensures reply { IsBySegment (setting_of (T.table_order store.old) grants.now.grants) self.old.cache (reach want ea user) (segment_of self.old.slots ea) result }
+        ensures slots { self.new.slots ≡ self.old.slots }
+        ensures cache { self.new.cache ≡ cache_after self.old.cache (segment_of self.old.slots ea) result.by result }
+        ensures seen { AllCached (T.seen store.new) self.new.cache }
+
+        // Where it was by Walk, the line of the page that was cached had left its stamp.
+        ensures past { IfSome (past_line self.old.cache (segment_of self.old.slots ea) result) (λ line. AllPast line result.receipts) }
+        ensures gone { IfSome (past_line self.old.cache (segment_of self.old.slots ea) result) (T.gone store.new) }
+    {
+        match self.slb.segment(ea) {
+            None => AccessReply {
+                outcome: Outcome::NoSegment,
+                by: None,
+                receipts: Receipts::new(),
+            },
+            Some(segment) => {
+                let request = Request { want, ea, user };
+                in_segment(&mut self.tlb, store, grants, &segment, &request)
+            }
+        }
+    }
+}

@@ -1,0 +1,19 @@
+//! One virtual processor at a hashed page table: its segments, its cached translations, and its
+//! accesses to memory.
+//!
+//! Power ISA Book III, address translation: an effective address lies in a segment, the segment's
+//! page is translated by a cached line or by a walk of the page table, and the entry found allows
+//! the access or denies it.
+#![tactic(auto)]
+
+mod by_cache;
+mod by_walk;
+mod cpu;
+mod landing;
+mod passing;
+mod request;
+
+pub use cpu::Cpu;
+
+#[cfg(test)]
+mod tests;

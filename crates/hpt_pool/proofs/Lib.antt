@@ -1,0 +1,7 @@
+mod Lists
+mod Leaves
+mod MarkLemmas
+mod Placing
+mod Lowest
+mod Rows
+pub mod Kept

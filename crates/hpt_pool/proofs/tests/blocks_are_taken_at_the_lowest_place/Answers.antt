@@ -1,0 +1,18 @@
+use Rattle.std.proofs.Common.{sym}
+use Rattle.hpt_pool.specs.Pool.{block_at}
+use Rattle.hpt_pool.proofs.Kept.{take_holds, take_keeps, give_keeps}
+use Rattle.hpt_pool.proofs.tests.blocks_are_taken_at_the_lowest_place.Goals as goal
+
+-- the block is taken by the first call, and the calls after it keep it
+pub give-requires : goal.give-requires
+give-requires g c =
+    take_keeps c.take-3.new.self c.take-4.new.self 18 c.take-4.result (block_at c.in-Some.first 18) c.take-4.ensures.taken c.take-4.ensures.none
+    (take_keeps c.take-2.new.self c.take-3.new.self 18 c.take-3.result (block_at c.in-Some.first 18) c.take-3.ensures.taken c.take-3.ensures.none
+    (take_keeps c.take.new.self c.take-2.new.self 19 c.take-2.result (block_at c.in-Some.first 18) c.take-2.ensures.taken c.take-2.ensures.none
+    (take_holds c.in_ok-pool.pool c.take.new.self 18 c.in-Some.first c.in-Some.ensures.taken)))
+
+pub give-requires-2 : goal.give-requires-2
+give-requires-2 g c =
+    give_keeps c.take-4.new.self c.give.new.self c.in-Some.first (block_at c.in-Some-take-2.second 18) c.give.ensures.given (λ same. c.if-first-second.false (sym same))
+    (take_keeps c.take-3.new.self c.take-4.new.self 18 c.take-4.result (block_at c.in-Some-take-2.second 18) c.take-4.ensures.taken c.take-4.ensures.none
+    (take_holds c.take-2.new.self c.take-3.new.self 18 c.in-Some-take-2.second c.in-Some-take-2.ensures.taken))

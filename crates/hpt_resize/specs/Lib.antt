@@ -1,0 +1,3 @@
+pub mod Rehash
+pub mod Pending
+pub mod Resize

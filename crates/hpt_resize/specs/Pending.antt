@@ -1,0 +1,28 @@
+-- A table that is made ready.
+use Rattle.std.specs.Prelude.{◌≡◌, ℕ, ◌+◌, ◌≤◌, ◌==◌, Bool, List, length, min, replicate}
+use Rattle.entry_model.specs.State.{State, empty_state}
+use Rattle.hpt_resize.specs.Rehash.{entry_count}
+
+-- It has 2 ^ order bytes at place in the pool, and so many of its entries are ready.
+pub record PendingTable : Type 0 where
+  pub order : ℕ
+  pub place : ℕ
+  pub ready : ℕ
+
+abbrev pub no_entries : ℕ → ℕ → PendingTable
+no_entries order place = record { order = order; place = place; ready = 0 }
+
+abbrev pub is_ready : PendingTable → Bool
+is_ready table = table.ready == entry_count table.order
+
+-- One call makes the next 16,384 entries ready, or all that are left where these are fewer.
+abbrev pub advanced : PendingTable → PendingTable
+advanced table = record table { ready = min (table.ready + 16384) (entry_count table.order) }
+
+-- Its order is one that a table can have, its ready entries are empty, and there is room for all.
+pub record IsPreparing (order : ℕ) (states : List State) (capacity : ℕ) : Type 0 where
+  pub low : 18 ≤ order
+  pub high : order ≤ 22
+  pub ready : length states ≤ entry_count order
+  pub empty : states ≡ replicate (length states) (empty_state 0)
+  pub room : entry_count order ≤ capacity

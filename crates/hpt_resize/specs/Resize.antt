@@ -1,0 +1,138 @@
+-- The two resize calls, on the pending table, the pool and the current table. Their rules are tried in the order in which they stand here.
+use Rattle.std.specs.Prelude.{◌≡◌, ◌≢◌, ℕ, ◌+◌, ◌≤◌, ◌==◌, ◌&&◌, ◌||◌, not, Bool, false, nat_lt, nat_le, if◌then◌else◌, List, length, Contains, Option, Some, None}
+use Rattle.hpt_pool.specs.Pool.{Block, Pooled, block_at, lowest_place, with_block, without_block}
+use Rattle.entry_model.specs.State.{State}
+use Rattle.papr_codes.specs.declared.codes.Rc.{Rc}
+use Rattle.papr_codes.specs.declared.codes.Rc.TheVariants.{Success, Busy, Closed, LongBusy, Parameter, PtegFull, NoMem, Resource}
+use Rattle.hpt_resize.specs.declared.carry.Collision.{Collision}
+use Rattle.hpt_resize.specs.declared.current.Current.{Current}
+use Rattle.hpt_resize.specs.declared.current.CommitAnswer.{CommitAnswer}
+use Rattle.hpt_resize.specs.Rehash.{entry_count, collision_of, rehashed}
+use Rattle.hpt_resize.specs.Pending.{PendingTable, no_entries, is_ready, advanced}
+
+-- The block of a pending table is taken in the pool.
+abbrev pub IsHeld : Option PendingTable → Pooled → Type 0
+IsHeld None pool = Unit {0}
+IsHeld (Some table) pool = Contains pool.taken (block_at table.place table.order)
+
+-- ---- prepare
+-- What the call answers, and the pending table and the pool after it.
+pub record Prepared : Type 0 where
+  pub rc : Rc
+  pub pending : Option PendingTable
+  pub pool : Pooled
+
+abbrev pub prepared_as : Rc → Option PendingTable → Pooled → Prepared
+prepared_as rc pending pool = record { rc = rc; pending = pending; pool = pool }
+
+-- No flag is known, and the order is 0 or one that the architecture has.
+abbrev pub is_prepare_request : ℕ → ℕ → Bool
+is_prepare_request flags shift = flags == 0 && (shift == 0 || (nat_le 18 shift && nat_le shift 46))
+
+-- The pool after the pending table is dropped: its block is given back.
+abbrev pub pool_without : Option PendingTable → Pooled → Pooled
+pool_without None pool = pool
+pool_without (Some table) pool = without_block pool table.place
+
+-- There is a pending table of this order.
+abbrev pub is_pending : ℕ → Option PendingTable → Bool
+is_pending order None = false
+is_pending order (Some table) = table.order == order
+
+-- A table at the place that the pool has, or none.
+abbrev pub placed : ℕ → Pooled → Option ℕ → Prepared
+placed order pool None = prepared_as NoMem None pool
+placed order pool (Some place) = prepared_as Success (Some (no_entries order place)) (with_block pool (block_at place order))
+
+-- A pending table of another order is dropped, and where none is left a new one is made.
+abbrev pub started : ℕ → Option PendingTable → Pooled → Prepared
+started order pending pool =
+    if is_pending order pending then prepared_as Success pending pool else placed order (pool_without pending pool) (lowest_place (pool_without pending pool) order)
+
+-- Further entries of the pending table are made ready.
+abbrev pub continued : Prepared → Option PendingTable → Prepared
+continued start None = start
+continued start (Some table) = prepared_as (if is_ready (advanced table) then Success else LongBusy) (Some (advanced table)) start.pool
+
+-- A new table is to be made: only then can the call run out of memory.
+abbrev pub needs_table : ℕ → ℕ → ℕ → Option PendingTable → Bool
+needs_table limit flags shift pending = is_prepare_request flags shift && nat_le shift limit && not (shift == 0) && not (is_pending shift pending)
+
+unfoldable pub prepared : ℕ → ℕ → ℕ → Option PendingTable → Pooled → Prepared
+prepared limit flags shift pending pool =
+    if not (is_prepare_request flags shift)
+    then prepared_as Parameter pending pool
+    else (if nat_lt limit shift
+    then prepared_as Resource pending pool
+    else (if shift == 0 then prepared_as Success None (pool_without pending pool) else continued (started shift pending pool) (started shift pending pool).pending))
+
+-- ---- the blocks
+-- The pending table, if there is one, begins elsewhere.
+abbrev pub IsElsewhere : Option PendingTable → Block → Type 0
+IsElsewhere None block = Unit {0}
+IsElsewhere (Some table) block = table.place ≢ block.place
+
+-- After the call the block of the pending table is taken, and each other block that was taken is still taken and another one than that.
+abbrev pub KeepsBlocks : Option PendingTable → Pooled → Option PendingTable → Pooled → Type 0
+KeepsBlocks pending pool pending_after pool_after = (block : Block) → Contains pool.taken block → IsElsewhere pending block → Contains pool_after.taken block × IsElsewhere pending_after block
+
+-- ---- commit
+-- The current table.
+pub record Table : Type 0 where
+  pub order : ℕ
+  pub place : ℕ
+  pub number : ℕ
+  pub states : List State
+
+abbrev pub table_of : Current → Table
+table_of current = record { order = current.order; place = current.place; number = current.number; states = current.states.items }
+
+-- It has one of the orders that the project allows, and an entry at each index.
+pub record IsTable (current : Current) : Type 0 where
+  pub low : 18 ≤ current.order
+  pub high : current.order ≤ 22
+  pub whole : length current.states.items ≡ entry_count current.order
+
+-- What the call answers, and the pending table, the pool and the current table after it.
+pub record Committed : Type 0 where
+  pub rc : Rc
+  pub collision : Option Collision
+  pub pending : Option PendingTable
+  pub pool : Pooled
+  pub table : Table
+
+abbrev pub committed_as : CommitAnswer → Option PendingTable → Pooled → Table → Committed
+committed_as answer pending pool table = record { rc = answer.rc; collision = answer.collision; pending = pending; pool = pool; table = table }
+
+abbrev pub is_commit_request : ℕ → ℕ → Bool
+is_commit_request flags shift = flags == 0 && nat_le 18 shift && nat_le shift 46
+
+-- The code where nothing is tried.
+abbrev pub pending_refusal : ℕ → Option PendingTable → Option Rc
+pending_refusal shift None = Some Closed
+pending_refusal shift (Some table) = if not (table.order == shift) then Some Closed else (if is_ready table then None else Some Busy)
+
+abbrev pub commit_refusal : ℕ → ℕ → Option PendingTable → Option Rc
+commit_refusal flags shift pending = if is_commit_request flags shift then pending_refusal shift pending else Some Parameter
+
+-- After a collision the pending table is dropped. Without one it is the current table, of the next number, and the old block is given back.
+abbrev pub carried_over : PendingTable → Pooled → Table → Option Collision → Committed
+carried_over pending pool table (Some collision) = record { rc = PtegFull; collision = Some collision; pending = None; pool = without_block pool pending.place; table = table }
+carried_over pending pool table None = record {
+  rc = Success;
+  collision = None;
+  pending = None;
+  pool = without_block pool table.place;
+  table = record { order = pending.order; place = pending.place; number = table.number + 1; states = rehashed table.order pending.order table.states };
+}
+
+abbrev pub completed : Option PendingTable → Pooled → Table → Committed
+completed None pool table = record { rc = Closed; collision = None; pending = None; pool = pool; table = table }
+completed (Some pending) pool table = carried_over pending pool table (collision_of table.order pending.order table.states)
+
+abbrev pub answered : Option Rc → Option PendingTable → Pooled → Table → Committed
+answered (Some rc) pending pool table = record { rc = rc; collision = None; pending = pending; pool = pool; table = table }
+answered None pending pool table = completed pending pool table
+
+unfoldable pub committed : ℕ → ℕ → Option PendingTable → Pooled → Table → Committed
+committed flags shift pending pool table = answered (commit_refusal flags shift pending) pending pool table

@@ -1,0 +1,117 @@
+ghost use Rattle.std.specs.Prelude.{◌≡◌, ◌≢◌, ℕ, ◌-◌, ◌^◌, ◌<◌, ◌≤◌, length, Option, Some, None, IsOk, IfErr, OnOk, MatchOption, MatchResult, replicate, vec_len};
+ghost use Rattle.entry_model.specs.State.{State, empty_state};
+ghost use Rattle.entry_model.specs.Run.{state_at};
+ghost use Rattle.hpt_resize.specs.Rehash.{target_of, target_at, restamped, first_with, collision_of, rehashed, IsCollision, IsPlacedBelow};
+
+use entry_model::EntryState;
+use hpt_hash::{groups, page_of};
+use hpte_fields::{bolted, secondary};
+
+/// Two entries that would stand at one index of the new table.
+#[derive(Clone, Copy, PartialEq, Eq, Debug)]
+pub struct Collision {
+    /// The lower index in the old table.
+    pub first: u32,
+    /// The higher index in the old table.
+    pub second: u32,
+    /// The index in the new table.
+    pub target: u32,
+}
+
+/// Carries the bolted entries of a table of `2^order_from` bytes over to an empty one of
+/// `2^order_to` bytes: each that is the entry of a page to that page's group there, at its old
+/// slot. After a collision `into` holds those below the second of the two.
+pub fn rehash(
+    order_from: u8,
+    order_to: u8,
+    states: &[EntryState],
+    into: &mut Vec<EntryState>,
+) -> Result<(), Collision>
+    requires from_low { 18 ≤ order_from }
+    requires from_high { order_from ≤ 22 }
+    requires to_low { 18 ≤ order_to }
+    requires to_high { order_to ≤ 22 }
+    requires whole { length states.now ≡ 2 ^ (order_from - 4) }
+    requires empty { into.old.items ≡ replicate (2 ^ (order_to - 4)) (empty_state 0) }
+    ensures told { MatchResult result (λ _. collision_of order_from order_to states.now ≡ None) (λ collision. collision_of order_from order_to states.now ≡ Some collision) }
+    ensures meet { IfErr result (IsCollision order_from order_to states.now) }
+    ensures placed { MatchResult result (λ _. IsPlacedBelow order_from order_to states.now into.new.items (length states.now)) (λ collision. IsPlacedBelow order_from order_to states.now into.new.items collision.second) }
+    ensures carried { OnOk result (into.new.items ≡ rehashed order_from order_to states.now) }
+    ensures never { order_from ≤ order_to → IsOk result }
+    ensures length { vec_len into.new ≡ vec_len into.old }
+{
+    for index in 0..states.len() {
+        if let Some(target) = target_index(order_from, order_to, states[index], index) {
+            if into[target].valid {
+                return Err(Collision {
+                    first: first(order_from, order_to, states, index, target) as u32,
+                    second: index as u32,
+                    target: target as u32,
+                });
+            }
+            into[target] = fresh(states[index]);
+        }
+    }
+    Ok(())
+}
+
+// Where the entry of this state and index is carried, if it is.
+#[tactic(auto, unfolding(crate::specs::Rehash::target_of, crate::specs::Rehash::carried_page))]
+fn target_index(order_from: u8, order_to: u8, state: EntryState, index: usize) -> Option<usize>
+    requires from_low { 18 ≤ order_from }
+    requires from_high { order_from ≤ 22 }
+    requires to_low { 18 ≤ order_to }
+    requires to_high { order_to ≤ 22 }
+    requires in_table { index < 2 ^ (order_from - 4) }
+    ensures value { result ≡ target_of order_from order_to state index }
+    ensures in_new_table { MatchOption result (Unit {0}) (λ target. target < 2 ^ (order_to - 4)) }
+{
+    if !state.valid || !bolted(state.dword0) {
+        return None;
+    }
+    let page = page_of(order_from, index as u32, state.dword0, state.dword1)?;
+    let (first, second) = groups(&page, order_to);
+    let group = if secondary(state.dword0) {
+        second
+    } else {
+        first
+    };
+    Some(group as usize * 8 + index % 8)
+}
+
+// The same entry at stamp 0.
+fn fresh(state: EntryState) -> EntryState
+    ensures { result ≡ restamped state }
+{
+    EntryState {
+        valid: state.valid,
+        dword0: state.dword0,
+        dword1: state.dword1,
+        referenced: state.referenced,
+        changed: state.changed,
+        stamp: 0,
+    }
+}
+
+// The lowest index below `second` that is carried to this target.
+fn first(order_from: u8, order_to: u8, states: &[EntryState], second: usize, target: usize) -> usize
+    requires from_low { 18 ≤ order_from }
+    requires from_high { order_from ≤ 22 }
+    requires to_low { 18 ≤ order_to }
+    requires to_high { order_to ≤ 22 }
+    requires whole { length states.now ≡ 2 ^ (order_from - 4) }
+    requires in_table { second < length states.now }
+    requires taken { ((index : ℕ) → index < second → target_at order_from order_to states.now index ≢ Some target) → ⊥ }
+    ensures found { first_with order_from order_to states.now second target ≡ Some result }
+    ensures below { result < second }
+    ensures goes { target_at order_from order_to states.now result ≡ Some target }
+    ensures lowest { (index : ℕ) → index < result → target_at order_from order_to states.now index ≢ Some target }
+{
+    for index in 0..second {
+        if target_index(order_from, order_to, states[index], index) == Some(target) {
+            return index;
+        }
+    }
+    // Not reached: the caller knows that there is one.
+    second
+}

@@ -1,0 +1,34 @@
+use crate::carry::Collision;
+use entry_model::EntryState;
+use papr_codes::Rc;
+
+/// The page table of the guest: `2^order` bytes in the block of the pool at `place`.
+#[derive(Drop)]
+pub struct Current {
+    pub order: u8,
+    pub place: u64,
+    /// How many tables there were before.
+    pub number: u32,
+    pub states: Vec<EntryState>,
+}
+
+/// What H_RESIZE_HPT_COMMIT answers, and for H_PTEG_FULL the two entries that would meet.
+#[derive(Clone, Copy, PartialEq, Eq, Debug)]
+pub struct CommitAnswer {
+    pub rc: Rc,
+    pub collision: Option<Collision>,
+}
+
+impl CommitAnswer {
+    ghost use Rattle.std.specs.Prelude.{◌≡◌, None};
+
+    /// An answer with no collision.
+    pub fn of(rc: Rc) -> CommitAnswer
+        ensures { result ≡ record { rc = rc; collision = None } }
+    {
+        CommitAnswer {
+            rc,
+            collision: None,
+        }
+    }
+}

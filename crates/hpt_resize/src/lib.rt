@@ -1,0 +1,17 @@
+//! The two calls by which a guest changes the size of its page table: H_RESIZE_HPT_PREPARE makes a
+//! new table ready, and H_RESIZE_HPT_COMMIT carries the bolted entries over and makes it the table.
+//!
+//! The calls have Linux's names. What is told here of them is this project's own behaviour.
+#![tactic(auto)]
+
+mod carry;
+mod current;
+mod pending;
+mod prepared;
+
+pub use carry::{Collision, rehash};
+pub use current::{CommitAnswer, Current};
+pub use prepared::Resize;
+
+#[cfg(test)]
+mod tests;

@@ -1,0 +1,29 @@
+//! The program `papr`: hands its words, standard input and standard output to [`papr_top::papr`], and
+//! ends with the status. It prints nothing itself.
+#![tactic(auto)]
+
+use papr_top::papr;
+use std::alloc::Global;
+use std::process::ExitCode;
+use std::rt::Env;
+use std::{env, io};
+use trace_io::{StdSink, StdSource};
+
+/// The words behind the program's name.
+fn words(rt: &(impl Env + Alloc<A = Global>)) -> io::Result<Vec<String>> {
+    let mut words = Vec::new(rt.alloc());
+    for word in env::args(rt)?.skip(1) {
+        words.push(word)?;
+    }
+    Ok(words)
+}
+
+fn main(rt: HostRuntime) -> ExitCode {
+    let words = match words(&rt) {
+        Ok(words) => words,
+        Err(_) => return ExitCode::from(papr_top::Status::Memory.number()),
+    };
+    let mut source = StdSource::new(rt.stdin());
+    let mut sink = StdSink::new(rt.stdout());
+    ExitCode::from(papr(rt.alloc(), &words, &mut source, &mut sink).number())
+}

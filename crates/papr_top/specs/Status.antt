@@ -1,0 +1,12 @@
+-- The exit statuses.
+use Rattle.std.specs.Prelude.{ℕ}
+use Rattle.papr_top.specs.declared.status.Status.{Status}
+use Rattle.papr_top.specs.declared.status.Status.TheVariants.{Done, Usage, Refused, ReadFault, WriteFault, Memory}
+
+abbrev pub status_number : Status → ℕ
+status_number Done = 0
+status_number Usage = 1
+status_number Refused = 2
+status_number ReadFault = 3
+status_number WriteFault = 4
+status_number Memory = 5

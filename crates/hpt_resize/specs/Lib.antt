@@ -1,3 +1,4 @@
 pub mod Rehash
 pub mod Pending
 pub mod Resize
+pub mod Home

@@ -24,7 +24,7 @@ pub struct Cpu {
 }
 
 impl Model for Cpu {
-    ghost use Rattle.vcpu.specs.Seats.{Seat};
+    ghost use Rattle.hpt_walk.specs.Seats.{Seat};
     ghost use Rattle.entry_model.specs.Cache.{AllCached};
     ghost use Rattle.hpt_walk.specs.Lines.{TranslatesItsPage};
 

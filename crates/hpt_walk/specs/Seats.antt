@@ -1,9 +1,15 @@
--- What contracts see of a processor.
+-- What a processor keeps from line to line.
 use Rattle.std.specs.Prelude.{List, Option}
 use Rattle.slb_model.specs.declared.slot.Slot.{Slot}
+use Rattle.slb_model.specs.Buffer.{no_slots}
 use Rattle.entry_model.specs.declared.line.Line.{Line}
+use Rattle.entry_model.specs.Cache.{empty_cache}
 
 -- The 32 slots of its segment lookaside buffer, and the sets of its cache of translations.
 pub record Seat : Type 0 where
   pub slots : List (Option Slot)
   pub cache : List (List Line)
+
+-- No segment, and no cached translation.
+unfoldable pub empty_seat : Seat
+empty_seat = record { slots = no_slots; cache = empty_cache }

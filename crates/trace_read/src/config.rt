@@ -1,0 +1,29 @@
+use frame_grants::Grants;
+use std::marker::Model;
+
+/// The configuration of a partition, as the configuration lines of a trace give it.
+#[derive(Drop)]
+pub struct Config {
+    /// The binary logarithm of the size of the opening table in bytes, from 18 to `limit`.
+    pub order: u8,
+    /// The highest order that the guest may ask for, at most 22.
+    pub limit: u8,
+    /// How many processors there are, from 1 to 64.
+    pub cpus: u32,
+    /// The machine address at which the pool of table memory begins.
+    pub pool_base: u64,
+    /// The pool has `2^pool_order` bytes; it has room for the opening table.
+    pub pool_order: u8,
+    /// The memory that is granted to the guest, beside that pool.
+    pub grants: Grants,
+}
+
+impl Model for Config {
+    ghost use Rattle.trace_read.specs.Config.{Configured, IsConfigured};
+
+    ghost Value = { Configured };
+
+    ghost view = { λ c. record { order = c.order; limit = c.limit; cpus = c.cpus; granted = c.grants } };
+
+    ghost invariant = { λ c. IsConfigured c.order c.limit c.cpus c.pool_base c.pool_order c.grants };
+}

@@ -1,0 +1,108 @@
+-- What the two resize calls keep of a partition at home.
+use Rattle.std.proofs.Common.{◌≡◌, ℕ, ◌+◌, ◌-◌, ◌^◌, ◌<◌, ◌≤◌, List, Bool, true, false, ap, sym, ◌∙◌, refl, subst, ◌⊎◌, inl, inr, not, length, Option, Some, None, arith}
+use Rattle.std.specs.Prelude.{◌==◌, ◌&&◌, ◌||◌, nat_lt, nat_le, if◌then◌else◌, IfSome}
+use Rattle.std.proofs.lemmas.Bool.{cases_Bool, cond_both, and_parts, eqb-true, ltb-false, leb-true}
+use Rattle.std.proofs.lemmas.List.{length-replicate}
+use Rattle.std.proofs.lemmas.List.FromFn.{length-map-range_with_len}
+use Rattle.papr_codes.specs.declared.codes.Rc.{Rc}
+use Rattle.papr_codes.specs.declared.codes.Rc.TheVariants.{Success, NoMem}
+use Rattle.hpt_pool.specs.Pool.{Pooled, lowest_place}
+use Rattle.entry_model.specs.State.{State}
+use Rattle.hpt_resize.specs.declared.carry.Collision.{Collision}
+use Rattle.hpt_resize.specs.Rehash.{entry_count, entry_at, collision_of, rehashed}
+use Rattle.hpt_resize.specs.Pending.{PendingTable, is_ready, advanced}
+use Rattle.hpt_resize.specs.Resize.{Prepared, prepared_as, is_prepare_request, pool_without, is_pending, placed, started, continued, prepared, Table, Committed, commit_refusal, carried_over, completed, answered, committed}
+use Rattle.hpt_resize.specs.Home.{Home, opening_home, prepare_at_home, commit_at_home, empty_states}
+
+-- A table has one of the orders that the project allows.
+abbrev pub IsAllowed : PendingTable → Type 0
+IsAllowed table = (18 ≤ table.order) × (table.order ≤ 22)
+
+-- The current table has as many entries as its order says, and the pending one has one of the orders.
+pub record IsHome (limit : ℕ) (pending : Option PendingTable) (table : Table) : Type 0 where
+  pub limited : limit ≤ 22
+  pub low : 18 ≤ table.order
+  pub size : length table.states ≡ 2 ^ (table.order - 4)
+  pub allowed : IfSome pending IsAllowed
+
+abbrev pub HomeStands : Home → Type 0
+HomeStands home = IsHome home.limit home.pending home.table
+
+-- ---- prepare
+abbrev Allows : Prepared → Type 0
+Allows p = IfSome p.pending IsAllowed
+
+placed_allows : (order : ℕ) (pool : Pooled) (place : Option ℕ) → 18 ≤ order → order ≤ 22 → Allows (placed order pool place)
+placed_allows order pool None low high = tt
+placed_allows order pool (Some place) low high = (low, high)
+
+started_allows : (order : ℕ) (pending : Option PendingTable) (pool : Pooled) → 18 ≤ order → order ≤ 22 → IfSome pending IsAllowed → Allows (started order pending pool)
+started_allows order pending pool low high h =
+    cond_both (is_pending order pending) (prepared_as Success pending pool) (placed order (pool_without pending pool) (lowest_place (pool_without pending pool) order)) Allows (λ _. h) (λ _. placed_allows order (pool_without pending pool) (lowest_place (pool_without pending pool) order) low high)
+
+continued_allows : (start : Prepared) (pending : Option PendingTable) → IfSome pending IsAllowed → Allows start → Allows (continued start pending)
+continued_allows start None h k = k
+continued_allows start (Some table) h k = h
+
+request_low : (flags shift : ℕ) → is_prepare_request flags shift ≡ true → (shift == 0) ≡ false → 18 ≤ shift
+request_low flags shift h off =
+    let either : ((shift == 0) || (nat_le 18 shift && nat_le shift 46)) ≡ true = (and_parts (flags == 0) ((shift == 0) || (nat_le 18 shift && nat_le shift 46)) h).1 in
+    let low : (nat_le 18 shift && nat_le shift 46) ≡ true = rw off at either in
+    leb-true 18 shift (and_parts (nat_le 18 shift) (nat_le shift 46) low).0
+
+not_true : (b : Bool) → not b ≡ false → b ≡ true
+not_true true h = refl
+not_true false h = cc
+
+prepared_allows : (limit flags shift : ℕ) (pending : Option PendingTable) (pool : Pooled) → limit ≤ 22 → IfSome pending IsAllowed → Allows (prepared limit flags shift pending pool)
+unfolding prepared
+prepared_allows limit flags shift pending pool high h = cond_both (not (is_prepare_request flags shift)) _ _ Allows (λ _. h) (λ asked. cond_both (nat_lt limit shift) _ _ Allows (λ _. h) (λ below. cond_both (shift == 0) _ _ Allows (λ _. tt) (λ some. made (not_true _ asked) below some))) where
+  made : is_prepare_request flags shift ≡ true → nat_lt limit shift ≡ false → (shift == 0) ≡ false → Allows (continued (started shift pending pool) (started shift pending pool).pending)
+  made asked below some =
+      let least : 18 ≤ shift = request_low flags shift asked some in
+      let most : shift ≤ limit = ltb-false limit shift below in
+      let begun : Allows (started shift pending pool) = started_allows shift pending pool least (omega arith) h in
+      continued_allows (started shift pending pool) (started shift pending pool).pending begun begun
+
+pub home_prepared : (home : Home) (flags shift : ℕ) → HomeStands home → HomeStands (prepare_at_home home flags shift).1
+unfolding prepare_at_home
+home_prepared home flags shift h = record { limited = h.limited; low = h.low; size = h.size; allowed = prepared_allows home.limit flags shift home.pending home.pool h.limited h.allowed }
+
+pub prepare_table : (home : Home) (flags shift : ℕ) → (prepare_at_home home flags shift).1.table ≡ home.table
+unfolding prepare_at_home
+prepare_table home flags shift = refl
+
+-- ---- commit
+-- The call succeeded, or the table stays; what is left stands.
+pub record Commits (limit : ℕ) (table : Table) (c : Committed) : Type 0 where
+  pub stands : IsHome limit c.pending c.table
+  pub moved : (c.rc ≡ Success) ⊎ (c.table ≡ table)
+
+rehashed-length : (from to : ℕ) (states : List State) → length (rehashed from to states) ≡ 2 ^ (to - 4)
+unfolding rehashed
+rehashed-length from to states = length-map-range_with_len (entry_at from to states) 0 (entry_count to)
+
+carried_commits : (limit : ℕ) (pending : PendingTable) (pool : Pooled) (table : Table) (collision : Option Collision) → IsHome limit (Some pending) table → Commits limit table (carried_over pending pool table collision)
+carried_commits limit pending pool table (Some collision) h = record { stands = record { limited = h.limited; low = h.low; size = h.size; allowed = tt }; moved = inr refl }
+carried_commits limit pending pool table None h = record { stands = record { limited = h.limited; low = h.allowed.0; size = rehashed-length table.order pending.order table.states; allowed = tt }; moved = inl refl }
+
+completed_commits : (limit : ℕ) (pending : Option PendingTable) (pool : Pooled) (table : Table) → IsHome limit pending table → Commits limit table (completed pending pool table)
+completed_commits limit None pool table h = record { stands = h; moved = inr refl }
+completed_commits limit (Some pending) pool table h = carried_commits limit pending pool table (collision_of table.order pending.order table.states) h
+
+answered_commits : (limit : ℕ) (refusal : Option Rc) (pending : Option PendingTable) (pool : Pooled) (table : Table) → IsHome limit pending table → Commits limit table (answered refusal pending pool table)
+answered_commits limit (Some rc) pending pool table h = record { stands = h; moved = inr refl }
+answered_commits limit None pending pool table h = completed_commits limit pending pool table h
+
+pub home_committed : (home : Home) (flags shift : ℕ) → HomeStands home → HomeStands (commit_at_home home flags shift).1
+unfolding commit_at_home committed
+home_committed home flags shift h = (answered_commits home.limit (commit_refusal flags shift home.pending) home.pending home.pool home.table h).stands
+
+pub commit_moves : (home : Home) (flags shift : ℕ) → HomeStands home → ((commit_at_home home flags shift).0 ≡ Success) ⊎ ((commit_at_home home flags shift).1.table ≡ home.table)
+unfolding commit_at_home committed
+commit_moves home flags shift h = (answered_commits home.limit (commit_refusal flags shift home.pending) home.pending home.pool home.table h).moved
+
+-- ---- the beginning
+pub opening_stands : (limit order : ℕ) (pool : Pooled) → limit ≤ 22 → 18 ≤ order → HomeStands (opening_home limit order pool)
+unfolding opening_home empty_states
+opening_stands limit order pool high low = record { limited = high; low = low; size = length-replicate (2 ^ (order - 4)) _; allowed = tt }

@@ -1,0 +1,9 @@
+pub mod Each
+pub mod Own
+pub mod SectionGood
+pub mod Unique
+pub mod Sound
+pub mod Meets
+pub mod Homes
+pub mod SerialStands
+pub mod SerialGood

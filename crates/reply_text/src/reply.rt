@@ -1,0 +1,15 @@
+use crate::shown::Shown;
+use entry_model::{AccessReply, HReply};
+
+/// The reply to a run line.
+#[derive(Drop)]
+pub enum Reply {
+    /// Of a hypervisor call.
+    Hcall(HReply),
+    /// Of an access to memory.
+    Access(AccessReply),
+    /// Of a change of the segment lookaside buffer: whether it was accepted.
+    Segment(bool),
+    /// Of a dump.
+    Dump(Shown),
+}

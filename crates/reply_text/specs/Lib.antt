@@ -9,3 +9,4 @@ pub mod Sections
 pub mod Good
 pub mod Standing
 pub mod Promise
+pub mod Claims

@@ -10,3 +10,5 @@ pub mod Good
 pub mod Standing
 pub mod Promise
 pub mod Claims
+pub mod Text
+pub mod Summary

@@ -2,11 +2,21 @@
 //! texts of replies.
 #![tactic(auto)]
 
+mod counted;
 mod laws;
+mod receipts;
 mod replies;
 mod reply;
 mod shown;
+mod summary;
+mod text;
 
+pub use laws::{
+    accesses_land_in_grants, no_store_is_lost, one_good_run, resizes_keep_bolted_pages,
+    serial_is_good,
+};
 pub use replies::Replies;
 pub use reply::Reply;
 pub use shown::{Shown, ShownStates};
+pub use summary::summary_of;
+pub use text::text_of;

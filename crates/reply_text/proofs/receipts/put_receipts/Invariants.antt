@@ -1,0 +1,7 @@
+use Rattle.std.proofs.Common.{◌≡◌, ◌++◌, take, string_bytes}
+use Rattle.std.specs.List.{flat_map}
+use Rattle.reply_text.specs.Text.{receipt_text}
+use Rattle.reply_text.proofs.receipts.put_receipts.Given as goal
+
+abbrev pub invariant-loop-receipt : goal.invariant-loop-receipt
+invariant-loop-receipt l = string_bytes l.out ≡ string_bytes l.initial.out ++ flat_map receipt_text (take l.receipt-index l.receipts)

@@ -1,0 +1,72 @@
+-- The summary of a run: twelve numbers, each behind its word.
+use Rattle.std.specs.Prelude.{ℕ, ◌++◌, Bool, true, false, List, [], ◌∷◌, length, count_by, Option, Some, codes}
+use Rattle.std.specs.List.{flat_map}
+use Rattle.std.specs.Fmt.{decimal}
+use Rattle.papr_codes.specs.declared.codes.Rc.{Rc}
+use Rattle.papr_codes.specs.declared.codes.Rc.TheVariants as rc
+use Rattle.entry_model.specs.State.{State}
+use Rattle.entry_model.specs.declared.access_reply.Outcome.{Outcome}
+use Rattle.entry_model.specs.declared.access_reply.Outcome.TheVariants as outcomes
+use Rattle.entry_model.specs.declared.access_reply.By.{By}
+use Rattle.entry_model.specs.declared.access_reply.By.TheVariants as ways
+use Rattle.reply_text.specs.declared.counted.Counted.{Counted}
+use Rattle.reply_text.specs.declared.counted.Counted.TheVariants as counts
+use Rattle.reply_text.specs.declared.reply.Reply.{Reply}
+use Rattle.reply_text.specs.declared.reply.Reply.TheVariants as replies
+
+-- ---- what is counted
+-- The word of each row.
+abbrev pub counted_word : Counted → List ℕ
+counted_word counts.Hcalls = codes "hcalls"
+counted_word counts.Success = codes "success"
+counted_word counts.Full = codes "full"
+counted_word counts.NotFound = codes "notfound"
+counted_word counts.Accesses = codes "accesses"
+counted_word counts.At = codes "at"
+counted_word counts.Denied = codes "denied"
+counted_word counts.NoPage = codes "nopage"
+counted_word counts.Hits = codes "hits"
+
+-- Calls are counted by their code.
+abbrev pub counts_code : Counted → Rc → Bool
+counts_code counts.Hcalls code = true
+counts_code counts.Success rc.Success = true
+counts_code counts.Full rc.PtegFull = true
+counts_code counts.NotFound rc.NotFound = true
+counts_code counted code = false
+
+-- Accesses are counted by where they ended, and hits.
+abbrev pub counts_end : Counted → Outcome → Option By → Bool
+counts_end counts.Accesses outcome by = true
+counts_end counts.At (outcomes.At address) by = true
+counts_end counts.Denied outcomes.Denied by = true
+counts_end counts.NoPage outcomes.NoPage by = true
+counts_end counts.Hits outcome (Some ways.Hit) = true
+counts_end counted outcome by = false
+
+abbrev pub is_counted : Counted → Reply → Bool
+is_counted counted (replies.Hcall h) = counts_code counted h.rc
+is_counted counted (replies.Access r) = counts_end counted r.outcome r.by
+is_counted counted other = false
+
+-- ---- the text
+-- A word and its number.
+unfoldable pub row_text : List ℕ → ℕ → List ℕ
+row_text word number = word ++ codes " " ++ decimal number ++ codes "\n"
+
+abbrev pub all_counted : List Counted
+all_counted = counts.Hcalls ∷ counts.Success ∷ counts.Full ∷ counts.NotFound ∷ counts.Accesses ∷ counts.At ∷ counts.Denied ∷ counts.NoPage ∷ counts.Hits ∷ []
+
+abbrev pub counted_text : List Reply → Counted → List ℕ
+counted_text rs counted = row_text (counted_word counted) (count_by (is_counted counted) rs)
+
+abbrev pub has_change : ℕ × State → Bool
+has_change x = x.1.changed
+
+-- How many valid entries there are, and how many have C.
+unfoldable pub entries_text : List (ℕ × State) → List ℕ
+entries_text entries = row_text (codes "entries") (length entries) ++ row_text (codes "changed") (count_by has_change entries)
+
+-- Of so many run lines, their replies, and the valid entries of the table at the end.
+unfoldable pub summary_text : ℕ → List Reply → List (ℕ × State) → List ℕ
+summary_text lines rs entries = row_text (codes "lines") lines ++ flat_map (counted_text rs) all_counted ++ entries_text entries

@@ -1,0 +1,137 @@
+-- The text of replies: one line for each, but a dump's, which has a further line for each entry.
+use Rattle.std.specs.Prelude.{ℕ, ℤ, ◌+◌, Bool, false, List, [], ◌∷◌, ◌++◌, length, Option, Some, None, if◌then◌else◌, codes}
+use Rattle.std.specs.List.{flat_map}
+use Rattle.std.specs.Fmt.{decimal, digits, signed_decimal}
+use Rattle.papr_codes.specs.Hcalls.{hcall_of, hcall_name}
+use Rattle.papr_codes.specs.ReturnCodes.{rc_code}
+use Rattle.storage_prot.specs.declared.want.Want.{Want}
+use Rattle.storage_prot.specs.declared.want.Want.TheVariants as wants
+use Rattle.entry_model.specs.State.{State}
+use Rattle.entry_model.specs.declared.operation.Answer.{Answer}
+use Rattle.entry_model.specs.declared.operation.Answer.TheVariants.{Entered, Taken, Removed, Protected, Was, Words, NotFound, NoMatch, Denied, At, Worn}
+use Rattle.entry_model.specs.declared.access_reply.AccessReply.{AccessReply}
+use Rattle.entry_model.specs.declared.access_reply.Outcome.{Outcome}
+use Rattle.entry_model.specs.declared.access_reply.Outcome.TheVariants as outcomes
+use Rattle.entry_model.specs.declared.access_reply.By.{By}
+use Rattle.entry_model.specs.declared.access_reply.By.TheVariants as ways
+use Rattle.entry_model.specs.declared.receipt.Receipt.{Receipt}
+use Rattle.entry_model.specs.declared.hreply.HReply.{HReply}
+use Rattle.entry_model.specs.Reply.{words_of}
+use Rattle.trace_read.specs.declared.trace.TraceLine.{TraceLine}
+use Rattle.trace_read.specs.declared.trace.Act.{Act}
+use Rattle.trace_read.specs.declared.trace.Act.TheVariants as acts
+use Rattle.trace_read.specs.Trace.{Accepted}
+use Rattle.reply_text.specs.declared.shown.Shown.{Shown}
+use Rattle.reply_text.specs.declared.reply.Reply.{Reply}
+use Rattle.reply_text.specs.declared.reply.Reply.TheVariants as replies
+
+-- `0x` and lower-case hexadecimal digits without leading zeros.
+abbrev pub hex : ℕ → List ℕ
+hex n = codes "0x" ++ digits 16 false n
+
+-- ---- receipts
+abbrev pub answer_word : Answer → List ℕ
+answer_word Entered = codes "entered"
+answer_word Taken = codes "taken"
+answer_word Removed = codes "removed"
+answer_word Protected = codes "protected"
+answer_word Was = codes "was"
+answer_word Words = codes "read"
+answer_word NotFound = codes "notfound"
+answer_word NoMatch = codes "nomatch"
+answer_word Denied = codes "denied"
+answer_word At = codes "at"
+answer_word Worn = codes "worn"
+
+-- 2 for R plus 1 for C.
+abbrev pub bits_digit : State → ℕ
+bits_digit s = (if s.referenced then 2 else 0) + (if s.changed then 1 else 0)
+
+-- ENTRY.STAMP.BITS.ANSWER behind a space; stamp and bits are those before.
+abbrev pub receipt_text : Receipt → List ℕ
+receipt_text r = codes " " ++ hex r.entry ++ codes "." ++ decimal r.before.stamp ++ codes "." ++ decimal (bits_digit r.before) ++ codes "." ++ answer_word r.answer
+
+abbrev pub receipts_text : List Receipt → List ℕ
+receipts_text [] = []
+receipts_text (r ∷ rs) = codes " |" ++ flat_map receipt_text (r ∷ rs)
+
+-- ---- lines
+abbrev pub want_word : Want → List ℕ
+want_word wants.Load = codes "load"
+want_word wants.Store = codes "store"
+want_word wants.Fetch = codes "fetch"
+
+-- The word behind the processor: a call's name where the line spelt it, else `hcall`.
+abbrev pub name_of : Act → List ℕ
+name_of (acts.Call number args spelt) = if spelt then hcall_name (hcall_of number) else codes "hcall"
+name_of (acts.Access want ea user) = want_word want
+name_of (acts.SlbMte rb rs) = codes "slbmte"
+name_of acts.SlbClear = codes "slbclear"
+name_of acts.Dump = codes "dump"
+
+-- NUMBER PROCESSOR NAME
+unfoldable pub head_text : ℕ → ℕ → List ℕ → List ℕ
+head_text number cpu name = decimal number ++ codes " " ++ decimal cpu ++ codes " " ++ name
+
+-- ---- hypervisor calls
+abbrev pub word_text : ℕ → List ℕ
+word_text w = codes " " ++ hex w
+
+unfoldable pub code_text : ℤ → List ℕ
+code_text code = codes " " ++ signed_decimal code
+
+-- The code, the words, and the receipts.
+abbrev pub hcall_text : HReply → List ℕ
+hcall_text h = code_text (rc_code h.rc) ++ flat_map word_text h.words ++ receipts_text h.receipts ++ codes "\n"
+
+-- ---- accesses
+abbrev pub outcome_text : Outcome → List ℕ
+outcome_text (outcomes.At address) = codes " at " ++ hex address
+outcome_text outcomes.Denied = codes " denied"
+outcome_text outcomes.NoPage = codes " nopage"
+outcome_text outcomes.NoSegment = codes " nosegment"
+outcome_text (outcomes.Ungranted address) = codes " ungranted " ++ hex address
+
+abbrev pub way_text : Option By → List ℕ
+way_text (Some ways.Hit) = codes " hit"
+way_text (Some ways.Walk) = codes " walk"
+way_text None = []
+
+-- Where it ended, by what, and the receipts.
+abbrev pub access_text : AccessReply → List ℕ
+access_text r = outcome_text r.outcome ++ way_text r.by ++ receipts_text r.receipts ++ codes "\n"
+
+-- ---- the segment lookaside buffer
+abbrev pub verdict_text : Bool → List ℕ
+verdict_text accepted = if accepted then codes " ok\n" else codes " refused\n"
+
+-- ---- dumps
+-- Index, both doublewords with R and C, and stamp, each behind a space.
+unfoldable pub entry_text : ℕ × State → List ℕ
+entry_text x = codes " " ++ hex x.0 ++ codes " " ++ hex (words_of x.1).0 ++ codes " " ++ hex (words_of x.1).1 ++ codes " " ++ decimal x.1.stamp ++ codes "\n"
+
+unfoldable pub dump_head : ℕ → List ℕ
+dump_head line = decimal line ++ codes " dump"
+
+-- table T order S place P entries K
+unfoldable pub table_text : ℕ → ℕ → ℕ → ℕ → List ℕ
+table_text number order place count = codes " table " ++ decimal number ++ codes " order " ++ decimal order ++ codes " place " ++ hex place ++ codes " entries " ++ decimal count ++ codes "\n"
+
+abbrev pub dump_text : ℕ → Shown → List ℕ
+dump_text line shown = dump_head line ++ table_text shown.number shown.order shown.place (length shown.states) ++ flat_map entry_text shown.states
+
+-- ---- all lines
+abbrev pub reply_text : TraceLine → Reply → List ℕ
+reply_text l (replies.Hcall h) = head_text l.number l.cpu (name_of l.act) ++ hcall_text h
+reply_text l (replies.Access r) = head_text l.number l.cpu (name_of l.act) ++ access_text r
+reply_text l (replies.Segment accepted) = head_text l.number l.cpu (name_of l.act) ++ verdict_text accepted
+reply_text l (replies.Dump shown) = dump_text l.number shown
+
+-- The replies of all run lines, in file order.
+unfoldable pub text_from : List TraceLine → List Reply → List ℕ
+text_from [] rs = []
+text_from (l ∷ ls) [] = []
+text_from (l ∷ ls) (r ∷ rs) = reply_text l r ++ text_from ls rs
+
+abbrev pub text_of : Accepted → List Reply → List ℕ
+text_of t rs = text_from t.lines rs

@@ -1,3 +1,3 @@
 mod PoolKept
 mod Resizing
-mod Opening
+pub mod Opening

@@ -1,5 +1,5 @@
 -- The opening table has a place in the pool of an accepted configuration.
-use Rattle.std.proofs.Common.{◌≡◌, ℕ, ◌+◌, ◌-◌, ◌*◌, ◌%◌, ◌^◌, ◌<◌, ◌≤◌, true, false, List, length, replicate, Contains, Option, Some, None, Result, Ok, Err, IfSome, MatchOption, refl, sym, ap, ◌∙◌, subst, arith}
+use Rattle.std.proofs.Common.{◌≡◌, ℕ, ◌+◌, ◌-◌, ◌*◌, ◌%◌, ◌^◌, ◌<◌, ◌≤◌, true, false, List, length, replicate, Contains, Option, Some, None, Result, Ok, Err, IfOk, IfSome, MatchOption, refl, sym, ap, ◌∙◌, subst, arith}
 use Rattle.std.specs.Prelude.{unwrap_or}
 use Rattle.std.specs.Option.{IsSome}
 use Rattle.std.specs.Result.{IsOkUnless}
@@ -19,7 +19,7 @@ use Rattle.trace_read.specs.Config.{Configured}
 use Rattle.entry_model.specs.State.{State, empty_state}
 use Rattle.hpt_resize.specs.Rehash.{entry_count}
 use Rattle.hpt_resize.specs.Home.{empty_states, opening_home}
-use Rattle.partition.specs.Partition.{IsPartition, opened}
+use Rattle.partition.specs.Partition.{Parted, IsPartition, opened}
 use Rattle.partition.proofs.Resizing.{parted, home_or}
 
 -- The pool that the grants stand beside can be one.
@@ -109,3 +109,16 @@ is_opened config pool new (Some other) place states granted low within high same
       };
       is = opened_is config new place states granted now lowest empty same;
     }
+
+-- ---- for callers
+pub if_ok : {T E : Type 0} (P Q : T → Type 0) (r : Result T E) → ((x : T) → P x → Q x) → IfOk r P → IfOk r Q
+if_ok P Q (Ok x) step is = step x is
+if_ok P Q (Err e) step is = is
+
+pub opened_order : (config : Configured) (partition : Parted) → partition ≡ opened config → partition.home.table.order ≡ config.order
+unfolding opened opening_home
+opened_order config partition is = ap (λ (p : Parted). p.home.table.order) is
+
+pub opened_number : (config : Configured) (partition : Parted) → partition ≡ opened config → partition.home.table.number ≡ 0
+unfolding opened opening_home
+opened_number config partition is = ap (λ (p : Parted). p.home.table.number) is

@@ -1,4 +1,4 @@
-ghost use Rattle.std.specs.Prelude.{◌≡◌, ◌≤◌, bit_and, IfOk};
+ghost use Rattle.std.specs.Prelude.{◌≡◌, ◌≤◌, ◌%◌, ◌^◌, bit_and, IfOk};
 ghost use Rattle.partition.specs.Partition.{IsAtHome};
 
 use crate::Partition;
@@ -14,7 +14,8 @@ fn smallest(alloc: Global, limit: u8, pool_order: u8) -> Result<Partition, Alloc
     requires limit_low { 18 ≤ limit }
     requires limit_high { limit ≤ 22 }
     requires pool_low { 19 ≤ pool_order }
-    requires pool_high { pool_order ≤ 24 }
+    requires pool_high { pool_order ≤ 34 }
+    requires pool_aligned { 0x1000000000 % 2 ^ pool_order ≡ 0 }
     ensures home { IfOk result IsAtHome }
     ensures order { IfOk result (λ partition. partition.home.table.order ≡ 18) }
     ensures first { IfOk result (λ partition. partition.home.table.number ≡ 0) }
@@ -49,8 +50,8 @@ fn the_largest_table_is_ready_after_sixteen_calls(rt: HostRuntime) -> Result<(),
     for _call in 0..15 {
         let reply = partition.prepare(rt.alloc(), 0, 22)?;
         assert_eq!(rt; reply.rc, Rc::LongBusy);
-        assert_eq!(rt; partition.commit(0, 22).rc, Rc::Busy);
     }
+    assert_eq!(rt; partition.commit(0, 22).rc, Rc::Busy);
     assert_eq!(rt; partition.prepare(rt.alloc(), 0, 22)?.rc, Rc::Success);
     assert_eq!(rt; partition.commit(0, 22).rc, Rc::Success);
     assert_eq!(rt; partition.order(), 22);

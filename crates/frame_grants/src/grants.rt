@@ -1,6 +1,6 @@
 ghost use Rattle.std.specs.Prelude.{◌≡◌, ◌+◌, ◌≤◌, ◌%◌, ◌^◌, true, Some, None, IfSome, find, count_by, MatchResult, OnOk, OnErr};
 ghost use Rattle.std.specs.List.{list_any};
-ghost use Rattle.frame_grants.specs.Grants.{no_grants, overlaps, meets_pool, add_refusal, starts_below, with_grant, holds, machine_range, IsPlaced, AreApart};
+ghost use Rattle.frame_grants.specs.Grants.{no_grants, overlaps, meets_pool, add_refusal, starts_below, with_grant, holds, machine_range, IsPlaced, AreApart, IsSound};
 
 use crate::error::GrantError;
 use crate::grant::{Grant, Kind};
@@ -73,6 +73,20 @@ impl Grants {
         ensures apart { AreApart self.now }
     {
         self.items.as_slice()
+    }
+
+    /// The same grants once more. It takes no memory.
+    pub fn copy(&self) -> Grants
+        ensures value { result ≡ self.now }
+        ensures sound { IsSound result }
+    {
+        let mut items = ArrayVec::new();
+        items.try_extend_from_slice(self.items.as_slice()).unwrap();
+        Grants {
+            pool_base: self.pool_base,
+            pool_order: self.pool_order,
+            items,
+        }
     }
 
     #[tactic(auto, unfolding(crate::specs::Grants::add_refusal, crate::specs::Grants::refusals))]

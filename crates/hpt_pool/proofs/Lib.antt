@@ -1,7 +1,7 @@
 mod Lists
 mod Leaves
 mod MarkLemmas
-mod Placing
-mod Lowest
+pub mod Placing
+pub mod Lowest
 mod Rows
 pub mod Kept

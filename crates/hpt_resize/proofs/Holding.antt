@@ -39,7 +39,7 @@ fits_elsewhere pool order place block fit here same =
     let meet : overlap (block_at place order) block ≡ true = rw (low, high) refl in
     cc
 
-lowest_fits : (pool : Pooled) (order place : ℕ) → lowest_place pool order ≡ Some place → fits pool order place ≡ true
+pub lowest_fits : (pool : Pooled) (order place : ℕ) → lowest_place pool order ≡ Some place → fits pool order place ≡ true
 unfolding lowest_place
 lowest_fits pool order place found = find_passes (fits pool order) (multiples pool order) place found
 

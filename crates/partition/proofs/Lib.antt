@@ -1,0 +1,3 @@
+mod PoolKept
+mod Resizing
+pub mod Opening

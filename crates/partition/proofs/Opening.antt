@@ -1,0 +1,124 @@
+-- The opening table has a place in the pool of an accepted configuration.
+use Rattle.std.proofs.Common.{◌≡◌, ℕ, ◌+◌, ◌-◌, ◌*◌, ◌%◌, ◌^◌, ◌<◌, ◌≤◌, true, false, List, length, replicate, Contains, Option, Some, None, Result, Ok, Err, IfOk, IfSome, MatchOption, refl, sym, ap, ◌∙◌, subst, arith}
+use Rattle.std.specs.Prelude.{unwrap_or}
+use Rattle.std.specs.Option.{IsSome}
+use Rattle.std.specs.Result.{IsOkUnless}
+use Rattle.std.proofs.lemmas.Nat.{pow_pos}
+use Rattle.std.proofs.Math.Pow.{pow_mono}
+use Rattle.std.proofs.Math.Nat.{mod-eq_of_lt}
+use Rattle.std.proofs.lemmas.List.{length-replicate}
+use Rattle.std.proofs.lemmas.Bool.Decides.{nat_tests}
+use Rattle.frame_grants.specs.Grants as grants
+use Rattle.hpt_pool.specs.Pool.{Pooled, IsPool, IsSound, IsLowest, FitsNowhere, block_at, fits, lowest_place, no_blocks, pool_refusal, refusals, with_block}
+use Rattle.hpt_pool.specs.declared.error.PoolError.{PoolError}
+use Rattle.hpt_pool.specs.declared.error.PoolError.TheVariants.{Memory}
+use Rattle.hpt_pool.proofs.Lowest.{multiple_placed, fits_is}
+use Rattle.hpt_pool.proofs.Kept.{with_contains}
+use Rattle.frame_grants.specs.Grants.{Granted}
+use Rattle.trace_read.specs.Config.{Configured}
+use Rattle.entry_model.specs.State.{State, empty_state}
+use Rattle.hpt_resize.specs.Rehash.{entry_count}
+use Rattle.hpt_resize.specs.Home.{empty_states, opening_home}
+use Rattle.partition.specs.Partition.{Parted, IsPartition, opened}
+use Rattle.partition.proofs.Resizing.{parted, home_or}
+
+-- The pool that the grants stand beside can be one.
+pub can_be : (base order : ℕ) → grants.IsPool base order → pool_refusal base order ≡ None
+unfolding pool_refusal refusals
+can_be base order pool =
+    let large = pool.at_least in
+    let small = pool.at_most in
+    let aligned = pool.aligned in
+    let end = pool.end in
+    grind (arith, nat_tests)
+
+pool_of : (base order : ℕ) → grants.IsPool base order → IsPool base order
+pool_of base order pool = record { at_least = pool.at_least; at_most = pool.at_most; aligned = pool.aligned; to_end = pool.end }
+
+fits_first : (base order table : ℕ) → grants.IsPool base order → 18 ≤ table → table ≤ order → fits (no_blocks base order) table base ≡ true
+fits_first base order table pool large small =
+    let first : base + 0 * 2 ^ table ≡ base = omega arith in
+    let some = pow_pos (order - table) in
+    subst (λ n. fits (no_blocks base order) table n ≡ true) first
+    (fits_is (no_blocks base order) table (base + 0 * 2 ^ table) (multiple_placed (no_blocks base order) table 0 (pool_of base order pool) large small some))
+
+pub has_place : (pool : Pooled) (base order table : ℕ) (o : Option ℕ) → pool ≡ no_blocks base order → grants.IsPool base order → 18 ≤ table → table ≤ order → MatchOption o (FitsNowhere pool table) (IsLowest pool table) → IsSome o
+has_place pool base order table (Some place) is sound large small lowest = refl
+has_place pool base order table None is sound large small nowhere =
+    let fit : fits pool table base ≡ true = subst (λ (p : Pooled). fits p table base ≡ true) (sym is) (fits_first base order table sound large small) in
+    let fails : fits pool table base ≡ false = nowhere base in
+    absurd (cc)
+
+-- What refuses such a pool is want of memory.
+pub memory_alone : (refusal : Option PoolError) (result : Result Pooled PoolError) (e : PoolError) → refusal ≡ None → result ≡ Err e → MatchOption refusal (IsOkUnless result Memory) (λ other. result ≡ Err other) → e ≡ Memory
+memory_alone None (Ok pool) e none is told = cc
+memory_alone None (Err other) e none is told = let same : other ≡ e = cc in sym same ∙ told
+memory_alone (Some refusal) result e none is told = absurd (cc)
+
+-- The grants are sound, and stand beside the configured pool.
+pub sound_pool : (copied granted : Granted) (base order : ℕ) → grants.IsSound copied → copied ≡ granted → granted.pool_base ≡ base → granted.pool_order ≡ order → grants.IsPool base order
+sound_pool copied granted base order sound same base_is order_is =
+    let first : copied.pool_base ≡ base = ap (λ (g : Granted). g.pool_base) same ∙ base_is in
+    let second : copied.pool_order ≡ order = ap (λ (g : Granted). g.pool_order) same ∙ order_is in
+    subst (λ n. grants.IsPool n order) first (subst (λ n. grants.IsPool copied.pool_base n) second sound.pool)
+
+pub beside : (pool : Pooled) (granted : Granted) (base order : ℕ) → pool ≡ no_blocks base order → granted.pool_base ≡ base → granted.pool_order ≡ order → pool ≡ no_blocks granted.pool_base granted.pool_order
+beside pool granted base order is first second = cc
+
+-- ---- the states
+pub all_empty : (states : List State) (order n : ℕ) (one : State) → order ≤ 22 → states ≡ replicate n one → n ≡ 1 * 2 ^ (order - 4) % 2 ^ 64 → one ≡ empty_state 0 → states ≡ empty_states order
+unfolding empty_states
+all_empty states order n one small is count empty =
+    let most : 2 ^ (order - 4) ≤ 2 ^ 18 = pow_mono {i = order - 4} {j = 18} (omega arith) in
+    let fits : 1 * 2 ^ (order - 4) % 2 ^ 64 ≡ 2 ^ (order - 4) = omega (arith, mod-eq_of_lt {n = 1 * 2 ^ (order - 4)} {m = 2 ^ 64} (omega arith)) in
+    is ∙ ap (λ m. replicate m one) (count ∙ fits) ∙ ap (replicate (2 ^ (order - 4))) empty
+
+-- ---- the partition
+pub record IsOpened (config : Configured) (new : Pooled) (place : ℕ) (states : List State) (granted : Granted) : Type 0 where
+  pub kept : IsPartition (parted config.limit new None (record { order = config.order; place = place; number = 0; states = states }) granted)
+  pub is : parted config.limit new None (record { order = config.order; place = place; number = 0; states = states }) granted ≡ opened config
+
+opened_is : (config : Configured) (new : Pooled) (place : ℕ) (states : List State) (granted : Granted) → new ≡ with_block (no_blocks config.granted.pool_base config.granted.pool_order) (block_at place config.order) → lowest_place (no_blocks config.granted.pool_base config.granted.pool_order) config.order ≡ Some place → states ≡ empty_states config.order → granted ≡ config.granted → parted config.limit new None (record { order = config.order; place = place; number = 0; states = states }) granted ≡ opened config
+unfolding opened opening_home
+opened_is config new place states granted now lowest empty same =
+    let at : unwrap_or (lowest_place (no_blocks config.granted.pool_base config.granted.pool_order) config.order) 0 ≡ place = ap (λ (o : Option ℕ). unwrap_or o 0) lowest in
+    rw (now, empty, same, at) refl
+
+pub is_opened : (config : Configured) (pool new : Pooled) (o : Option ℕ) (place : ℕ) (states : List State) (granted : Granted) → 18 ≤ config.order → config.order ≤ config.limit → config.limit ≤ 22 → granted ≡ config.granted → pool ≡ no_blocks config.granted.pool_base config.granted.pool_order → o ≡ lowest_place pool config.order → o ≡ Some place → IfSome o (λ p. new ≡ with_block pool (block_at p config.order)) → IsSound new → states ≡ empty_states config.order → IsOpened config new place states granted
+unfolding empty_states
+is_opened config pool new None place states granted low within high same is first found made sound empty = absurd (cc)
+is_opened config pool new (Some other) place states granted low within high same is first found made sound empty =
+    let at : other ≡ place = cc in
+    let open_pool : Pooled = no_blocks config.granted.pool_base config.granted.pool_order in
+    let now : new ≡ with_block open_pool (block_at place config.order) = made ∙ ap (λ n. with_block pool (block_at n config.order)) at ∙ ap (λ (p : Pooled). with_block p (block_at place config.order)) is in
+    let lowest : lowest_place open_pool config.order ≡ Some place = ap (λ (p : Pooled). lowest_place p config.order) (sym is) ∙ sym first ∙ found in
+    let long : length states ≡ entry_count config.order = ap length empty ∙ length-replicate (entry_count config.order) (empty_state 0) in
+    record {
+      kept = record {
+        limit_low = omega arith;
+        limit_high = high;
+        order_low = low;
+        order_high = omega arith;
+        pool = sound;
+        base = ap (λ (p : Pooled). p.base) now ∙ ap (λ (g : Granted). g.pool_base) (sym same);
+        size = ap (λ (p : Pooled). p.order) now ∙ ap (λ (g : Granted). g.pool_order) (sym same);
+        held = tt;
+        taken = subst (λ (p : Pooled). Contains p.taken (block_at place config.order)) (sym now) (with_contains open_pool.taken (block_at place config.order));
+        elsewhere = tt;
+        in_or_out = home_or (length states) (entry_count config.order) long;
+      };
+      is = opened_is config new place states granted now lowest empty same;
+    }
+
+-- ---- for callers
+pub if_ok : {T E : Type 0} (P Q : T → Type 0) (r : Result T E) → ((x : T) → P x → Q x) → IfOk r P → IfOk r Q
+if_ok P Q (Ok x) step is = step x is
+if_ok P Q (Err e) step is = is
+
+pub opened_order : (config : Configured) (partition : Parted) → partition ≡ opened config → partition.home.table.order ≡ config.order
+unfolding opened opening_home
+opened_order config partition is = ap (λ (p : Parted). p.home.table.order) is
+
+pub opened_number : (config : Configured) (partition : Parted) → partition ≡ opened config → partition.home.table.number ≡ 0
+unfolding opened opening_home
+opened_number config partition is = ap (λ (p : Parted). p.home.table.number) is

@@ -1,0 +1,38 @@
+ghost use Rattle.std.specs.Prelude.{◌≡◌, ◌≤◌, ◌^◌, length, IfOk};
+ghost use Rattle.partition.specs.Partition.{IsAtHome};
+ghost use Rattle.reply_text.specs.Worlds.{valid_from, shown_of};
+
+use entry_model::EntryState;
+use partition::Partition;
+use reply_text::{Shown, ShownStates};
+use std::alloc::{AllocError, Global};
+
+/// The valid entries, each with its index.
+fn valid_states(alloc: Global, states: &[EntryState]) -> Result<ShownStates, AllocError>
+    requires { length states.now ≤ 2 ^ 18 }
+    ensures { IfOk result (λ shown. shown ≡ valid_from 0 states.now) }
+{
+    let mut shown = ShownStates::new(alloc);
+    for i in 0..states.len() {
+        if states[i].valid {
+            shown.push(i as u32, states[i])?;
+        }
+    }
+    Ok(shown)
+}
+
+/// The table of a partition, as a dump shows it.
+#[tactic(auto, unfolding(reply_text::specs::Worlds::shown_of))]
+pub fn shown_table(alloc: Global, partition: &Partition) -> Result<Shown, AllocError>
+    requires { IsAtHome partition.now }
+    ensures { IfOk result (λ shown. shown ≡ shown_of partition.now.home) }
+{
+    let order = partition.order();
+    let states = valid_states(alloc, partition.states())?;
+    Ok(Shown {
+        number: partition.table(),
+        order,
+        place: partition.place(),
+        states,
+    })
+}

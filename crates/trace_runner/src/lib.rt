@@ -1,0 +1,10 @@
+//! Runs traces: the replies to the lines of a trace, one line after the other in file order.
+#![tactic(auto)]
+
+mod act;
+mod calls;
+mod dump;
+mod machine;
+mod run;
+
+pub use run::{Ran, run_serial, run_with_table};

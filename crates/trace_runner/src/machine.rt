@@ -1,0 +1,146 @@
+ghost use Rattle.std.specs.Prelude.{◌≡◌, ◌<◌, ◌≤◌, ◌+◌, ◌-◌, ◌^◌, length, map, true, false, replicate, IfOk, OnOk, vec_len};
+ghost use Rattle.hpt_walk.specs.Seats.{empty_seat};
+ghost use Rattle.trace_read.specs.Trace.{is_quiet};
+ghost use Rattle.reply_text.specs.Worlds.{opening, quiet_of, resize_of, shown_of, without_cache};
+ghost use Rattle.reply_text.specs.Serial.{line_reply};
+
+use crate::act::run_act;
+use crate::dump::shown_table;
+use entry_model::HReply;
+use papr_codes::{Hcall, Rc};
+use papr_table::PlainTable;
+use partition::Partition;
+use reply_text::{Reply, Shown};
+use std::alloc::{AllocError, Global};
+use std::marker::Model;
+use trace_read::{Act, Config, TraceLine};
+use vcpu::Cpu;
+
+/// A partition with its processors, between two lines.
+#[derive(Drop)]
+pub struct Machine {
+    partition: Partition,
+    cpus: Vec<Cpu>,
+}
+
+impl Model for Machine {
+    ghost use Rattle.reply_text.specs.Worlds.{World};
+    ghost use Rattle.trace_runner.specs.Machines.{world_of, IsMachine};
+
+    ghost Value = { World };
+
+    ghost view = { λ m. world_of m.partition m.cpus.items };
+
+    ghost invariant = { λ m. IsMachine m.partition m.cpus.items };
+}
+
+/// So many processors, with no segment and nothing cached.
+fn empty_cpus(alloc: Global, count: u32) -> Result<Vec<Cpu>, AllocError>
+    ensures { IfOk result (λ cpus. cpus.items ≡ replicate count empty_seat) }
+{
+    let mut cpus = Vec::with_capacity(alloc, count as usize)?;
+    for _ in 0..count {
+        cpus.push(Cpu::new())?;
+    }
+    Ok(cpus)
+}
+
+/// Clears the cache of each processor.
+fn clear_caches(cpus: &mut Vec<Cpu>)
+    ensures { cpus.new.items ≡ map without_cache cpus.old.items }
+{
+    for i in 0..cpus.len() {
+        cpus[i].clear_cache();
+    }
+}
+
+impl Machine {
+    /// The machine of a configuration, before the first line.
+    #[tactic(auto, unfolding(reply_text::specs::Worlds::opening))]
+    pub fn open(alloc: Global, config: &Config) -> Result<Machine, AllocError>
+        ensures { IfOk result (λ machine. machine ≡ opening config.now) }
+    {
+        let partition = Partition::open(alloc, config)?;
+        let cpus = empty_cpus(alloc, config.cpus)?;
+        Ok(Machine { partition, cpus })
+    }
+
+    /// Runs a line.
+    #[tactic(auto, unfolding(reply_text::specs::Serial::line_reply))]
+    pub fn line(&mut self, alloc: Global, line: &TraceLine) -> Result<Reply, AllocError>
+        requires cpu { line.now.cpu < length self.old.seats }
+        requires number { self.old.home.table.number < 2 ^ 32 - 1 }
+        ensures reply { IfOk result (λ reply. (reply, self.new) ≡ line_reply self.old line.now) }
+        ensures number { OnOk result (self.new.home.table.number ≤ self.old.home.table.number + 1) }
+        ensures cpus { OnOk result (length self.new.seats ≡ length self.old.seats) }
+    {
+        if line.act.is_quiet() {
+            self.quiet(alloc, &line.act)
+        } else {
+            Ok(self.run(line))
+        }
+    }
+
+    /// The table, as a dump shows it.
+    pub fn shown(&self, alloc: Global) -> Result<Shown, AllocError>
+        ensures { IfOk result (λ shown. shown ≡ shown_of self.now.home) }
+    {
+        shown_table(alloc, &self.partition)
+    }
+
+    // A line that isn't quiet, by its processor.
+    #[tactic(auto, unfolding(reply_text::specs::Serial::line_reply))]
+    fn run(&mut self, line: &TraceLine) -> Reply
+        requires not_quiet { is_quiet line.now.act ≡ false }
+        requires cpu { line.now.cpu < length self.old.seats }
+        ensures reply { (result, self.new) ≡ line_reply self.old line.now }
+        ensures number { self.new.home.table.number ≡ self.old.home.table.number }
+        ensures cpus { length self.new.seats ≡ length self.old.seats }
+    {
+        let order = self.partition.order();
+        let mut table = PlainTable::open(self.partition.take_states(), order);
+        let cpu = &mut self.cpus[line.cpu as usize];
+        let reply = run_act(&mut table, cpu, self.partition.grants(), &line.act);
+        self.partition.put_states(table.close());
+        reply
+    }
+
+    // A quiet line.
+    #[tactic(auto, unfolding(reply_text::specs::Worlds::quiet_of, trace_read::specs::Trace::is_quiet))]
+    fn quiet(&mut self, alloc: Global, act: &Act) -> Result<Reply, AllocError>
+        requires quiet { is_quiet act.now ≡ true }
+        requires number { self.old.home.table.number < 2 ^ 32 - 1 }
+        ensures reply { IfOk result (λ reply. (reply, self.new) ≡ quiet_of self.old act.now) }
+        ensures number { OnOk result (self.new.home.table.number ≤ self.old.home.table.number + 1) }
+        ensures cpus { OnOk result (length self.new.seats ≡ length self.old.seats) }
+    {
+        match *act {
+            Act::Call { number, args, .. } => {
+                let reply = self.resize(alloc, Hcall::of_number(number), &args)?;
+                Ok(Reply::Hcall(reply))
+            }
+            _ => Ok(Reply::Dump(self.shown(alloc)?)),
+        }
+    }
+
+    // One of the two resize calls. A committed resize clears each processor's cache.
+    #[tactic(auto, unfolding(reply_text::specs::Worlds::resize_of))]
+    fn resize(&mut self, alloc: Global, hcall: Hcall, args: &[u64; 8]) -> Result<HReply, AllocError>
+        requires number { self.old.home.table.number < 2 ^ 32 - 1 }
+        ensures reply { IfOk result (λ reply. (Reply.Hcall reply, self.new) ≡ resize_of self.old hcall args.now) }
+        ensures number { OnOk result (self.new.home.table.number ≤ self.old.home.table.number + 1) }
+        ensures cpus { OnOk result (length self.new.seats ≡ length self.old.seats) }
+    {
+        match hcall {
+            Hcall::Prepare => self.partition.prepare(alloc, args[0], args[1]),
+            Hcall::Commit => {
+                let reply = self.partition.commit(args[0], args[1]);
+                if matches!(reply.rc, Rc::Success) {
+                    clear_caches(&mut self.cpus);
+                }
+                Ok(reply)
+            }
+            _ => Ok(HReply::without_receipts(Rc::Function)),
+        }
+    }
+}

@@ -1,0 +1,66 @@
+ghost use Rattle.std.specs.Prelude.{◌≡◌, length, IfOk};
+ghost use Rattle.reply_text.specs.Worlds.{opening, shown_of};
+ghost use Rattle.reply_text.specs.Serial.{serial, world_after};
+ghost use Rattle.reply_text.specs.Promise.{IsAccepted};
+ghost use Rattle.reply_text.specs.Good.{Good};
+
+use crate::machine::Machine;
+use reply_text::{Replies, Shown};
+use std::alloc::{AllocError, Global};
+use trace_read::{Trace, TraceLine};
+
+/// The replies of a run, and the table at its end.
+#[derive(Drop)]
+pub struct Ran {
+    pub replies: Replies,
+    pub table: Shown,
+}
+
+/// The replies to lines, one after the other.
+fn run_lines(
+    alloc: Global,
+    machine: &mut Machine,
+    lines: &[TraceLine],
+) -> Result<Replies, AllocError>
+    requires few { length lines.now ≤ 2 ^ 17 }
+    requires cpus { AllByRecursion (λ (l : TraceLine). l.cpu < length machine.old.seats) lines.now }
+    requires number { machine.old.home.table.number ≡ 0 }
+    ensures replies { IfOk result (λ r. r.items ≡ replies_from machine.old lines.now) }
+    ensures world { OnOk result (machine.new ≡ world_after machine.old lines.now) }
+{
+    let mut replies = Replies::new(alloc);
+    replies.reserve(lines.len())?;
+    for line in lines {
+        replies.push(machine.line(alloc, line)?)?;
+    }
+    Ok(replies)
+}
+
+/// What each accepted trace has.
+fn keeps_limits(trace: &Trace)
+    ensures { IsAccepted trace.now }
+{}
+
+/// The replies of the serial run of a trace, and the table at its end: its lines one after the other
+/// in file order, on a table that begins empty.
+pub fn run_with_table(alloc: Global, trace: &Trace) -> Result<Ran, AllocError>
+    ensures replies { IfOk result (λ ran. ran.replies.items ≡ serial trace.now) }
+    ensures table { IfOk result (λ ran. ran.table ≡ shown_of (world_after (opening trace.now.config) trace.now.lines).home) }
+    ensures accepted { IsAccepted trace.now }
+{
+    keeps_limits(trace);
+    let mut machine = Machine::open(alloc, &trace.config)?;
+    let replies = run_lines(alloc, &mut machine, trace.lines.as_slice())?;
+    let table = machine.shown(alloc)?;
+    Ok(Ran { replies, table })
+}
+
+/// The replies of the serial run of a trace. They are a good run.
+pub fn run_serial(alloc: Global, trace: &Trace) -> Result<Replies, AllocError>
+    ensures replies { IfOk result (λ r. r.items ≡ serial trace.now) }
+    ensures good { Good trace.now (serial trace.now) }
+{
+    keeps_limits(trace);
+    let mut machine = Machine::open(alloc, &trace.config)?;
+    run_lines(alloc, &mut machine, trace.lines.as_slice())
+}

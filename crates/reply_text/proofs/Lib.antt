@@ -7,3 +7,4 @@ pub mod Meets
 pub mod Homes
 pub mod SerialStands
 pub mod SerialGood
+pub mod OneProcessor

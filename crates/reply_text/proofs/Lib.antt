@@ -8,3 +8,5 @@ pub mod Homes
 pub mod SerialStands
 pub mod SerialGood
 pub mod OneProcessor
+pub mod Resized
+pub mod Chain

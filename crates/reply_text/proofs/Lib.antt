@@ -10,3 +10,5 @@ pub mod SerialGood
 pub mod OneProcessor
 pub mod Resized
 pub mod Chain
+pub mod Stores
+pub mod StoresKept

@@ -47,6 +47,11 @@ carried_is from to state index target e =
     let both = and_parts state.valid (is_bolted state.dword0) flags.0 in
     record { page = made.0; carried = made.1; found = flags.1; valid = both.0; bolted = both.1; here = page_at-group from index state.dword0 state.dword1 made.0 flags.1; there = made.2 }
 
+-- An entry with a page that is carried has a target.
+pub page_goes : (from to : ℕ) (state : State) (index : ℕ) (page : VirtualPage) → carried_page from state index ≡ Some page → target_of from to state index ≡ Some (group_of page to (is_secondary state.dword0) * 8 + index % 8)
+unfolding target_of
+page_goes from to state index page e = ap (option_map (λ (page : VirtualPage). group_of page to (is_secondary state.dword0) * 8 + index % 8)) e
+
 -- An entry of a group of a table stands in that table.
 pub slot_in_table : (order group index : ℕ) → 18 ≤ order → group < group_count order → group * 8 + index % 8 < 2 ^ (order - 4)
 slot_in_table order group index large below =

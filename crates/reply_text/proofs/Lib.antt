@@ -12,3 +12,4 @@ pub mod Resized
 pub mod Chain
 pub mod Stores
 pub mod StoresKept
+mod ClaimRows

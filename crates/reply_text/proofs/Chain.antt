@@ -1,6 +1,6 @@
 -- From one section to the next: what stands at home, and how the table moves.
-use Rattle.std.proofs.Common.{◌≡◌, ◌<◌, ℕ, List, [], ◌∷◌, true, false, ap, sym, ◌∙◌, refl, subst, ◌⊎◌, inl, inr, length, ◌+◌, arith}
-use Rattle.std.specs.Prelude.{Bool, ◌==◌, not}
+use Rattle.std.proofs.Common.{◌≡◌, List, [], ◌∷◌, true, false, ap, sym, ◌∙◌, refl, subst, ◌⊎◌, inl, inr, ◌+◌, arith}
+use Rattle.std.specs.Prelude.{Bool, not}
 use Rattle.std.specs.List.{AllByRecursion}
 use Rattle.std.proofs.lemmas.Bool.{cases_Bool, eq-eqb, eqb-true}
 use Rattle.hpt_resize.specs.Resize.{Table}

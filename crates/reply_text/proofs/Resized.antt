@@ -1,6 +1,6 @@
 -- What a quiet line leaves of the table, and what a committed resize carries.
-use Rattle.std.proofs.Common.{◌≡◌, ℕ, ◌+◌, ◌<◌, ◌≤◌, List, Bool, true, false, ap, sym, ◌∙◌, refl, subst, ◌⊎◌, inl, inr, length, Option, Some, None}
-use Rattle.std.specs.Prelude.{◌==◌, slice_index, if◌then◌else◌, IfSome, not}
+use Rattle.std.proofs.Common.{◌≡◌, ℕ, ◌+◌, ◌≤◌, List, Bool, true, false, ap, sym, ◌∙◌, refl, subst, length, Option, Some, None}
+use Rattle.std.specs.Prelude.{◌==◌, slice_index, IfSome, not}
 use Rattle.std.proofs.lemmas.Bool.{cond_both}
 use Rattle.papr_codes.specs.Hcalls.{hcall_of}
 use Rattle.papr_codes.specs.declared.calls.Hcall.{Hcall}

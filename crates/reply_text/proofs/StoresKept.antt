@@ -1,8 +1,8 @@
 -- No store is lost from section to section.
-use Rattle.std.proofs.Common.{◌≡◌, ℕ, ◌+◌, ◌<◌, ◌≤◌, List, [], ◌∷◌, Bool, true, false, ap, sym, ◌∙◌, refl, subst, ◌⊎◌, inl, inr, length, Option, Some, None, arith}
-use Rattle.std.specs.Prelude.{MatchOption, ◌==◌, if◌then◌else◌}
+use Rattle.std.proofs.Common.{◌≡◌, ℕ, ◌<◌, ◌≤◌, List, [], ◌∷◌, Bool, true, false, ap, sym, ◌∙◌, refl, subst, ◌⊎◌, inl, inr, length, Option, Some, None}
+use Rattle.std.specs.Prelude.{MatchOption}
 use Rattle.std.specs.List.{AllByRecursion}
-use Rattle.std.proofs.lemmas.Bool.{cases_Bool, cases_lt, eqb-true}
+use Rattle.std.proofs.lemmas.Bool.{cases_lt}
 use Rattle.std.proofs.lemmas.List.{get_or_past}
 use Rattle.entry_model.specs.State.{State, empty_state}
 use Rattle.entry_model.specs.Run.{state_at}
@@ -10,13 +10,12 @@ use Rattle.hpt_resize.specs.Rehash.{target_at}
 use Rattle.hpt_resize.specs.Resize.{Table}
 use Rattle.trace_read.specs.Trace.{Accepted}
 use Rattle.reply_text.specs.declared.reply.Reply.{Reply}
-use Rattle.reply_text.specs.Turns.{Turn}
-use Rattle.reply_text.specs.Worlds.{World, states_in}
+use Rattle.reply_text.specs.Worlds.{states_in}
 use Rattle.reply_text.specs.Sections.{Section, closed, sections_of}
 use Rattle.reply_text.specs.Good.{Good, AreLegal}
 use Rattle.reply_text.specs.Promise.{IsAccepted}
 use Rattle.reply_text.specs.Claims.{history_in, closing_state, has_table_of, carried_to, is_committed, ShowsChange, StaysShown, NoStoreIsLostIn}
-use Rattle.reply_text.proofs.Resized.{IsResized, Moves, IsAfter, resized_at}
+use Rattle.reply_text.proofs.Resized.{Moves, IsAfter, resized_at}
 use Rattle.reply_text.proofs.Chain.{AreChained, chained_rest, chained, closed_order, same_number, other_number}
 use Rattle.reply_text.proofs.Stores.{IsDirty, shows, stores_shown}
 

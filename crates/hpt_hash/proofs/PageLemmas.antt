@@ -62,28 +62,29 @@ IsSomeAnd-some : {T : Type 0} (P : T → Type 0) (o : Option T) → IsSomeAnd o 
 IsSomeAnd-some P None h = elim h [ ]
 IsSomeAnd-some P (Some x) h = (x, refl, h)
 
--- The page of an entry is found.
-pub page_at-complete : (order index dword0 dword1 : ℕ) (p : VirtualPage) → 18 ≤ order → IsPage p → IsPageOf order index dword0 dword1 p → page_at order index dword0 dword1 ≡ Some p
+-- How the page of an entry is found: the size that the doublewords encode, and the page that this size makes, of the entry's tag and group.
+record IsMade (order index dword0 dword1 : ℕ) (p : VirtualPage) : Type 0 where
+  valid : is_valid dword0 ≡ true
+  size : PageSize
+  sized : size_of dword0 dword1 ≡ Some size
+  rebuilt : rebuilt_page (is_one_tb dword0) (number_field dword0) size.base (low_hash (index / 8) (is_secondary dword0)) ≡ Some p
+  tag : tag_of p ≡ tag_field dword0
+  group : group_of p order (is_secondary dword0) ≡ index / 8
+
+page_at-made : (order index dword0 dword1 : ℕ) (p : VirtualPage) → IsMade order index dword0 dword1 p → page_at order index dword0 dword1 ≡ Some p
 unfolding page_at
-page_at-complete order index dword0 dword1 p low is entry =
-    let sized = IsSomeAnd-some (λ (size : PageSize). size.base ≡ p.shift) (size_of dword0 dword1) entry.size in
-    let one_tb : is_one_tb dword0 ≡ p.one_tb = one_tb-code p.one_tb dword0 entry.segment in
-    let number : number_field dword0 ≡ virtual_address p / 2 ^ 23 = number_field-tag p dword0 is entry.tag in
-    let hash : low_hash (index / 8) (is_secondary dword0) ≡ hash_of p % 2 ^ 11 = ap (λ g. low_hash g (is_secondary dword0)) (sym entry.group) ∙ low_hash-group p order (is_secondary dword0) low in
-    let rebuilt : rebuilt_page (is_one_tb dword0) (number_field dword0) sized.0.base (low_hash (index / 8) (is_secondary dword0)) ≡ Some p =
-    (λ i. rebuilt_page (one_tb i) (number i) (sized.2 i) (hash i)) ∙ rebuilt_page-is p is in
-    let tag : (tag_of p == tag_field dword0) ≡ true = eq-eqb (tag_of p) (tag_field dword0) entry.tag in
-    let group : (group_of p order (is_secondary dword0) == index / 8) ≡ true = eq-eqb (group_of p order (is_secondary dword0)) (index / 8) entry.group in
+page_at-made order index dword0 dword1 p made =
+    let tag : (tag_of p == tag_field dword0) ≡ true = eq-eqb (tag_of p) (tag_field dword0) made.tag in
+    let group : (group_of p order (is_secondary dword0) == index / 8) ≡ true = eq-eqb (group_of p order (is_secondary dword0)) (index / 8) made.group in
     let confirmed : confirmed_page order index dword0 p ≡ Some p = ap (λ b. if b && (group_of p order (is_secondary dword0) == index / 8) then Some p else None) tag ∙ ap (λ b. if b then Some p else None) group in
-    ap (λ v. if v then option_and_then (page_of_size order index dword0) (size_of dword0 dword1) else None) entry.valid
-    ∙ ap (option_and_then (page_of_size order index dword0)) sized.1
-    ∙ ap (option_and_then (confirmed_page order index dword0)) rebuilt
+    ap (λ v. if v then option_and_then (page_of_size order index dword0) (size_of dword0 dword1) else None) made.valid
+    ∙ ap (option_and_then (page_of_size order index dword0)) made.sized
+    ∙ ap (option_and_then (confirmed_page order index dword0)) made.rebuilt
     ∙ confirmed
 
--- What is found is a page, and the page of the entry.
-pub page_at-sound : (order index dword0 dword1 : ℕ) (p : VirtualPage) → dword0 < 2 ^ 64 → page_at order index dword0 dword1 ≡ Some p → IsPage p × IsPageOf order index dword0 dword1 p
+made-page_at : (order index dword0 dword1 : ℕ) (p : VirtualPage) → page_at order index dword0 dword1 ≡ Some p → IsMade order index dword0 dword1 p
 unfolding page_at
-page_at-sound order index dword0 dword1 p range e =
+made-page_at order index dword0 dword1 p e =
     let valid = if_some (is_valid dword0) (option_and_then (page_of_size order index dword0) (size_of dword0 dword1)) p e in
     let sized = and_then-some (page_of_size order index dword0) (size_of dword0 dword1) p valid.1 in
     let size : PageSize = sized.0 in
@@ -92,20 +93,50 @@ page_at-sound order index dword0 dword1 p range e =
     let confirmed = if_some ((tag_of q == tag_field dword0) && (group_of q order (is_secondary dword0) == index / 8)) (Some q) p rebuilt.2 in
     let same : q ≡ p = let some : Some q ≡ Some p = confirmed.1 in cc in
     let tests = both_true (tag_of q == tag_field dword0) (group_of q order (is_secondary dword0) == index / 8) confirmed.0 in
-    let made = page_of_address-some _ _ _ _ q rebuilt.1 in
-    let tag : tag_of q ≡ tag_field dword0 = eqb-true _ _ tests.0 in
-    let shift : q.shift ≡ size.base = ap (λ (r : VirtualPage). r.shift) made.1 in
-    let found : IsPage q × IsPageOf order index dword0 dword1 q = (
-      made.0,
+    let made : IsMade order index dword0 dword1 q = record { valid = valid.0; size = size; sized = sized.1; rebuilt = rebuilt.1; tag = eqb-true _ _ tests.0; group = eqb-true _ _ tests.1 } in
+    subst (IsMade order index dword0 dword1) same made
+
+-- The page of an entry is found.
+pub page_at-complete : (order index dword0 dword1 : ℕ) (p : VirtualPage) → 18 ≤ order → IsPage p → IsPageOf order index dword0 dword1 p → page_at order index dword0 dword1 ≡ Some p
+page_at-complete order index dword0 dword1 p low is entry =
+    let sized = IsSomeAnd-some (λ (size : PageSize). size.base ≡ p.shift) (size_of dword0 dword1) entry.size in
+    let one_tb : is_one_tb dword0 ≡ p.one_tb = one_tb-code p.one_tb dword0 entry.segment in
+    let number : number_field dword0 ≡ virtual_address p / 2 ^ 23 = number_field-tag p dword0 is entry.tag in
+    let hash : low_hash (index / 8) (is_secondary dword0) ≡ hash_of p % 2 ^ 11 = ap (λ g. low_hash g (is_secondary dword0)) (sym entry.group) ∙ low_hash-group p order (is_secondary dword0) low in
+    let rebuilt : rebuilt_page (is_one_tb dword0) (number_field dword0) sized.0.base (low_hash (index / 8) (is_secondary dword0)) ≡ Some p =
+    (λ i. rebuilt_page (one_tb i) (number i) (sized.2 i) (hash i)) ∙ rebuilt_page-is p is in
+    page_at-made order index dword0 dword1 p (record { valid = entry.valid; size = sized.0; sized = sized.1; rebuilt = rebuilt; tag = entry.tag; group = entry.group })
+
+-- What is found is a page, and the page of the entry.
+pub page_at-sound : (order index dword0 dword1 : ℕ) (p : VirtualPage) → dword0 < 2 ^ 64 → page_at order index dword0 dword1 ≡ Some p → IsPage p × IsPageOf order index dword0 dword1 p
+page_at-sound order index dword0 dword1 p range e =
+    let made = made-page_at order index dword0 dword1 p e in
+    let page = page_of_address-some _ _ _ _ p made.rebuilt in
+    let shift : p.shift ≡ made.size.base = ap (λ (r : VirtualPage). r.shift) page.1 in
+    (
+      page.0,
       record {
-        valid = valid.0;
-        tag = tag;
-        size = subst (λ o. IsSomeAnd o (λ (s : PageSize). s.base ≡ q.shift)) (sym sized.1) (sym shift);
-        segment = segment_code-tag q dword0 made.0 range tag;
-        group = eqb-true _ _ tests.1;
+        valid = made.valid;
+        tag = made.tag;
+        size = subst (λ o. IsSomeAnd o (λ (s : PageSize). s.base ≡ p.shift)) (sym made.sized) (sym shift);
+        segment = segment_code-tag p dword0 page.0 range made.tag;
+        group = made.group;
       },
-    ) in
-    subst (λ r. IsPage r × IsPageOf order index dword0 dword1 r) same found
+    )
+
+-- Doublewords of a page are those of the same page in each group of that page, in a table of any size.
+pub page_at-moved : (from to index target dword0 dword1 : ℕ) (p : VirtualPage) → 18 ≤ from → 18 ≤ to → page_at from index dword0 dword1 ≡ Some p → group_of p to (is_secondary dword0) ≡ target / 8 → page_at to target dword0 dword1 ≡ Some p
+page_at-moved from to index target dword0 dword1 p low low' e there =
+    let made = made-page_at from index dword0 dword1 p e in
+    let secondary : Bool = is_secondary dword0 in
+    let hash : low_hash (target / 8) secondary ≡ low_hash (index / 8) secondary =
+    ap (λ g. low_hash g secondary) (sym there) ∙ low_hash-group p to secondary low' ∙ sym (low_hash-group p from secondary low) ∙ ap (λ g. low_hash g secondary) made.group in
+    let rebuilt = ap (rebuilt_page (is_one_tb dword0) (number_field dword0) made.size.base) hash ∙ made.rebuilt in
+    page_at-made to target dword0 dword1 p (record { valid = made.valid; size = made.size; sized = made.sized; rebuilt = rebuilt; tag = made.tag; group = there })
+
+-- An entry's page has its group.
+pub page_at-group : (order index dword0 dword1 : ℕ) (p : VirtualPage) → page_at order index dword0 dword1 ≡ Some p → group_of p order (is_secondary dword0) ≡ index / 8
+page_at-group order index dword0 dword1 p e = (made-page_at order index dword0 dword1 p e).group
 
 -- The same about an outcome that is `page_at`.
 pub page_at-found : (order index dword0 dword1 : ℕ) (o : Option VirtualPage) → dword0 < 2 ^ 64 → o ≡ page_at order index dword0 dword1 → IfSome o (λ p. IsPage p × IsPageOf order index dword0 dword1 p)

@@ -1,19 +1,20 @@
 -- To a table that isn't smaller no two entries go to one index.
-use Rattle.std.proofs.Common.{◌≡◌, ℕ, ◌+◌, ◌-◌, ◌*◌, ◌/◌, ◌%◌, ◌^◌, ◌<◌, ◌≤◌, ◌==◌, ◌&&◌, if◌then◌else◌, Bool, true, false, Option, Some, None, List, refl, sym, ap, ◌∙◌, subst, arith}
+use Rattle.std.proofs.Common.{◌≡◌, ℕ, ◌+◌, ◌-◌, ◌*◌, ◌/◌, ◌%◌, ◌^◌, ◌<◌, ◌≤◌, ◌&&◌, if◌then◌else◌, Bool, true, false, Option, Some, None, List, refl, sym, ap, ◌∙◌, subst, arith}
 use Rattle.std.specs.Prelude.{option_map}
 use Rattle.std.specs.Option.{option_and_then}
-use Rattle.std.proofs.lemmas.Bool.{and_parts, eqb-true}
+use Rattle.std.proofs.lemmas.Bool.{and_parts}
 use Rattle.std.proofs.Math.Pow.{mod-mod-pow}
 use Rattle.std.proofs.Math.Nat.{mod-lt, div-lt_iff_lt-mul}
 use Rattle.std.proofs.lemmas.Nat.{pow_pos, pow-add, mod-mul-add, div-add-mod'}
-use Rattle.page_sizes.specs.Sizes.{size_of}
-use Rattle.power_addr.specs.Pages.{VirtualPage, tag_of}
-use Rattle.hpte_fields.specs.Fields.{is_valid, is_bolted, is_secondary, is_one_tb, tag_field}
+use Rattle.power_addr.specs.Pages.{VirtualPage}
+use Rattle.hpte_fields.specs.Fields.{is_bolted, is_secondary}
 use Rattle.hpt_hash.specs.Hash.{hash_of, group_of, group_count}
-use Rattle.hpt_hash.specs.Entries.{page_at, page_of_size, confirmed_page, rebuilt_page, number_field, low_hash}
+use Rattle.hpt_hash.specs.Entries.{page_at}
+use Rattle.hpt_hash.proofs.GroupBits.{group_of-lt}
+use Rattle.hpt_hash.proofs.PageLemmas.{page_at-moved, page_at-group}
 use Rattle.entry_model.specs.State.{State}
 use Rattle.entry_model.specs.Run.{state_at}
-use Rattle.hpt_resize.specs.Rehash.{carried_page, target_of, target_at}
+use Rattle.hpt_resize.specs.Rehash.{entry_count, carried_page, target_of, target_at}
 
 -- ---- what a value that is there says of its parts
 and_then_some : {T U : Type 0} (f : T → Option U) (o : Option T) (y : U) → option_and_then f o ≡ Some y → (x : T) × (o ≡ Some x) × (f x ≡ Some y)
@@ -31,25 +32,12 @@ if_some false o y e = cc
 -- ---- an entry that is carried
 pub record IsCarried (from to : ℕ) (state : State) (index target : ℕ) : Type 0 where
   pub page : VirtualPage
+  pub carried : carried_page from state index ≡ Some page
+  pub found : page_at from index state.dword0 state.dword1 ≡ Some page
   pub valid : state.valid ≡ true
   pub bolted : is_bolted state.dword0 ≡ true
   pub here : group_of page from (is_secondary state.dword0) ≡ index / 8
   pub there : group_of page to (is_secondary state.dword0) * 8 + index % 8 ≡ target
-
-confirmed_group : (order index dword0 : ℕ) (p q : VirtualPage) → confirmed_page order index dword0 p ≡ Some q → group_of q order (is_secondary dword0) ≡ index / 8
-confirmed_group order index dword0 p q e =
-    let parts = if_some ((tag_of p == tag_field dword0) && (group_of p order (is_secondary dword0) == index / 8)) (Some p) q e in
-    let same : p ≡ q = let s = parts.1 in cc in
-    let groups = eqb-true (group_of p order (is_secondary dword0)) (index / 8) (and_parts (tag_of p == tag_field dword0) (group_of p order (is_secondary dword0) == index / 8) parts.0).1 in
-    subst (λ (x : VirtualPage). group_of x order (is_secondary dword0) ≡ index / 8) same groups
-
-page_group : (order index dword0 dword1 : ℕ) (p : VirtualPage) → page_at order index dword0 dword1 ≡ Some p → group_of p order (is_secondary dword0) ≡ index / 8
-unfolding page_at
-page_group order index dword0 dword1 p e =
-    let valid = if_some (is_valid dword0) (option_and_then (page_of_size order index dword0) (size_of dword0 dword1)) p e in
-    let sized = and_then_some (page_of_size order index dword0) (size_of dword0 dword1) p valid.1 in
-    let made = and_then_some (confirmed_page order index dword0) (rebuilt_page (is_one_tb dword0) (number_field dword0) sized.0.base (low_hash (index / 8) (is_secondary dword0))) p sized.2 in
-    confirmed_group order index dword0 made.0 p made.2
 
 pub carried_is : (from to : ℕ) (state : State) (index target : ℕ) → target_of from to state index ≡ Some target → IsCarried from to state index target
 unfolding target_of carried_page
@@ -57,7 +45,32 @@ carried_is from to state index target e =
     let made = map_some (λ (page : VirtualPage). group_of page to (is_secondary state.dword0) * 8 + index % 8) (carried_page from state index) target e in
     let flags = if_some (state.valid && is_bolted state.dword0) (page_at from index state.dword0 state.dword1) made.0 made.1 in
     let both = and_parts state.valid (is_bolted state.dword0) flags.0 in
-    record { page = made.0; valid = both.0; bolted = both.1; here = page_group from index state.dword0 state.dword1 made.0 flags.1; there = made.2 }
+    record { page = made.0; carried = made.1; found = flags.1; valid = both.0; bolted = both.1; here = page_at-group from index state.dword0 state.dword1 made.0 flags.1; there = made.2 }
+
+-- An entry with a page that is carried has a target.
+pub page_goes : (from to : ℕ) (state : State) (index : ℕ) (page : VirtualPage) → carried_page from state index ≡ Some page → target_of from to state index ≡ Some (group_of page to (is_secondary state.dword0) * 8 + index % 8)
+unfolding target_of
+page_goes from to state index page e = ap (option_map (λ (page : VirtualPage). group_of page to (is_secondary state.dword0) * 8 + index % 8)) e
+
+-- An entry of a group of a table stands in that table.
+pub slot_in_table : (order group index : ℕ) → 18 ≤ order → group < group_count order → group * 8 + index % 8 < 2 ^ (order - 4)
+slot_in_table order group index large below =
+    let split : 2 ^ (order - 4) ≡ 2 ^ (order - 7) * 2 ^ 3 = ap (λ n. 2 ^ n) (let e : order - 4 ≡ order - 7 + 3 = omega arith in e) ∙ pow-add 2 (order - 7) 3 in
+    omega arith
+
+pub target_in_table : (from to : ℕ) (state : State) (index target : ℕ) → 18 ≤ to → target_of from to state index ≡ Some target → target < entry_count to
+target_in_table from to state index target large e =
+    let is = carried_is from to state index target e in
+    subst (λ n. n < entry_count to) is.there (slot_in_table to (group_of is.page to (is_secondary state.dword0)) index large (group_of-lt is.page to (is_secondary state.dword0)))
+
+-- There it is an entry of the same page.
+pub target_page : (from to : ℕ) (state : State) (index target : ℕ) → 18 ≤ from → 18 ≤ to → (e : target_of from to state index ≡ Some target) → page_at to target state.dword0 state.dword1 ≡ Some (carried_is from to state index target e).page
+target_page from to state index target large large' e =
+    let is = carried_is from to state index target e in
+    let group : ℕ = group_of is.page to (is_secondary state.dword0) in
+    let there : group * 8 + index % 8 ≡ target = is.there in
+    let stands : group ≡ target / 8 = omega arith in
+    page_at-moved from to index target state.dword0 state.dword1 is.page large large' is.found stands
 
 -- ---- groups of one page in two tables
 complement_below : (d q k r : ℕ) → r < k → ((q * k + k + d * k) - 1 - (q * k + r)) % k ≡ k - 1 - r

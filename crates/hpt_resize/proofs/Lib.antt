@@ -1,6 +1,7 @@
 mod Finds
 mod Placed
-mod Groups
+pub mod Groups
+pub mod Rehashed
 mod Preparing
 pub mod Holding
 mod Rows

@@ -14,11 +14,11 @@ use Rattle.hpt_resize.proofs.Finds.{find_none, find_first, found_is, none_found}
 use Rattle.hpt_resize.proofs.Groups.{carried_is, one_source}
 
 -- ---- the test of a target
-target_true : (target : ℕ) (o : Option ℕ) → is_target target o ≡ true → o ≡ Some target
+pub target_true : (target : ℕ) (o : Option ℕ) → is_target target o ≡ true → o ≡ Some target
 target_true target None e = absurd (cc)
 target_true target (Some other) e = ap Some (eqb-true other target e)
 
-target_is : (target : ℕ) (o : Option ℕ) → o ≡ Some target → is_target target o ≡ true
+pub target_is : (target : ℕ) (o : Option ℕ) → o ≡ Some target → is_target target o ≡ true
 target_is target None e = absurd (cc)
 target_is target (Some other) e = eq-eqb other target (cc)
 
@@ -109,7 +109,7 @@ first_is from to states second target first below lower is =
     (target_is target (target_at from to states (0 + first)) (ap (target_at from to states) e ∙ is))
     ∙ ap Some e
 
-first_none : (from to : ℕ) (states : List State) (second target : ℕ) → ((k : ℕ) → k < second → target_at from to states k ≢ Some target) → first_with from to states second target ≡ None
+pub first_none : (from to : ℕ) (states : List State) (second target : ℕ) → ((k : ℕ) → k < second → target_at from to states k ≢ Some target) → first_with from to states second target ≡ None
 unfolding first_with
 first_none from to states second target clear =
     find_none (λ index. is_target target (target_at from to states index)) 0 second

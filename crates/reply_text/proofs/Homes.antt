@@ -3,13 +3,13 @@ use Rattle.std.proofs.Common.{◌≡◌, ℕ, ◌+◌, ◌-◌, ◌^◌, ◌<◌
 use Rattle.std.specs.Prelude.{◌==◌, ◌&&◌, ◌||◌, nat_lt, nat_le, if◌then◌else◌, IfSome}
 use Rattle.std.proofs.lemmas.Bool.{cases_Bool, cond_both, and_parts, eqb-true, ltb-false, leb-true}
 use Rattle.std.proofs.lemmas.List.{length-replicate}
-use Rattle.std.proofs.lemmas.List.FromFn.{length-map-range_with_len}
 use Rattle.papr_codes.specs.declared.codes.Rc.{Rc}
 use Rattle.papr_codes.specs.declared.codes.Rc.TheVariants.{Success, NoMem}
 use Rattle.hpt_pool.specs.Pool.{Pooled, lowest_place}
 use Rattle.entry_model.specs.State.{State}
 use Rattle.hpt_resize.specs.declared.carry.Collision.{Collision}
-use Rattle.hpt_resize.specs.Rehash.{entry_count, entry_at, collision_of, rehashed}
+use Rattle.hpt_resize.specs.Rehash.{collision_of}
+use Rattle.hpt_resize.proofs.Rehashed.{rehashed-length}
 use Rattle.hpt_resize.specs.Pending.{PendingTable, is_ready, advanced}
 use Rattle.hpt_resize.specs.Resize.{Prepared, prepared_as, is_prepare_request, pool_without, is_pending, placed, started, continued, prepared, Table, Committed, commit_refusal, carried_over, completed, answered, committed}
 use Rattle.hpt_resize.specs.Home.{Home, opening_home, prepare_at_home, commit_at_home, empty_states}
@@ -77,10 +77,6 @@ prepare_table home flags shift = refl
 pub record Commits (limit : ℕ) (table : Table) (c : Committed) : Type 0 where
   pub stands : IsHome limit c.pending c.table
   pub moved : (c.rc ≡ Success) ⊎ (c.table ≡ table)
-
-rehashed-length : (from to : ℕ) (states : List State) → length (rehashed from to states) ≡ 2 ^ (to - 4)
-unfolding rehashed
-rehashed-length from to states = length-map-range_with_len (entry_at from to states) 0 (entry_count to)
 
 carried_commits : (limit : ℕ) (pending : PendingTable) (pool : Pooled) (table : Table) (collision : Option Collision) → IsHome limit (Some pending) table → Commits limit table (carried_over pending pool table collision)
 carried_commits limit pending pool table (Some collision) h = record { stands = record { limited = h.limited; low = h.low; size = h.size; allowed = tt }; moved = inr refl }

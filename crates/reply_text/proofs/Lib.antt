@@ -8,3 +8,9 @@ pub mod Homes
 pub mod SerialStands
 pub mod SerialGood
 pub mod TextSteps
+pub mod OneProcessor
+pub mod Resized
+pub mod Chain
+pub mod Stores
+pub mod StoresKept
+mod ClaimRows

@@ -1,9 +1,12 @@
 -- What follows of a run from its being good.
-use Rattle.std.specs.Prelude.{◌≡◌, ◌≢◌, ◌⊎◌, ℕ, ◌+◌, ◌^◌, ◌<◌, ◌≤◌, ◌==◌, Bool, true, false, List, [], ◌∷◌, length, Option, Some, None, MatchBool, MatchOption, if◌then◌else◌}
+use Rattle.std.specs.Prelude.{◌≡◌, ◌≢◌, ℕ, ◌+◌, ◌^◌, ◌<◌, ◌≤◌, ◌==◌, Bool, true, false, not, List, [], ◌∷◌, length, Option, Some, None, MatchBool, MatchOption, if◌then◌else◌}
 use Rattle.std.specs.List.{AllByRecursion}
 use Rattle.frame_grants.specs.declared.grant.Kind.{Kind}
 use Rattle.frame_grants.specs.Grants.{Granted, machine_range}
+use Rattle.papr_codes.specs.declared.calls.Hcall.{Hcall}
+use Rattle.papr_codes.specs.declared.calls.Hcall.TheVariants as calls
 use Rattle.papr_codes.specs.declared.codes.Rc.TheVariants.{Hardware}
+use Rattle.papr_codes.specs.Hcalls.{hcall_of}
 use Rattle.entry_model.specs.State.{State}
 use Rattle.entry_model.specs.declared.access_reply.Outcome.{Outcome}
 use Rattle.entry_model.specs.declared.access_reply.Outcome.TheVariants.{At, Ungranted}
@@ -20,11 +23,14 @@ use Rattle.hpt_hash.specs.Entries.{page_at}
 use Rattle.hpt_resize.specs.Rehash.{target_at, restamped, carried_page}
 use Rattle.hpt_resize.specs.Resize.{Table}
 use Rattle.power_addr.specs.Pages.{VirtualPage}
+use Rattle.trace_read.specs.declared.trace.Act.{Act}
+use Rattle.trace_read.specs.declared.trace.Act.TheVariants as acts
 use Rattle.trace_read.specs.declared.trace.TraceLine.{TraceLine}
 use Rattle.trace_read.specs.Trace.{Accepted, is_quiet}
 use Rattle.reply_text.specs.declared.reply.Reply.{Reply}
 use Rattle.reply_text.specs.declared.reply.Reply.TheVariants as replies
-use Rattle.reply_text.specs.Worlds.{states_in}
+use Rattle.reply_text.specs.Turns.{Turn}
+use Rattle.reply_text.specs.Worlds.{states_in, is_success}
 use Rattle.reply_text.specs.Sections.{Section, made_by, closed, sections_of}
 use Rattle.reply_text.specs.Serial.{serial}
 use Rattle.reply_text.specs.Good.{Good}
@@ -96,20 +102,37 @@ abbrev pub NoStoreIsLost : Type 0
 NoStoreIsLost = (t : Accepted) (rs : List Reply) → IsAccepted t → Good t rs → NoStoreIsLostIn (sections_of t rs)
 
 -- ---- committed resizes
--- The new table's entry at an index is one of a page exactly where an old bolted entry of that page was carried there, and then it has its doublewords, R and C.
-pub record KeepsTranslation (old new : Table) (page : VirtualPage) (index : ℕ) : Type 0 where
-  pub carried : (entry : ℕ) → carried_page old.order (state_at old.states entry) entry ≡ Some page → target_at old.order new.order old.states entry ≡ Some index → (state_at new.states index ≡ restamped (state_at old.states entry)) × (page_at new.order index (state_at new.states index).dword0 (state_at new.states index).dword1 ≡ Some page)
-  pub from_old : (state_at new.states index).valid ≡ true → page_at new.order index (state_at new.states index).dword0 (state_at new.states index).dword1 ≡ Some page → (entry : ℕ) × (entry < length old.states) × (carried_page old.order (state_at old.states entry) entry ≡ Some page) × (target_at old.order new.order old.states entry ≡ Some index)
+-- The call is H_RESIZE_HPT_COMMIT, and the reply H_SUCCESS.
+abbrev pub commits_call : Hcall → Reply → Bool
+commits_call calls.Commit (replies.Hcall h) = is_success h.rc
+commits_call call reply = false
 
-abbrev pub KeepsTranslations : Table → Table → Type 0
-KeepsTranslations old new = (page : VirtualPage) (index : ℕ) → KeepsTranslation old new page index
+abbrev pub commits_by : Act → Reply → Bool
+commits_by (acts.Call number args spelt) reply = commits_call (hcall_of number) reply
+commits_by act reply = false
+
+-- The quiet line behind a section is a commit that succeeded.
+abbrev pub is_committed : Option Turn → Bool
+is_committed None = false
+is_committed (Some q) = commits_by q.line.act q.reply
+
+-- Each bolted entry of a page goes to an index of the new table, has there its doublewords, R and C, and is an entry of that page; and each valid entry of the new table came so.
+pub record KeepsTranslations (old new : Table) : Type 0 where
+  pub carried : (entry : ℕ) (page : VirtualPage) → carried_page old.order (state_at old.states entry) entry ≡ Some page → (index : ℕ) × (target_at old.order new.order old.states entry ≡ Some index) × (state_at new.states index ≡ restamped (state_at old.states entry)) × (page_at new.order index (state_at new.states index).dword0 (state_at new.states index).dword1 ≡ Some page)
+  pub from_old : (index : ℕ) → (state_at new.states index).valid ≡ true → (entry : ℕ) × (page : VirtualPage) × (entry < length old.states) × (carried_page old.order (state_at old.states entry) entry ≡ Some page) × (target_at old.order new.order old.states entry ≡ Some index)
+
+-- What a quiet line leaves of the table: another one exactly where it is a commit that succeeded, which then has the translations; and else the same.
+pub record LeavesTable (s next : Section) : Type 0 where
+  pub told : has_table_of s next ≡ not (is_committed s.quiet)
+  pub keeps : is_committed s.quiet ≡ true → KeepsTranslations (closed s.before s.turns).home.table next.before.home.table
+  pub stays : is_committed s.quiet ≡ false → next.before.home.table ≡ (closed s.before s.turns).home.table
 
 abbrev pub ResizesKeepTranslations : List Section → Type 0
 ResizesKeepTranslations [] = Unit {0}
 ResizesKeepTranslations (s ∷ []) = Unit {0}
-ResizesKeepTranslations (s ∷ next ∷ rest) = (has_table_of s next ≡ false → KeepsTranslations (closed s.before s.turns).home.table next.before.home.table) × ResizesKeepTranslations (next ∷ rest)
+ResizesKeepTranslations (s ∷ next ∷ rest) = LeavesTable s next × ResizesKeepTranslations (next ∷ rest)
 
--- In a good run a committed resize keeps each bolted page's translation.
+-- In a good run a committed resize keeps each bolted page's translation, and no other line changes the table between two sections.
 abbrev pub ResizesKeepBoltedPages : Type 0
 ResizesKeepBoltedPages = (t : Accepted) (rs : List Reply) → IsAccepted t → Good t rs → ResizesKeepTranslations (sections_of t rs)
 

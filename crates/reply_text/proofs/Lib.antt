@@ -7,3 +7,7 @@ pub mod Meets
 pub mod Homes
 pub mod SerialStands
 pub mod SerialGood
+pub mod Mild
+pub mod SafeTurns
+pub mod MildWorlds
+pub mod AllSafe

@@ -11,3 +11,5 @@ pub mod Plans
 pub mod Fronts
 pub mod CachedPages
 mod Rows
+pub mod Heights
+pub mod Tame

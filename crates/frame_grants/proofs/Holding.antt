@@ -60,7 +60,7 @@ none_of true o f has none = absurd (cc)
 none_of false None f has none = refl
 none_of false (Some grant) f has none = absurd (cc)
 
-found_of : (empty : Bool) (o : Option Grant) (f : Grant → ℕ × Kind) (found : ℕ × Kind) → (if empty then None else option_map f o) ≡ Some found → (empty ≡ false) × ((grant : Grant) × (o ≡ Some grant) × (f grant ≡ found))
+pub found_of : (empty : Bool) (o : Option Grant) (f : Grant → ℕ × Kind) (found : ℕ × Kind) → (if empty then None else option_map f o) ≡ Some found → (empty ≡ false) × ((grant : Grant) × (o ≡ Some grant) × (f grant ≡ found))
 found_of true o f found some = absurd (cc)
 found_of false None f found some = absurd (cc)
 found_of false (Some grant) f found some = (refl, (grant, refl, cc))

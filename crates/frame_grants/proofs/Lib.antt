@@ -2,4 +2,5 @@ pub mod Parts
 pub mod Accepting
 pub mod Holding
 pub mod Meeting
+pub mod Landing
 mod Rows

@@ -1,5 +1,6 @@
 pub mod Search
 pub mod Tags
+pub mod Granted
 pub mod Found
 pub mod Decided
 pub mod Walks

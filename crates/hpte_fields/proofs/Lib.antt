@@ -1,4 +1,5 @@
 pub mod Masks
 pub mod Again
 pub mod KeptBits
+pub mod PageBits
 mod Rows

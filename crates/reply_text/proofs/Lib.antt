@@ -14,3 +14,7 @@ pub mod Chain
 pub mod Stores
 pub mod StoresKept
 mod ClaimRows
+pub mod Mild
+pub mod SafeTurns
+pub mod MildWorlds
+pub mod AllSafe

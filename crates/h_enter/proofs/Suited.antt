@@ -1,0 +1,60 @@
+-- What H_ENTER enters, and when it gives H_HARDWARE.
+use Rattle.std.proofs.Common.{◌≡◌, ℕ, ◌+◌, ◌-◌, ◌*◌, ◌/◌, ◌^◌, ◌≤◌, List, [], ◌∷◌, true, false, Option, Some, None, ◌⊎◌, inl, inr, nat_lt, arith, refl}
+use Rattle.std.specs.Prelude.{map, ◌≢◌, if◌then◌else◌}
+use Rattle.std.specs.List.{AllByRecursion}
+use Rattle.std.proofs.lemmas.Bool.{cases_Bool}
+use Rattle.hpte_fields.specs.Fields.{normal_words}
+use Rattle.papr_codes.specs.FlagBits.{has_flag}
+use Rattle.papr_codes.specs.declared.codes.Rc.{Rc}
+use Rattle.papr_codes.specs.declared.codes.Rc.TheVariants.{Parameter, Success, PtegFull, Hardware}
+use Rattle.frame_grants.specs.declared.grant.Grant.{Grant}
+use Rattle.entry_model.specs.declared.operation.Op.{Op}
+use Rattle.entry_model.specs.declared.operation.Op.TheVariants.{Enter}
+use Rattle.entry_model.specs.declared.receipt.Receipt.{Receipt}
+use Rattle.entry_model.specs.Receipt.{is_taken, is_worn}
+use Rattle.entry_model.specs.Trial.{Call, call, entries_from}
+use Rattle.entry_model.proofs.Heights.{calls_cost}
+use Rattle.entry_model.proofs.Tame.{EntersOnly, IsTame, NoneWorn, answered_tame, each_call, entries_cost}
+use Rattle.h_enter.specs.Enter.{candidates, enter_told, enter_plan}
+use Rattle.h_enter.specs.Checks.{h_enter_plan, words_plan, suits_grants}
+
+-- Words whose page is granted with these storage control bits.
+abbrev pub IsSuited : List Grant → ℕ → ℕ → Type 0
+IsSuited grants dword0 dword1 = suits_grants grants dword0 dword1 ≡ true
+
+candidates_cost : (op : Op) (flags ptex : ℕ) → calls_cost (map (call op) (candidates flags ptex)) ≤ 32
+unfolding candidates
+candidates_cost op flags ptex = at (cases_Bool (has_flag flags 0x8000000000)) where
+  at : (has_flag flags 0x8000000000 ≡ true) ⊎ (has_flag flags 0x8000000000 ≡ false) → calls_cost (map (call op) (candidates flags ptex)) ≤ 32
+  at (inl exact) = let one : calls_cost (map (call op) (entries_from ptex 1)) ≤ 32 = omega (arith, entries_cost op ptex 1) in rw exact one
+  at (inr group) = let eight : calls_cost (map (call op) (entries_from (ptex / 8 * 8) 8)) ≤ 32 = omega (arith, entries_cost op (ptex / 8 * 8) 8) in rw group eight
+
+told_one : (r : Receipt) (rs : List Receipt) → is_worn r.answer ≡ false → (enter_told rs).0 ≢ Hardware → (enter_told (r ∷ rs)).0 ≢ Hardware
+told_one r rs fine rest = at (cases_Bool (is_taken r.answer)) where
+  at : (is_taken r.answer ≡ true) ⊎ (is_taken r.answer ≡ false) → (enter_told (r ∷ rs)).0 ≢ Hardware
+  at (inl taken) = rw taken rest
+  at (inr free) = rw (free, fine) (λ e. let never : Success ≡ Hardware = e in cc)
+
+told_fine : (rs : List Receipt) → NoneWorn rs → (enter_told rs).0 ≢ Hardware
+told_fine [] fine = λ e. let never : PtegFull ≡ Hardware = e in cc
+told_fine (r ∷ rs) fine = told_one r rs fine.0 (told_fine rs fine.1)
+
+refused_tame : (grants : List Grant) → IsTame (IsSuited grants) (words_plan grants 0 0 None)
+refused_tame grants = answered_tame (IsSuited grants) Parameter (λ e. let never : Parameter ≡ Hardware = e in cc)
+
+words_tame : (grants : List Grant) (flags ptex : ℕ) (words : Option (ℕ × ℕ)) → IsTame (IsSuited grants) (words_plan grants flags ptex words)
+words_tame grants flags ptex None = refused_tame grants
+words_tame grants flags ptex (Some w) = at (cases_Bool (suits_grants grants w.0 w.1)) where
+  made : IsSuited grants w.0 w.1 → IsTame (IsSuited grants) (enter_plan flags ptex w.0 w.1)
+  made suits = record { enters = each_call (EntersOnly (IsSuited grants)) (Enter w.0 w.1) (candidates flags ptex) suits; few = candidates_cost (Enter w.0 w.1) flags ptex; code = λ rs trial fine. told_fine rs fine }
+
+  at : (suits_grants grants w.0 w.1 ≡ true) ⊎ (suits_grants grants w.0 w.1 ≡ false) → IsTame (IsSuited grants) (words_plan grants flags ptex (Some w))
+  at (inl suits) = rw suits (made suits)
+  at (inr refused) = rw refused (refused_tame grants)
+
+pub h_enter_tame : (order : ℕ) (grants : List Grant) (flags ptex pteh ptel : ℕ) → IsTame (IsSuited grants) (h_enter_plan order grants flags ptex pteh ptel)
+unfolding h_enter_plan
+h_enter_tame order grants flags ptex pteh ptel = at (cases_Bool (nat_lt ptex (2 ^ (order - 4)))) where
+  at : (nat_lt ptex (2 ^ (order - 4)) ≡ true) ⊎ (nat_lt ptex (2 ^ (order - 4)) ≡ false) → IsTame (IsSuited grants) (h_enter_plan order grants flags ptex pteh ptel)
+  at (inl inside) = rw inside (words_tame grants flags ptex (normal_words pteh ptel))
+  at (inr outside) = rw outside (refused_tame grants)

@@ -71,6 +71,7 @@ impl Grants {
     pub fn list(&self) -> &[Grant]
         ensures items { result.now ≡ self.now.grants }
         ensures apart { AreApart self.now }
+        ensures sound { IsSound self.now }
     {
         self.items.as_slice()
     }

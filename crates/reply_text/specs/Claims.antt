@@ -163,3 +163,10 @@ IsSafe granted other = Unit {0}
 -- In a good run each access that is allowed lands in a grant, and in no table; Ungranted and H_HARDWARE never come.
 abbrev pub AccessesLandInGrants : Type 0
 AccessesLandInGrants = (t : Accepted) (rs : List Reply) → IsAccepted t → Good t rs → AllByRecursion (IsSafe t.config.granted) rs
+
+-- ---- all of it
+-- What a run assures its guest: no store is lost, committed resizes keep the bolted pages, and accesses land in granted memory alone.
+pub record Assures (t : Accepted) (rs : List Reply) : Type 0 where
+  pub stores : NoStoreIsLostIn (sections_of t rs)
+  pub pages : ResizesKeepTranslations (sections_of t rs)
+  pub landings : AllByRecursion (IsSafe t.config.granted) rs

@@ -1,13 +1,8 @@
-ghost use Rattle.std.specs.Prelude.{◌≡◌, false};
-ghost use Rattle.papr_codes.specs.Hcalls.{hcall_of};
+ghost use Rattle.std.specs.Prelude.{◌≡◌, false, length};
 ghost use Rattle.entry_model.specs.Cache.{AllCached};
-ghost use Rattle.entry_model.specs.Run.{IsRun};
 ghost use Rattle.papr_table.specs.Table.{IsSeen};
 ghost use Rattle.trace_read.specs.Trace.{is_quiet};
-ghost use Rattle.reply_text.specs.Calls.{hcall_plan};
-ghost use Rattle.reply_text.specs.Turns.{receipts_in};
 ghost use Rattle.reply_text.specs.Seats.{seat_after};
-ghost use Rattle.reply_text.specs.Standing.{IsTurn};
 ghost use Rattle.trace_runner.specs.Lines.{IsActed, setting_on};
 
 use crate::calls::make_call;
@@ -25,6 +20,7 @@ pub fn run_act(table: &mut PlainTable, cpu: &mut Cpu, grants: &Grants, act: &Act
     ensures turn { IsActed (setting_on table.old.order grants.now) cpu.old table.old.states act.now result table.new.states }
     ensures seat { cpu.new ≡ seat_after cpu.old act.now result }
     ensures order { table.new.order ≡ table.old.order }
+    ensures size { length table.new.states ≡ length table.old.states }
     ensures seen { AllCached (IsSeen table.new) cpu.new.cache }
 {
     match *act {

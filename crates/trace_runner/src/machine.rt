@@ -1,7 +1,7 @@
 ghost use Rattle.std.specs.Prelude.{◌≡◌, ◌<◌, ◌≤◌, ◌+◌, ◌-◌, ◌^◌, length, map, true, false, replicate, IfOk, OnOk, vec_len};
 ghost use Rattle.hpt_walk.specs.Seats.{empty_seat};
 ghost use Rattle.trace_read.specs.Trace.{is_quiet};
-ghost use Rattle.reply_text.specs.Worlds.{opening, quiet_of, resize_of, shown_of, without_cache};
+ghost use Rattle.reply_text.specs.Worlds.{opening, quiet_of, resize_of, shown_of, without_cache, is_success};
 ghost use Rattle.reply_text.specs.Serial.{line_reply};
 
 use crate::act::run_act;
@@ -43,6 +43,12 @@ fn empty_cpus(alloc: Global, count: u32) -> Result<Vec<Cpu>, AllocError>
         cpus.push(Cpu::new())?;
     }
     Ok(cpus)
+}
+
+fn is_success(rc: Rc) -> bool
+    ensures { result ≡ is_success rc }
+{
+    matches!(rc, Rc::Success)
 }
 
 /// Clears the cache of each processor.
@@ -135,7 +141,7 @@ impl Machine {
             Hcall::Prepare => self.partition.prepare(alloc, args[0], args[1]),
             Hcall::Commit => {
                 let reply = self.partition.commit(args[0], args[1]);
-                if matches!(reply.rc, Rc::Success) {
+                if is_success(reply.rc) {
                     clear_caches(&mut self.cpus);
                 }
                 Ok(reply)

@@ -1,8 +1,11 @@
-ghost use Rattle.std.specs.Prelude.{◌≡◌, length, IfOk};
+ghost use Rattle.std.specs.Prelude.{◌≡◌, ◌≤◌, ◌<◌, ◌^◌, length, IfOk, OnOk};
+ghost use Rattle.std.specs.List.{AllByRecursion};
+ghost use Rattle.trace_read.specs.declared.trace.TraceLine.{TraceLine};
 ghost use Rattle.reply_text.specs.Worlds.{opening, shown_of};
-ghost use Rattle.reply_text.specs.Serial.{serial, world_after};
+ghost use Rattle.reply_text.specs.Serial.{serial, replies_from, world_after};
 ghost use Rattle.reply_text.specs.Promise.{IsAccepted};
 ghost use Rattle.reply_text.specs.Good.{Good};
+ghost use Rattle.reply_text.specs.Claims.{Assures};
 
 use crate::machine::Machine;
 use reply_text::{Replies, Shown};
@@ -39,14 +42,18 @@ fn run_lines(
 /// What each accepted trace has.
 fn keeps_limits(trace: &Trace)
     ensures { IsAccepted trace.now }
-{}
+{
+    let _limit = trace.config.limit;
+    let _grants = trace.config.grants.list();
+    let _lines = trace.lines.as_slice();
+}
 
 /// The replies of the serial run of a trace, and the table at its end: its lines one after the other
 /// in file order, on a table that begins empty.
 pub fn run_with_table(alloc: Global, trace: &Trace) -> Result<Ran, AllocError>
     ensures replies { IfOk result (λ ran. ran.replies.items ≡ serial trace.now) }
     ensures table { IfOk result (λ ran. ran.table ≡ shown_of (world_after (opening trace.now.config) trace.now.lines).home) }
-    ensures accepted { IsAccepted trace.now }
+    ensures good { Good trace.now (serial trace.now) }
 {
     keeps_limits(trace);
     let mut machine = Machine::open(alloc, &trace.config)?;
@@ -59,6 +66,7 @@ pub fn run_with_table(alloc: Global, trace: &Trace) -> Result<Ran, AllocError>
 pub fn run_serial(alloc: Global, trace: &Trace) -> Result<Replies, AllocError>
     ensures replies { IfOk result (λ r. r.items ≡ serial trace.now) }
     ensures good { Good trace.now (serial trace.now) }
+    ensures assured { Assures trace.now (serial trace.now) }
 {
     keeps_limits(trace);
     let mut machine = Machine::open(alloc, &trace.config)?;

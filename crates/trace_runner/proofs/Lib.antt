@@ -1,0 +1,5 @@
+pub mod Acting
+pub mod Holding
+pub mod Resizing
+pub mod RunSteps
+pub mod Assured

@@ -1,8 +1,7 @@
 -- How far receipts raise an entry's stamp. A removal pays with the entry that it empties, so that only other receipts count.
-use Rattle.std.proofs.Common.{◌≡◌, ℕ, ◌+◌, ◌*◌, ◌<◌, ◌≤◌, List, [], ◌∷◌, ◌++◌, Bool, true, false, cond, ap, sym, ◌∙◌, refl, subst, ◌⊎◌, inl, inr, length, arith}
+use Rattle.std.proofs.Common.{◌≡◌, ℕ, ◌+◌, ◌≤◌, List, [], ◌∷◌, ◌++◌, Bool, true, false, cond, ap, ◌∙◌, refl, arith}
 use Rattle.std.specs.Prelude.{if◌then◌else◌, ◌==◌, ◌||◌, filter, MatchBool}
-use Rattle.std.specs.List.{AllByRecursion}
-use Rattle.std.proofs.lemmas.Bool.{cases_Bool, and_parts, eqb-true}
+use Rattle.std.proofs.lemmas.Bool.{and_parts, eqb-true}
 use Rattle.storage_prot.specs.Protection.{allowed}
 use Rattle.hpte_fields.specs.Fields.{protected_word, pp_of, is_no_execute}
 use Rattle.entry_model.specs.State.{State, empty_state}
@@ -12,8 +11,8 @@ use Rattle.entry_model.specs.declared.operation.Op.{Op}
 use Rattle.entry_model.specs.declared.operation.Op.TheVariants as ops
 use Rattle.entry_model.specs.declared.operation.Test.{Test}
 use Rattle.entry_model.specs.declared.receipt.Receipt.{Receipt}
-use Rattle.entry_model.specs.Receipt.{after_of, is_worn, is_at}
-use Rattle.entry_model.specs.Reply.{reply_of, changed_to, changed_where, entered, is_found, is_match, matched, touched, fits_avpn, fits_andcond}
+use Rattle.entry_model.specs.Receipt.{is_worn, is_at}
+use Rattle.entry_model.specs.Reply.{reply_of, changed_to, changed_where, entered, is_found, is_match, matched, touched}
 use Rattle.entry_model.specs.History.{history, Regrouped, nothing, kept, swapped, twice}
 use Rattle.entry_model.specs.Trial.{Call, IsTrial}
 use Rattle.entry_model.proofs.Regroup.{sort_regroups}

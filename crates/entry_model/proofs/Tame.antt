@@ -1,5 +1,5 @@
 -- Plans of hypervisor calls: what they enter, how far they raise stamps, and when they give H_HARDWARE.
-use Rattle.std.proofs.Common.{◌≡◌, ℕ, zero, suc, ◌+◌, ◌*◌, ◌≤◌, List, [], ◌∷◌, Bool, true, false, ap, sym, ◌∙◌, refl, subst, map, arith}
+use Rattle.std.proofs.Common.{◌≡◌, ℕ, zero, suc, ◌+◌, ◌*◌, ◌≤◌, List, [], ◌∷◌, Bool, true, false, sym, subst, map, arith}
 use Rattle.std.specs.Prelude.{◌≢◌, MatchBool}
 use Rattle.std.specs.List.{AllByRecursion}
 use Rattle.papr_codes.specs.declared.codes.Rc.{Rc}

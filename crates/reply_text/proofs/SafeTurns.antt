@@ -29,7 +29,7 @@ use Rattle.entry_model.specs.declared.receipt.Receipt.{Receipt}
 use Rattle.entry_model.specs.Receipt.{is_at, is_no_match}
 use Rattle.entry_model.specs.Cache.{cached}
 use Rattle.entry_model.specs.Trial.{Call, IsTrial, IsReplyOf, call, entries_from}
-use Rattle.entry_model.proofs.Heights.{weight, calls_cost, trial_weight, at_valid}
+use Rattle.entry_model.proofs.Heights.{weight, calls_cost, trial_weight, at_valid, cost_append}
 use Rattle.entry_model.proofs.Tame.{EntersOnly, IsTame, IsTameReply, answered_tame, tame_reply, trial_ops, each_call, entries_cost}
 use Rattle.h_enter.specs.Checks.{suits_grants, suits_size, suits_kind}
 use Rattle.h_enter.proofs.Suited.{IsSuited, h_enter_tame}
@@ -65,10 +65,8 @@ unfolding suits_grants
 suited_granted grants dword0 dword1 h = words_granted grants dword1 (size_of dword0 dword1) h
 
 enters_granted : (grants : List Grant) (op : Op) → EntersOnly (IsSuited grants) op → EntersOnly (IsGrantedWords grants) op
-enters_granted grants op h = at op h where
-  at : (o : Op) → EntersOnly (IsSuited grants) o → EntersOnly (IsGrantedWords grants) o
-  at (ops.Enter dword0 dword1) h = suited_granted grants dword0 dword1 h
-  at other h = tt
+enters_granted grants (ops.Enter dword0 dword1) h = suited_granted grants dword0 dword1 h
+enters_granted grants other h = tt
 
 -- ---- hypervisor calls
 hcall_tame : (set : Setting) (h : Hcall) (args : List ℕ) → IsTame (IsSuited set.grants) (hcall_plan set h args)
@@ -124,10 +122,6 @@ unfolding outcome_of
 outcome_lands granted ea o rs apart e mild = subst (Lands granted) (sym e) (found_lands granted ea (found_of rs) apart (each_found (λ (r : Receipt). IsMild granted.grants top r.before) rs mild))
 
 -- ---- accesses
-cost_append : (xs ys : List Call) → calls_cost (xs ++ ys) ≡ calls_cost xs + calls_cost ys
-cost_append [] ys = omega arith
-cost_append (x ∷ xs) ys = omega (arith, cost_append xs ys)
-
 access_line : (granted : Granted) (set : Setting) (ea : ℕ) (r : AccessReply) (cs : List Call) → AreApart granted → set.grants ≡ granted.grants → AllByRecursion (λ (c : Call). EntersOnly (IsGrantedWords granted.grants) c.op) cs → calls_cost cs ≤ 32 → IsTrial is_no_match cs r.receipts → r.outcome ≡ outcome_of set.grants ea r.receipts → IsTameLine granted (replies.Access r)
 access_line granted set ea r cs apart same enters low trial outcome = record {
   enters = trial_ops (EntersOnly (IsGrantedWords granted.grants)) is_no_match cs r.receipts enters trial;

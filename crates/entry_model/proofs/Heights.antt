@@ -1,8 +1,7 @@
 -- How far receipts raise an entry's stamp. A removal pays with the entry that it empties, so that only other receipts count.
-use Rattle.std.proofs.Common.{◌≡◌, ℕ, ◌+◌, ◌*◌, ◌<◌, ◌≤◌, List, [], ◌∷◌, ◌++◌, Bool, true, false, cond, ap, sym, ◌∙◌, refl, subst, ◌⊎◌, inl, inr, length, arith}
+use Rattle.std.proofs.Common.{◌≡◌, ℕ, ◌+◌, ◌≤◌, List, [], ◌∷◌, ◌++◌, Bool, true, false, cond, ap, ◌∙◌, refl, arith}
 use Rattle.std.specs.Prelude.{if◌then◌else◌, ◌==◌, ◌||◌, filter, MatchBool}
-use Rattle.std.specs.List.{AllByRecursion}
-use Rattle.std.proofs.lemmas.Bool.{cases_Bool, and_parts, eqb-true}
+use Rattle.std.proofs.lemmas.Bool.{and_parts, eqb-true}
 use Rattle.storage_prot.specs.Protection.{allowed}
 use Rattle.hpte_fields.specs.Fields.{protected_word, pp_of, is_no_execute}
 use Rattle.entry_model.specs.State.{State, empty_state}
@@ -12,8 +11,8 @@ use Rattle.entry_model.specs.declared.operation.Op.{Op}
 use Rattle.entry_model.specs.declared.operation.Op.TheVariants as ops
 use Rattle.entry_model.specs.declared.operation.Test.{Test}
 use Rattle.entry_model.specs.declared.receipt.Receipt.{Receipt}
-use Rattle.entry_model.specs.Receipt.{after_of, is_worn, is_at}
-use Rattle.entry_model.specs.Reply.{reply_of, changed_to, changed_where, entered, is_found, is_match, matched, touched, fits_avpn, fits_andcond}
+use Rattle.entry_model.specs.Receipt.{is_worn, is_at}
+use Rattle.entry_model.specs.Reply.{reply_of, changed_to, changed_where, entered, is_found, is_match, matched, touched}
 use Rattle.entry_model.specs.History.{history, Regrouped, nothing, kept, swapped, twice}
 use Rattle.entry_model.specs.Trial.{Call, IsTrial}
 use Rattle.entry_model.proofs.Regroup.{sort_regroups}
@@ -100,6 +99,10 @@ abbrev pub calls_cost : List Call → ℕ
 calls_cost [] = 0
 calls_cost (c ∷ cs) = cost c.op + calls_cost cs
 
+pub cost_append : (xs ys : List Call) → calls_cost (xs ++ ys) ≡ calls_cost xs + calls_cost ys
+cost_append [] ys = omega arith
+cost_append (x ∷ xs) ys = omega (arith, cost_append xs ys)
+
 trial_step : (goes : Bool) (op other : Op) (cs : List Call) (rs : List Receipt) (P : Type 0) → other ≡ op → MatchBool goes P (rs ≡ []) → (P → weight rs ≤ calls_cost cs) → cost other + weight rs ≤ cost op + calls_cost cs
 trial_step true op other cs rs P same h rest = let e : cost other ≡ cost op = ap cost same in omega (arith, rest h)
 trial_step false op other cs rs P same h rest =
@@ -115,7 +118,7 @@ trial_weight goes (c ∷ cs) [] h = absurd h
 trial_weight goes (c ∷ cs) (r ∷ rs) h = trial_step (goes r.answer) c.op r.op cs rs (IsTrial goes cs rs) h.0.op h.1 (λ k. trial_weight goes cs rs k)
 
 -- ---- what the answers tell of the state before
--- Worn comes at the last stamp alone.
+-- P holds where the answer passes the test.
 abbrev Tells : (Answer → Bool) → Type 0 → Answer × State → Type 0
 Tells test P x = test x.0 ≡ true → P
 
@@ -129,6 +132,7 @@ changed_worn s answer next other = either_tells (s.stamp == 0xFFFFFFFF) is_worn 
 where_worn : (found : Bool) (s : State) (answer : Answer) (next : State) → is_worn answer ≡ false → Tells is_worn (s.stamp ≡ 0xFFFFFFFF) (changed_where found s answer next)
 where_worn found s answer next other = either_tells found is_worn (s.stamp ≡ 0xFFFFFFFF) (changed_to s answer next) (answers.NotFound, s) (λ _. changed_worn s answer next other) (λ _ h. cc)
 
+-- Worn comes at the last stamp alone.
 pub worn_last : (s : State) (op : Op) → is_worn (reply_of s op).0 ≡ true → s.stamp ≡ 0xFFFFFFFF
 worn_last s (ops.Enter dword0 dword1) = either_tells s.valid is_worn (s.stamp ≡ 0xFFFFFFFF) (answers.Taken, s) (changed_to s answers.Entered (entered dword0 dword1)) (λ _ h. cc) (λ _. changed_worn s answers.Entered (entered dword0 dword1) refl)
 worn_last s (ops.Remove test) = where_worn (is_found s test) s answers.Removed (empty_state 0) refl

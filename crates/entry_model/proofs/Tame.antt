@@ -1,12 +1,12 @@
 -- Plans of hypervisor calls: what they enter, how far they raise stamps, and when they give H_HARDWARE.
-use Rattle.std.proofs.Common.{◌≡◌, ℕ, zero, suc, ◌+◌, ◌*◌, ◌≤◌, List, [], ◌∷◌, Bool, true, false, ap, sym, ◌∙◌, refl, subst, map, arith}
+use Rattle.std.proofs.Common.{◌≡◌, ℕ, zero, suc, ◌+◌, ◌*◌, ◌≤◌, List, [], ◌∷◌, Bool, true, false, sym, subst, map, arith}
 use Rattle.std.specs.Prelude.{◌≢◌, MatchBool}
 use Rattle.std.specs.List.{AllByRecursion}
 use Rattle.papr_codes.specs.declared.codes.Rc.{Rc}
 use Rattle.papr_codes.specs.declared.codes.Rc.TheVariants.{Hardware}
 use Rattle.entry_model.specs.declared.operation.Answer.{Answer}
 use Rattle.entry_model.specs.declared.operation.Op.{Op}
-use Rattle.entry_model.specs.declared.operation.Op.TheVariants.{Enter}
+use Rattle.entry_model.specs.declared.operation.Op.TheVariants.{Enter, Remove}
 use Rattle.entry_model.specs.declared.receipt.Receipt.{Receipt}
 use Rattle.entry_model.specs.declared.hreply.HReply.{HReply}
 use Rattle.entry_model.specs.Receipt.{is_worn}
@@ -36,10 +36,8 @@ each_call Q op [] h = tt
 each_call Q op (e ∷ es) h = (h, each_call Q op es h)
 
 cost_low : (op : Op) → cost op ≤ 2
-cost_low op = at op where
-  at : (o : Op) → cost o ≤ 2
-  at (Enter dword0 dword1) = omega arith
-  at other = omega arith
+cost_low (Remove test) = omega arith
+cost_low other = omega arith
 
 pub entries_cost : (op : Op) (first n : ℕ) → calls_cost (map (call op) (entries_from first n)) ≤ n * 2
 entries_cost op first zero = omega arith

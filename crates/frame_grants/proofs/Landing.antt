@@ -1,11 +1,11 @@
 -- Where one address of a logical range that lies in a grant lands.
-use Rattle.std.proofs.Common.{◌≡◌, ℕ, ◌+◌, ◌-◌, ◌<◌, ◌≤◌, ◌^◌, ◌==◌, if◌then◌else◌, Bool, true, false, List, find, All, Contains, Option, Some, None, refl, sym, ap, subst, ◌∙◌, inl, inr, ◌⊎◌, arith}
+use Rattle.std.proofs.Common.{◌≡◌, ℕ, ◌+◌, ◌<◌, ◌≤◌, ◌^◌, ◌==◌, true, false, List, find, Option, Some, None, refl, sym, ap, ◌∙◌, arith}
 use Rattle.std.specs.Prelude.{option_map}
 use Rattle.std.proofs.lemmas.Bool.Decides.{nat_tests}
 use Rattle.std.proofs.lemmas.List.Elements.{All-contains}
 use Rattle.frame_grants.specs.declared.grant.Grant.{Grant}
 use Rattle.frame_grants.specs.declared.grant.Kind.{Kind}
-use Rattle.frame_grants.specs.Ranges.{ranges_meet, range_within}
+use Rattle.frame_grants.specs.Ranges.{ranges_meet}
 use Rattle.frame_grants.specs.Grants.{Granted, AreApart, holds, machine_at, machine_range}
 use Rattle.frame_grants.proofs.Parts.{find-Some, find-None}
 use Rattle.frame_grants.proofs.Holding.{found_of, machine_range-off_pool}

@@ -1,18 +1,16 @@
 -- What H_ENTER enters, and when it gives H_HARDWARE.
-use Rattle.std.proofs.Common.{◌≡◌, ℕ, ◌+◌, ◌-◌, ◌*◌, ◌/◌, ◌^◌, ◌≤◌, List, [], ◌∷◌, true, false, Option, Some, None, ◌⊎◌, inl, inr, nat_lt, arith, refl}
-use Rattle.std.specs.Prelude.{map, ◌≢◌, if◌then◌else◌}
-use Rattle.std.specs.List.{AllByRecursion}
+use Rattle.std.proofs.Common.{◌≡◌, ℕ, ◌-◌, ◌*◌, ◌/◌, ◌^◌, ◌≤◌, List, [], ◌∷◌, true, false, Option, Some, None, ◌⊎◌, inl, inr, nat_lt, arith}
+use Rattle.std.specs.Prelude.{map, ◌≢◌}
 use Rattle.std.proofs.lemmas.Bool.{cases_Bool}
 use Rattle.hpte_fields.specs.Fields.{normal_words}
 use Rattle.papr_codes.specs.FlagBits.{has_flag}
-use Rattle.papr_codes.specs.declared.codes.Rc.{Rc}
-use Rattle.papr_codes.specs.declared.codes.Rc.TheVariants.{Parameter, Success, PtegFull, Hardware}
+use Rattle.papr_codes.specs.declared.codes.Rc.TheVariants.{Parameter, Hardware}
 use Rattle.frame_grants.specs.declared.grant.Grant.{Grant}
 use Rattle.entry_model.specs.declared.operation.Op.{Op}
 use Rattle.entry_model.specs.declared.operation.Op.TheVariants.{Enter}
 use Rattle.entry_model.specs.declared.receipt.Receipt.{Receipt}
 use Rattle.entry_model.specs.Receipt.{is_taken, is_worn}
-use Rattle.entry_model.specs.Trial.{Call, call, entries_from}
+use Rattle.entry_model.specs.Trial.{answered_by, call, entries_from}
 use Rattle.entry_model.proofs.Heights.{calls_cost}
 use Rattle.entry_model.proofs.Tame.{EntersOnly, IsTame, NoneWorn, answered_tame, each_call, entries_cost}
 use Rattle.h_enter.specs.Enter.{candidates, enter_told, enter_plan}
@@ -33,14 +31,14 @@ told_one : (r : Receipt) (rs : List Receipt) → is_worn r.answer ≡ false → 
 told_one r rs fine rest = at (cases_Bool (is_taken r.answer)) where
   at : (is_taken r.answer ≡ true) ⊎ (is_taken r.answer ≡ false) → (enter_told (r ∷ rs)).0 ≢ Hardware
   at (inl taken) = rw taken rest
-  at (inr free) = rw (free, fine) (λ e. let never : Success ≡ Hardware = e in cc)
+  at (inr free) = rw (free, fine) (λ e. cc)
 
 told_fine : (rs : List Receipt) → NoneWorn rs → (enter_told rs).0 ≢ Hardware
-told_fine [] fine = λ e. let never : PtegFull ≡ Hardware = e in cc
+told_fine [] fine = λ e. cc
 told_fine (r ∷ rs) fine = told_one r rs fine.0 (told_fine rs fine.1)
 
-refused_tame : (grants : List Grant) → IsTame (IsSuited grants) (words_plan grants 0 0 None)
-refused_tame grants = answered_tame (IsSuited grants) Parameter (λ e. let never : Parameter ≡ Hardware = e in cc)
+refused_tame : (grants : List Grant) → IsTame (IsSuited grants) (answered_by Parameter)
+refused_tame grants = answered_tame (IsSuited grants) Parameter (λ e. cc)
 
 words_tame : (grants : List Grant) (flags ptex : ℕ) (words : Option (ℕ × ℕ)) → IsTame (IsSuited grants) (words_plan grants flags ptex words)
 words_tame grants flags ptex None = refused_tame grants

@@ -1,6 +1,6 @@
 -- The calls on entries that are there enter nothing, and give H_HARDWARE only where an entry was worn.
-use Rattle.std.proofs.Common.{◌≡◌, ℕ, ◌+◌, ◌-◌, ◌*◌, ◌^◌, ◌≤◌, List, [], ◌∷◌, true, false, Option, Some, None, ◌⊎◌, inl, inr, nat_lt, arith, refl, subst}
-use Rattle.std.specs.Prelude.{map, not, ◌≢◌, MatchBool}
+use Rattle.std.proofs.Common.{◌≡◌, ℕ, ◌-◌, ◌^◌, ◌≤◌, List, [], ◌∷◌, true, false, ◌⊎◌, inl, inr, nat_lt, arith}
+use Rattle.std.specs.Prelude.{map, ◌≢◌, MatchBool}
 use Rattle.std.specs.List.{AllByRecursion}
 use Rattle.std.proofs.lemmas.Bool.{cases_Bool}
 use Rattle.papr_codes.specs.FlagBits.{has_flag}
@@ -12,7 +12,7 @@ use Rattle.entry_model.specs.declared.operation.Op.{Op}
 use Rattle.entry_model.specs.declared.operation.Op.TheVariants as ops
 use Rattle.entry_model.specs.declared.receipt.Receipt.{Receipt}
 use Rattle.entry_model.specs.Receipt.{is_worn}
-use Rattle.entry_model.specs.Trial.{Call, IsTrial, call}
+use Rattle.entry_model.specs.Trial.{Call, IsTrial, answered_by, call}
 use Rattle.entry_model.proofs.Heights.{cost, calls_cost}
 use Rattle.entry_model.proofs.Tame.{EntersOnly, IsTame, NoneWorn, answered_tame, each_call}
 use Rattle.h_update.specs.declared.bulk.Asked.{Asked}
@@ -23,22 +23,22 @@ use Rattle.h_update.proofs.BulkSteps.{not_worn}
 
 -- ---- one entry
 answer_fine : (answer : Answer) (words : List ℕ) → is_worn answer ≡ false → (code_and_words answer words).0 ≢ rc.Hardware
-answer_fine answers.Worn words fine = absurd (let never : true ≡ false = fine in cc)
-answer_fine answers.NotFound words fine = λ e. let never : rc.NotFound ≡ rc.Hardware = e in cc
-answer_fine other words fine = λ e. let never : rc.Success ≡ rc.Hardware = e in cc
+answer_fine answers.Worn words fine = absurd (cc)
+answer_fine answers.NotFound words fine = λ e. cc
+answer_fine other words fine = λ e. cc
 
 told_fine : (words : Receipt → List ℕ) (rs : List Receipt) → NoneWorn rs → (told_by words rs).0 ≢ rc.Hardware
-told_fine words [] fine = λ e. let never : rc.Parameter ≡ rc.Hardware = e in cc
+told_fine words [] fine = λ e. cc
 told_fine words (r ∷ rs) fine = answer_fine r.answer (words r) fine.0
 
-parameter_tame : (W : ℕ → ℕ → Type 0) → rc.Parameter ≢ rc.Hardware
-parameter_tame W = λ e. cc
+refused_tame : (W : ℕ → ℕ → Type 0) → IsTame W (answered_by rc.Parameter)
+refused_tame W = answered_tame W rc.Parameter (λ e. cc)
 
 single_tame : (W : ℕ → ℕ → Type 0) (order ptex : ℕ) (op : Op) (words : Receipt → List ℕ) → EntersOnly W op → cost op ≤ 32 → IsTame W (single_plan order ptex op words)
 single_tame W order ptex op words enters low = at (cases_Bool (nat_lt ptex (2 ^ (order - 4)))) where
   at : (nat_lt ptex (2 ^ (order - 4)) ≡ true) ⊎ (nat_lt ptex (2 ^ (order - 4)) ≡ false) → IsTame W (single_plan order ptex op words)
   at (inl inside) = rw inside (record { enters = (enters, tt); few = omega arith; code = λ rs trial fine. told_fine words rs fine })
-  at (inr outside) = rw outside (answered_tame W rc.Parameter (parameter_tame W))
+  at (inr outside) = rw outside (refused_tame W)
 
 pub h_remove_tame : (W : ℕ → ℕ → Type 0) (order flags ptex avpn : ℕ) → IsTame W (h_remove_plan order flags ptex avpn)
 unfolding h_remove_plan
@@ -67,8 +67,8 @@ pub h_read_tame : (W : ℕ → ℕ → Type 0) (order flags ptex : ℕ) → IsTa
 unfolding h_read_plan
 h_read_tame W order flags ptex = at (cases_Bool (nat_lt ptex (2 ^ (order - 4)))) where
   at : (nat_lt ptex (2 ^ (order - 4)) ≡ true) ⊎ (nat_lt ptex (2 ^ (order - 4)) ≡ false) → IsTame W (h_read_plan order flags ptex)
-  at (inl inside) = rw inside (record { enters = each_call (EntersOnly W) ops.Read (read_entries flags ptex) tt; few = reads_cost flags ptex; code = λ rs trial fine e. let never : rc.Success ≡ rc.Hardware = e in cc })
-  at (inr outside) = rw outside (answered_tame W rc.Parameter (parameter_tame W))
+  at (inl inside) = rw inside (record { enters = each_call (EntersOnly W) ops.Read (read_entries flags ptex) tt; few = reads_cost flags ptex; code = λ rs trial fine e. cc })
+  at (inr outside) = rw outside (refused_tame W)
 
 -- ---- H_BULK_REMOVE
 before_enters : (W : ℕ → ℕ → Type 0) (asks : Asked) (cs : List Call) → AllByRecursion (λ (c : Call). EntersOnly W c.op) cs → AllByRecursion (λ (c : Call). EntersOnly W c.op) (calls_before asks cs)
@@ -95,8 +95,8 @@ going : (r : Receipt) (cs : List Call) (rs : List Receipt) → is_worn r.answer 
 going r cs rs fine h = rw fine at h
 
 pair_fine : (asks : Asked) (p : Pair) (ps : List Pair) (cs : List Call) (rs : List Receipt) (rest : List Receipt → Rc × List ℕ) → IsTrial not_worn (calls_before asks cs) rs → NoneWorn rs → ((more : List Receipt) → IsTrial not_worn cs more → NoneWorn more → (rest more).0 ≢ rc.Hardware) → (pair_told asks p ps rs rest).0 ≢ rc.Hardware
-pair_fine End p ps cs rs rest trial fine later = λ e. let never : rc.Success ≡ rc.Hardware = e in cc
-pair_fine Refused p ps cs rs rest trial fine later = λ e. let never : rc.Parameter ≡ rc.Hardware = e in cc
+pair_fine End p ps cs rs rest trial fine later = λ e. cc
+pair_fine Refused p ps cs rs rest trial fine later = λ e. cc
 pair_fine (Remove entry test) p ps cs [] rest trial fine later = absurd trial
 pair_fine (Remove entry test) p ps cs (r ∷ rs) rest trial fine later =
     let fine' : is_worn r.answer ≡ false = fine.0 in
@@ -104,7 +104,7 @@ pair_fine (Remove entry test) p ps cs (r ∷ rs) rest trial fine later =
 
 bulk_fine : (order : ℕ) (ps : List Pair) (rs : List Receipt) → IsTrial not_worn (bulk_calls order ps) rs → NoneWorn rs → (bulk_told order ps rs).0 ≢ rc.Hardware
 unfolding bulk_calls bulk_told
-bulk_fine order [] rs trial fine = λ e. let never : rc.Success ≡ rc.Hardware = e in cc
+bulk_fine order [] rs trial fine = λ e. cc
 bulk_fine order (p ∷ ps) rs trial fine = pair_fine (asked_by order p) p ps (bulk_calls order ps) rs (bulk_told order ps) trial fine (λ more t f. bulk_fine order ps more t f)
 
 pub h_bulk_remove_tame : (W : ℕ → ℕ → Type 0) (order : ℕ) (words : List ℕ) → IsTame W (h_bulk_remove_plan order words)

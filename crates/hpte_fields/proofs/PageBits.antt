@@ -1,8 +1,8 @@
 -- The bits of doubleword 1 that say which real page an entry maps, and what leaves them as they are.
-use Rattle.std.proofs.Common.{◌≡◌, ℕ, ◌+◌, ◌*◌, ◌/◌, ◌%◌, ◌^◌, ◌-◌, ◌<◌, arith, ap, sym, ◌∙◌, refl, lit<, bit_and, bit_or}
+use Rattle.std.proofs.Common.{◌≡◌, ℕ, ◌+◌, ◌*◌, ◌/◌, ◌^◌, ◌<◌, arith, ap, sym, ◌∙◌, refl, lit<, bit_and, bit_or}
 use Rattle.std.specs.Int.Bits.{and_zero_l, and_zero_r, or_zero_r}
 use Rattle.std.proofs.lemmas.Nat.{and_block}
-use Rattle.page_sizes.specs.Sizes.{size_of, low_of}
+use Rattle.page_sizes.specs.Sizes.{size_of}
 use Rattle.hpte_fields.specs.Fields.{frame_of, protected_word, without_rc}
 use Rattle.hpte_fields.proofs.Masks.{mask_of_or, masks_join, field_stays}
 

@@ -1,5 +1,5 @@
 -- Worlds of mild states, and what quiet lines keep of them.
-use Rattle.std.proofs.Common.{◌≡◌, ℕ, zero, suc, ◌+◌, ◌≤◌, List, [], ◌∷◌, Bool, true, false, not, ap, sym, ◌∙◌, refl, subst, length, Option, Some, None, arith}
+use Rattle.std.proofs.Common.{◌≡◌, ℕ, zero, suc, ◌≤◌, List, [], ◌∷◌, not, ap, ◌∙◌, refl, length, Option, Some, None, arith}
 use Rattle.std.specs.Prelude.{◌≢◌, ◌==◌, nat_lt, if◌then◌else◌, replicate, slice_index}
 use Rattle.std.specs.List.{AllByRecursion, range_with_len}
 use Rattle.std.specs.Option.{option_map_or}
@@ -11,7 +11,7 @@ use Rattle.papr_codes.specs.declared.codes.Rc.TheVariants as rc
 use Rattle.papr_codes.specs.Hcalls.{hcall_of}
 use Rattle.frame_grants.specs.declared.grant.Grant.{Grant}
 use Rattle.frame_grants.specs.Grants.{Granted}
-use Rattle.hpt_pool.specs.Pool.{Pooled, lowest_place, no_blocks}
+use Rattle.hpt_pool.specs.Pool.{Pooled, lowest_place}
 use Rattle.entry_model.specs.State.{State, empty_state}
 use Rattle.entry_model.specs.Run.{state_at}
 use Rattle.entry_model.proofs.Heights.{height}
@@ -30,7 +30,6 @@ use Rattle.reply_text.specs.Worlds.{World, states_in, opening, resize_of, quiet_
 use Rattle.reply_text.specs.Sections.{seats_by, closed}
 use Rattle.reply_text.specs.Claims.{IsSafe}
 use Rattle.reply_text.proofs.Each.{each_at, each_of_map}
-use Rattle.reply_text.proofs.Homes.{prepare_table}
 use Rattle.reply_text.proofs.Mild.{IsMild, empty_mild}
 use Rattle.reply_text.proofs.SectionGood.{quiet_size}
 
@@ -65,11 +64,11 @@ pub record CommitsMild (granted : Granted) (n : ℕ) (c : Committed) : Type 0 wh
   pub states : AreMild granted n c.table.states
 
 over_mild : (granted : Granted) (n : ℕ) (pending : PendingTable) (pool : Pooled) (table : Table) (collision : Option Collision) → AreMild granted n table.states → CommitsMild granted n (carried_over pending pool table collision)
-over_mild granted n pending pool table (Some collision) h = record { code = λ e. let never : rc.PtegFull ≡ rc.Hardware = e in cc; states = h }
-over_mild granted n pending pool table None h = record { code = λ e. let never : rc.Success ≡ rc.Hardware = e in cc; states = rehashed_mild granted n table.order pending.order table.states h }
+over_mild granted n pending pool table (Some collision) h = record { code = λ e. cc; states = h }
+over_mild granted n pending pool table None h = record { code = λ e. cc; states = rehashed_mild granted n table.order pending.order table.states h }
 
 completed_mild : (granted : Granted) (n : ℕ) (pending : Option PendingTable) (pool : Pooled) (table : Table) → AreMild granted n table.states → CommitsMild granted n (completed pending pool table)
-completed_mild granted n None pool table h = record { code = λ e. let never : rc.Closed ≡ rc.Hardware = e in cc; states = h }
+completed_mild granted n None pool table h = record { code = λ e. cc; states = h }
 completed_mild granted n (Some pending) pool table h = over_mild granted n pending pool table (collision_of table.order pending.order table.states) h
 
 -- A refusal is no H_HARDWARE.
@@ -78,11 +77,11 @@ IsFine None = Unit {0}
 IsFine (Some code) = code ≢ rc.Hardware
 
 pending_fine : (shift : ℕ) (pending : Option PendingTable) → IsFine (pending_refusal shift pending)
-pending_fine shift None = λ e. let never : rc.Closed ≡ rc.Hardware = e in cc
-pending_fine shift (Some table) = cond_both (not (table.order == shift)) (Some rc.Closed) (if is_ready table then None else Some rc.Busy) IsFine (λ _ e. let never : rc.Closed ≡ rc.Hardware = e in cc) (λ _. cond_both (is_ready table) None (Some rc.Busy) IsFine (λ _. tt) (λ _ e. let never : rc.Busy ≡ rc.Hardware = e in cc))
+pending_fine shift None = λ e. cc
+pending_fine shift (Some table) = cond_both (not (table.order == shift)) (Some rc.Closed) (if is_ready table then None else Some rc.Busy) IsFine (λ _ e. cc) (λ _. cond_both (is_ready table) None (Some rc.Busy) IsFine (λ _. tt) (λ _ e. cc))
 
 refusal_fine : (flags shift : ℕ) (pending : Option PendingTable) → IsFine (commit_refusal flags shift pending)
-refusal_fine flags shift pending = cond_both (is_commit_request flags shift) (pending_refusal shift pending) (Some rc.Parameter) IsFine (λ _. pending_fine shift pending) (λ _ e. let never : rc.Parameter ≡ rc.Hardware = e in cc)
+refusal_fine flags shift pending = cond_both (is_commit_request flags shift) (pending_refusal shift pending) (Some rc.Parameter) IsFine (λ _. pending_fine shift pending) (λ _ e. cc)
 
 answered_mild : (granted : Granted) (n : ℕ) (refusal : Option Rc) (pending : Option PendingTable) (pool : Pooled) (table : Table) → IsFine refusal → AreMild granted n table.states → CommitsMild granted n (answered refusal pending pool table)
 answered_mild granted n (Some code) pending pool table fine h = record { code = fine; states = h }
@@ -93,26 +92,27 @@ unfolding committed
 committed_mild granted n flags shift home h = answered_mild granted n (commit_refusal flags shift home.pending) home.pending home.pool home.table (refusal_fine flags shift home.pending) h
 
 -- ---- prepare
-abbrev Answers : Prepared → Type 0
-Answers p = p.rc ≢ rc.Hardware
+-- The code is no H_HARDWARE.
+abbrev IsFinePrepared : Prepared → Type 0
+IsFinePrepared p = p.rc ≢ rc.Hardware
 
-placed_fine : (order : ℕ) (pool : Pooled) (place : Option ℕ) → Answers (placed order pool place)
-placed_fine order pool None = λ e. let never : rc.NoMem ≡ rc.Hardware = e in cc
-placed_fine order pool (Some place) = λ e. let never : rc.Success ≡ rc.Hardware = e in cc
+placed_fine : (order : ℕ) (pool : Pooled) (place : Option ℕ) → IsFinePrepared (placed order pool place)
+placed_fine order pool None = λ e. cc
+placed_fine order pool (Some place) = λ e. cc
 
 success_fine : rc.Success ≢ rc.Hardware
 success_fine = λ e. cc
 
-started_fine : (order : ℕ) (pending : Option PendingTable) (pool : Pooled) → Answers (started order pending pool)
-started_fine order pending pool = cond_both (is_pending order pending) (prepared_as rc.Success pending pool) (placed order (pool_without pending pool) (lowest_place (pool_without pending pool) order)) Answers (λ _. success_fine) (λ _. placed_fine order (pool_without pending pool) (lowest_place (pool_without pending pool) order))
+started_fine : (order : ℕ) (pending : Option PendingTable) (pool : Pooled) → IsFinePrepared (started order pending pool)
+started_fine order pending pool = cond_both (is_pending order pending) (prepared_as rc.Success pending pool) (placed order (pool_without pending pool) (lowest_place (pool_without pending pool) order)) IsFinePrepared (λ _. success_fine) (λ _. placed_fine order (pool_without pending pool) (lowest_place (pool_without pending pool) order))
 
-continued_fine : (start : Prepared) (pending : Option PendingTable) → Answers start → Answers (continued start pending)
+continued_fine : (start : Prepared) (pending : Option PendingTable) → IsFinePrepared start → IsFinePrepared (continued start pending)
 continued_fine start None h = h
-continued_fine start (Some table) h = cond_both (is_ready (advanced table)) rc.Success rc.LongBusy (λ code. code ≢ rc.Hardware) (λ _. success_fine) (λ _ e. let never : rc.LongBusy ≡ rc.Hardware = e in cc)
+continued_fine start (Some table) h = cond_both (is_ready (advanced table)) rc.Success rc.LongBusy (λ code. code ≢ rc.Hardware) (λ _. success_fine) (λ _ e. cc)
 
-prepared_fine : (limit flags shift : ℕ) (pending : Option PendingTable) (pool : Pooled) → Answers (prepared limit flags shift pending pool)
+prepared_fine : (limit flags shift : ℕ) (pending : Option PendingTable) (pool : Pooled) → IsFinePrepared (prepared limit flags shift pending pool)
 unfolding prepared
-prepared_fine limit flags shift pending pool = cond_both (not (is_prepare_request flags shift)) _ _ Answers (λ _ e. let never : rc.Parameter ≡ rc.Hardware = e in cc) (λ _. cond_both (nat_lt limit shift) _ _ Answers (λ _ e. let never : rc.Resource ≡ rc.Hardware = e in cc) (λ _. cond_both (shift == 0) _ _ Answers (λ _. success_fine) (λ _. continued_fine (started shift pending pool) (started shift pending pool).pending (started_fine shift pending pool))))
+prepared_fine limit flags shift pending pool = cond_both (not (is_prepare_request flags shift)) _ _ IsFinePrepared (λ _ e. cc) (λ _. cond_both (nat_lt limit shift) _ _ IsFinePrepared (λ _ e. cc) (λ _. cond_both (shift == 0) _ _ IsFinePrepared (λ _. success_fine) (λ _. continued_fine (started shift pending pool) (started shift pending pool).pending (started_fine shift pending pool))))
 
 -- ---- quiet lines
 -- The reply is safe, and the states stay mild.
@@ -125,7 +125,7 @@ resize_keeps granted n w calls.Prepare args g h = (prepared_fine w.home.limit (s
 resize_keeps granted n w calls.Commit args g h =
     let done = committed_mild granted n (slice_index args 0) (slice_index args 1) w.home h in
     (done.code, g, done.states)
-resize_keeps granted n w other args g h = ((λ e. let never : rc.Function ≡ rc.Hardware = e in cc), g, h)
+resize_keeps granted n w other args g h = ((λ e. cc), g, h)
 
 quiet_keeps : (granted : Granted) (n : ℕ) (w : World) (act : Act) → w.grants ≡ granted.grants → AreMild granted n (states_in w) → KeepsMild granted n (quiet_of w act)
 unfolding quiet_of

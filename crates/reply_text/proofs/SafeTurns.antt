@@ -1,18 +1,16 @@
 -- What each reply enters, how far it raises stamps, and that it is safe where its receipts were made on mild states.
-use Rattle.std.proofs.Common.{◌≡◌, ℕ, ◌+◌, ◌*◌, ◌≤◌, ◌^◌, List, [], ◌∷◌, ◌++◌, Bool, true, false, not, ap, sym, ◌∙◌, refl, subst, ◌⊎◌, inl, inr, map, arith, Option, Some, None}
-use Rattle.std.specs.Prelude.{◌≢◌, IfSome, find}
+use Rattle.std.proofs.Common.{◌≡◌, ℕ, ◌+◌, ◌*◌, ◌≤◌, ◌^◌, List, [], ◌∷◌, ◌++◌, true, false, ap, sym, ◌∙◌, refl, subst, ◌⊎◌, inl, inr, arith, Option, Some, None}
+use Rattle.std.specs.Prelude.{IfSome}
 use Rattle.std.specs.List.{AllByRecursion}
 use Rattle.std.specs.Option.{option_map_or}
 use Rattle.std.proofs.lemmas.Bool.{cases_Bool}
 use Rattle.papr_codes.specs.declared.calls.Hcall.{Hcall}
 use Rattle.papr_codes.specs.declared.calls.Hcall.TheVariants as calls
-use Rattle.papr_codes.specs.declared.codes.Rc.{Rc}
 use Rattle.papr_codes.specs.declared.codes.Rc.TheVariants as rc
 use Rattle.papr_codes.specs.Hcalls.{hcall_of}
-use Rattle.storage_prot.specs.declared.want.Want.{Want}
 use Rattle.page_sizes.specs.declared.size.PageSize.{PageSize}
 use Rattle.page_sizes.specs.Sizes.{size_of}
-use Rattle.hpte_fields.specs.Fields.{frame_of, is_secondary, wimg_of}
+use Rattle.hpte_fields.specs.Fields.{frame_of, wimg_of}
 use Rattle.frame_grants.specs.declared.grant.Grant.{Grant}
 use Rattle.frame_grants.specs.declared.grant.Kind.{Kind}
 use Rattle.frame_grants.specs.Grants.{Granted, AreApart, machine_range}
@@ -31,15 +29,15 @@ use Rattle.entry_model.specs.declared.receipt.Receipt.{Receipt}
 use Rattle.entry_model.specs.Receipt.{is_at, is_no_match}
 use Rattle.entry_model.specs.Cache.{cached}
 use Rattle.entry_model.specs.Trial.{Call, IsTrial, IsReplyOf, call, entries_from}
-use Rattle.entry_model.proofs.Heights.{cost, weight, calls_cost, trial_weight, at_valid}
-use Rattle.entry_model.proofs.Tame.{EntersOnly, IsTame, IsTameReply, NoneWorn, answered_tame, tame_reply, trial_ops, each_call, entries_cost}
+use Rattle.entry_model.proofs.Heights.{weight, calls_cost, trial_weight, at_valid, cost_append}
+use Rattle.entry_model.proofs.Tame.{EntersOnly, IsTame, IsTameReply, answered_tame, tame_reply, trial_ops, each_call, entries_cost}
 use Rattle.h_enter.specs.Checks.{suits_grants, suits_size, suits_kind}
 use Rattle.h_enter.proofs.Suited.{IsSuited, h_enter_tame}
 use Rattle.h_update.proofs.Tame.{h_remove_tame, h_protect_tame, h_read_tame, h_clear_ref_tame, h_clear_mod_tame, h_bulk_remove_tame}
 use Rattle.slb_model.specs.declared.segment.Segment.{Segment}
 use Rattle.slb_model.specs.Buffer.{segment_of}
 use Rattle.hpt_walk.specs.Walk.{access_op, group_calls, walk_calls, found_of}
-use Rattle.hpt_walk.specs.Accesses.{Setting, Reach, key_for, logical_of, lands, outcome_by, outcome_of, hit_calls, nowhere, IsByWay, IsBySegment}
+use Rattle.hpt_walk.specs.Accesses.{Setting, Reach, key_for, logical_of, lands, outcome_by, outcome_of, hit_calls, IsByWay, IsBySegment}
 use Rattle.hpt_walk.specs.Seats.{Seat}
 use Rattle.hpt_walk.proofs.Found.{found-on, found-off}
 use Rattle.hpt_walk.proofs.Granted.{IsGrantedPage, IsGrantedWords, access_lands}
@@ -49,17 +47,17 @@ use Rattle.reply_text.specs.declared.reply.Reply.{Reply}
 use Rattle.reply_text.specs.declared.reply.Reply.TheVariants as replies
 use Rattle.reply_text.specs.Turns.{IsOfKind, receipts_in}
 use Rattle.reply_text.specs.Calls.{hcall_plan, reach, IsCallReply, IsReachReply}
-use Rattle.reply_text.specs.Claims.{IsInPool, IsLanding, Lands, IsSafe}
+use Rattle.reply_text.specs.Claims.{IsLanding, Lands, IsSafe}
 use Rattle.reply_text.proofs.Each.{each_map, each_append}
 use Rattle.reply_text.proofs.Mild.{IsMild, top, EnterGranted, FromMild, none_worn}
 
 -- ---- words that H_ENTER accepts have a granted page
 size_granted : (grants : List Grant) (dword1 actual : ℕ) (x : Option (ℕ × Kind)) → machine_range grants (frame_of dword1 actual) (2 ^ actual) ≡ x → option_map_or (λ (y : ℕ × Kind). suits_kind (wimg_of dword1) y.1) x false ≡ true → IsGrantedPage grants (frame_of dword1 actual) actual
-size_granted grants dword1 actual None e h = absurd (let never : false ≡ true = h in cc)
+size_granted grants dword1 actual None e h = absurd (cc)
 size_granted grants dword1 actual (Some x) e h = (x, e)
 
 words_granted : (grants : List Grant) (dword1 : ℕ) (size : Option PageSize) → option_map_or (suits_size grants dword1) size false ≡ true → IsGrantedPage grants (frame_of dword1 (option_map_or (λ (s : PageSize). s.actual) size 12)) (option_map_or (λ (s : PageSize). s.actual) size 12)
-words_granted grants dword1 None h = absurd (let never : false ≡ true = h in cc)
+words_granted grants dword1 None h = absurd (cc)
 words_granted grants dword1 (Some size) h = size_granted grants dword1 size.actual (machine_range grants (frame_of dword1 size.actual) (2 ^ size.actual)) refl h
 
 suited_granted : (grants : List Grant) (dword0 dword1 : ℕ) → IsSuited grants dword0 dword1 → IsGrantedWords grants dword0 dword1
@@ -67,10 +65,8 @@ unfolding suits_grants
 suited_granted grants dword0 dword1 h = words_granted grants dword1 (size_of dword0 dword1) h
 
 enters_granted : (grants : List Grant) (op : Op) → EntersOnly (IsSuited grants) op → EntersOnly (IsGrantedWords grants) op
-enters_granted grants op h = at op h where
-  at : (o : Op) → EntersOnly (IsSuited grants) o → EntersOnly (IsGrantedWords grants) o
-  at (ops.Enter dword0 dword1) h = suited_granted grants dword0 dword1 h
-  at other h = tt
+enters_granted grants (ops.Enter dword0 dword1) h = suited_granted grants dword0 dword1 h
+enters_granted grants other h = tt
 
 -- ---- hypervisor calls
 hcall_tame : (set : Setting) (h : Hcall) (args : List ℕ) → IsTame (IsSuited set.grants) (hcall_plan set h args)
@@ -82,7 +78,7 @@ hcall_tame set calls.Read args = h_read_tame (IsSuited set.grants) set.order _ _
 hcall_tame set calls.ClearRef args = h_clear_ref_tame (IsSuited set.grants) set.order _
 hcall_tame set calls.ClearMod args = h_clear_mod_tame (IsSuited set.grants) set.order _
 hcall_tame set calls.BulkRemove args = h_bulk_remove_tame (IsSuited set.grants) set.order args
-hcall_tame set other args = answered_tame (IsSuited set.grants) rc.Function (λ e. let never : rc.Function ≡ rc.Hardware = e in cc)
+hcall_tame set other args = answered_tame (IsSuited set.grants) rc.Function (λ e. cc)
 
 -- ---- lines
 -- What is entered has a granted page, few stamps are raised, and the reply is safe where the states before were mild.
@@ -126,10 +122,6 @@ unfolding outcome_of
 outcome_lands granted ea o rs apart e mild = subst (Lands granted) (sym e) (found_lands granted ea (found_of rs) apart (each_found (λ (r : Receipt). IsMild granted.grants top r.before) rs mild))
 
 -- ---- accesses
-cost_append : (xs ys : List Call) → calls_cost (xs ++ ys) ≡ calls_cost xs + calls_cost ys
-cost_append [] ys = omega arith
-cost_append (x ∷ xs) ys = omega (arith, cost_append xs ys)
-
 access_line : (granted : Granted) (set : Setting) (ea : ℕ) (r : AccessReply) (cs : List Call) → AreApart granted → set.grants ≡ granted.grants → AllByRecursion (λ (c : Call). EntersOnly (IsGrantedWords granted.grants) c.op) cs → calls_cost cs ≤ 32 → IsTrial is_no_match cs r.receipts → r.outcome ≡ outcome_of set.grants ea r.receipts → IsTameLine granted (replies.Access r)
 access_line granted set ea r cs apart same enters low trial outcome = record {
   enters = trial_ops (EntersOnly (IsGrantedWords granted.grants)) is_no_match cs r.receipts enters trial;

@@ -33,6 +33,7 @@ pub record IsCarried (from to : ℕ) (state : State) (index target : ℕ) : Type
   pub page : VirtualPage
   pub valid : state.valid ≡ true
   pub bolted : is_bolted state.dword0 ≡ true
+  pub found : page_at from index state.dword0 state.dword1 ≡ Some page
   pub here : group_of page from (is_secondary state.dword0) ≡ index / 8
   pub there : group_of page to (is_secondary state.dword0) * 8 + index % 8 ≡ target
 
@@ -57,7 +58,7 @@ carried_is from to state index target e =
     let made = map_some (λ (page : VirtualPage). group_of page to (is_secondary state.dword0) * 8 + index % 8) (carried_page from state index) target e in
     let flags = if_some (state.valid && is_bolted state.dword0) (page_at from index state.dword0 state.dword1) made.0 made.1 in
     let both = and_parts state.valid (is_bolted state.dword0) flags.0 in
-    record { page = made.0; valid = both.0; bolted = both.1; here = page_group from index state.dword0 state.dword1 made.0 flags.1; there = made.2 }
+    record { page = made.0; valid = both.0; bolted = both.1; found = flags.1; here = page_group from index state.dword0 state.dword1 made.0 flags.1; there = made.2 }
 
 -- ---- groups of one page in two tables
 complement_below : (d q k r : ℕ) → r < k → ((q * k + k + d * k) - 1 - (q * k + r)) % k ≡ k - 1 - r

@@ -1,6 +1,6 @@
-mod Finds
-mod Placed
-mod Groups
+pub mod Finds
+pub mod Placed
+pub mod Groups
 mod Preparing
 pub mod Holding
 mod Rows

@@ -14,11 +14,11 @@ use Rattle.hpt_resize.proofs.Finds.{find_none, find_first, found_is, none_found}
 use Rattle.hpt_resize.proofs.Groups.{carried_is, one_source}
 
 -- ---- the test of a target
-target_true : (target : ℕ) (o : Option ℕ) → is_target target o ≡ true → o ≡ Some target
+pub target_true : (target : ℕ) (o : Option ℕ) → is_target target o ≡ true → o ≡ Some target
 target_true target None e = absurd (cc)
 target_true target (Some other) e = ap Some (eqb-true other target e)
 
-target_is : (target : ℕ) (o : Option ℕ) → o ≡ Some target → is_target target o ≡ true
+pub target_is : (target : ℕ) (o : Option ℕ) → o ≡ Some target → is_target target o ≡ true
 target_is target None e = absurd (cc)
 target_is target (Some other) e = eq-eqb other target (cc)
 
@@ -123,7 +123,7 @@ none_at from to states k clear = at (target_at from to states k) refl where
   at None is = refl
   at (Some target) is = ap (option_map (λ (first : ℕ). let c : Collision = record { first = first; second = k; target = target } in c)) (first_none from to states k target (λ j below. clear j target below is))
 
-some_at : (from to : ℕ) (states : List State) (first second target : ℕ) → target_at from to states second ≡ Some target → first_with from to states second target ≡ Some first → collision_at from to states second ≡ Some (record { first = first; second = second; target = target })
+pub some_at : (from to : ℕ) (states : List State) (first second target : ℕ) → target_at from to states second ≡ Some target → first_with from to states second target ≡ Some first → collision_at from to states second ≡ Some (record { first = first; second = second; target = target })
 unfolding collision_at
 some_at from to states first second target is found = rw (is, found) refl
 

@@ -64,7 +64,7 @@ named_call hcall args = acts.Call (hcall_number hcall) (args ++ replicate (8 - l
 -- What a line of each kind asks for. An H_ENTER lets the page be read and written, M set and R and C clear; an H_PROTECT lets it be read alone.
 abbrev pub acts_of_word : ℕ → List Act
 acts_of_word word =
-    named_call Enter (0 ∷ group_start word ∷ 0x1001 ∷ frame_of word * 4096 + 0x12 ∷ [])
+    named_call Enter (0 ∷ group_start word ∷ 0x1001 ∷ (frame_of word * 4096 + 0x12) ∷ [])
     ∷ named_call Remove (0 ∷ entry_of word ∷ 0 ∷ [])
     ∷ named_call Protect (0x3 ∷ entry_of word ∷ 0 ∷ [])
     ∷ acts.Access Load (page_of word * 4096) false

@@ -2,10 +2,10 @@
 //! access the pages of one segment.
 #![tactic(auto)]
 
-mod generate;
 mod line;
+mod trace;
 
-pub use generate::generate;
+pub use trace::generate;
 
 #[cfg(test)]
 mod tests;

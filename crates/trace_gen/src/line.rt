@@ -1,4 +1,4 @@
-ghost use Rattle.std.specs.Prelude.{◌≡◌, ◌<◌, ◌∷◌, []};
+ghost use Rattle.std.specs.Prelude.{◌≡◌, ◌<◌, false};
 ghost use Rattle.trace_gen.specs.Generated.{act_of, line_of, named_call, segment_line};
 
 use papr_codes::Hcall;

@@ -1,5 +1,5 @@
 -- The grant of each generated trace is accepted.
-use Rattle.std.proofs.Common.{◌≡◌, Option, Some, None, Result, Ok, Err, OnOk, MatchResult, refl, sym, ap, ◌∙◌, arith}
+use Rattle.std.proofs.Common.{◌≡◌, Some, None, Result, Ok, Err, OnOk, MatchResult, refl, ap, ◌∙◌, arith}
 use Rattle.std.specs.Result.{IsOk}
 use Rattle.frame_grants.specs.Grants.{Granted, no_grants, add_refusal, refusals, with_grant}
 use Rattle.frame_grants.specs.declared.error.GrantError.{GrantError}

@@ -1,5 +1,5 @@
 -- Generated lines are lines of an accepted trace.
-use Rattle.std.proofs.Common.{◌≡◌, ℕ, zero, suc, ◌+◌, ◌*◌, ◌%◌, ◌^◌, ◌<◌, ◌≤◌, Bool, true, false, List, [], ◌∷◌, ◌++◌, length, map, count_by, get_or, refl, sym, ap, ◌∙◌, subst, arith}
+use Rattle.std.proofs.Common.{◌≡◌, ℕ, zero, suc, ◌+◌, ◌*◌, ◌<◌, ◌≤◌, Bool, false, List, [], ◌∷◌, ◌++◌, length, count_by, get_or, refl, sym, ap, ◌∙◌, subst, arith}
 use Rattle.std.specs.Prelude.{IsTrue}
 use Rattle.std.specs.List.{AllByRecursion}
 use Rattle.std.proofs.lemmas.List.{length-append}
@@ -14,7 +14,7 @@ use Rattle.trace_read.specs.Trace.{Accepted, IsTrace, IsSpelt, is_quiet, is_dump
 use Rattle.trace_read.specs.declared.trace.Act.{Act}
 use Rattle.trace_read.specs.declared.trace.Act.TheVariants as acts
 use Rattle.trace_read.specs.declared.trace.TraceLine.{TraceLine}
-use Rattle.trace_gen.specs.Generated.{acts_of_word, act_of, entry_of, frame_of, generated_config, group_start, page_of, named_call, segment_line, kind_of, line_of, segment_lines, lines_from, words_of_seed, generated}
+use Rattle.trace_gen.specs.Generated.{acts_of_word, act_of, entry_of, frame_of, generated_config, group_start, page_of, named_call, segment_line, kind_of, segment_lines, lines_from, words_of_seed, generated}
 
 -- ---- lists
 all_at : {X : Type 0} (P : X → Type 0) (xs : List X) (i : ℕ) (d : X) → AllByRecursion P xs → i < length xs → P (get_or xs i d)
@@ -53,14 +53,28 @@ plain_rows : (word : ℕ) → AllByRecursion IsPlain (acts_of_word word)
 unfolding hcall_of row_of
 plain_rows word = (
   plain_call Enter (0 ∷ group_start word ∷ 0x1001 ∷ (frame_of word * 4096 + 0x12) ∷ []) refl refl refl,
-  (plain_call Remove (0 ∷ entry_of word ∷ 0 ∷ []) refl refl refl,
-  (plain_call Protect (0x3 ∷ entry_of word ∷ 0 ∷ []) refl refl refl,
-  (plain_access Load (page_of word * 4096),
-  (plain_access Store (page_of word * 4096),
-  (plain_call ClearMod (0 ∷ entry_of word ∷ []) refl refl refl,
-  (plain_call ClearRef (0 ∷ entry_of word ∷ []) refl refl refl,
-  (plain_call Read (0 ∷ entry_of word ∷ []) refl refl refl,
-  tt))))))),
+  (
+    plain_call Remove (0 ∷ entry_of word ∷ 0 ∷ []) refl refl refl,
+    (
+      plain_call Protect (0x3 ∷ entry_of word ∷ 0 ∷ []) refl refl refl,
+      (
+        plain_access Load (page_of word * 4096),
+        (
+          plain_access Store (page_of word * 4096),
+          (
+            plain_call ClearMod (0 ∷ entry_of word ∷ []) refl refl refl,
+            (
+              plain_call ClearRef (0 ∷ entry_of word ∷ []) refl refl refl,
+              (
+                plain_call Read (0 ∷ entry_of word ∷ []) refl refl refl,
+                tt,
+              ),
+            ),
+          ),
+        ),
+      ),
+    ),
+  ),
 )
 
 plain_act : (word : ℕ) → IsPlain (act_of word)

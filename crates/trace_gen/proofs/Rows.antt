@@ -1,11 +1,9 @@
 -- Worked values, which the checker computes. Those of the generator were drawn by a program in another language.
-use Rattle.std.proofs.Common.{◌≡◌, ℕ, true, false, List, [], ◌∷◌, length, refl}
+use Rattle.std.proofs.Common.{◌≡◌, true, false, [], ◌∷◌, length, refl}
 use Rattle.rand_core.specs.Stream.{fill_bytes}
 use Rattle.rand_core.specs.Steps.{first_words, word_bytes, stream_of, u32_at}
 use Rattle.storage_prot.specs.declared.want.Want.TheVariants.{Load, Store}
-use Rattle.trace_read.specs.declared.trace.Act.{Act}
 use Rattle.trace_read.specs.declared.trace.Act.TheVariants as acts
-use Rattle.trace_read.specs.declared.trace.TraceLine.{TraceLine}
 use Rattle.trace_gen.specs.Generated.{act_of, segment_lines, lines_from, words_of_seed}
 
 -- ---- one word

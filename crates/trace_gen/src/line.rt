@@ -50,7 +50,10 @@ fn act(word: u64) -> Act
     let group = (1 ^ page) * 8;
     let entry = group + (word >> 24) % 8;
     match (word >> 8) % 8 {
-        0 => call(Hcall::Enter, [0, group, FIRST_TAG, frame * 4096 + READ_AND_WRITE]),
+        0 => call(
+            Hcall::Enter,
+            [0, group, FIRST_TAG, frame * 4096 + READ_AND_WRITE],
+        ),
         1 => call(Hcall::Remove, [0, entry, 0, 0]),
         2 => call(Hcall::Protect, [READ_ALONE, entry, 0, 0]),
         3 => access(Want::Load, page * 4096),

@@ -33,7 +33,11 @@ fn the_first_lines_of_a_seed(rt: HostRuntime) -> Result<(), Fail> {
         line(3, 2, segment),
         line(4, 3, segment),
         line(5, 3, call(Hcall::Protect, [3, 23, 0, 0, 0, 0, 0, 0])),
-        line(6, 1, call(Hcall::Enter, [0, 496, 0x1001, 0x2413_2012, 0, 0, 0, 0])),
+        line(
+            6,
+            1,
+            call(Hcall::Enter, [0, 496, 0x1001, 0x2413_2012, 0, 0, 0, 0]),
+        ),
         line(7, 0, call(Hcall::ClearMod, [0, 1375, 0, 0, 0, 0, 0, 0])),
         line(8, 2, call(Hcall::ClearRef, [0, 1637, 0, 0, 0, 0, 0, 0])),
         line(9, 0, call(Hcall::Read, [0, 206, 0, 0, 0, 0, 0, 0])),

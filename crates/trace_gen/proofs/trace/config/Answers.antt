@@ -1,6 +1,4 @@
-use Rattle.std.proofs.Common.{◌≡◌, ap, sym, ◌∙◌, subst, arith, refl}
-use Rattle.frame_grants.specs.Grants.{Granted}
-use Rattle.trace_read.specs.Config.{Configured}
+use Rattle.std.proofs.Common.{◌≡◌}
 use Rattle.trace_gen.specs.Generated.{generated_config}
 use Rattle.trace_gen.proofs.Granting.{accepted, granted_is, configured, config_is}
 use Rattle.trace_gen.proofs.trace.config.Goals as goal

@@ -1,7 +1,7 @@
-mod Finds
-mod Placed
 pub mod Groups
 pub mod Rehashed
+pub mod Finds
+pub mod Placed
 mod Preparing
 pub mod Holding
 mod Rows

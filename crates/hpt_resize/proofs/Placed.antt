@@ -123,7 +123,7 @@ none_at from to states k clear = at (target_at from to states k) refl where
   at None is = refl
   at (Some target) is = ap (option_map (λ (first : ℕ). let c : Collision = record { first = first; second = k; target = target } in c)) (first_none from to states k target (λ j below. clear j target below is))
 
-some_at : (from to : ℕ) (states : List State) (first second target : ℕ) → target_at from to states second ≡ Some target → first_with from to states second target ≡ Some first → collision_at from to states second ≡ Some (record { first = first; second = second; target = target })
+pub some_at : (from to : ℕ) (states : List State) (first second target : ℕ) → target_at from to states second ≡ Some target → first_with from to states second target ≡ Some first → collision_at from to states second ≡ Some (record { first = first; second = second; target = target })
 unfolding collision_at
 some_at from to states first second target is found = rw (is, found) refl
 

@@ -28,7 +28,7 @@ use Rattle.hpt_walk.proofs.Telling.{match_page, page_match, valid_of_page}
 
 -- ---- the list of translations
 -- The page is this one.
-abbrev is_this : VirtualPage → Option VirtualPage → Bool
+abbrev pub is_this : VirtualPage → Option VirtualPage → Bool
 is_this page o = option_map_or (λ (p : VirtualPage). same_page p page) o false
 
 and_false : (b : Bool) → (b && false) ≡ false
@@ -77,12 +77,12 @@ paired_at order page k (suc i) e (s ∷ ss) at h =
     let less : i < length ss = omega arith in
     head_other page k e (page_in order k s) (translations_from order (k + 1) ss) (above-eqb e k (omega arith)) ∙ paired_at order page (k + 1) i e ss (omega arith) less
 
-paired-in : (order : ℕ) (page : VirtualPage) (a : List State) (e : ℕ) → e < length a → is_paired (translations order a) page e ≡ is_this page (page_in order e (state_at a e))
+pub paired-in : (order : ℕ) (page : VirtualPage) (a : List State) (e : ℕ) → e < length a → is_paired (translations order a) page e ≡ is_this page (page_in order e (state_at a e))
 unfolding translations
 paired-in order page a e h = paired_at order page 0 e e a (omega arith) h
 
 -- ---- the page of an entry
-this_is : (page : VirtualPage) (o : Option VirtualPage) → is_this page o ≡ true → o ≡ Some page
+pub this_is : (page : VirtualPage) (o : Option VirtualPage) → is_this page o ≡ true → o ≡ Some page
 this_is page None h = cc
 this_is page (Some p) h = ap Some (page_same p page h)
 
@@ -101,7 +101,7 @@ page_paired order e page s low is state of =
     ap (λ v. is_this page (if v then page_at order e s.dword0 s.dword1 else None)) (valid_of_page order e page s state of) ∙ ap (is_this page) found ∙ page_self page
 
 -- ---- one receipt
-state_of : (a : List State) (e : ℕ) → AllByRecursion IsEntryState a → e < length a → IsEntryState (get_or a e (empty_state 0))
+pub state_of : (a : List State) (e : ℕ) → AllByRecursion IsEntryState a → e < length a → IsEntryState (get_or a e (empty_state 0))
 state_of [] e all h = absurd (omega arith)
 state_of (s ∷ ss) zero all h = all.0
 state_of (s ∷ ss) (suc e) all h = state_of ss e all.1 (omega arith)

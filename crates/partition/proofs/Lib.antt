@@ -1,3 +1,6 @@
 mod PoolKept
 mod Resizing
 pub mod Opening
+mod Carrying
+mod Committing
+mod Rows

@@ -1,5 +1,5 @@
 -- The opening table has a place in the pool of an accepted configuration.
-use Rattle.std.proofs.Common.{◌≡◌, ℕ, ◌+◌, ◌-◌, ◌*◌, ◌%◌, ◌^◌, ◌<◌, ◌≤◌, true, false, List, length, replicate, Contains, Option, Some, None, Result, Ok, Err, IfOk, IfSome, MatchOption, refl, sym, ap, ◌∙◌, subst, arith}
+use Rattle.std.proofs.Common.{◌≡◌, ℕ, ◌+◌, ◌-◌, ◌*◌, ◌%◌, ◌^◌, ◌≤◌, true, false, List, length, replicate, Contains, Option, Some, None, Result, Ok, Err, IfOk, IfSome, MatchOption, refl, sym, ap, ◌∙◌, subst, arith}
 use Rattle.std.specs.Prelude.{unwrap_or}
 use Rattle.std.specs.Option.{IsSome}
 use Rattle.std.specs.Result.{IsOkUnless}

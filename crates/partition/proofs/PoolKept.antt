@@ -1,10 +1,8 @@
 -- The resize calls keep the pool: its base, its order, and that it is sound.
-use Rattle.std.proofs.Common.{◌≡◌, ℕ, ◌+◌, ◌≤◌, ◌==◌, ◌&&◌, ◌||◌, nat_le, nat_lt, Bool, true, false, not, if◌then◌else◌, Option, Some, None, refl, ◌∙◌, arith}
-use Rattle.std.proofs.lemmas.Bool.{and_parts}
+use Rattle.std.proofs.Common.{◌≡◌, ℕ, ◌≤◌, ◌==◌, nat_lt, Bool, true, false, not, if◌then◌else◌, Option, Some, None, refl, ◌∙◌, arith}
 use Rattle.std.proofs.lemmas.Bool.Decides.{nat_tests}
 use Rattle.hpt_pool.specs.Pool.{Pooled, IsSound, block_at, lowest_place}
 use Rattle.hpt_pool.proofs.Placing.{fits_in, sound_with, sound_without}
-use Rattle.papr_codes.specs.declared.codes.Rc.{Rc}
 use Rattle.hpt_resize.specs.Pending.{PendingTable}
 use Rattle.hpt_resize.specs.Resize.{Prepared, is_prepare_request, is_pending, pool_without, placed, started, continued, prepared}
 use Rattle.hpt_resize.proofs.Holding.{lowest_fits}

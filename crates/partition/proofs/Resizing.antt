@@ -4,7 +4,6 @@ use Rattle.std.proofs.lemmas.Bool.{eq-eqb, or_right}
 use Rattle.hpt_pool.specs.Pool.{Pooled, without_block}
 use Rattle.hpt_pool.proofs.Placing.{sound_without}
 use Rattle.frame_grants.specs.Grants.{Granted}
-use Rattle.entry_model.specs.State.{State}
 use Rattle.entry_model.specs.declared.receipt.Receipt.{Receipt}
 use Rattle.entry_model.specs.declared.hreply.HReply.{HReply}
 use Rattle.entry_model.specs.Trial.{IsTrial, IsReplyOf, answered_by}
@@ -17,7 +16,7 @@ use Rattle.hpt_resize.specs.Rehash.{entry_count, collision_of}
 use Rattle.hpt_resize.specs.Pending.{PendingTable, is_ready}
 use Rattle.hpt_resize.specs.Resize.{IsHeld, IsElsewhere, IsTable, KeepsBlocks, Prepared, Table, Committed, prepared_as, prepared, committed_as, is_commit_request, pending_refusal, commit_refusal, carried_over, completed, answered, committed, table_of}
 use Rattle.hpt_resize.specs.Home.{Home, prepare_at_home, commit_at_home}
-use Rattle.partition.specs.Partition.{Parted, IsPartition, CountsTables, IsAtHome, block_of, code_alone}
+use Rattle.partition.specs.Partition.{Parted, IsPartition, CountsTables, block_of, code_alone}
 use Rattle.partition.proofs.PoolKept.{KeepsPool, same_pool, prepared_pool}
 
 abbrev pub answer_at : Rc → Home → Rc × Home
@@ -97,7 +96,7 @@ if_fails : (b : Bool) (x y : Option Rc) → x ≢ Some Success → y ≢ Some Su
 if_fails true x y first second = first
 if_fails false x y first second = second
 
-refusal_fails : (flags shift : ℕ) (pending : Option PendingTable) → commit_refusal flags shift pending ≢ Some Success
+pub refusal_fails : (flags shift : ℕ) (pending : Option PendingTable) → commit_refusal flags shift pending ≢ Some Success
 refusal_fails flags shift pending = if_fails (is_commit_request flags shift) (pending_refusal shift pending) (Some Parameter) (at pending) (λ e. absurd (cc)) where
   at : (o : Option PendingTable) → pending_refusal shift o ≢ Some Success
   at None = λ e. absurd (cc)

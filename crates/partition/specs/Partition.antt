@@ -1,5 +1,5 @@
 -- A partition while no call of a processor runs.
-use Rattle.std.specs.Prelude.{◌≡◌, ◌≢◌, ℕ, ◌+◌, ◌≤◌, ◌==◌, ◌||◌, IsTrue, List, [], length, Contains, MatchBool}
+use Rattle.std.specs.Prelude.{◌≡◌, ◌≢◌, ◌+◌, ◌≤◌, ◌==◌, ◌||◌, IsTrue, List, [], length, Contains}
 use Rattle.hpt_pool.specs.Pool.{Block, IsSound, block_at, no_blocks}
 use Rattle.frame_grants.specs.Grants.{Granted}
 use Rattle.trace_read.specs.Config.{Configured}

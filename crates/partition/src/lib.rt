@@ -2,8 +2,10 @@
 //! the pool of table memory, and the memory that is granted to the guest.
 #![tactic(auto)]
 
+mod laws;
 mod parted;
 
+pub use laws::commit_keeps_translations;
 pub use parted::Partition;
 
 #[cfg(test)]

@@ -130,12 +130,7 @@ impl Partition {
 
     /// H_RESIZE_HPT_PREPARE: makes a table of `2^shift` bytes ready, a part at each call. Where memory
     /// ends, nothing changes.
-    pub fn prepare(
-        &mut self,
-        alloc: Global,
-        flags: u64,
-        shift: u64,
-    ) -> Result<HReply, AllocError>
+    pub fn prepare(&mut self, alloc: Global, flags: u64, shift: u64) -> Result<HReply, AllocError>
         requires { IsAtHome self.old }
         ensures reply { IfOk result (λ reply. reply ≡ code_alone (prepare_at_home self.old.home flags shift).0) }
         ensures after { OnOk result (self.new ≡ with_home self.old (prepare_at_home self.old.home flags shift).1) }

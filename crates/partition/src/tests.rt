@@ -122,7 +122,11 @@ fn a_collision_leaves_the_old_table(rt: HostRuntime) -> Result<(), Fail> {
     assert_eq!(rt; partition.commit(0, 18).rc, Rc::PtegFull);
     assert_eq!(rt; (partition.table(), partition.order()), (1, 19));
     assert_eq!(rt;
-        partition.states().iter().filter(|state| state.valid).count(),
+        partition
+            .states()
+            .iter()
+            .filter(|state| state.valid)
+            .count(),
         2
     );
     assert_eq!(rt; partition.commit(0, 18).rc, Rc::Closed);

@@ -1,13 +1,11 @@
-// A library with one function.
+//! Traces that are generated from a number: four processors that enter, remove, protect, read and
+//! access the pages of one segment.
 #![tactic(auto)]
 
-ghost use Rattle.std.specs.Prelude.{◌≡◌};
-ghost use Rattle.trace_gen.specs.Echo.{echo_of};
+mod line;
+mod trace;
 
-// The `ensures` clause is the contract: what `echo` returns is `echo_of` of its argument, a definition
-// in `specs/Echo.antt`, which a caller's clause can cite too.
-pub fn echo(x: usize) -> usize
-    ensures { result ≡ echo_of x }
-{
-    x
-}
+pub use trace::generate;
+
+#[cfg(test)]
+mod tests;

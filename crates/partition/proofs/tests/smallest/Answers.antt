@@ -1,6 +1,5 @@
 use Rattle.std.proofs.Common.{◌≡◌}
-use Rattle.trace_read.specs.Config.{Configured}
-use Rattle.partition.specs.Partition.{Parted, opened}
+use Rattle.partition.specs.Partition.{Parted}
 use Rattle.partition.proofs.Opening.{if_ok, opened_order, opened_number}
 use Rattle.partition.proofs.tests.smallest.Goals as goal
 

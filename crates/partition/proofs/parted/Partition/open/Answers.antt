@@ -1,8 +1,6 @@
-use Rattle.std.proofs.Common.{◌≡◌, ap, sym, ◌∙◌, subst, refl, Option, arith}
+use Rattle.std.proofs.Common.{ap, sym, ◌∙◌, subst, refl, Option, arith}
 use Rattle.hpt_resize.specs.Pending.{PendingTable}
-use Rattle.hpt_pool.specs.Pool.{no_blocks}
 use Rattle.trace_read.specs.Config.{Configured}
-use Rattle.frame_grants.specs.Grants.{IsPool}
 use Rattle.partition.specs.Partition.{IsPartition, opened}
 use Rattle.partition.proofs.Resizing.{parted}
 use Rattle.partition.proofs.Opening.{IsOpened, is_opened, can_be, has_place, memory_alone, sound_pool, beside, all_empty}

@@ -1,4 +1,4 @@
-use Rattle.std.proofs.Common.{◌≡◌, sym, ap, ◌∙◌, subst}
+use Rattle.std.proofs.Common.{◌≡◌, sym, ap, ◌∙◌}
 use Rattle.papr_codes.specs.declared.codes.Rc.{Rc}
 use Rattle.hpt_resize.specs.Resize.{table_of}
 use Rattle.hpt_resize.specs.Home.{Home, prepare_at_home}

@@ -1,0 +1,4 @@
+mod Drawing
+mod LineLemmas
+mod Granting
+mod Rows

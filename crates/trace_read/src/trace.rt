@@ -1,6 +1,7 @@
 ghost use Rattle.std.specs.Prelude.{◌≡◌, ◌++◌, [], ◌∷◌, OnOk, OnErr};
 
 use crate::config::Config;
+use papr_codes::Hcall;
 use std::alloc::{AllocError, Global};
 use std::marker::Model;
 use storage_prot::Want;
@@ -30,6 +31,32 @@ pub enum Act {
     SlbClear,
     /// Shows the table.
     Dump,
+}
+
+impl Act {
+    ghost use Rattle.trace_read.specs.Trace.{is_quiet, is_dump};
+
+    /// Whether no call of a processor runs at this line: the resize calls, by name or by number, and
+    /// dumps.
+    #[tactic(auto, unfolding(crate::specs::Trace::is_quiet))]
+    pub fn is_quiet(&self) -> bool
+        ensures { result ≡ is_quiet self.now }
+    {
+        match self {
+            Act::Call { number, .. } => {
+                matches!(Hcall::of_number(*number), Hcall::Prepare | Hcall::Commit)
+            }
+            Act::Dump => true,
+            _ => false,
+        }
+    }
+
+    /// Whether the line shows the table.
+    pub fn is_dump(&self) -> bool
+        ensures { result ≡ is_dump self.now }
+    {
+        matches!(self, Act::Dump)
+    }
 }
 
 /// A run line: its number in the input, counted from 1, its processor (0 for a dump), and what it

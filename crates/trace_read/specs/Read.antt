@@ -1,7 +1,7 @@
 -- What the code that reads a trace answers.
 use Rattle.std.specs.Prelude.{◌≡◌, ℕ, Result, Ok, Err}
-use Rattle.trace_read.specs.declared.parse.TraceError.{TraceError}
-use Rattle.trace_read.specs.declared.parse.TraceError.TheVariants as errors
+use Rattle.trace_read.specs.declared.parser.TraceError.{TraceError}
+use Rattle.trace_read.specs.declared.parser.TraceError.TheVariants as errors
 use Rattle.trace_read.specs.declared.stop.Stop.{Stop}
 use Rattle.trace_read.specs.declared.stop.Stop.TheVariants as stops
 use Rattle.trace_read.specs.declared.why.Why.{Why}

@@ -60,7 +60,7 @@ impl CountedLines {
     /// Appends a line.
     #[tactic(auto, unfolding(crate::specs::Counts::may_add))]
     pub fn push(&mut self, line: TraceLine) -> Result<(), AllocError>
-        requires { may_add self.old line.act ≡ Ok () }
+        requires { may_add self.old line.act ≡ Ok tt }
         ensures { OnOk result (self.new ≡ self.old ++ line ∷ []) }
     {
         self.lines.push(line)?;

@@ -8,7 +8,7 @@ mod counted;
 mod forms;
 mod lines;
 mod numbers;
-mod parse;
+mod parser;
 mod reader;
 mod settings;
 mod stage;
@@ -19,7 +19,7 @@ mod why;
 
 pub use config::Config;
 pub use numbers::number;
-pub use parse::{TraceError, parse};
+pub use parser::{TraceError, parse};
 pub use trace::{Act, Trace, TraceLine, TraceLines};
 pub use why::Why;
 

@@ -19,6 +19,11 @@ may_add lines act = do
   dumps ← guard (not (is_dump act && nat_le 16 (dump_count lines))) Dumps
   guard (not (is_quiet act && nat_le 256 (quiet_count lines))) Quiet
 
+-- No more than a trace may have.
+pub record AreFew (lines : List TraceLine) : Type 0 where
+  pub quiet_lines : quiet_count lines ≤ 256
+  pub dump_lines : dump_count lines ≤ 16
+
 -- What is counted.
 pub record IsCounted (quiet dumps : ℕ) (lines : List TraceLine) : Type 0 where
   pub quiet_lines : quiet_count lines ≡ quiet

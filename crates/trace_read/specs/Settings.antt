@@ -79,7 +79,7 @@ pub record AreSettings (order limit cpus pool_base pool_order : ℕ) (granted : 
   pub base : granted.pool_base ≡ pool_base
   pub size : granted.pool_order ≡ pool_order
 
--- The settings after a line are as it says, or it is refused.
-abbrev pub SetsTo : Result Configured Why → Result (Unit {0}) Why → Configured → Type 0
-SetsTo said (Ok done) new = said ≡ Ok new
-SetsTo said (Err why) new = said ≡ Err why
+-- The settings after a line are as it says, or it is refused and they stay.
+abbrev pub SetsTo : Result Configured Why → Result (Unit {0}) Why → Configured → Configured → Type 0
+SetsTo said (Ok done) old new = said ≡ Ok new
+SetsTo said (Err why) old new = (said ≡ Err why) × (new ≡ old)

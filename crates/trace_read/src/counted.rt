@@ -1,5 +1,5 @@
-ghost use Rattle.std.specs.Prelude.{◌≡◌, ◌++◌, [], ◌∷◌, OnOk, Ok};
-ghost use Rattle.trace_read.specs.Counts.{may_add};
+ghost use Rattle.std.specs.Prelude.{◌≡◌, ◌++◌, [], ◌∷◌, OnOk, OnErr, Ok};
+ghost use Rattle.trace_read.specs.Counts.{may_add, AreFew};
 
 use crate::trace::{Act, TraceLine, TraceLines};
 use crate::why::Why;
@@ -61,7 +61,9 @@ impl CountedLines {
     #[tactic(auto, unfolding(crate::specs::Counts::may_add))]
     pub fn push(&mut self, line: TraceLine) -> Result<(), AllocError>
         requires { may_add self.old line.act ≡ Ok tt }
-        ensures { OnOk result (self.new ≡ self.old ++ line ∷ []) }
+        ensures ok { OnOk result (self.new ≡ self.old ++ line ∷ []) }
+        ensures few { OnOk result (AreFew self.new) }
+        ensures err { OnErr result (self.new ≡ self.old) }
     {
         self.lines.push(line)?;
         if line.act.is_quiet() {

@@ -213,6 +213,7 @@ impl Reader {
         ensures { ReadsTo (with_line self.old (dump_act (texts words.now))) result self.new }
     {
         let (cpu, act) = dump_act(words)?;
+        prove!(cpu < self.settings.cpus());
         self.add(cpu, act)
     }
 

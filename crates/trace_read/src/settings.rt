@@ -1,4 +1,4 @@
-ghost use Rattle.std.specs.Prelude.{◌≡◌, ◌≤◌, true, is_none, OnOk};
+ghost use Rattle.std.specs.Prelude.{◌≡◌, ◌≤◌, ◌^◌, true, is_none, OnOk};
 ghost use Rattle.frame_grants.specs.Grants.{IsPool};
 ghost use Rattle.hpt_pool.specs.Pool.{pool_refusal};
 ghost use Rattle.trace_read.specs.Lines.{texts};
@@ -19,8 +19,7 @@ const POOL_ORDER: u8 = 24;
 /// The end of the addresses that a pool may have.
 const TOP: u64 = 1 << 60;
 
-/// What the configuration lines so far have given. After a line that is refused the values are not
-/// used.
+/// What the configuration lines so far have given.
 #[derive(Drop)]
 pub struct Settings {
     order: u8,
@@ -51,8 +50,20 @@ fn is_pool(base: u64, order: u64) -> bool
     if order < 18 || order > 34 {
         return false;
     }
-    let size = 1u64 << order;
-    base % size == 0 && base <= TOP - size
+    let size = size_of(order);
+    if base % size != 0 {
+        return false;
+    }
+    base <= TOP - size
+}
+
+/// How many bytes a pool has.
+fn size_of(order: u64) -> u64
+    requires { order ≤ 34 }
+    ensures size { result ≡ 2 ^ order }
+    ensures most { result ≤ 2 ^ 34 }
+{
+    1 << order
 }
 
 impl Settings {
@@ -74,7 +85,7 @@ impl Settings {
     #[tactic(auto, unfolding(crate::specs::Settings::with_order))]
     pub fn take_order(&mut self, words: &[&[u8]]) -> Result<(), Why>
         requires { self.old.limit ≡ 22 }
-        ensures { SetsTo (with_order self.old (texts words.now)) result self.new }
+        ensures { SetsTo (with_order self.old (texts words.now)) result self.old self.new }
     {
         if words.len() != 2 {
             return Err(Why::Count);
@@ -90,7 +101,7 @@ impl Settings {
     /// `limit S`
     #[tactic(auto, unfolding(crate::specs::Settings::with_limit))]
     pub fn take_limit(&mut self, words: &[&[u8]]) -> Result<(), Why>
-        ensures { SetsTo (with_limit self.old (texts words.now)) result self.new }
+        ensures { SetsTo (with_limit self.old (texts words.now)) result self.old self.new }
     {
         if words.len() != 2 {
             return Err(Why::Count);
@@ -106,7 +117,7 @@ impl Settings {
     /// `cpus N`
     #[tactic(auto, unfolding(crate::specs::Settings::with_cpus))]
     pub fn take_cpus(&mut self, words: &[&[u8]]) -> Result<(), Why>
-        ensures { SetsTo (with_cpus self.old (texts words.now)) result self.new }
+        ensures { SetsTo (with_cpus self.old (texts words.now)) result self.old self.new }
     {
         if words.len() != 2 {
             return Err(Why::Count);
@@ -122,7 +133,7 @@ impl Settings {
     /// `pool BASE ORDER`
     #[tactic(auto, unfolding(crate::specs::Settings::with_pool))]
     pub fn take_pool(&mut self, words: &[&[u8]]) -> Result<(), Why>
-        ensures { SetsTo (with_pool self.old (texts words.now)) result self.new }
+        ensures { SetsTo (with_pool self.old (texts words.now)) result self.old self.new }
     {
         if words.len() != 3 {
             return Err(Why::Count);
@@ -139,9 +150,9 @@ impl Settings {
     }
 
     /// `ram LOGICAL MACHINE LENGTH` or `io LOGICAL MACHINE LENGTH`
-    #[tactic(auto, unfolding(crate::specs::Settings::with_granted))]
+    #[tactic(auto, unfolding(crate::specs::Settings::with_granted, frame_grants::specs::Grants::with_grant))]
     pub fn take_grant(&mut self, kind: Kind, words: &[&[u8]]) -> Result<(), Why>
-        ensures { SetsTo (with_granted self.old kind (texts words.now)) result self.new }
+        ensures { SetsTo (with_granted self.old kind (texts words.now)) result self.old self.new }
     {
         if words.len() != 4 {
             return Err(Why::Count);
@@ -155,16 +166,16 @@ impl Settings {
             length,
             kind,
         };
-        match self.grants.add(grant) {
-            Ok(()) => Ok(()),
-            Err(error) => Err(grant_why(error)),
+        if let Err(error) = self.grants.add(grant) {
+            return Err(grant_why(error));
         }
+        Ok(())
     }
 
     /// `begin`
     #[tactic(auto, unfolding(crate::specs::Settings::with_begin))]
     pub fn take_begin(&mut self, words: &[&[u8]]) -> Result<(), Why>
-        ensures taken { SetsTo (with_begin self.old (texts words.now)) result self.new }
+        ensures taken { SetsTo (with_begin self.old (texts words.now)) result self.old self.new }
         ensures room { OnOk result (self.new.order ≤ self.new.granted.pool_order) }
     {
         if words.len() != 1 {
@@ -178,7 +189,8 @@ impl Settings {
 
     /// How many processors there are.
     pub fn cpus(&self) -> u32
-        ensures { result ≡ self.now.cpus }
+        ensures number { result ≡ self.now.cpus }
+        ensures some { 1 ≤ result }
     {
         self.cpus
     }

@@ -51,7 +51,6 @@ read_most : trace_of (codes "begin\n0 hcall 999 1 2 3 4 5 6 7 8\n") ≡ Ok (reco
 unfolding trace_of after_lines after_line after_text after_words after_form form_of form_named run_form verb_of call_named other_verb with_order with_limit with_cpus with_pool with_granted with_begin number_at number_of pool_refusal pool_refusals add_refusal grant_refusals with_grant run_act dump_act act_by arguments_from mode_at with_line may_add is_quiet hcall_of row_of run_line
 read_most = refl
 
-
 -- ---- refused, in the order of the reasons
 -- More bytes than an input may have.
 refused_long : (bytes : List ℕ) → 2 ^ 24 < length bytes → trace_of bytes ≡ Err (0, whys.Long)

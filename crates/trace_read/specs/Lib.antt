@@ -1,2 +1,13 @@
 pub mod Config
 pub mod Trace
+pub mod Lines
+pub mod Rest
+pub mod Numbers
+pub mod Whys
+pub mod Forms
+pub mod Acts
+pub mod Settings
+pub mod Counts
+pub mod Places
+pub mod Grammar
+pub mod Read

@@ -2,8 +2,26 @@
 //! from the bytes of an input.
 #![tactic(auto)]
 
+mod acts;
 mod config;
+mod counted;
+mod forms;
+mod lines;
+mod numbers;
+mod parser;
+mod reader;
+mod settings;
+mod stage;
+mod stop;
 mod trace;
+mod verbs;
+mod why;
 
 pub use config::Config;
+pub use numbers::number;
+pub use parser::{TraceError, parse};
 pub use trace::{Act, Trace, TraceLine, TraceLines};
+pub use why::Why;
+
+#[cfg(test)]
+mod tests;

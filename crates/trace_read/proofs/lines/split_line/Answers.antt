@@ -1,0 +1,16 @@
+use Rattle.std.proofs.Common.{◌≡◌, ◌+◌, ◌-◌, ℕ, List, take, drop, length, arith, length-drop}
+use Rattle.std.proofs.lemmas.List.{take_all}
+use Rattle.std.specs.List.{position_or_len}
+use Rattle.std.proofs.lemmas.List.Splits.{slice_split_first}
+use Rattle.trace_read.specs.Lines.{is_lf}
+use Rattle.trace_read.proofs.Digits.{slice_split_whole}
+use Rattle.trace_read.proofs.lines.split_line.Goals as goal
+
+pub returns-then-end-text-clause-parts : goal.returns-then-end-text-clause-parts
+returns-then-end-text-clause-parts c =
+    let text : List ℕ = c.args.text.now in
+    let rest : take (length text - (position_or_len is_lf text + 1)) (drop (position_or_len is_lf text + 1) text) ≡ drop (position_or_len is_lf text + 1) text = take_all _ _ (omega (arith, length-drop (position_or_len is_lf text + 1) text)) in
+    rw (c.line_end-end.ensures, rest) (slice_split_first is_lf text 0 (omega (arith, c.line_end-end.ensures)))
+
+pub returns-else-end-text-clause-parts : goal.returns-else-end-text-clause-parts
+returns-else-end-text-clause-parts c = slice_split_whole is_lf c.args.text.now (omega (arith, c.line_end-end.ensures))

@@ -1,0 +1,34 @@
+-- Where each form of line may stand.
+use Rattle.std.specs.Prelude.{Bool, true, false, not}
+use Rattle.trace_read.specs.declared.forms.Form.{Form}
+use Rattle.trace_read.specs.declared.forms.Form.TheVariants as forms
+use Rattle.trace_read.specs.declared.stage.Stage.{Stage}
+use Rattle.trace_read.specs.declared.stage.Stage.TheVariants as stages
+
+-- Nothing has come before.
+abbrev pub is_first : Stage → Bool
+is_first stages.Order = true
+is_first other = false
+
+-- The configuration has ended.
+abbrev pub is_running : Stage → Bool
+is_running stages.Lines = true
+is_running other = false
+
+-- `order`, `limit`, `cpus` and `pool` come in this order, each at most once; grants and `begin` behind them; run lines and dumps behind `begin`.
+abbrev pub comes_at : Form → Stage → Bool
+comes_at forms.Order stage = is_first stage
+comes_at forms.Limit stages.Order = true
+comes_at forms.Limit stages.Limit = true
+comes_at forms.Limit other = false
+comes_at forms.Cpus stages.Order = true
+comes_at forms.Cpus stages.Limit = true
+comes_at forms.Cpus stages.Cpus = true
+comes_at forms.Cpus other = false
+comes_at forms.Pool stages.Grants = false
+comes_at forms.Pool stages.Lines = false
+comes_at forms.Pool other = true
+comes_at (forms.Grant kind) stage = not (is_running stage)
+comes_at forms.Begin stage = not (is_running stage)
+comes_at (forms.Run verb) stage = is_running stage
+comes_at forms.Dump stage = is_running stage

@@ -1,0 +1,126 @@
+ghost use Rattle.std.specs.Prelude.{◌≡◌, ◌≤◌, ◌<◌, [], IfOk, slice_index_or};
+ghost use Rattle.trace_read.specs.Forms.{IsNamedVerb, IsNamedForm};
+ghost use Rattle.trace_read.specs.Lines.{texts};
+ghost use Rattle.trace_read.specs.Acts.{number_at, arguments_from, mode_at, act_by, run_act, dump_act};
+ghost use Rattle.trace_read.specs.Trace.{IsSpelt};
+
+use crate::forms::{Form, is};
+use crate::numbers::number;
+use crate::trace::Act;
+use crate::verbs::Verb;
+use crate::why::Why;
+
+/// The word at an index; a missing one is empty.
+fn word_at<'a>(words: &[&'a [u8]], i: usize) -> &'a [u8]
+    ensures { result.now ≡ slice_index_or (texts words.now) i [] }
+{
+    if i < words.len() { words[i] } else { &[] }
+}
+
+/// The word at an index as a number; a missing one is 0.
+#[tactic(auto, unfolding(crate::specs::Acts::number_at))]
+pub fn number_at(words: &[&[u8]], i: usize) -> Result<u64, Why>
+    ensures { result ≡ number_at (texts words.now) i }
+{
+    if i < words.len() {
+        number(words[i]).ok_or(Why::Number)
+    } else {
+        Ok(0)
+    }
+}
+
+/// The arguments of a call, of which the first stands at this index.
+#[tactic(auto, unfolding(crate::specs::Acts::arguments_from))]
+fn arguments_from(words: &[&[u8]], first: usize) -> Result<[u64; 8], Why>
+    requires { first ≤ 3 }
+    ensures { result ≡ arguments_from (texts words.now) first }
+{
+    Ok([
+        number_at(words, first)?,
+        number_at(words, first + 1)?,
+        number_at(words, first + 2)?,
+        number_at(words, first + 3)?,
+        number_at(words, first + 4)?,
+        number_at(words, first + 5)?,
+        number_at(words, first + 6)?,
+        number_at(words, first + 7)?,
+    ])
+}
+
+/// The mode of an access: whether it is made in problem state.
+#[tactic(auto, unfolding(crate::specs::Acts::mode_at))]
+fn mode_at(words: &[&[u8]], i: usize) -> Result<bool, Why>
+    ensures { result ≡ mode_at (texts words.now) i }
+{
+    let word = word_at(words, i);
+    if is(word, "user") {
+        Ok(true)
+    } else if is(word, "priv") {
+        Ok(false)
+    } else {
+        Err(Why::Mode)
+    }
+}
+
+/// What the words behind the processor and the verb ask for.
+#[tactic(auto, unfolding(crate::specs::Acts::act_by))]
+fn act(verb: Verb, words: &[&[u8]]) -> Result<Act, Why>
+    requires { IsNamedVerb verb }
+    ensures act { result ≡ act_by verb (texts words.now) }
+    ensures spelt { IfOk result IsSpelt }
+{
+    match verb {
+        Verb::Named(hcall, _) => Ok(Act::Call {
+            number: hcall.number(),
+            args: arguments_from(words, 2)?,
+            spelt: true,
+        }),
+        Verb::Numbered => Ok(Act::Call {
+            number: number_at(words, 2)?,
+            args: arguments_from(words, 3)?,
+            spelt: false,
+        }),
+        Verb::Access(want) => Ok(Act::Access {
+            want,
+            ea: number_at(words, 2)?,
+            user: mode_at(words, 3)?,
+        }),
+        Verb::SlbMte => Ok(Act::SlbMte {
+            rb: number_at(words, 2)?,
+            rs: number_at(words, 3)?,
+        }),
+        Verb::SlbClear => Ok(Act::SlbClear),
+    }
+}
+
+/// A run line: the processor, and what it does.
+#[tactic(auto, unfolding(crate::specs::Acts::run_act))]
+pub fn run_act(cpus: u32, verb: Option<Verb>, words: &[&[u8]]) -> Result<(u32, Act), Why>
+    requires { IsNamedForm (Form.Run verb) }
+    ensures line { result ≡ run_act cpus verb (texts words.now) }
+    ensures cpu { IfOk result (λ x. x.0 < cpus) }
+    ensures spelt { IfOk result (λ x. IsSpelt x.1) }
+{
+    let verb = verb.ok_or(Why::Count)?;
+    if !verb.takes(words.len()) {
+        return Err(Why::Count);
+    }
+    let cpu = number_at(words, 0)?;
+    let act = act(verb, words)?;
+    if cpu >= u64::from(cpus) {
+        return Err(Why::Cpu);
+    }
+    Ok((cpu as u32, act))
+}
+
+/// `dump`: it names no processor.
+#[tactic(auto, unfolding(crate::specs::Acts::dump_act))]
+pub fn dump_act(words: &[&[u8]]) -> Result<(u32, Act), Why>
+    ensures line { result ≡ dump_act (texts words.now) }
+    ensures dump { IfOk result (λ x. x ≡ (0, Act.Dump)) }
+{
+    if words.len() != 1 {
+        return Err(Why::Count);
+    }
+    Ok((0, Act::Dump))
+}

@@ -1,0 +1,101 @@
+ghost use Rattle.std.specs.Prelude.{◌≡◌, IfSome, IfOk};
+ghost use Rattle.std.specs.Str.{bytes_eq};
+ghost use Rattle.trace_read.specs.Lines.{texts};
+ghost use Rattle.trace_read.specs.Forms.{begins_with_digit, form_named, run_form, form_of, IsNamedForm};
+
+use crate::verbs::{Verb, named_verb};
+use crate::why::Why;
+use frame_grants::Kind;
+
+/// The form of a line, as its first words tell it.
+#[derive(Clone, Copy, PartialEq, Eq, Debug)]
+pub enum Form {
+    /// `order S`
+    Order,
+    /// `limit S`
+    Limit,
+    /// `cpus N`
+    Cpus,
+    /// `pool BASE ORDER`
+    Pool,
+    /// `ram LOGICAL MACHINE LENGTH` or `io LOGICAL MACHINE LENGTH`
+    Grant(Kind),
+    /// `begin`
+    Begin,
+    /// A processor, and what it does, where the line says so.
+    Run(Option<Verb>),
+    /// `dump`
+    Dump,
+}
+
+/// Whether a word is this name.
+pub fn is(word: &[u8], name: &str) -> bool
+    ensures { result ≡ bytes_eq name.now word.now }
+{
+    name.as_bytes() == word
+}
+
+fn starts_with_digit(word: &[u8]) -> bool
+    ensures { result ≡ begins_with_digit word.now }
+{
+    match word.first() {
+        None => false,
+        Some(first) => b'0' <= *first && *first <= b'9',
+    }
+}
+
+/// The form that a first word names.
+#[tactic(auto, unfolding(crate::specs::Forms::form_named))]
+fn named_form(word: &[u8]) -> Option<Form>
+    ensures form { result ≡ form_named word.now }
+    ensures named { IfSome result IsNamedForm }
+{
+    if is(word, "order") {
+        Some(Form::Order)
+    } else if is(word, "limit") {
+        Some(Form::Limit)
+    } else if is(word, "cpus") {
+        Some(Form::Cpus)
+    } else if is(word, "pool") {
+        Some(Form::Pool)
+    } else if is(word, "ram") {
+        Some(Form::Grant(Kind::Ram))
+    } else if is(word, "io") {
+        Some(Form::Grant(Kind::Io))
+    } else if is(word, "begin") {
+        Some(Form::Begin)
+    } else if is(word, "dump") {
+        Some(Form::Dump)
+    } else {
+        None
+    }
+}
+
+/// The form of a line that begins with a processor, from the words behind it.
+#[tactic(auto, unfolding(crate::specs::Forms::run_form))]
+fn processor_form(words: &[&[u8]]) -> Result<Form, Why>
+    ensures form { result ≡ run_form (texts words.now) }
+    ensures named { IfOk result IsNamedForm }
+{
+    match words.first() {
+        None => Ok(Form::Run(None)),
+        Some(word) => {
+            let verb = named_verb(word).ok_or(Why::Word)?;
+            Ok(Form::Run(Some(verb)))
+        }
+    }
+}
+
+/// The form of a line.
+#[tactic(auto, unfolding(crate::specs::Forms::form_of))]
+pub fn line_form(words: &[&[u8]]) -> Result<Form, Why>
+    ensures form { result ≡ form_of (texts words.now) }
+    ensures named { IfOk result IsNamedForm }
+{
+    let (first, rest) = words.split_first().ok_or(Why::Word)?;
+    if starts_with_digit(first) {
+        processor_form(rest)
+    } else {
+        named_form(first).ok_or(Why::Word)
+    }
+}

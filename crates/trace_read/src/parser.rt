@@ -1,0 +1,61 @@
+ghost use Rattle.std.specs.Prelude.{◌≡◌};
+ghost use Rattle.trace_read.specs.Grammar.{trace_of};
+ghost use Rattle.trace_read.specs.Read.{IsParsed, error_of};
+
+use crate::lines::{lines, split_line};
+use crate::reader::Reader;
+use crate::stop::Stop;
+use crate::trace::Trace;
+use crate::why::Why;
+use std::alloc::Global;
+
+/// The most bytes that an input may have.
+const MOST_BYTES: usize = 16_777_216;
+
+/// Why an input gives no trace.
+#[derive(Debug, Drop)]
+pub enum TraceError {
+    /// The first refused line, and the reason.
+    Line { line: u32, why: Why },
+    /// There is not enough memory.
+    Memory,
+}
+
+fn error_at(line: u32, stop: Stop) -> TraceError
+    ensures { result ≡ error_of line stop }
+{
+    match stop {
+        Stop::Refused(why) => TraceError::Line { line, why },
+        Stop::Memory => TraceError::Memory,
+    }
+}
+
+/// The trace that the bytes give, or the first refused line with its reason.
+#[tactic(auto, unfolding(crate::specs::Grammar::trace_of, crate::specs::Grammar::after_lines))]
+pub fn parse(alloc: Global, bytes: &[u8]) -> Result<Trace, TraceError>
+    ensures { IsParsed result (trace_of bytes.now) }
+{
+    if bytes.len() > MOST_BYTES {
+        return Err(TraceError::Line {
+            line: 0,
+            why: Why::Long,
+        });
+    }
+    let mut reader = Reader::new(alloc);
+    let mut rest = lines(bytes);
+    while let Some(text) = rest {
+        let (line, after) = split_line(text);
+        let number = reader.taken() + 1;
+        if let Err(stop) = reader.read_line(alloc, line) {
+            return Err(error_at(number, stop));
+        }
+        rest = after;
+    }
+    if !reader.is_running() {
+        return Err(TraceError::Line {
+            line: reader.taken() + 1,
+            why: Why::Begin,
+        });
+    }
+    Ok(reader.into_trace())
+}

@@ -1,0 +1,24 @@
+//! The machine of the shared page table: what actors may do, one atomic step at a time, to the words
+//! of its entries, and what holds whatever steps they take.
+//!
+//! An entry has a control word (lock, shut, valid, R, C, stamp) and two data words. An operation of a
+//! hypervisor call takes the lock, and shuts an entry before it changes it. An access of a processor
+//! takes no lock: it looks at the control word, and sets R and C where it finds that word again.
+//! `specs/Steps.antt` has the table of steps. There is no thread here.
+#![tactic(auto)]
+
+mod control;
+mod doing;
+mod entry;
+mod error;
+mod phase;
+mod sighting;
+mod step;
+
+pub use control::Control;
+pub use doing::Doing;
+pub use entry::Entry;
+pub use error::CoreError;
+pub use phase::Phase;
+pub use sighting::Sighting;
+pub use step::Step;

@@ -10,4 +10,6 @@ pub mod Trials
 pub mod Plans
 pub mod Fronts
 pub mod CachedPages
+pub mod FrontLaws
+pub mod Logged
 mod Rows

@@ -10,6 +10,7 @@ pub mod Trials
 pub mod Plans
 pub mod Fronts
 pub mod CachedPages
+pub mod ReplyLaws
 pub mod FrontLaws
 pub mod Logged
 mod Rows

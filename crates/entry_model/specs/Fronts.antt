@@ -1,5 +1,5 @@
 -- Fronts: for each entry the pair of stamp and number of bits that a processor has come to.
-use Rattle.std.specs.Prelude.{ℕ, ◌+◌, ◌*◌, ◌≤◌, max, List, [], ◌∷◌, map, slice_set, slice_index_or}
+use Rattle.std.specs.Prelude.{◌≡◌, ℕ, ◌+◌, ◌*◌, ◌≤◌, max, List, [], ◌∷◌, length, map, slice_set, slice_index_or}
 use Rattle.entry_model.specs.State.{State}
 use Rattle.entry_model.specs.declared.line.Line.{Line}
 use Rattle.entry_model.specs.declared.receipt.Receipt.{Receipt}
@@ -21,9 +21,10 @@ IsAhead fronts r = front_at fronts r.entry ≤ pair_of r.before
 abbrev pub fronts_after : List ℕ → Receipt → List ℕ
 fronts_after fronts r = slice_set fronts r.entry (pair_of (after_of r))
 
--- No front is above the one that the others have of its entry.
-abbrev pub AreBelow : List ℕ → List ℕ → Type 0
-AreBelow fronts others = (e : ℕ) → front_at fronts e ≤ front_at others e
+-- Fronts of one table, none of them above the one that the others have of its entry.
+pub record AreBelow (fronts others : List ℕ) : Type 0 where
+  pub size : length others ≡ length fronts
+  pub low : (e : ℕ) → front_at fronts e ≤ front_at others e
 
 -- From these fronts, by these receipts in the order of their making, to those fronts. Fronts may rise without a receipt.
 abbrev pub KeepsFronts : List ℕ → List Receipt → List ℕ → Type 0

@@ -1,1 +1,5 @@
+pub mod Lists
+pub mod Noted
+pub mod Kept
+pub mod Moves
 mod Rows

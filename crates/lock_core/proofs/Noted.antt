@@ -26,6 +26,10 @@ pub is_not : (b : Bool) → not b ≡ false → b ≡ true
 is_not true h = refl
 is_not false h = absurd (false≢true (sym h))
 
+pub not_true : (b : Bool) → ¬ (b ≡ true) → b ≡ false
+not_true true n = absurd (n refl)
+not_true false n = refl
+
 pub or_has : (a b : Bool) → (not a || b) ≡ true → a ≡ true → b ≡ true
 or_has true b h e = h
 or_has false b h e = absurd (false≢true e)

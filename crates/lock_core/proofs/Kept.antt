@@ -14,7 +14,7 @@ use Rattle.lock_core.specs.declared.entry.Entry.{Entry}
 use Rattle.lock_core.specs.declared.phase.Phase.{Phase}
 use Rattle.lock_core.specs.declared.phase.Phase.TheVariants.{Idle, Held, HeldShut, Looked}
 use Rattle.lock_core.specs.declared.sighting.Sighting.{Sighting}
-use Rattle.lock_core.specs.Words.{state_of, noted_state, changes}
+use Rattle.lock_core.specs.Words.{without_bits, state_of, noted_state, changes}
 use Rattle.lock_core.specs.Machine.{Actor, Machine, nobody}
 use Rattle.lock_core.specs.Runs.{receipts_of}
 
@@ -76,7 +76,7 @@ pub record LookedOk (d : Doing) (x : Entry) : Type 0 where
   pub free : d.noted.shut ≡ false
   pub first : IsFresh d x → (n : ℕ) → d.first ≡ Some n → x.dword0 ≡ n
   pub second : IsFresh d x → (n : ℕ) → d.second ≡ Some n → x.dword1 ≡ n
-  pub seen : IsFresh d x → (w : ℕ × ℕ) → d.seen ≡ Some w → (x.dword0 ≡ w.0) × (x.dword1 ≡ w.1)
+  pub seen : IsFresh d x → (w : ℕ × ℕ) → d.seen ≡ Some w → (x.dword0 ≡ w.0) × (without_bits x.dword1 ≡ without_bits w.1)
   pub bits : IsFresh d x → HasMoreBits d.noted x.control
 
 abbrev pub PhaseOk : Phase → Entry → Type 0

@@ -3,4 +3,6 @@ pub mod Noted
 pub mod Kept
 pub mod Moves
 pub mod Steps
+pub mod Looks
+pub mod Marks
 mod Rows

@@ -55,10 +55,10 @@ state_canonical k dword0 dword1 = at (cases_Bool k.valid) where
   at (inr v) = record { apart = rw v refl; no_first = λ e. rw v refl; no_second = λ e. rw v refl; no_reference = λ e. rw v refl; no_change = λ e. rw v refl }
 
 -- Only the words of a valid entry count.
-pub same_words : (k : Control) (a b a' b' : ℕ) → (k.valid ≡ true → (a ≡ a') × (b ≡ b')) → state_of k a b ≡ state_of k a' b'
+pub same_words : (k : Control) (a b a' b' : ℕ) → (k.valid ≡ true → (a ≡ a') × (without_bits b ≡ without_bits b')) → state_of k a b ≡ state_of k a' b'
 same_words k a b a' b' same = at (cases_Bool k.valid) where
   at : (k.valid ≡ true) ⊎ (k.valid ≡ false) → state_of k a b ≡ state_of k a' b'
-  at (inl v) = let e = same v in λ i. state_of k (e.0 i) (e.1 i)
+  at (inl v) = let e = same v in λ i. record (state_of k a b) { dword0 = if k.valid then e.0 i else 0; dword1 = if k.valid then e.1 i else 0 }
   at (inr v) = rw v refl
 
 pick : (v : Bool) (a b : ℕ) → (v ≡ true → a ≡ b) → (v ≡ false → a ≡ 0) → a ≡ (if v then b else 0)
@@ -70,11 +70,11 @@ pick_bit true a b p q = p refl
 pick_bit false a b p q = q refl
 
 -- A canonical state is that of a control word with its parts, and of its doublewords.
-pub state_is : (s : State) (k : Control) (a b : ℕ) → IsCanonicalState s → k.valid ≡ s.valid → k.stamp ≡ s.stamp → (s.valid ≡ true → (k.referenced ≡ s.referenced) × (k.changed ≡ s.changed)) → (s.valid ≡ true → (a ≡ s.dword0) × (b ≡ s.dword1)) → s ≡ state_of k a b
+pub state_is : (s : State) (k : Control) (a b : ℕ) → IsCanonicalState s → k.valid ≡ s.valid → k.stamp ≡ s.stamp → (s.valid ≡ true → (k.referenced ≡ s.referenced) × (k.changed ≡ s.changed)) → (s.valid ≡ true → (a ≡ s.dword0) × (without_bits b ≡ without_bits s.dword1)) → s ≡ state_of k a b
 state_is s k a b can valid stamp bits words = λ i. record {
   valid = sym valid i;
   dword0 = pick k.valid s.dword0 a (λ v. sym (words (sym valid ∙ v)).0) (λ v. can.no_first (sym valid ∙ v)) i;
-  dword1 = pick k.valid s.dword1 (without_bits b) (λ v. sym (cleared_same s.dword1 can.apart) ∙ ap without_bits (sym (words (sym valid ∙ v)).1)) (λ v. can.no_second (sym valid ∙ v)) i;
+  dword1 = pick k.valid s.dword1 (without_bits b) (λ v. sym (cleared_same s.dword1 can.apart) ∙ sym (words (sym valid ∙ v)).1) (λ v. can.no_second (sym valid ∙ v)) i;
   referenced = pick_bit k.valid s.referenced k.referenced (λ v. sym (bits (sym valid ∙ v)).0) (λ v. can.no_reference (sym valid ∙ v)) i;
   changed = pick_bit k.valid s.changed k.changed (λ v. sym (bits (sym valid ∙ v)).1) (λ v. can.no_change (sym valid ∙ v)) i;
   stamp = sym stamp i;
@@ -82,12 +82,12 @@ state_is s k a b can valid stamp bits words = λ i. record {
 
 -- ---- what an actor knows
 -- Words that agree with what was loaded or seen are those known.
-pub known_words : (f s : Option ℕ) (g : Option (ℕ × ℕ)) (a b : ℕ) → is_some (known_of f s g) ≡ true → ((n : ℕ) → f ≡ Some n → a ≡ n) → ((n : ℕ) → s ≡ Some n → b ≡ n) → ((w : ℕ × ℕ) → g ≡ Some w → (a ≡ w.0) × (b ≡ w.1)) → (a ≡ (known_or_nothing (known_of f s g)).0) × (b ≡ (known_or_nothing (known_of f s g)).1)
+pub known_words : (f s : Option ℕ) (g : Option (ℕ × ℕ)) (a b : ℕ) → is_some (known_of f s g) ≡ true → ((n : ℕ) → f ≡ Some n → a ≡ n) → ((n : ℕ) → s ≡ Some n → b ≡ n) → ((w : ℕ × ℕ) → g ≡ Some w → (a ≡ w.0) × (without_bits b ≡ without_bits w.1)) → (a ≡ (known_or_nothing (known_of f s g)).0) × (without_bits b ≡ without_bits (known_or_nothing (known_of f s g)).1)
 known_words None None None a b h p q r = absurd (false≢true h)
 known_words None None (Some w) a b h p q r = r w refl
 known_words None (Some n) g a b h p q r = absurd (false≢true h)
 known_words (Some n) None g a b h p q r = absurd (false≢true h)
-known_words (Some n) (Some n') g a b h p q r = (p n refl, q n' refl)
+known_words (Some n) (Some n') g a b h p q r = (p n refl, ap without_bits (q n' refl))
 
 -- ---- whether the reply changes the entry
 pub still_is : (d : Doing) → changes d ≡ false → next_state d ≡ noted_state d

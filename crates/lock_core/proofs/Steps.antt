@@ -12,7 +12,7 @@ use Rattle.lock_core.specs.declared.doing.Doing.{Doing}
 use Rattle.lock_core.specs.declared.entry.Entry.{Entry}
 use Rattle.lock_core.specs.declared.phase.Phase.{Phase}
 use Rattle.lock_core.specs.declared.phase.Phase.TheVariants.{Idle, Held, HeldShut, Looked}
-use Rattle.lock_core.specs.Words.{state_of, settled_word, known, known_of, known_or_nothing, is_read, noted_state, next_state, changes, receipt, is_stored}
+use Rattle.lock_core.specs.Words.{without_bits, state_of, settled_word, known, known_of, known_or_nothing, is_read, noted_state, next_state, changes, receipt, is_stored}
 use Rattle.lock_core.specs.Machine.{Actor, Machine}
 use Rattle.lock_core.specs.Steps.{Turn, goes_on, ends, begun, noting, loaded, stored, locked_entry, shut_entry, settled_entry}
 use Rattle.lock_core.proofs.Kept.{HasLock, IsOn, EntryOk, HeldOk, ShutOk, IsFresh, HasMoreBits, LookedOk, PhaseOk, Kept}
@@ -54,7 +54,7 @@ looks_on d x y stamp shut first second more ok =
       free = ok.free;
       first = λ f n e. first ∙ ok.first (was f) n e;
       second = λ f n e. second ∙ ok.second (was f) n e;
-      seen = λ f w e. (let p = ok.seen (was f) w e in (first ∙ p.0, second ∙ p.1));
+      seen = λ f w e. (let p = ok.seen (was f) w e in (first ∙ p.0, ap without_bits second ∙ p.1));
       bits = λ f. (let b = ok.bits (was f) in record { valid = b.valid ∙ more.valid; referenced = λ e. more.referenced (b.referenced e); changed = λ e. more.changed (b.changed e) });
     }
 
@@ -72,7 +72,7 @@ noted_is d x entry ok read =
     entry.free ok.free
     ∙ same_words x.control x.dword0 x.dword1 _ _ (λ v. known_words d.first d.second d.seen x.dword0 x.dword1 (or_has d.noted.valid _ read (ok.valid ∙ v)) ok.first ok.second (λ w e. absurd (none_some w (sym ok.seen ∙ e))))
 
-loaded_entry : (second : Bool) (x : Entry) (d : Doing) → (loaded second x d).entry ≡ d.entry
+pub loaded_entry : (second : Bool) (x : Entry) (d : Doing) → (loaded second x d).entry ≡ d.entry
 loaded_entry true x d = refl
 loaded_entry false x d = refl
 
@@ -89,9 +89,9 @@ stored_published true s x = refl
 stored_published false s x = refl
 
 -- Words that are stored are those of the state, where it is valid.
-stored_words : (x : Entry) (s : State) → is_stored x s ≡ true → s.valid ≡ true → (x.dword0 ≡ s.dword0) × (x.dword1 ≡ s.dword1)
+stored_words : (x : Entry) (s : State) → is_stored x s ≡ true → s.valid ≡ true → (x.dword0 ≡ s.dword0) × (without_bits x.dword1 ≡ without_bits s.dword1)
 unfolding is_stored
-stored_words x s h valid = let p = and_parts _ _ (or_has s.valid _ h valid) in (eqb-true x.dword0 s.dword0 p.0, eqb-true x.dword1 s.dword1 p.1)
+stored_words x s h valid = let p = and_parts _ _ (or_has s.valid _ h valid) in (eqb-true x.dword0 s.dword0 p.0, ap without_bits (eqb-true x.dword1 s.dword1 p.1))
 
 pub receipt_entry : (d : Doing) → (receipt d).entry ≡ d.entry
 unfolding receipt

@@ -5,4 +5,6 @@ pub mod Moves
 pub mod Steps
 pub mod Looks
 pub mod Marks
+pub mod Passing
+pub mod Whole
 mod Rows

@@ -7,4 +7,6 @@ pub mod Looks
 pub mod Marks
 pub mod Passing
 pub mod Whole
+pub mod Opening
+
 mod Rows

@@ -54,6 +54,10 @@ idle_is (Held d) h = absurd (false≢true h)
 idle_is (HeldShut d) h = absurd (false≢true h)
 idle_is (Looked d) h = absurd (false≢true h)
 
+-- What is kept holds of the machine, with some log.
+abbrev pub Goes : List State → Machine → Type 0
+Goes opening m = (log : List Receipt) × Kept opening m log
+
 -- ---- a step on an entry
 module _ (opening : List State) (m : Machine) (log : List Receipt) (k : Kept opening m log) where
   module _ (i : ℕ) (a : Actor) (me : slice_get m.actors i ≡ Some a) (live : a.live ≡ true) where
@@ -71,9 +75,6 @@ module _ (opening : List State) (m : Machine) (log : List Receipt) (k : Kept ope
     turn_change (Looked d) Mark x is at fit = mark_change opening m log k i a me live d x at is fit
     turn_change p s x is at fit = absurd (false≢true fit)
 
-  abbrev pub Goes : Machine → Type 0
-  Goes m' = (log' : List Receipt) × Kept opening m' log'
-
   -- By what an actor that takes a step on an entry is allowed.
   pub step_change : (i : ℕ) (s : Step) → (actor_at m i).live ≡ true → (in_table m (entry_of (actor_at m i).phase s) && fits (entry_at m (entry_of (actor_at m i).phase s)) (actor_at m i).phase s) ≡ true
       → Change m (entry_of (actor_at m i).phase s) i (entry_at m (entry_of (actor_at m i).phase s)) (actor_at m i) (turn_of m i s)
@@ -85,14 +86,14 @@ module _ (opening : List State) (m : Machine) (log : List Receipt) (k : Kept ope
       turn_change i a (live_there m.actors i live) live a.phase s (entry_at m e) refl at parts.1
 
   pub turn_goes : (i : ℕ) (s : Step) → (actor_at m i).live ≡ true → (in_table m (entry_of (actor_at m i).phase s) && fits (entry_at m (entry_of (actor_at m i).phase s)) (actor_at m i).phase s) ≡ true
-      → Goes (with_turn m (entry_of (actor_at m i).phase s) i (turn_of m i s))
+      → Goes opening (with_turn m (entry_of (actor_at m i).phase s) i (turn_of m i s))
   turn_goes i s live fit =
       let a : Actor = actor_at m i in
       let e : ℕ = entry_of a.phase s in
       (logged log (turn_of m i s).made, both_kept opening m log e i (entry_at m e) a (turn_of m i s) k (step_change i s live fit))
 
   -- ---- splits and joins
-  split_goes : (i to : ℕ) → may_act m i (Split to) ≡ true → Goes (split_off m i to)
+  split_goes : (i to : ℕ) → may_act m i (Split to) ≡ true → Goes opening (split_off m i to)
   unfolding may_act
   split_goes i to may =
       let parts = and_parts _ _ may in
@@ -100,7 +101,7 @@ module _ (opening : List State) (m : Machine) (log : List Receipt) (k : Kept ope
       let at : slice_get m.actors to ≡ Some (actor_at m to) = slice_get-get_or m.actors to nobody (ltb-true to (length m.actors) other.0) in
       (log, split_kept opening m log k i to (actor_at m i) (actor_at m to) (live_there m.actors i parts.0) at (not_is (actor_at m to).live other.1))
 
-  join_goes : (i from : ℕ) → may_act m i (Join from) ≡ true → fits_phase m i (Join from) ≡ true → Goes (join_in m i from)
+  join_goes : (i from : ℕ) → may_act m i (Join from) ≡ true → fits_phase m i (Join from) ≡ true → Goes opening (join_in m i from)
   unfolding may_act fits_phase
   join_goes i from may fit =
       let parts = and_parts _ _ may in
@@ -109,18 +110,12 @@ module _ (opening : List State) (m : Machine) (log : List Receipt) (k : Kept ope
       let apart : from ≢ i = λ e. false≢true (sym (not_is (from == i) other.1) ∙ eq-eqb from i e) in
       (log, join_kept opening m log k i from (actor_at m i) (actor_at m from) (live_there m.actors i parts.0) parts.0 (idle_is (actor_at m i).phase idle.0) (live_there m.actors from other.0) apart (idle_is (actor_at m from).phase idle.1))
 
-  stepped_goes : (i : ℕ) (s : Step) → allowed m i s ≡ true → Goes (stepped m i s)
+  stepped_goes : (i : ℕ) (s : Step) → allowed m i s ≡ true → Goes opening (stepped m i s)
   unfolding stepped may_act fits_phase
   stepped_goes i (Split to) may = split_goes i to (allowed_parts m i (Split to) may).0
   stepped_goes i (Join from) may = join_goes i from (allowed_parts m i (Join from) may).0 (allowed_parts m i (Join from) may).2
   stepped_goes i s may = turn_goes i s (allowed_parts m i s may).0 (allowed_parts m i s may).2
 
-  pub moved_goes : (i : ℕ) (s : Step) → Goes (moved m i s)
+  pub moved_goes : (i : ℕ) (s : Step) → Goes opening (moved m i s)
   unfolding moved
-  moved_goes i s = cond_both (allowed m i s) (stepped m i s) m Goes (stepped_goes i s) (λ _. (log, k))
-
--- ---- the opening
--- A state as entries have it.
-pub record IsFair (s : State) : Type 0 where
-  pub canonical : IsCanonicalState s
-  pub low : s.stamp < 2 ^ 32
+  moved_goes i s = cond_both (allowed m i s) (stepped m i s) m (Goes opening) (stepped_goes i s) (λ _. (log, k))

@@ -9,4 +9,5 @@ pub mod Passing
 pub mod Whole
 pub mod Opening
 
+pub mod FrontsKept
 mod Rows

@@ -8,6 +8,6 @@ pub mod Marks
 pub mod Passing
 pub mod Whole
 pub mod Opening
-
 pub mod FrontsKept
+pub mod Listed
 mod Rows

@@ -43,7 +43,7 @@ unfolding allowed refusal refusals
 allowed_parts m i s h = no_refusal (may_act m i s) (names_entry m s) (fits_phase m i s) h
 
 -- An actor that is live is there.
-live_there : (as' : List Actor) (i : ℕ) → (slice_index_or as' i nobody).live ≡ true → slice_get as' i ≡ Some (slice_index_or as' i nobody)
+pub live_there : (as' : List Actor) (i : ℕ) → (slice_index_or as' i nobody).live ≡ true → slice_get as' i ≡ Some (slice_index_or as' i nobody)
 live_there [] i h = absurd (false≢true h)
 live_there (a ∷ rest) zero h = refl
 live_there (a ∷ rest) (suc i) h = live_there rest i h

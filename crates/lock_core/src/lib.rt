@@ -11,6 +11,7 @@ mod control;
 mod doing;
 mod entry;
 mod error;
+mod laws;
 mod phase;
 mod sighting;
 mod step;
@@ -19,6 +20,9 @@ pub use control::Control;
 pub use doing::Doing;
 pub use entry::Entry;
 pub use error::CoreError;
+pub use laws::{
+    every_history_is_legal, every_receipt_is_listed, every_receipt_keeps_its_front, seen_lines_hold,
+};
 pub use phase::Phase;
 pub use sighting::Sighting;
 pub use step::Step;

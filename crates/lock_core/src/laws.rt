@@ -1,0 +1,25 @@
+//! What holds over every list of steps of any actors. Each function does nothing, and its contract is
+//! the law.
+
+ghost use Rattle.lock_core.specs.Promises.{EveryHistoryIsLegal, EveryReceiptKeepsItsFront, EveryReceiptIsListed, SeenLinesHold};
+
+/// Each entry's history over the receipts of all actors is legal, from its opening state to the state
+/// that it counts with: while it is shut, the one from before.
+pub fn every_history_is_legal()
+    ensures { EveryHistoryIsLegal }
+{}
+
+/// No receipt comes before what its actor had come to on that entry, at the step that makes it.
+pub fn every_receipt_keeps_its_front()
+    ensures { EveryReceiptKeepsItsFront }
+{}
+
+/// The receipt that a step makes stands behind the receipts that its actor has.
+pub fn every_receipt_is_listed()
+    ensures { EveryReceiptIsListed }
+{}
+
+/// Each line that an actor has seen holds of its entry.
+pub fn seen_lines_hold()
+    ensures { SeenLinesHold }
+{}

@@ -13,7 +13,8 @@ use Rattle.lock_core.specs.declared.step.Step.{Step}
 use Rattle.lock_core.specs.declared.step.Step.TheVariants.{Lock, Look, LoadData, Shut, StoreData, Settle, Release, Mark, Split, Join}
 use Rattle.lock_core.specs.Words.{quiet_entry}
 use Rattle.lock_core.specs.Machine.{Actor, Machine, nobody, newcomer, opened, actor_at, entry_at, in_table}
-use Rattle.lock_core.specs.Steps.{Turn, actor_after, entry_of, fits, turn_of, with_turn, may_act, fits_phase, allowed, made_by, stepped, moved}
+use Rattle.lock_core.specs.declared.turn.Turn.{Turn}
+use Rattle.lock_core.specs.Steps.{actor_after, entry_of, fits, turn_of, with_turn, may_act, fits_phase, allowed, made_by, stepped, moved}
 use Rattle.lock_core.specs.Runs.{run}
 use Rattle.lock_core.specs.ActorFronts.{fronts_of, raised_by, fronts_moved, run_fronts}
 use Rattle.lock_core.specs.Promises.{IsFair}

@@ -8,7 +8,8 @@ use Rattle.entry_model.specs.declared.receipt.Receipt.{Receipt}
 use Rattle.lock_core.specs.declared.step.Step.{Step}
 use Rattle.lock_core.specs.declared.step.Step.TheVariants.{Split, Join}
 use Rattle.lock_core.specs.Machine.{Actor, Machine, nobody, actor_at}
-use Rattle.lock_core.specs.Steps.{Turn, actor_after, entry_of, turn_of, with_turn, may_act, allowed, made_by, stepped, moved}
+use Rattle.lock_core.specs.declared.turn.Turn.{Turn}
+use Rattle.lock_core.specs.Steps.{actor_after, entry_of, turn_of, with_turn, may_act, allowed, made_by, stepped, moved}
 use Rattle.lock_core.proofs.Lists.{none_some}
 use Rattle.lock_core.proofs.Whole.{allowed_parts, live_there}
 

@@ -21,7 +21,8 @@ use Rattle.lock_core.specs.declared.phase.Phase.TheVariants.{Idle, Held, HeldShu
 use Rattle.lock_core.specs.declared.sighting.Sighting.{Sighting}
 use Rattle.lock_core.specs.Words.{without_bits, state_of, known, known_or_nothing, is_read, none_loaded, noted_state, next_state, changes, receipt, is_noted, is_still}
 use Rattle.lock_core.specs.Machine.{Actor, Machine, opening_at, is_at, words_in, words_at, or_else, seen_in, seen_words}
-use Rattle.lock_core.specs.Steps.{Turn, goes_on, ends, begun, noting, loaded, marked_entry, second_look}
+use Rattle.lock_core.specs.declared.turn.Turn.{Turn}
+use Rattle.lock_core.specs.Steps.{goes_on, ends, begun, noting, loaded, marked_entry, second_look}
 use Rattle.lock_core.proofs.Kept.{HasLock, IsOn, EntryOk, HeldOk, ShutOk, IsFresh, HasMoreBits, LookedOk, PhaseOk, as_line, Kept}
 use Rattle.lock_core.proofs.Moves.{Change}
 use Rattle.lock_core.proofs.Lists.{some_same, none_some}

@@ -16,7 +16,8 @@ use Rattle.lock_core.specs.declared.phase.Phase.{Phase}
 use Rattle.lock_core.specs.declared.phase.Phase.TheVariants.{Idle, Held, HeldShut, Looked}
 use Rattle.lock_core.specs.Words.{without_bits, state_of, known, known_or_nothing, is_read, noted_state, next_state, changes, receipt, is_noted, is_still}
 use Rattle.lock_core.specs.Machine.{Actor, Machine}
-use Rattle.lock_core.specs.Steps.{Turn, goes_on, ends, noting, marked_entry, second_look}
+use Rattle.lock_core.specs.declared.turn.Turn.{Turn}
+use Rattle.lock_core.specs.Steps.{goes_on, ends, noting, marked_entry, second_look}
 use Rattle.lock_core.proofs.Kept.{HasLock, IsOn, EntryOk, HeldOk, ShutOk, IsFresh, HasMoreBits, LookedOk, PhaseOk, Kept}
 use Rattle.lock_core.proofs.Moves.{Change}
 use Rattle.lock_core.proofs.Noted.{not_is, or_has, cleared_same, same_words, state_is, known_words, still_is, still_if, next_canonical, noted_canonical, noted_same}

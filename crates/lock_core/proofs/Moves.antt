@@ -21,7 +21,8 @@ use Rattle.lock_core.specs.declared.phase.Phase.{Phase}
 use Rattle.lock_core.specs.declared.phase.Phase.TheVariants.{Idle, Held, HeldShut, Looked}
 use Rattle.lock_core.specs.declared.sighting.Sighting.{Sighting}
 use Rattle.lock_core.specs.Machine.{Actor, Machine, nobody, sighting_of, shown_by}
-use Rattle.lock_core.specs.Steps.{Turn, actor_after}
+use Rattle.lock_core.specs.declared.turn.Turn.{Turn}
+use Rattle.lock_core.specs.Steps.{actor_after}
 use Rattle.lock_core.specs.Runs.{receipts_of}
 use Rattle.lock_core.proofs.Kept.{HasLock, IsOn, EntryOk, HeldOk, ShutOk, LookedOk, PhaseOk, as_line, on_entry, logged, Kept}
 use Rattle.lock_core.proofs.Lists.{some_same, none_some, at_set, set_found, set_else, same_at, in_append}

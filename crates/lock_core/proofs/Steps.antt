@@ -14,7 +14,8 @@ use Rattle.lock_core.specs.declared.phase.Phase.{Phase}
 use Rattle.lock_core.specs.declared.phase.Phase.TheVariants.{Idle, Held, HeldShut, Looked}
 use Rattle.lock_core.specs.Words.{without_bits, state_of, settled_word, known, known_of, known_or_nothing, is_read, noted_state, next_state, changes, receipt, is_stored}
 use Rattle.lock_core.specs.Machine.{Actor, Machine}
-use Rattle.lock_core.specs.Steps.{Turn, goes_on, ends, begun, noting, loaded, stored, locked_entry, shut_entry, settled_entry}
+use Rattle.lock_core.specs.declared.turn.Turn.{Turn}
+use Rattle.lock_core.specs.Steps.{goes_on, ends, begun, noting, loaded, stored, locked_entry, shut_entry, settled_entry}
 use Rattle.lock_core.proofs.Kept.{HasLock, IsOn, EntryOk, HeldOk, ShutOk, IsFresh, HasMoreBits, LookedOk, PhaseOk, Kept}
 use Rattle.lock_core.proofs.Moves.{Change, lock_is_on, phase_stays}
 use Rattle.lock_core.proofs.Lists.{some_same, none_some}

@@ -13,6 +13,7 @@ use Rattle.lock_core.specs.declared.phase.Phase.{Phase}
 use Rattle.lock_core.specs.declared.phase.Phase.TheVariants.{Idle, Held, HeldShut, Looked}
 use Rattle.lock_core.specs.declared.step.Step.{Step}
 use Rattle.lock_core.specs.declared.step.Step.TheVariants.{Lock, Look, LoadData, Shut, StoreData, Settle, Release, Mark, Split, Join}
+use Rattle.lock_core.specs.declared.turn.Turn.{Turn}
 use Rattle.lock_core.specs.Words.{noted_state, next_state, is_read, changes, receipt, is_noted, is_still, same_access, is_stored, settled_word}
 use Rattle.lock_core.specs.Machine.{Actor, Machine, nobody, newcomer, actor_at, entry_at, in_table, seen_words, shown_by}
 
@@ -41,12 +42,6 @@ fits x (Looked d) Mark = is_read d && changes d
 fits x phase step = false
 
 -- ---- what a step does
--- What a step leaves of its entry and of its actor, and the receipt that it makes.
-pub record Turn : Type 0 where
-  pub entry : Entry
-  pub phase : Phase
-  pub made : Option Receipt
-
 -- On, without a receipt.
 abbrev pub goes_on : Entry → Phase → Turn
 goes_on x phase = record { entry = x; phase = phase; made = None }

@@ -15,6 +15,9 @@ mod laws;
 mod phase;
 mod sighting;
 mod step;
+mod taking;
+mod turn;
+mod words;
 
 pub use control::Control;
 pub use doing::Doing;

@@ -58,6 +58,11 @@ sighting_of e s = record { entry = e; stamp = s.stamp; dword0 = s.dword0; dword1
 abbrev pub shown_by : Receipt → List Sighting
 shown_by r = if is_decided r.answer then sighting_of r.entry r.before ∷ [] else []
 
+-- One line or none, as a list.
+abbrev pub option_list : Option Sighting → List Sighting
+option_list None = []
+option_list (Some line) = line ∷ []
+
 abbrev pub is_at : ℕ → ℕ → Sighting → Bool
 is_at e stamp line = (line.entry == e) && (line.stamp == stamp)
 

@@ -7,6 +7,7 @@
 //! `specs/Steps.antt` has the table of steps. There is no thread here.
 #![tactic(auto)]
 
+mod actor;
 mod control;
 mod doing;
 mod entry;

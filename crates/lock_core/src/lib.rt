@@ -13,6 +13,7 @@ mod doing;
 mod entry;
 mod error;
 mod laws;
+mod machine;
 mod phase;
 mod sighting;
 mod step;
@@ -20,6 +21,7 @@ mod taking;
 mod turn;
 mod words;
 
+pub use actor::Actor;
 pub use control::Control;
 pub use doing::Doing;
 pub use entry::Entry;
@@ -27,6 +29,7 @@ pub use error::CoreError;
 pub use laws::{
     every_history_is_legal, every_receipt_is_listed, every_receipt_keeps_its_front, seen_lines_hold,
 };
+pub use machine::Core;
 pub use phase::Phase;
 pub use sighting::Sighting;
 pub use step::Step;

@@ -10,4 +10,5 @@ pub mod Whole
 pub mod Opening
 pub mod FrontsKept
 pub mod Listed
+pub mod Joining
 mod Rows

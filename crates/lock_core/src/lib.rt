@@ -15,6 +15,7 @@ mod error;
 mod laws;
 mod machine;
 mod phase;
+mod seeing;
 mod sighting;
 mod step;
 mod taking;

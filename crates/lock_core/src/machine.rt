@@ -1,6 +1,6 @@
-ghost use Rattle.std.specs.Prelude.{◌≡◌, ◌<◌, ◌&&◌, length, true, false, Err, MatchOption, IfOk, OnOk, OnErr, IsOkUnless, nat_lt, ◌==◌, ◌||◌, if◌then◌else◌, MatchBool};
-ghost use Rattle.lock_core.specs.Machine.{opened, actor_at, entry_at, in_table as is_in_table, seen_words as seen_words_of, seen_in};
-ghost use Rattle.lock_core.specs.Steps.{may_act as may_act_of, names_entry as names_entry_of, fits_phase as fits_phase_of, refusal as refusal_of, moved, entry_of as entry_by, fits as fits_of, turn_of, with_turn, split_off, join_in, is_idle as is_idle_of};
+ghost use Rattle.std.specs.Prelude.{◌≡◌, ◌≢◌, ◌<◌, ◌&&◌, length, true, false, Err, MatchOption, IfOk, OnOk, OnErr, IsOkUnless, nat_lt, ◌==◌, ◌||◌, if◌then◌else◌, MatchBool};
+ghost use Rattle.lock_core.specs.Machine.{opened, actor_at, entry_at, opening_at as opening_of, in_table as is_in_table, seen_words as seen_words_of, seen_in};
+ghost use Rattle.lock_core.specs.Steps.{may_act as may_act_of, names_entry as names_entry_of, fits_phase as fits_phase_of, refusal as refusal_of, allowed, stepped, moved, entry_of as entry_by, fits as fits_of, turn_of, with_turn, split_off, join_in, is_idle as is_idle_of};
 ghost use Rattle.lock_core.specs.Promises.{published_at};
 
 use crate::actor::Actor;
@@ -9,12 +9,14 @@ use crate::entry::Entry;
 use crate::error::CoreError;
 use crate::phase::Phase;
 use crate::sighting::Sighting;
+use crate::seeing::seen_in;
 use crate::step::Step;
 use crate::taking::{entry_of, fits, take_turn};
 use crate::words::quiet_entry;
 use entry_model::{EntryState, Receipt};
 use std::alloc::Global;
 use std::marker::Model;
+use std::mem::replace;
 
 /// The most actors that there may be.
 const MOST_ACTORS: u32 = 64;
@@ -135,5 +137,132 @@ impl Core {
             return Some(CoreError::Phase);
         }
         None
+    }
+
+    /// The lines that an actor has in its list.
+    fn lines_of(&self, actor: u32) -> &[Sighting]
+        ensures { result.now ≡ (actor_at self.now actor).lines }
+    {
+        match self.actors.get(actor as usize) {
+            Some(a) => a.lines(),
+            None => &[],
+        }
+    }
+
+    /// The state of an entry before all steps.
+    fn opening_at(&self, entry: u32) -> EntryState
+        ensures { result ≡ opening_of self.now entry }
+    {
+        match self.opening.get(entry as usize) {
+            Some(state) => *state,
+            None => EntryState::empty(0),
+        }
+    }
+
+    /// What an actor that finds a control word has seen of its entry at its stamp.
+    #[tactic(auto, unfolding(crate::specs::Machine::seen_words))]
+    fn seen_words(&self, actor: u32, entry: u32, found: &Control) -> Option<(u64, u64)>
+        ensures { result ≡ seen_words_of self.now (actor_at self.now actor) entry found.now }
+    {
+        if !found.valid {
+            return None;
+        }
+        seen_in(self.lines_of(actor), &self.opening_at(entry), entry, found.stamp)
+    }
+
+    /// Takes a step on an entry.
+    fn take_step(&mut self, actor: u32, step: &Step) -> Result<(), CoreError>
+        requires live { (actor_at self.old actor).live ≡ true }
+        requires fits { (is_in_table self.old (entry_by (actor_at self.old actor).phase step.now) && fits_of (entry_at self.old (entry_by (actor_at self.old actor).phase step.now)) (actor_at self.old actor).phase step.now) ≡ true }
+        ensures ok { OnOk result (self.new ≡ with_turn self.old (entry_by (actor_at self.old actor).phase step.now) actor (turn_of self.old actor step.now)) }
+        ensures err { OnErr result (self.new ≡ self.old) }
+        ensures memory { IsOkUnless result CoreError.Memory }
+    {
+        let phase = self.phase_of(actor);
+        let e = entry_of(&phase, step);
+        let entry = self.entries[e as usize];
+        let seen = self.seen_words(actor, e, &entry.control);
+        let turn = take_turn(seen, &entry, &phase, step);
+        self.actors[actor as usize].go(turn.phase, turn.made)?;
+        self.entries[e as usize] = turn.entry;
+        Ok(())
+    }
+
+    /// Makes another actor live.
+    fn split(&mut self, alloc: Global, actor: u32, to: u32) -> Result<(), CoreError>
+        requires live { (actor_at self.old actor).live ≡ true }
+        requires there { to < length self.old.actors }
+        ensures ok { OnOk result (self.new ≡ split_off self.old actor to) }
+        ensures err { OnErr result (self.new ≡ self.old) }
+        ensures memory { IsOkUnless result CoreError.Memory }
+    {
+        let child = self.actors[actor as usize].child(alloc)?;
+        self.actors[to as usize] = child;
+        Ok(())
+    }
+
+    /// Takes what another actor has.
+    fn join(&mut self, alloc: Global, actor: u32, from: u32) -> Result<(), CoreError>
+        requires live { (actor_at self.old actor).live ≡ true }
+        requires other { (actor_at self.old from).live ≡ true }
+        requires apart { from ≢ actor }
+        ensures ok { OnOk result (self.new ≡ join_in self.old actor from) }
+        ensures err { OnErr result (self.new ≡ self.old) }
+        ensures memory { IsOkUnless result CoreError.Memory }
+    {
+        let other = replace(&mut self.actors[from as usize], Actor::nobody(alloc));
+        match self.actors[actor as usize].join(&other) {
+            Ok(()) => Ok(()),
+            Err(error) => {
+                self.actors[from as usize] = other;
+                Err(error)
+            }
+        }
+    }
+
+    /// Takes a step that is allowed.
+    fn take(&mut self, alloc: Global, actor: u32, step: Step) -> Result<(), CoreError>
+        requires { allowed self.old actor step ≡ true }
+        ensures ok { OnOk result (self.new ≡ stepped self.old actor step) }
+        ensures err { OnErr result (self.new ≡ self.old) }
+        ensures memory { IsOkUnless result CoreError.Memory }
+    {
+        match step {
+            Step::Split { to } => self.split(alloc, actor, to),
+            Step::Join { from } => self.join(alloc, actor, from),
+            _ => self.take_step(actor, &step),
+        }
+    }
+
+    /// Takes a step of an actor. A step that is refused changes nothing, and so does one for which there
+    /// is not enough memory.
+    pub fn step(&mut self, alloc: Global, actor: u32, step: Step) -> Result<(), CoreError>
+        ensures refused { MatchOption (refusal_of self.old actor step) (IsOkUnless result CoreError.Memory) (λ e. result ≡ Err e) }
+        ensures ok { OnOk result (self.new ≡ moved self.old actor step) }
+        ensures err { OnErr result (self.new ≡ self.old) }
+        ensures entries { length self.new.entries ≡ length self.old.entries }
+        ensures actors { length self.new.actors ≡ length self.old.actors }
+    {
+        match self.refusal(actor, &step) {
+            Some(error) => Err(error),
+            None => self.take(alloc, actor, step),
+        }
+    }
+
+    /// The receipts of an actor, in the order of their making; those that a join brought stand behind
+    /// those that were there.
+    pub fn receipts(&self, actor: u32) -> &[Receipt]
+        requires { actor < length self.now.actors }
+        ensures { result.now ≡ (actor_at self.now actor).receipts }
+    {
+        self.actors[actor as usize].receipts()
+    }
+
+    /// The state of an entry. One that is shut answers its state from before the shut.
+    pub fn state(&self, entry: u32) -> EntryState
+        requires { entry < length self.now.entries }
+        ensures { result ≡ published_at self.now entry }
+    {
+        self.entries[entry as usize].published
     }
 }

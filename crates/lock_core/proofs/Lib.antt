@@ -11,4 +11,5 @@ pub mod Opening
 pub mod FrontsKept
 pub mod Listed
 pub mod Joining
+pub mod Telling
 mod Rows

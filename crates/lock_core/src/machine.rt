@@ -1,4 +1,6 @@
-ghost use Rattle.std.specs.Prelude.{◌≡◌, ◌≢◌, ◌<◌, ◌&&◌, length, true, false, Err, MatchOption, IfOk, OnOk, OnErr, IsOkUnless, nat_lt, ◌==◌, ◌||◌, if◌then◌else◌, MatchBool};
+ghost use Rattle.std.specs.Prelude.{◌≡◌, ◌≢◌, ◌<◌, ◌&&◌, length, true, false, Err, MatchOption, IfOk, OnOk, OnErr, IsOkUnless, nat_lt, ◌==◌, ◌||◌, if◌then◌else◌, MatchBool, map, replicate, slice_set, []};
+ghost use Rattle.lock_core.specs.Machine.{nobody, newcomer};
+ghost use Rattle.lock_core.specs.Words.{quiet_entry as quiet_entry_of};
 ghost use Rattle.lock_core.specs.Machine.{opened, actor_at, entry_at, opening_at as opening_of, in_table as is_in_table, seen_words as seen_words_of, seen_in};
 ghost use Rattle.lock_core.specs.Steps.{may_act as may_act_of, names_entry as names_entry_of, fits_phase as fits_phase_of, refusal as refusal_of, allowed, stepped, moved, entry_of as entry_by, fits as fits_of, turn_of, with_turn, split_off, join_in, is_idle as is_idle_of};
 ghost use Rattle.lock_core.specs.Promises.{published_at};
@@ -14,7 +16,7 @@ use crate::step::Step;
 use crate::taking::{entry_of, fits, take_turn};
 use crate::words::quiet_entry;
 use entry_model::{EntryState, Receipt};
-use std::alloc::Global;
+use std::alloc::{AllocError, Global};
 use std::marker::Model;
 use std::mem::replace;
 
@@ -45,7 +47,70 @@ fn is_idle(phase: &Phase) -> bool
     matches!(*phase, Phase::Idle)
 }
 
+/// The entries of these states, which nobody holds.
+fn quiet_entries(alloc: Global, states: &[EntryState]) -> Result<Vec<Entry>, AllocError>
+    ensures { IfOk result (λ v. v.items ≡ map quiet_entry_of states.now) }
+{
+    let mut entries = Vec::new(alloc);
+    for state in states {
+        entries.push(quiet_entry(state))?;
+    }
+    Ok(entries)
+}
+
+/// This many actors, of which the first is live.
+fn first_actors(alloc: Global, count: u32) -> Result<Vec<Actor>, AllocError>
+    requires { 0 < count }
+    ensures { IfOk result (λ v. v.items ≡ slice_set (replicate count nobody) 0 (newcomer [])) }
+{
+    let mut actors = Vec::new(alloc);
+    for _i in 0..count {
+        actors.push(Actor::nobody(alloc))?;
+    }
+    actors[0] = Actor::first(alloc);
+    Ok(actors)
+}
+
+/// A copy of the states.
+fn copied(alloc: Global, states: &[EntryState]) -> Result<Vec<EntryState>, AllocError>
+    ensures { IfOk result (λ v. v.items ≡ states.now) }
+{
+    let mut copy = Vec::new(alloc);
+    copy.extend_from_slice(states)?;
+    Ok(copy)
+}
+
 impl Core {
+    /// A table of entries in these states, and this many actors, of which actor 0 is live and the others
+    /// are not. `Actors` where there are none or more than 64.
+    pub fn new(alloc: Global, states: &[EntryState], actors: u32) -> Result<Core, CoreError>
+        ensures refused { MatchBool (actors == 0 || nat_lt 64 actors) (result ≡ Err CoreError.Actors) (IsOkUnless result CoreError.Memory) }
+        ensures ok { IfOk result (λ core. core ≡ opened states.now actors) }
+    {
+        if actors == 0 || actors > MOST_ACTORS {
+            return Err(CoreError::Actors);
+        }
+        match Core::open(alloc, states, actors) {
+            Ok(core) => Ok(core),
+            Err(_) => Err(CoreError::Memory),
+        }
+    }
+
+    #[tactic(auto, unfolding(crate::specs::Machine::opened))]
+    fn open(alloc: Global, states: &[EntryState], actors: u32) -> Result<Core, AllocError>
+        requires { 0 < actors }
+        ensures { IfOk result (λ core. core ≡ opened states.now actors) }
+    {
+        let opening = copied(alloc, states)?;
+        let entries = quiet_entries(alloc, states)?;
+        let actors = first_actors(alloc, actors)?;
+        Ok(Core {
+            opening,
+            entries,
+            actors,
+        })
+    }
+
     /// Whether an actor is there and live.
     fn is_live(&self, actor: u32) -> bool
         ensures { result ≡ (actor_at self.now actor).live }

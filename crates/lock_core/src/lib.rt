@@ -34,3 +34,6 @@ pub use machine::Core;
 pub use phase::Phase;
 pub use sighting::Sighting;
 pub use step::Step;
+
+#[cfg(test)]
+mod tests;

@@ -10,8 +10,8 @@ use crate::control::Control;
 use crate::entry::Entry;
 use crate::error::CoreError;
 use crate::phase::Phase;
-use crate::sighting::Sighting;
 use crate::seeing::seen_in;
+use crate::sighting::Sighting;
 use crate::step::Step;
 use crate::taking::{entry_of, fits, take_turn};
 use crate::words::quiet_entry;
@@ -86,6 +86,8 @@ impl Core {
     pub fn new(alloc: Global, states: &[EntryState], actors: u32) -> Result<Core, CoreError>
         ensures refused { MatchBool (actors == 0 || nat_lt 64 actors) (result ≡ Err CoreError.Actors) (IsOkUnless result CoreError.Memory) }
         ensures ok { IfOk result (λ core. core ≡ opened states.now actors) }
+        ensures entries { IfOk result (λ core. length core.entries ≡ length states.now) }
+        ensures actors { IfOk result (λ core. length core.actors ≡ actors) }
     {
         if actors == 0 || actors > MOST_ACTORS {
             return Err(CoreError::Actors);
@@ -99,7 +101,9 @@ impl Core {
     #[tactic(auto, unfolding(crate::specs::Machine::opened))]
     fn open(alloc: Global, states: &[EntryState], actors: u32) -> Result<Core, AllocError>
         requires { 0 < actors }
-        ensures { IfOk result (λ core. core ≡ opened states.now actors) }
+        ensures ok { IfOk result (λ core. core ≡ opened states.now actors) }
+        ensures entries { IfOk result (λ core. length core.entries ≡ length states.now) }
+        ensures actors { IfOk result (λ core. length core.actors ≡ actors) }
     {
         let opening = copied(alloc, states)?;
         let entries = quiet_entries(alloc, states)?;
@@ -232,7 +236,12 @@ impl Core {
         if !found.valid {
             return None;
         }
-        seen_in(self.lines_of(actor), &self.opening_at(entry), entry, found.stamp)
+        seen_in(
+            self.lines_of(actor),
+            &self.opening_at(entry),
+            entry,
+            found.stamp,
+        )
     }
 
     /// Takes a step on an entry.

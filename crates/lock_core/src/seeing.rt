@@ -26,10 +26,7 @@ fn is_at(line: &Sighting, entry: u32, stamp: u32) -> bool
 fn line_at(lines: &[Sighting], entry: u32, stamp: u32) -> Option<Sighting>
     ensures { result ≡ find (is_at_of entry stamp) lines.now }
 {
-    lines
-        .iter()
-        .copied()
-        .find(|line| is_at(line, entry, stamp))
+    lines.iter().copied().find(|line| is_at(line, entry, stamp))
 }
 
 /// The doublewords of an entry at a stamp, as who has these lines has seen them: in one of the lines,

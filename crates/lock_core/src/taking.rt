@@ -4,7 +4,6 @@ ghost use Rattle.lock_core.specs.Steps.{entry_of as entry_by, fits as fits_of, g
 ghost use Rattle.lock_core.specs.Words.{receipt as receipt_of, next_state as next_of, is_noted as is_noted_of};
 ghost use Rattle.lock_core.specs.declared.phase.Phase.TheVariants.{Idle, Held, HeldShut, Looked};
 
-
 use crate::control::Control;
 use crate::doing::Doing;
 use crate::entry::Entry;
@@ -227,7 +226,10 @@ pub fn take_turn(seen: Option<(u64, u64)>, entry: &Entry, phase: &Phase, step: &
         (Phase::Held(doing), Step::Shut) => shut(entry, doing),
         (Phase::Held(doing), Step::Release) => release(entry, doing),
         (Phase::HeldShut(doing), Step::StoreData { second }) => {
-            goes_on(stored(second, &next_state(&doing), entry), Phase::HeldShut(doing))
+            goes_on(
+                stored(second, &next_state(&doing), entry),
+                Phase::HeldShut(doing),
+            )
         }
         (Phase::HeldShut(doing), Step::Settle) => settle(entry, doing),
         (Phase::Looked(doing), Step::LoadData { second }) => {

@@ -136,7 +136,8 @@ pub fn is_noted(found: &Control, noted: &Control) -> bool
     ensures { result ≡ words.is_noted found.now noted.now }
 {
     let holder = same_bit(found.locked, noted.locked) && same_bit(found.shut, noted.shut);
-    let bits = same_bit(found.referenced, noted.referenced) && same_bit(found.changed, noted.changed);
+    let bits = same_bit(found.referenced, noted.referenced)
+        && same_bit(found.changed, noted.changed);
     holder && same_bit(found.valid, noted.valid) && bits && found.stamp == noted.stamp
 }
 
@@ -184,7 +185,9 @@ pub fn same_access(a: &Op, b: &Op) -> bool
             },
         ) => {
             let page = tag == tag_b && base == base_b;
-            page && same_bit(key, key_b) && same_bit(no_execute, no_execute_b) && same_want(want, want_b)
+            page && same_bit(key, key_b)
+                && same_bit(no_execute, no_execute_b)
+                && same_want(want, want_b)
         }
         _ => false,
     }

@@ -14,7 +14,7 @@ use Rattle.lock_core.specs.declared.step.Step.TheVariants.{Lock, Look, LoadData,
 use Rattle.lock_core.specs.Words.{quiet_entry}
 use Rattle.lock_core.specs.Machine.{Actor, Machine, nobody, newcomer, opened, actor_at, entry_at, in_table}
 use Rattle.lock_core.specs.declared.turn.Turn.{Turn}
-use Rattle.lock_core.specs.Steps.{actor_after, entry_of, fits, turn_of, with_turn, may_act, fits_phase, allowed, made_by, stepped, moved}
+use Rattle.lock_core.specs.Steps.{fits_entry, actor_after, entry_of, fits, turn_of, with_turn, may_act, fits_phase, allowed, made_by, stepped, moved}
 use Rattle.lock_core.specs.Runs.{run}
 use Rattle.lock_core.specs.ActorFronts.{fronts_of, raised_by, fronts_moved, run_fronts}
 use Rattle.lock_core.specs.Promises.{IsFair}
@@ -72,7 +72,7 @@ module _ (m : Machine) (i e : ℕ) (x : Entry) (a : Actor) (t : Turn) (z : Chang
 
 -- ---- every step
 module _ (opening : List State) (m : Machine) (log : List Receipt) (k : Kept opening m log) (fs : List (List ℕ)) (low : AreLow m fs) where
-  turn_low : (i : ℕ) (s : Step) → (actor_at m i).live ≡ true → (in_table m (entry_of (actor_at m i).phase s) && fits (entry_at m (entry_of (actor_at m i).phase s)) (actor_at m i).phase s) ≡ true
+  turn_low : (i : ℕ) (s : Step) → (actor_at m i).live ≡ true → fits_entry m i s ≡ true
       → AreLow (with_turn m (entry_of (actor_at m i).phase s) i (turn_of m i s)) (raised_by fs i (turn_of m i s).made)
   turn_low i s live fit =
       let e : ℕ = entry_of (actor_at m i).phase s in
@@ -101,7 +101,7 @@ module _ (opening : List State) (m : Machine) (log : List Receipt) (k : Kept ope
   moved_low i s = cond_both (allowed m i s) (stepped m i s) m (λ m'. AreLow m' (fronts_moved m fs i s)) (stepped_low i s) (λ not'. subst (AreLow m) (sym (refused_fronts i s not')) low)
 
   -- ---- the receipt of a step
-  ahead : (i : ℕ) (s : Step) (r : Receipt) → (actor_at m i).live ≡ true → (in_table m (entry_of (actor_at m i).phase s) && fits (entry_at m (entry_of (actor_at m i).phase s)) (actor_at m i).phase s) ≡ true
+  ahead : (i : ℕ) (s : Step) (r : Receipt) → (actor_at m i).live ≡ true → fits_entry m i s ≡ true
       → (turn_of m i s).made ≡ Some r → IsAhead (fronts_of fs i) r
   ahead i s r live fit made =
       let e : ℕ = entry_of (actor_at m i).phase s in
@@ -112,8 +112,8 @@ module _ (opening : List State) (m : Machine) (log : List Receipt) (k : Kept ope
       let before = ap pair_of tells.1 in
       let here = ap (front_at (fronts_of fs i)) tells.0 in omega arith
 
-  made_if : (i : ℕ) (s : Step) (r : Receipt) (may : (actor_at m i).live ≡ true → (in_table m (entry_of (actor_at m i).phase s) && fits (entry_at m (entry_of (actor_at m i).phase s)) (actor_at m i).phase s) ≡ true → (turn_of m i s).made ≡ Some r → IsAhead (fronts_of fs i) r)
-      → (allowed m i s ≡ true → ((actor_at m i).live ≡ true) × ((in_table m (entry_of (actor_at m i).phase s) && fits (entry_at m (entry_of (actor_at m i).phase s)) (actor_at m i).phase s) ≡ true))
+  made_if : (i : ℕ) (s : Step) (r : Receipt) (may : (actor_at m i).live ≡ true → fits_entry m i s ≡ true → (turn_of m i s).made ≡ Some r → IsAhead (fronts_of fs i) r)
+      → (allowed m i s ≡ true → ((actor_at m i).live ≡ true) × (fits_entry m i s ≡ true))
       → (if allowed m i s then (turn_of m i s).made else None) ≡ Some r → IsAhead (fronts_of fs i) r
   made_if i s r go parts = cond_both (allowed m i s) (turn_of m i s).made None (λ o. o ≡ Some r → IsAhead (fronts_of fs i) r) (λ may h. go (parts may).0 (parts may).1 h) (λ _ h. absurd (none_some r h))
 

@@ -12,4 +12,5 @@ pub mod FrontsKept
 pub mod Listed
 pub mod Joining
 pub mod Telling
+pub mod StateSteps
 mod Rows

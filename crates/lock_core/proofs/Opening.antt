@@ -16,7 +16,7 @@ use Rattle.lock_core.specs.declared.entry.Entry.{Entry}
 use Rattle.lock_core.specs.declared.phase.Phase.TheVariants.{Idle}
 use Rattle.lock_core.specs.declared.sighting.Sighting.{Sighting}
 use Rattle.lock_core.specs.declared.step.Step.{Step}
-use Rattle.lock_core.specs.Words.{quiet_entry, settled_word}
+use Rattle.lock_core.specs.Words.{state_of, quiet_entry, settled_word}
 use Rattle.lock_core.specs.Machine.{Actor, Machine, nobody, newcomer, opened, actor_at, entry_at, opening_at}
 use Rattle.lock_core.specs.Steps.{moved}
 use Rattle.lock_core.specs.Runs.{run, receipts_of}
@@ -87,6 +87,9 @@ module _ (states : List State) (fair : All IsFair states) where
 
     from : (e : ℕ) → e < length states → slice_get states e ≡ Some (slice_index_or states e (empty_state 0))
     from e within = slice_get-get_or states e (empty_state 0) within
+
+    pub state_in_words : (e : ℕ) → e < length states → (let x : Entry = entry_at reached e in x.control.shut ≡ false → x.published ≡ state_of x.control x.dword0 x.dword1)
+    state_in_words e within = ((run_kept n steps).1.entries e (entry_at reached e) (there e within)).free
 
     pub legal_history : (e : ℕ) → e < length states → IsLegal (slice_index_or states e (empty_state 0)) (history e (receipts_of reached.actors)) (published_at reached e)
     legal_history e within =

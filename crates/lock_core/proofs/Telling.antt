@@ -7,7 +7,7 @@ use Rattle.lock_core.specs.declared.error.CoreError.{CoreError}
 use Rattle.lock_core.specs.declared.step.Step.{Step}
 use Rattle.lock_core.specs.declared.step.Step.TheVariants.{Split, Join}
 use Rattle.lock_core.specs.Machine.{Machine, actor_at, entry_at, in_table}
-use Rattle.lock_core.specs.Steps.{entry_of, fits, turn_of, with_turn, split_off, join_in, may_act, fits_phase, refusal, allowed, stepped, moved}
+use Rattle.lock_core.specs.Steps.{fits_entry, entry_of, fits, turn_of, with_turn, split_off, join_in, may_act, fits_phase, refusal, allowed, stepped, moved}
 use Rattle.lock_core.proofs.Noted.{not_is}
 use Rattle.lock_core.proofs.Whole.{allowed_parts}
 
@@ -41,7 +41,7 @@ join_parts m i from s is may =
 -- The step is on an entry.
 pub record IsTurn (m : Machine) (i : ℕ) (s : Step) : Type 0 where
   pub live : (actor_at m i).live ≡ true
-  pub fitting : (in_table m (entry_of (actor_at m i).phase s) && fits (entry_at m (entry_of (actor_at m i).phase s)) (actor_at m i).phase s) ≡ true
+  pub fitting : fits_entry m i s ≡ true
   pub stepped_is : stepped m i s ≡ with_turn m (entry_of (actor_at m i).phase s) i (turn_of m i s)
 
 pub turn_parts : (m : Machine) (i : ℕ) (s : Step) → ((to : ℕ) → s ≡ Split to → ⊥) → ((from : ℕ) → s ≡ Join from → ⊥) → allowed m i s ≡ true → IsTurn m i s

@@ -20,7 +20,7 @@ use Rattle.lock_core.specs.declared.step.Step.{Step}
 use Rattle.lock_core.specs.declared.step.Step.TheVariants.{Lock, Look, LoadData, Shut, StoreData, Settle, Release, Mark, Split, Join}
 use Rattle.lock_core.specs.Words.{quiet_entry, settled_word}
 use Rattle.lock_core.specs.Machine.{Actor, Machine, nobody, newcomer, opened, actor_at, entry_at, in_table, seen_words}
-use Rattle.lock_core.specs.Steps.{entry_of, fits, turn, turn_of, with_turn, split_off, join_in, is_idle, may_act, names_entry, fits_phase, refusals, refusal, allowed, stepped, moved, joined}
+use Rattle.lock_core.specs.Steps.{fits_entry, entry_of, fits, turn, turn_of, with_turn, split_off, join_in, is_idle, may_act, names_entry, fits_phase, refusals, refusal, allowed, stepped, moved, joined}
 use Rattle.lock_core.specs.Runs.{run, receipts_of}
 use Rattle.lock_core.proofs.Kept.{HasLock, IsOn, EntryOk, logged, Kept}
 use Rattle.lock_core.proofs.Moves.{Change, both_kept}
@@ -76,7 +76,7 @@ module _ (opening : List State) (m : Machine) (log : List Receipt) (k : Kept ope
     turn_change p s x is at fit = absurd (false≢true fit)
 
   -- By what an actor that takes a step on an entry is allowed.
-  pub step_change : (i : ℕ) (s : Step) → (actor_at m i).live ≡ true → (in_table m (entry_of (actor_at m i).phase s) && fits (entry_at m (entry_of (actor_at m i).phase s)) (actor_at m i).phase s) ≡ true
+  pub step_change : (i : ℕ) (s : Step) → (actor_at m i).live ≡ true → fits_entry m i s ≡ true
       → Change m (entry_of (actor_at m i).phase s) i (entry_at m (entry_of (actor_at m i).phase s)) (actor_at m i) (turn_of m i s)
   step_change i s live fit =
       let a : Actor = actor_at m i in
@@ -85,7 +85,7 @@ module _ (opening : List State) (m : Machine) (log : List Receipt) (k : Kept ope
       let at : slice_get m.entries e ≡ Some (entry_at m e) = slice_get-get_or m.entries e (quiet_entry (empty_state 0)) (ltb-true e (length m.entries) parts.0) in
       turn_change i a (live_there m.actors i live) live a.phase s (entry_at m e) refl at parts.1
 
-  pub turn_goes : (i : ℕ) (s : Step) → (actor_at m i).live ≡ true → (in_table m (entry_of (actor_at m i).phase s) && fits (entry_at m (entry_of (actor_at m i).phase s)) (actor_at m i).phase s) ≡ true
+  pub turn_goes : (i : ℕ) (s : Step) → (actor_at m i).live ≡ true → fits_entry m i s ≡ true
       → Goes opening (with_turn m (entry_of (actor_at m i).phase s) i (turn_of m i s))
   turn_goes i s live fit =
       let a : Actor = actor_at m i in

@@ -1,14 +1,16 @@
 -- What holds over every list of steps of any actors.
-use Rattle.std.specs.Prelude.{◌≡◌, ◌⊎◌, ℕ, ◌≤◌, ◌<◌, ◌^◌, true, List, [], ◌∷◌, ◌++◌, length, slice_index_or, Option, Some, All, Contains}
+use Rattle.std.specs.Prelude.{◌≡◌, ◌⊎◌, ℕ, ◌≤◌, ◌<◌, ◌^◌, true, List, [], ◌∷◌, ◌++◌, false, length, map, slice_index_or, Option, Some, All, Contains, MatchOption}
 use Rattle.entry_model.specs.State.{State, empty_state, IsCanonicalState}
 use Rattle.entry_model.specs.declared.line.Line.{Line}
 use Rattle.entry_model.specs.declared.receipt.Receipt.{Receipt}
 use Rattle.entry_model.specs.Lines.{Holds}
 use Rattle.entry_model.specs.History.{IsLegal, history}
 use Rattle.entry_model.specs.Fronts.{IsAhead}
+use Rattle.entry_model.specs.Run.{IsStep}
 use Rattle.lock_core.specs.declared.entry.Entry.{Entry}
 use Rattle.lock_core.specs.declared.sighting.Sighting.{Sighting}
 use Rattle.lock_core.specs.declared.step.Step.{Step}
+use Rattle.lock_core.specs.Words.{state_of}
 use Rattle.lock_core.specs.Machine.{Machine, opened, actor_at, entry_at, opening_at}
 use Rattle.lock_core.specs.Steps.{made_by, moved}
 use Rattle.lock_core.specs.Runs.{run, receipts_of}
@@ -21,6 +23,23 @@ pub record IsFair (s : State) : Type 0 where
 
 abbrev pub published_at : Machine → ℕ → State
 published_at m e = (entry_at m e).published
+
+-- ---- states
+-- The states that the entries count with.
+abbrev pub published : Machine → List State
+published m = map (λ (x : Entry). x.published) m.entries
+
+-- The state that an entry counts with is that of its words, unless it is shut.
+abbrev pub StatesAreInWords : Type 0
+StatesAreInWords =
+    (states : List State) (actors : ℕ) (steps : List (ℕ × Step)) → All IsFair states → (e : ℕ) → e < length states
+    → (let x : Entry = entry_at (run (opened states actors) steps) e in x.control.shut ≡ false → x.published ≡ state_of x.control x.dword0 x.dword1)
+
+-- A step that makes a receipt leaves the state after in place of the state before, and every other state as it is; a step that makes none leaves all states.
+abbrev pub StatesChangeByReceipts : Type 0
+StatesChangeByReceipts =
+    (states : List State) (actors : ℕ) (older : List (ℕ × Step)) → All IsFair states → (i : ℕ) (step : Step)
+    → (let m : Machine = run (opened states actors) older in MatchOption (made_by m i step) (published (moved m i step) ≡ published m) (λ r. IsStep (published m) r (published (moved m i step))))
 
 -- ---- histories
 -- Each entry's history over the receipts of all actors leads from its opening state to the state that it counts with.

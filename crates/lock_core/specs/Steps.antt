@@ -138,12 +138,16 @@ names_entry m (Lock e op) = in_table m e
 names_entry m (Look e op) = in_table m e
 names_entry m step = true
 
+-- The phase of the actor allows a step on an entry.
+abbrev pub fits_entry : Machine → ℕ → Step → Bool
+fits_entry m i step =
+    in_table m (entry_of (actor_at m i).phase step) && fits (entry_at m (entry_of (actor_at m i).phase step)) (actor_at m i).phase step
+
 -- The phase allows the step. Actors that split or join are idle.
 unfoldable pub fits_phase : Machine → ℕ → Step → Bool
 fits_phase m i (Split to) = is_idle (actor_at m i).phase
 fits_phase m i (Join from) = is_idle (actor_at m i).phase && is_idle (actor_at m from).phase
-fits_phase m i step =
-    in_table m (entry_of (actor_at m i).phase step) && fits (entry_at m (entry_of (actor_at m i).phase step)) (actor_at m i).phase step
+fits_phase m i step = fits_entry m i step
 
 -- What may be wrong with a step, in the order in which it is tried.
 unfoldable pub refusals : Machine → ℕ → Step → List (Bool × CoreError)

@@ -2,7 +2,7 @@ ghost use Rattle.std.specs.Prelude.{◌≡◌, ◌≢◌, ◌<◌, ◌&&◌, len
 ghost use Rattle.lock_core.specs.Machine.{nobody, newcomer};
 ghost use Rattle.lock_core.specs.Words.{quiet_entry as quiet_entry_of};
 ghost use Rattle.lock_core.specs.Machine.{opened, actor_at, entry_at, opening_at as opening_of, in_table as is_in_table, seen_words as seen_words_of, seen_in};
-ghost use Rattle.lock_core.specs.Steps.{may_act as may_act_of, names_entry as names_entry_of, fits_phase as fits_phase_of, refusal as refusal_of, allowed, stepped, moved, entry_of as entry_by, fits as fits_of, turn_of, with_turn, split_off, join_in, is_idle as is_idle_of};
+ghost use Rattle.lock_core.specs.Steps.{may_act as may_act_of, names_entry as names_entry_of, fits_entry as fits_entry_of, fits_phase as fits_phase_of, refusal as refusal_of, allowed, stepped, moved, entry_of as entry_by, fits as fits_of, turn_of, with_turn, split_off, join_in, is_idle as is_idle_of};
 ghost use Rattle.lock_core.specs.Promises.{published_at};
 
 use crate::actor::Actor;
@@ -170,7 +170,7 @@ impl Core {
 
     /// Whether the phase of the actor allows a step on an entry.
     fn fits_entry(&self, actor: u32, step: &Step) -> bool
-        ensures { result ≡ (is_in_table self.now (entry_by (actor_at self.now actor).phase step.now) && fits_of (entry_at self.now (entry_by (actor_at self.now actor).phase step.now)) (actor_at self.now actor).phase step.now) }
+        ensures { result ≡ fits_entry_of self.now actor step.now }
     {
         let phase = self.phase_of(actor);
         match self.entries.get(entry_of(&phase, step) as usize) {
@@ -247,7 +247,7 @@ impl Core {
     /// Takes a step on an entry.
     fn take_step(&mut self, actor: u32, step: &Step) -> Result<(), CoreError>
         requires live { (actor_at self.old actor).live ≡ true }
-        requires fits { (is_in_table self.old (entry_by (actor_at self.old actor).phase step.now) && fits_of (entry_at self.old (entry_by (actor_at self.old actor).phase step.now)) (actor_at self.old actor).phase step.now) ≡ true }
+        requires fits { fits_entry_of self.old actor step.now ≡ true }
         ensures ok { OnOk result (self.new ≡ with_turn self.old (entry_by (actor_at self.old actor).phase step.now) actor (turn_of self.old actor step.now)) }
         ensures err { OnErr result (self.new ≡ self.old) }
         ensures memory { IsOkUnless result CoreError.Memory }

@@ -13,4 +13,5 @@ pub mod Listed
 pub mod Joining
 pub mod Telling
 pub mod StateSteps
+mod FrontRows
 mod Rows

@@ -1,7 +1,7 @@
 -- What a step does to the states that entries count with.
 use Rattle.std.proofs.Common.{◌≡◌, ◌⊎◌, inl, inr, ℕ, zero, suc, ◌<◌, Bool, true, false, List, [], ◌∷◌, map, length, set, refl, sym, ap, ◌∙◌, subst, Option, Some, None, MatchOption}
 use Rattle.std.specs.Prelude.{slice_get, slice_index_or, if◌then◌else◌, All}
-use Rattle.std.proofs.lemmas.List.{length-map}
+use Rattle.std.proofs.lemmas.List.{map-set}
 use Rattle.std.proofs.lemmas.Bool.{cases_Bool}
 use Rattle.std.proofs.lemmas.Option.{slice_get_within, get_or_from_slice_get}
 use Rattle.entry_model.specs.State.{State, empty_state}
@@ -26,9 +26,7 @@ abbrev states_of : List Entry → List State
 states_of xs = map (λ (x : Entry). x.published) xs
 
 set_state : (xs : List Entry) (e : ℕ) (y : Entry) → states_of (set xs e y) ≡ set (states_of xs) e y.published
-set_state [] e y = refl
-set_state (x ∷ xs) zero y = refl
-set_state (x ∷ xs) (suc e) y = ap (λ l. x.published ∷ l) (set_state xs e y)
+set_state xs e y = map-set (λ (x : Entry). x.published) xs e y
 
 state_there : (xs : List Entry) (e : ℕ) (x : Entry) → slice_get xs e ≡ Some x → slice_get (states_of xs) e ≡ Some x.published
 state_there [] e x h = cc

@@ -8,3 +8,4 @@ pub mod History
 pub mod Cache
 pub mod ReplyLaws
 pub mod Fronts
+pub mod Logs

@@ -2,6 +2,8 @@
 //! law.
 
 ghost use Rattle.entry_model.specs.ReplyLaws.{AccessesOnlyRaiseBits, OnlyAtTouches, EmptyStaysEmpty, StillAccessesStayStill, OthersRaiseStamps, OthersIgnoreBits, DecidedIsValid, RepliesStayCanonical, StampsStayLow};
+ghost use Rattle.entry_model.specs.Logs.{LoggedHistoriesAreLegal};
+ghost use Rattle.entry_model.specs.Fronts.{FrontsCompose, FrontsNeverFall, GoneLinesArePast};
 
 /// An access leaves an entry's doublewords and its stamp, and lowers no bit.
 pub fn accesses_only_raise_bits()
@@ -46,4 +48,25 @@ pub fn replies_stay_canonical()
 /// Stamps stay below `2^32`.
 pub fn stamps_stay_low()
     ensures { StampsStayLow }
+{}
+
+/// Receipts of an entry that were made one after the other are a legal history, however all receipts
+/// are listed.
+pub fn logged_histories_are_legal()
+    ensures { LoggedHistoriesAreLegal }
+{}
+
+/// Receipts that keep fronts may be put one behind the other.
+pub fn fronts_compose()
+    ensures { FrontsCompose }
+{}
+
+/// Receipts that keep fronts lower none.
+pub fn fronts_never_fall()
+    ensures { FrontsNeverFall }
+{}
+
+/// Receipts of an entry whose front is past a line's stamp come after the line.
+pub fn gone_lines_are_past()
+    ensures { GoneLinesArePast }
 {}

@@ -1,10 +1,9 @@
 -- What receipts that keep fronts leave of them.
-use Rattle.std.proofs.Common.{◌≡◌, ℕ, zero, suc, ◌+◌, ◌*◌, ◌<◌, ◌≤◌, List, [], ◌∷◌, ◌++◌, max, set, length, length-set, inl, inr, ◌⊎◌, refl, ap, sym, ◌∙◌, arith}
-use Rattle.entry_model.specs.State.{State}
+use Rattle.std.proofs.Common.{◌≡◌, ℕ, zero, suc, ◌<◌, ◌≤◌, List, [], ◌∷◌, ◌++◌, set, length, length-set, inl, inr, ◌⊎◌, refl, ap, sym, ◌∙◌, arith}
 use Rattle.entry_model.specs.declared.line.Line.{Line}
 use Rattle.entry_model.specs.declared.receipt.Receipt.{Receipt}
 use Rattle.entry_model.specs.Receipt.{after_of}
-use Rattle.entry_model.specs.History.{bits, pair_of}
+use Rattle.entry_model.specs.History.{pair_of}
 use Rattle.entry_model.specs.Lines.{IsPast, AllPast}
 use Rattle.entry_model.specs.Fronts.{front_at, IsAhead, fronts_after, AreBelow, KeepsFronts, larger, IsGone}
 use Rattle.entry_model.proofs.Sorted.{rises, bits_low}

@@ -1,11 +1,11 @@
 -- Receipts in the order of their making, and the same receipts listed in another order.
-use Rattle.std.proofs.Common.{◌≡◌, ℕ, List, [], ◌∷◌, ◌++◌, Bool, true, false, refl, sym, ap, ◌∙◌, subst, append_assoc, append-nil, eqb}
+use Rattle.std.proofs.Common.{◌≡◌, ℕ, List, [], ◌∷◌, ◌++◌, sym, ◌∙◌, subst, append_assoc, append-nil, eqb}
 use Rattle.std.specs.Prelude.{filter}
 use Rattle.entry_model.specs.State.{State}
 use Rattle.entry_model.specs.declared.receipt.Receipt.{Receipt}
 use Rattle.entry_model.specs.Receipt.{after_of}
 use Rattle.entry_model.specs.History.{IsLegal, history, Regrouped, nothing, kept, swapped, twice}
-use Rattle.entry_model.proofs.Regroup.{regrouped_self, regrouped_back, regrouped_filter, legal_regrouped}
+use Rattle.entry_model.proofs.Regroup.{regrouped_self, regrouped_filter, legal_regrouped}
 
 -- ---- chains
 -- One more receipt at the end.

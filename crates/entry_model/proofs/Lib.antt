@@ -10,6 +10,9 @@ pub mod Trials
 pub mod Plans
 pub mod Fronts
 pub mod CachedPages
+pub mod ReplyLaws
+pub mod FrontLaws
+pub mod Logged
 mod Rows
 pub mod Heights
 pub mod Tame

@@ -35,7 +35,7 @@ pub state_self : (s : State) → state_eq s s ≡ true
 unfolding state_eq
 state_self s = rw (bool_self s.valid, bool_self s.referenced, bool_self s.changed, eq-eqb s.dword0 s.dword0 refl, eq-eqb s.dword1 s.dword1 refl, eq-eqb s.stamp s.stamp refl)
 
-bits_low : (r c : Bool) → cond r 1 0 + cond c 1 0 ≤ 2
+pub bits_low : (r c : Bool) → cond r 1 0 + cond c 1 0 ≤ 2
 bits_low true true = omega arith
 bits_low true false = omega arith
 bits_low false true = omega arith

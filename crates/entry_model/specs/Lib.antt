@@ -6,3 +6,6 @@ pub mod Run
 pub mod Trial
 pub mod History
 pub mod Cache
+pub mod ReplyLaws
+pub mod Fronts
+pub mod Logs

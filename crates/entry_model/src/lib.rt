@@ -11,6 +11,7 @@ mod access_reply;
 mod accessing;
 mod answering;
 mod hreply;
+mod laws;
 mod line;
 mod lists;
 mod operation;
@@ -21,6 +22,12 @@ mod store;
 pub use access_reply::{AccessReply, By, Outcome};
 pub use answering::reply;
 pub use hreply::HReply;
+pub use laws::{
+    accesses_only_raise_bits, decided_is_valid, empty_stays_empty, fronts_compose,
+    fronts_never_fall, gone_lines_are_past, logged_histories_are_legal, only_at_touches,
+    others_ignore_bits, others_raise_stamps, replies_stay_canonical, stamps_stay_low,
+    still_accesses_stay_still,
+};
 pub use line::Line;
 pub use lists::{Receipts, ReplyWords};
 pub use operation::{Answer, Op, Test};

@@ -1,0 +1,17 @@
+pub mod Lists
+pub mod Noted
+pub mod Kept
+pub mod Moves
+pub mod Steps
+pub mod Looks
+pub mod Marks
+pub mod Passing
+pub mod Whole
+pub mod Opening
+pub mod FrontsKept
+pub mod Listed
+pub mod Joining
+pub mod Telling
+pub mod StateSteps
+mod FrontRows
+mod Rows

@@ -1,0 +1,86 @@
+-- The machine: entries, and actors that take steps on them.
+use Rattle.std.specs.Prelude.{ℕ, ◌==◌, ◌&&◌, Bool, true, false, not, if◌then◌else◌, nat_lt, List, [], ◌∷◌, ◌++◌, map, find, length, replicate, slice_index_or, slice_set, Option, Some, None, option_map}
+use Rattle.entry_model.specs.State.{State, empty_state}
+use Rattle.entry_model.specs.declared.receipt.Receipt.{Receipt}
+use Rattle.entry_model.specs.Receipt.{is_decided}
+use Rattle.lock_core.specs.declared.control.Control.{Control}
+use Rattle.lock_core.specs.declared.entry.Entry.{Entry}
+use Rattle.lock_core.specs.declared.phase.Phase.{Phase}
+use Rattle.lock_core.specs.declared.phase.Phase.TheVariants.{Idle}
+use Rattle.lock_core.specs.declared.sighting.Sighting.{Sighting}
+use Rattle.lock_core.specs.Words.{quiet_entry}
+
+pub record Actor : Type 0 where
+  pub live : Bool
+  pub phase : Phase
+  -- in the order of their making; those that a join brought stand behind those that were there
+  pub receipts : List Receipt
+  pub lines : List Sighting
+
+pub record Machine : Type 0 where
+  -- the state of each entry before all steps
+  pub opening : List State
+  pub entries : List Entry
+  pub actors : List Actor
+
+-- An actor that isn't live.
+abbrev pub nobody : Actor
+nobody = record { live = false; phase = Idle; receipts = []; lines = [] }
+
+-- A live actor that has made nothing, and has seen these lines.
+abbrev pub newcomer : List Sighting → Actor
+newcomer lines = record { live = true; phase = Idle; receipts = []; lines = lines }
+
+-- Actor 0 is live and the others are not.
+unfoldable pub opened : List State → ℕ → Machine
+opened states actors = record { opening = states; entries = map quiet_entry states; actors = slice_set (replicate actors nobody) 0 (newcomer []) }
+
+-- ---- parts
+-- Beyond the last actor there is nobody.
+abbrev pub actor_at : Machine → ℕ → Actor
+actor_at m i = slice_index_or m.actors i nobody
+
+abbrev pub entry_at : Machine → ℕ → Entry
+entry_at m e = slice_index_or m.entries e (quiet_entry (empty_state 0))
+
+abbrev pub opening_at : Machine → ℕ → State
+opening_at m e = slice_index_or m.opening e (empty_state 0)
+
+abbrev pub in_table : Machine → ℕ → Bool
+in_table m e = nat_lt e (length m.entries)
+
+-- ---- lines
+-- The line of an entry in a state.
+abbrev pub sighting_of : ℕ → State → Sighting
+sighting_of e s = record { entry = e; stamp = s.stamp; dword0 = s.dword0; dword1 = s.dword1 }
+
+-- The lines that a receipt shows: its entry's in the state before, where the answer used the translation.
+abbrev pub shown_by : Receipt → List Sighting
+shown_by r = if is_decided r.answer then sighting_of r.entry r.before ∷ [] else []
+
+-- One line or none, as a list.
+abbrev pub option_list : Option Sighting → List Sighting
+option_list None = []
+option_list (Some line) = line ∷ []
+
+abbrev pub is_at : ℕ → ℕ → Sighting → Bool
+is_at e stamp line = (line.entry == e) && (line.stamp == stamp)
+
+abbrev pub words_in : Sighting → ℕ × ℕ
+words_in line = (line.dword0, line.dword1)
+
+-- The doublewords of an entry that was valid at a stamp.
+abbrev pub words_at : State → ℕ → Option (ℕ × ℕ)
+words_at s stamp = if s.valid && (s.stamp == stamp) then Some (s.dword0, s.dword1) else None
+
+abbrev pub or_else : Option (ℕ × ℕ) → Option (ℕ × ℕ) → Option (ℕ × ℕ)
+or_else None other = other
+or_else (Some words) other = Some words
+
+-- The doublewords at this stamp of an entry with this opening state, as an actor with these lines has seen them: in a line of its list, or in the opening state.
+unfoldable pub seen_in : List Sighting → State → ℕ → ℕ → Option (ℕ × ℕ)
+seen_in lines start e stamp = or_else (option_map words_in (find (is_at e stamp) lines)) (words_at start stamp)
+
+-- What an actor that finds a control word has seen of its entry at its stamp.
+unfoldable pub seen_words : Machine → Actor → ℕ → Control → Option (ℕ × ℕ)
+seen_words m a e k = if k.valid then seen_in a.lines (opening_at m e) e k.stamp else None

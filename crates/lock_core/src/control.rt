@@ -1,0 +1,15 @@
+/// The control word of an entry, read as its parts.
+#[derive(Clone, Copy, PartialEq, Eq, Debug)]
+pub struct Control {
+    /// An actor holds the entry.
+    pub locked: bool,
+    /// The actor that holds the entry changes it: its words aren't read.
+    pub shut: bool,
+    pub valid: bool,
+    /// R: the page was referenced.
+    pub referenced: bool,
+    /// C: the page was changed.
+    pub changed: bool,
+    /// How often the entry has changed, but for R and C that accesses set.
+    pub stamp: u32,
+}

@@ -1,0 +1,12 @@
+use crate::control::Control;
+use entry_model::EntryState;
+
+/// An entry: its three words, and the state that it counts with.
+#[derive(Clone, Copy, PartialEq, Eq, Debug)]
+pub struct Entry {
+    pub control: Control,
+    pub dword0: u64,
+    pub dword1: u64,
+    /// The state of the words; while the entry is shut, the one from before.
+    pub published: EntryState,
+}

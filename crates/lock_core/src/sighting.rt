@@ -1,0 +1,11 @@
+/// An entry as an actor has seen it, valid and with these doublewords at this stamp: a cached
+/// translation without its page.
+#[derive(Clone, Copy, PartialEq, Eq, Debug)]
+pub struct Sighting {
+    /// The entry's index in its table.
+    pub entry: u32,
+    pub stamp: u32,
+    pub dword0: u64,
+    /// Doubleword 1, with R and C clear.
+    pub dword1: u64,
+}

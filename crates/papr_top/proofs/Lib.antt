@@ -1,6 +1,2 @@
-pub mod Digits
-pub mod TextSteps
-pub mod RunSteps
 pub mod Outcomes
-pub mod SerialGood
-pub mod Rows
+pub mod Drilling

@@ -1,14 +1,4 @@
 pub mod Status
-pub mod Lines
-pub mod Rest
-pub mod Read
-pub mod Numbers
-pub mod Names
-pub mod Forms
-pub mod Trace
-pub mod Serial
-pub mod Worlds
-pub mod Good
-pub mod Text
+pub mod Commands
 pub mod Top
 pub mod Finish

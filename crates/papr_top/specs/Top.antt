@@ -1,27 +1,24 @@
 -- What the program answers and writes.
-use Rattle.std.specs.Prelude.{◌⊎◌, ◌≡◌, ℕ, ◌^◌, ◌≤◌, ◌==◌, ◌&&◌, Bool, true, false, List, [], ◌∷◌, ◌++◌, length, Option, Result, Ok, Err, codes, string_bytes, String}
-use Rattle.std.specs.Str.{bytes_eq}
+use Rattle.std.specs.Prelude.{◌⊎◌, ◌≡◌, ℕ, ◌^◌, ◌≤◌, List, [], ◌++◌, length, Option, Some, None, Result, Ok, Err, codes}
 use Rattle.std.specs.Fmt.{decimal}
-use Rattle.std.specs.declared.alloc.Global.{Global}
 use Rattle.trace_io.specs.Outside.{Took, Put, AtEnd}
-use Rattle.papr_top.specs.declared.why.Why.{Why}
-use Rattle.papr_top.specs.declared.why.Why.TheVariants as whys
+use Rattle.trace_read.specs.declared.why.Why.{Why}
+use Rattle.trace_read.specs.Whys.{why_word}
+use Rattle.trace_read.specs.Trace.{Accepted}
+use Rattle.trace_read.specs.Grammar.{trace_of}
+use Rattle.trace_gen.specs.Generated.{generated}
+use Rattle.reply_text.specs.Worlds.{opening, shown_of}
+use Rattle.reply_text.specs.Serial.{serial, world_after}
+use Rattle.reply_text.specs.Good.{Good}
+use Rattle.reply_text.specs.Claims.{Assures}
+use Rattle.reply_text.specs.Text.{text_of}
+use Rattle.reply_text.specs.Summary.{summary_text}
+use Rattle.papr_top.specs.declared.command.Command.{Command}
+use Rattle.papr_top.specs.declared.command.Command.TheVariants as commands
 use Rattle.papr_top.specs.declared.status.Status.{Status}
 use Rattle.papr_top.specs.declared.status.Status.TheVariants.{Done, Usage, Refused, ReadFault, WriteFault, Memory}
-use Rattle.papr_top.specs.Trace.{Accepted, trace_of}
-use Rattle.papr_top.specs.Serial.{serial}
-use Rattle.papr_top.specs.Good.{Good}
-use Rattle.papr_top.specs.Text.{text_of}
 
 -- ---- texts
-abbrev pub why_word : Why → List ℕ
-why_word whys.Long = codes "long"
-why_word whys.Lines = codes "lines"
-why_word whys.Ascii = codes "ascii"
-why_word whys.Word = codes "word"
-why_word whys.Unbuilt = codes "unbuilt"
-why_word whys.Begin = codes "begin"
-
 abbrev pub refusal_text : ℕ → Why → List ℕ
 refusal_text line why = codes "papr: line " ++ decimal line ++ codes ": " ++ why_word why ++ codes "\n"
 
@@ -33,15 +30,20 @@ abbrev pub output_of : Result Accepted (ℕ × Why) → List ℕ
 output_of (Ok t) = text_of t (serial t)
 output_of (Err refusal) = refusal_text refusal.0 refusal.1
 
+-- The summary of the serial run of a trace, with the valid entries of the table at its end.
+unfoldable pub drill_text : Accepted → List ℕ
+drill_text t = summary_text (length t.lines) (serial t) (shown_of (world_after (opening t.config) t.lines).home).states
+
+-- ---- answers
+-- A run that is good, and what it assures.
+pub record IsAssured (t : Accepted) : Type 0 where
+  pub good : Good t (serial t)
+  pub assures : Assures t (serial t)
+
 -- The status and the text of an input. The serial run of a trace is a good run.
 abbrev pub IsAnswered : Result Accepted (ℕ × Why) → Status → List ℕ → Type 0
-IsAnswered (Ok t) status text = (status ≡ Done) × (text ≡ text_of t (serial t)) × Good t (serial t)
+IsAnswered (Ok t) status text = (status ≡ Done) × (text ≡ text_of t (serial t)) × IsAssured t
 IsAnswered (Err refusal) status text = (status ≡ Refused) × (text ≡ refusal_text refusal.0 refusal.1)
-
--- The words are `run` alone.
-abbrev pub is_run : List (String Global) → Bool
-is_run [] = false
-is_run (w ∷ ws) = (length ws == 0) && bytes_eq (string_bytes w) (codes "run")
 
 -- ---- what a call leaves
 -- The bytes left in the source and those taken by the sink, before and after, where they are told.
@@ -56,6 +58,9 @@ pub record Reads (run : Run) (bytes : List ℕ) : Type 0 where
   pub took : Took run.left bytes run.left_after
   pub end : length bytes ≤ 2 ^ 24 → AtEnd run.left_after
 
+abbrev pub ReadsNothing : Run → Type 0
+ReadsNothing run = Took run.left [] run.left_after
+
 abbrev pub Writes : Run → List ℕ → Type 0
 Writes run text = Put run.taken text run.taken_after
 
@@ -69,7 +74,7 @@ pub record Answers (run : Run) : Type 0 where
   pub trace : Accepted
   pub read : Reads run bytes
   pub accepted : trace_of bytes ≡ Ok trace
-  pub good : Good trace (serial trace)
+  pub assured : IsAssured trace
   pub written : Writes run (text_of trace (serial trace))
 
 -- The input is refused, and the line and the reason were written.
@@ -80,19 +85,52 @@ pub record Refuses (run : Run) : Type 0 where
   pub refused : trace_of bytes ≡ Err refusal
   pub written : Writes run (refusal_text refusal.0 refusal.1)
 
--- The words are none of the listed forms: nothing was read.
-pub record Unused (listed : Bool) (run : Run) : Type 0 where
-  pub unlisted : listed ≡ false
-  pub nothing_read : Took run.left [] run.left_after
+-- Nothing was read, and the summary of the generated trace's serial run was written.
+pub record Drills (seed lines : ℕ) (run : Run) : Type 0 where
+  pub nothing_read : ReadsNothing run
+  pub good : Good (generated seed lines) (serial (generated seed lines))
+  pub written : Writes run (drill_text (generated seed lines))
 
--- The sink failed behind a front of the usage line, or of the text of the input that was read.
-abbrev pub Stops : Bool → Run → Type 0
-Stops listed run = (Unused listed run × WritesFront run usage_text) ⊎ ((bytes : List ℕ) × (listed ≡ true) × Reads run bytes × WritesFront run (output_of (trace_of bytes)))
+-- ---- by the words
+-- What was written whole.
+abbrev pub IsDone : Option Command → Run → Type 0
+IsDone None run = ⊥
+IsDone (Some commands.Run) run = Answers run
+IsDone (Some (commands.Drill seed lines)) run = Drills seed lines run
 
-abbrev pub IsOutcome : Bool → Run → Status → Type 0
-IsOutcome listed run Done = (listed ≡ true) × Answers run
-IsOutcome listed run Usage = Unused listed run × Writes run usage_text
-IsOutcome listed run Refused = (listed ≡ true) × Refuses run
-IsOutcome listed run ReadFault = (listed ≡ true) × Writes run []
-IsOutcome listed run WriteFault = Stops listed run
-IsOutcome listed run Memory = (listed ≡ true) × Writes run []
+-- Words that are none of the listed forms are answered before anything is read.
+abbrev pub IsUsage : Option Command → Run → Type 0
+IsUsage None run = ReadsNothing run × Writes run usage_text
+IsUsage (Some command) run = ⊥
+
+-- Only what is read can be refused, or fail to be read.
+abbrev pub UnderRun : Option Command → Type 0 → Type 0
+UnderRun (Some commands.Run) fact = fact
+UnderRun other fact = ⊥
+
+-- The sink failed behind a front of the text.
+abbrev pub Stops : Option Command → Run → Type 0
+Stops None run = ReadsNothing run × WritesFront run usage_text
+Stops (Some commands.Run) run = (bytes : List ℕ) × Reads run bytes × WritesFront run (output_of (trace_of bytes))
+Stops (Some (commands.Drill seed lines)) run = ReadsNothing run × WritesFront run (drill_text (generated seed lines))
+
+abbrev pub IsListed : Option Command → Type 0
+IsListed None = ⊥
+IsListed (Some command) = Unit {0}
+
+-- By the words and the status.
+abbrev pub IsOutcome : Option Command → Run → Status → Type 0
+IsOutcome command run Done = IsDone command run
+IsOutcome command run Usage = IsUsage command run
+IsOutcome command run Refused = UnderRun command (Refuses run)
+IsOutcome command run ReadFault = UnderRun command (Writes run [])
+IsOutcome command run WriteFault = Stops command run
+IsOutcome command run Memory = IsListed command × Writes run []
+
+-- ---- drills
+-- How a drill ends: the summary was written whole, or the sink failed behind a front of it, or memory ran out.
+abbrev pub EndsDrill : Accepted → Option (List ℕ) → Option (List ℕ) → Status → Type 0
+EndsDrill t taken taken_after Done = Good t (serial t) × Put taken (drill_text t) taken_after
+EndsDrill t taken taken_after WriteFault = (front : List ℕ) × (rest : List ℕ) × (drill_text t ≡ front ++ rest) × Put taken front taken_after
+EndsDrill t taken taken_after Memory = Put taken [] taken_after
+EndsDrill t taken taken_after other = ⊥

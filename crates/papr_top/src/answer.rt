@@ -1,14 +1,17 @@
-ghost use Rattle.std.specs.Prelude.{◌≡◌, IfOk, string_bytes};
-ghost use Rattle.papr_top.specs.Top.{refusal_text, IsAnswered};
-ghost use Rattle.papr_top.specs.Trace.{trace_of};
+ghost use Rattle.std.specs.Prelude.{◌≡◌, ◌≤◌, IfOk, string_bytes};
+ghost use Rattle.trace_read.specs.Grammar.{trace_of};
+ghost use Rattle.trace_gen.specs.Generated.{generated};
+ghost use Rattle.reply_text.specs.Serial.{serial};
+ghost use Rattle.reply_text.specs.Good.{Good};
+ghost use Rattle.papr_top.specs.Top.{refusal_text, drill_text, IsAnswered};
 
-use crate::parse::{TraceError, parse};
-use crate::run::run_serial;
 use crate::status::Status;
-use crate::text::text_of;
-use crate::why::Why;
+use reply_text::{summary_of, text_of};
 use std::alloc::{AllocError, Global};
 use std::fmt::Write;
+use trace_gen::generate;
+use trace_read::{TraceError, Why, parse};
+use trace_runner::{run_serial, run_with_table};
 
 /// The line that refuses an input.
 pub fn refusal(alloc: Global, line: u32, why: Why) -> Result<String, AllocError>
@@ -32,4 +35,16 @@ pub fn answer(alloc: Global, bytes: &[u8]) -> Result<(Status, String), AllocErro
         Err(TraceError::Line { line, why }) => Ok((Status::Refused, refusal(alloc, line, why)?)),
         Err(TraceError::Memory) => Err(AllocError),
     }
+}
+
+/// The summary of a generated trace.
+#[tactic(auto, unfolding(crate::specs::Top::drill_text))]
+pub fn summary(alloc: Global, seed: u64, lines: u32) -> Result<String, AllocError>
+    requires { lines ≤ 100000 }
+    ensures text { IfOk result (λ s. string_bytes s ≡ drill_text (generated seed lines)) }
+    ensures good { IfOk result (λ _. Good (generated seed lines) (serial (generated seed lines))) }
+{
+    let trace = generate(alloc, seed, lines)?;
+    let ran = run_with_table(alloc, &trace)?;
+    summary_of(alloc, &trace, &ran.replies, &ran.table)
 }

@@ -1,23 +1,12 @@
-//! What the program `papr` does: it reads a trace of hypervisor calls, runs its lines one after the
-//! other, and writes the reply to each with its receipts.
+//! What the program `papr` does: it reads a trace of hypervisor calls and memory accesses, runs its
+//! lines one after the other, and writes the reply to each with its receipts; or it generates a trace,
+//! runs it, and writes a summary.
 #![tactic(auto)]
 
 mod answer;
-mod calls;
-mod forms;
-mod lines;
-mod names;
-mod numbers;
-mod parse;
-mod reader;
-mod reply;
-mod run;
-mod stage;
+mod command;
 mod status;
-mod text;
 mod top;
-mod trace;
-mod why;
 
 pub use status::Status;
 pub use top::papr;

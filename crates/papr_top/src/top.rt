@@ -1,23 +1,19 @@
-ghost use Rattle.std.specs.Prelude.{◌≡◌, ◌≤◌, ◌⊎◌, false};
+ghost use Rattle.std.specs.Prelude.{◌≡◌, ◌≤◌, ◌⊎◌, None, Some};
 ghost use Rattle.trace_io.specs.Outside.{Rose};
-ghost use Rattle.papr_top.specs.Top.{is_run, IsOutcome};
+ghost use Rattle.papr_top.specs.Commands.{command_of};
+ghost use Rattle.papr_top.specs.Top.{IsOutcome, EndsDrill};
+ghost use Rattle.trace_gen.specs.Generated.{generated};
 ghost use Rattle.papr_top.specs.Finish.{Finishes};
 
-use crate::answer::{answer, refusal};
-use crate::parse::MOST_BYTES;
+use crate::answer::{answer, refusal, summary};
+use crate::command::{Command, command};
 use crate::status::Status;
-use crate::why::Why;
 use std::alloc::Global;
 use trace_io::{ReadAllError, Sink, Source, read_all, write_all};
+use trace_read::Why;
 
-fn is_run_words(words: &[String]) -> bool
-    ensures { result ≡ is_run words.now }
-{
-    match words {
-        [word] => word.as_str() == "run",
-        _ => false,
-    }
-}
+/// The most bytes that an input may have.
+const MOST_BYTES: usize = 16_777_216;
 
 /// Writes the text, and answers the status unless the sink fails.
 fn finish<K: Sink>(sink: &mut K, text: &[u8], status: Status) -> Status
@@ -30,31 +26,14 @@ fn finish<K: Sink>(sink: &mut K, text: &[u8], status: Status) -> Status
     }
 }
 
-/// All that the program does, with the words behind its name.
-///
-/// `run` reads the source to its end and writes the replies of the serial run: [`Status::Done`].
-/// An input that is no trace is refused with its first refused line and the reason:
-/// [`Status::Refused`]. Other words are answered with a usage line before anything is read:
-/// [`Status::Usage`]. All text goes to the sink. [`Status::Memory`] is want of memory.
-pub fn papr<S: Source, K: Sink>(
-    alloc: Global,
-    words: &[String],
-    source: &mut S,
-    sink: &mut K,
-) -> Status
-    // What was read and written.
-    ensures outcome { IsOutcome (is_run words.now) (record { left = S.left source.old; left_after = S.left source.new; taken = K.taken sink.old; taken_after = K.taken sink.new }) result }
-    // The words alone decide whether they are used rightly.
-    ensures usage { is_run words.now ≡ false → (result ≡ Status.Usage) ⊎ (result ≡ Status.WriteFault) }
-    // A fault is one of the source's or of the sink's own.
+/// `run`: reads the source to its end, and writes the replies or the refusal.
+fn run<S: Source, K: Sink>(alloc: Global, source: &mut S, sink: &mut K) -> Status
+    ensures outcome { IsOutcome (Some Command.Run) (record { left = S.left source.old; left_after = S.left source.new; taken = K.taken sink.old; taken_after = K.taken sink.new }) result }
     ensures read_fault { result ≡ Status.ReadFault → Rose (S.faults source.old) (S.faults source.new) }
     ensures write_fault { result ≡ Status.WriteFault → Rose (K.faults sink.old) (K.faults sink.new) }
     ensures source_faults { S.faults source.old ≤ S.faults source.new }
     ensures sink_faults { K.faults sink.old ≤ K.faults sink.new }
 {
-    if !is_run_words(words) {
-        return finish(sink, b"papr: usage\n", Status::Usage);
-    }
     match read_all(alloc, source, MOST_BYTES) {
         Ok(bytes) => match answer(alloc, &bytes) {
             Ok((status, text)) => finish(sink, text.as_bytes(), status),
@@ -66,5 +45,48 @@ pub fn papr<S: Source, K: Sink>(
             Ok(text) => finish(sink, text.as_bytes(), Status::Refused),
             Err(_) => Status::Memory,
         },
+    }
+}
+
+/// `drill`: writes the summary of a generated trace.
+fn drill<K: Sink>(alloc: Global, seed: u64, lines: u32, sink: &mut K) -> Status
+    requires { lines ≤ 100000 }
+    ensures end { EndsDrill (generated seed lines) (K.taken sink.old) (K.taken sink.new) result }
+    ensures write_fault { result ≡ Status.WriteFault → Rose (K.faults sink.old) (K.faults sink.new) }
+    ensures sink_faults { K.faults sink.old ≤ K.faults sink.new }
+{
+    match summary(alloc, seed, lines) {
+        Ok(text) => finish(sink, text.as_bytes(), Status::Done),
+        Err(_) => Status::Memory,
+    }
+}
+
+/// All that the program does, with the words behind its name.
+///
+/// `run` reads the source to its end and writes the replies of the serial run: [`Status::Done`].
+/// An input that is no trace is refused with its first refused line and the reason:
+/// [`Status::Refused`]. `drill SEED LINES` reads nothing, and writes the summary of the serial run of a
+/// generated trace. Other words are answered with a usage line before anything is read:
+/// [`Status::Usage`]. All text goes to the sink. [`Status::Memory`] is want of memory.
+pub fn papr<S: Source, K: Sink>(
+    alloc: Global,
+    words: &[String],
+    source: &mut S,
+    sink: &mut K,
+) -> Status
+    // What was read and written.
+    ensures outcome { IsOutcome (command_of words.now) (record { left = S.left source.old; left_after = S.left source.new; taken = K.taken sink.old; taken_after = K.taken sink.new }) result }
+    // The words alone decide whether they are used rightly.
+    ensures usage { command_of words.now ≡ None → (result ≡ Status.Usage) ⊎ (result ≡ Status.WriteFault) }
+    // A fault is one of the source's or of the sink's own.
+    ensures read_fault { result ≡ Status.ReadFault → Rose (S.faults source.old) (S.faults source.new) }
+    ensures write_fault { result ≡ Status.WriteFault → Rose (K.faults sink.old) (K.faults sink.new) }
+    ensures source_faults { S.faults source.old ≤ S.faults source.new }
+    ensures sink_faults { K.faults sink.old ≤ K.faults sink.new }
+{
+    match command(words) {
+        None => finish(sink, b"papr: usage\n", Status::Usage),
+        Some(Command::Run) => run(alloc, source, sink),
+        Some(Command::Drill { seed, lines }) => drill(alloc, seed, lines, sink),
     }
 }

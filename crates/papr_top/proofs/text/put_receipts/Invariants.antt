@@ -1,7 +1,0 @@
-use Rattle.std.proofs.Common.{◌≡◌, ◌++◌, take, string_bytes}
-use Rattle.std.specs.List.{flat_map}
-use Rattle.papr_top.specs.Text.{receipt_text}
-use Rattle.papr_top.proofs.text.put_receipts.Given as goal
-
-abbrev pub invariant-loop-receipt : goal.invariant-loop-receipt
-invariant-loop-receipt l = string_bytes l.out ≡ string_bytes l.initial.out ++ flat_map receipt_text (take l.receipt-index l.receipts)

@@ -1,0 +1,25 @@
+-- The words behind the program's name.
+use Rattle.std.specs.Prelude.{ℕ, ◌≤◌, List, [], ◌∷◌, Option, Some, None, if◌then◌else◌, nat_le, codes, string_bytes, String}
+use Rattle.std.specs.Str.{bytes_eq}
+use Rattle.std.specs.declared.alloc.Global.{Global}
+use Rattle.trace_read.specs.Numbers.{number_of}
+use Rattle.papr_top.specs.declared.command.Command.{Command}
+use Rattle.papr_top.specs.declared.command.Command.TheVariants.{Run, Drill}
+
+-- At most 100,000 lines are generated.
+abbrev pub drill_by : Option ℕ → Option ℕ → Option Command
+drill_by (Some seed) (Some lines) = if nat_le lines 100000 then Some (Drill seed lines) else None
+drill_by seed lines = None
+
+unfoldable pub drill_of : List ℕ → List ℕ → Option Command
+drill_of seed lines = drill_by (number_of seed) (number_of lines)
+
+-- `run`, or `drill SEED LINES`.
+unfoldable pub command_of : List (String Global) → Option Command
+command_of (word ∷ []) = if bytes_eq (string_bytes word) (codes "run") then Some Run else None
+command_of (word ∷ seed ∷ lines ∷ []) = if bytes_eq (string_bytes word) (codes "drill") then drill_of (string_bytes seed) (string_bytes lines) else None
+command_of other = None
+
+abbrev pub IsInRange : Command → Type 0
+IsInRange Run = Unit {0}
+IsInRange (Drill seed lines) = lines ≤ 100000

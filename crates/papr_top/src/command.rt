@@ -1,0 +1,47 @@
+ghost use Rattle.std.specs.Prelude.{◌≡◌, ◌≤◌, IfSome};
+ghost use Rattle.papr_top.specs.Commands as words;
+ghost use Rattle.papr_top.specs.Commands.{drill_of, command_of, IsInRange};
+
+use trace_read::number;
+
+/// The most lines that are generated.
+const MOST_LINES: u64 = 100_000;
+
+/// What the words behind the program's name ask for.
+#[derive(Clone, Copy, PartialEq, Eq, Debug)]
+pub enum Command {
+    /// Runs the trace that is read.
+    Run,
+    /// Runs a generated trace: its seed, and how many lines are drawn, at most 100,000.
+    Drill { seed: u64, lines: u32 },
+}
+
+/// A seed, and how many lines.
+#[tactic(auto, unfolding(crate::specs::Commands::drill_of))]
+fn drill(seed: &str, lines: &str) -> Option<Command>
+    ensures value { result ≡ drill_of seed.now lines.now }
+    ensures range { IfSome result IsInRange }
+{
+    let seed = number(seed.as_bytes())?;
+    let lines = number(lines.as_bytes())?;
+    if lines > MOST_LINES {
+        return None;
+    }
+    Some(Command::Drill {
+        seed,
+        lines: lines as u32,
+    })
+}
+
+/// The command that the words are; `None` where they are none of the listed forms.
+#[tactic(auto, unfolding(crate::specs::Commands::command_of))]
+pub fn command(list: &[String]) -> Option<Command>
+    ensures value { result ≡ command_of list.now }
+    ensures range { IfSome result IsInRange }
+{
+    match list {
+        [word] if word.as_str() == "run" => Some(Command::Run),
+        [word, seed, lines] if word.as_str() == "drill" => drill(seed.as_str(), lines.as_str()),
+        _ => None,
+    }
+}

@@ -41,4 +41,4 @@ install: $(PROGRAM)
 uninstall:
 	rm -f $(bindir)/papr $(mandir)/papr.1 $(completiondir)/papr
 	rm -f $(addprefix $(exampledir)/,$(notdir $(examples)))
-	-rmdir $(exampledir) $(docdir)
+	rmdir $(exampledir) $(docdir) 2>/dev/null || true

@@ -1,0 +1,191 @@
+"""Grants of memory for a trace: those given, and those that its H_ENTER calls need."""
+
+from collections import Counter
+from dataclasses import dataclass
+from typing import Iterable, Optional
+
+MOST_GRANTS = 64
+GRANULE = 4_096
+POOL = (0x10_0000_0000, 0x10_0000_0000 + 2**24)  # where tables lie by default
+MACHINE = 0x20_0000_0000  # where worked-out grants begin
+MACHINE_STEP = 2**24
+ADDRESS_END = 2**60
+PAGE_END = 2**59  # no grant is worked out for a page above, so that all have a place
+
+# Base shift, actual shift, and the low part of the real page number, of a page with L set.
+LARGE_SIZES = (
+    (16, 16, 0x1),
+    (24, 24, 0x0),
+    (34, 34, 0x3),
+    (12, 16, 0x7),
+    (12, 24, 0x38),
+    (16, 24, 0x8),
+)
+
+Range = tuple[int, int]  # first byte, and one past the last
+Page = tuple[str, Range]  # `ram` or `io`, and the logical range
+
+
+class Bad(Exception):
+    """An argument or an input from which no trace can be made."""
+
+
+@dataclass(frozen=True)
+class Grant:
+    """Memory that the guest may map."""
+
+    kind: str
+    logical: int
+    machine: int
+    length: int
+
+    @property
+    def pages(self) -> Range:
+        """The logical range."""
+        return self.logical, self.logical + self.length
+
+    @property
+    def frames(self) -> Range:
+        """The machine range."""
+        return self.machine, self.machine + self.length
+
+    def __str__(self) -> str:
+        return f"{self.kind} {self.logical:#x} {self.machine:#x} {self.length:#x}"
+
+
+def actual_shift(dword0: int, dword1: int) -> Optional[int]:
+    """The size of the page that the doublewords map, as a binary logarithm of bytes."""
+    if not dword0 & 0x04:
+        return 12
+    number = (dword1 & 0x0FFF_FFFF_FFFF_F000) >> 12
+    for _base, actual, low in LARGE_SIZES:
+        if number % 2 ** (actual - 12) == low:
+            return actual
+    return None
+
+
+def entered_page(dword0: int, dword1: int) -> Optional[Page]:
+    """The page that an H_ENTER maps, as QEMU takes it: M alone is ram, I without W is io."""
+    shift = actual_shift(dword0, dword1)
+    write_through, inhibited, coherent = dword1 & 0x40, dword1 & 0x20, dword1 & 0x10
+    if shift is None or dword0 >> 62 > 1 or write_through:
+        return None
+    if not inhibited and (not coherent or dword1 & 0x08):
+        return None
+    start = (dword1 & 0x0FFF_FFFF_FFFF_F000) >> shift << shift
+    if start + 2**shift > PAGE_END:
+        return None
+    return "io" if inhibited else "ram", (start, start + 2**shift)
+
+
+def meets(one: Range, other: Range) -> bool:
+    """Whether the two have a byte in common."""
+    return one[0] < other[1] and other[0] < one[1]
+
+
+def inside(one: Range, other: Range) -> bool:
+    """Whether the first lies in the second."""
+    return other[0] <= one[0] and one[1] <= other[1]
+
+
+def merged(ranges: Iterable[Range]) -> list[Range]:
+    """The same bytes as ranges that neither meet nor touch, in rising order."""
+    result: list[Range] = []
+    for start, end in sorted(ranges):
+        if result and start <= result[-1][1]:
+            result[-1] = result[-1][0], max(result[-1][1], end)
+        else:
+            result.append((start, end))
+    return result
+
+
+def spanned(ranges: list[Range], others: list[Range]) -> list[Range]:
+    """The ranges with every gap closed in which no other range lies."""
+    result: list[Range] = []
+    for start, end in ranges:
+        if result and not any(meets((result[-1][1], start), other) for other in others):
+            start = result.pop()[0]
+        result.append((start, end))
+    return result
+
+
+def joined(ranges: list[Range], others: list[Range], room: int) -> list[Range]:
+    """At most `room` ranges, made by closing the smallest gaps in which no other range lies."""
+    result = list(ranges)
+    while len(result) > room:
+        gaps = [
+            (right[0] - left[1], place)
+            for place, (left, right) in enumerate(zip(result, result[1:]))
+            if not any(meets((left[1], right[0]), other) for other in others)
+        ]
+        if not gaps:
+            return result[:room]
+        place = min(gaps)[1]
+        result[place : place + 2] = [(result[place][0], result[place + 1][1])]
+    return result
+
+
+def free_machine(length: int, grants: list[Grant]) -> int:
+    """The lowest machine address from `MACHINE` on where so many bytes meet no grant."""
+    ends = {-(-g.frames[1] // MACHINE_STEP) * MACHINE_STEP for g in grants}
+    starts = sorted({MACHINE} | {end for end in ends if end > MACHINE})
+    return next(
+        start
+        for start in starts
+        if not any(meets((start, start + length), g.frames) for g in grants)
+    )
+
+
+def worked_out(given: list[Grant], pages: Iterable[Page]) -> list[Grant]:
+    """The given grants, and for a kind that has none the ones that the pages need."""
+    grants = list(given)
+    wanted = {"ram", "io"} - {g.kind for g in given}
+    ram = merged(page for kind, page in pages if kind == "ram" and kind in wanted)
+    inhibited = merged(page for kind, page in pages if kind == "io" and kind in wanted)
+    closed = [g.pages for g in given]
+    if ram:
+        # RAM of a pseries machine begins at 0, so it is one range where nothing else lies in it.
+        put(grants, "ram", spanned(merged([(0, 0), *ram]), inhibited + closed))
+    closed = [g.pages for g in grants]
+    free = [r for r in inhibited if not any(meets(r, other) for other in closed)]
+    put(grants, "io", joined(free, closed, MOST_GRANTS - len(grants)))
+    return grants
+
+
+def put(grants: list[Grant], kind: str, ranges: list[Range]) -> None:
+    """Adds a grant for each range that meets no grant, at free machine addresses."""
+    for start, end in ranges:
+        is_taken = any(meets((start, end), g.pages) for g in grants)
+        if start == end or is_taken or len(grants) == MOST_GRANTS:
+            continue
+        machine = free_machine(end - start, grants)
+        if machine + end - start > ADDRESS_END:
+            raise Bad("no machine address is left for the grants that are worked out")
+        grants.append(Grant(kind, start, machine, end - start))
+
+
+def check(grants: list[Grant]) -> None:
+    """Refuses what the trace's grammar refuses."""
+    if len(grants) > MOST_GRANTS:
+        raise Bad(f"a trace has at most {MOST_GRANTS} grants")
+    for place, grant in enumerate(grants):
+        if grant.length == 0:
+            raise Bad(f"grant `{grant}` is empty")
+        if any(n % GRANULE for n in (grant.logical, grant.machine, grant.length)):
+            raise Bad(f"grant `{grant}` is not aligned to {GRANULE}")
+        if max(grant.pages[1], grant.frames[1]) > ADDRESS_END:
+            raise Bad(f"grant `{grant}` ends above 2^60")
+        if meets(grant.frames, POOL):
+            raise Bad(f"grant `{grant}` meets the pool of tables at {POOL[0]:#x}")
+        for other in grants[:place]:
+            if meets(grant.pages, other.pages) or meets(grant.frames, other.frames):
+                raise Bad(f"grant `{grant}` meets grant `{other}`")
+
+
+def count_ungranted(pages: Counter[Page], grants: list[Grant]) -> int:
+    """How many H_ENTER name a page that lies in no single grant of its kind."""
+    return sum(
+        count
+        for (kind, page), count in pages.items()
+        if not any(g.kind == kind and inside(page, g.pages) for g in grants)
+    )

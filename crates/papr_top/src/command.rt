@@ -1,6 +1,6 @@
 ghost use Rattle.std.specs.Prelude.{◌≡◌, ◌≤◌, IfSome};
 ghost use Rattle.papr_top.specs.Commands as words;
-ghost use Rattle.papr_top.specs.Commands.{drill_of, command_of, IsInRange};
+ghost use Rattle.papr_top.specs.Commands.{drill_of, IsInRange};
 
 use trace_read::number;
 
@@ -35,8 +35,8 @@ fn drill(seed: &str, lines: &str) -> Option<Command>
 
 /// The command that the words are; `None` where they are none of the listed forms.
 #[tactic(auto, unfolding(crate::specs::Commands::command_of))]
-pub fn command(list: &[String]) -> Option<Command>
-    ensures value { result ≡ command_of list.now }
+pub fn command_of(list: &[String]) -> Option<Command>
+    ensures value { result ≡ words.command_of list.now }
     ensures range { IfSome result IsInRange }
 {
     match list {

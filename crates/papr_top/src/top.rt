@@ -1,12 +1,12 @@
 ghost use Rattle.std.specs.Prelude.{◌≡◌, ◌≤◌, ◌⊎◌, None, Some};
 ghost use Rattle.trace_io.specs.Outside.{Rose};
-ghost use Rattle.papr_top.specs.Commands.{command_of};
+ghost use Rattle.papr_top.specs.Commands as words_of;
 ghost use Rattle.papr_top.specs.Top.{IsOutcome, EndsDrill};
 ghost use Rattle.trace_gen.specs.Generated.{generated};
 ghost use Rattle.papr_top.specs.Finish.{Finishes};
 
 use crate::answer::{answer, refusal, summary};
-use crate::command::{Command, command};
+use crate::command::{Command, command_of};
 use crate::status::Status;
 use std::alloc::Global;
 use trace_io::{ReadAllError, Sink, Source, read_all, write_all};
@@ -75,16 +75,16 @@ pub fn papr<S: Source, K: Sink>(
     sink: &mut K,
 ) -> Status
     // What was read and written.
-    ensures outcome { IsOutcome (command_of words.now) (record { left = S.left source.old; left_after = S.left source.new; taken = K.taken sink.old; taken_after = K.taken sink.new }) result }
+    ensures outcome { IsOutcome (words_of.command_of words.now) (record { left = S.left source.old; left_after = S.left source.new; taken = K.taken sink.old; taken_after = K.taken sink.new }) result }
     // The words alone decide whether they are used rightly.
-    ensures usage { command_of words.now ≡ None → (result ≡ Status.Usage) ⊎ (result ≡ Status.WriteFault) }
+    ensures usage { words_of.command_of words.now ≡ None → (result ≡ Status.Usage) ⊎ (result ≡ Status.WriteFault) }
     // A fault is one of the source's or of the sink's own.
     ensures read_fault { result ≡ Status.ReadFault → Rose (S.faults source.old) (S.faults source.new) }
     ensures write_fault { result ≡ Status.WriteFault → Rose (K.faults sink.old) (K.faults sink.new) }
     ensures source_faults { S.faults source.old ≤ S.faults source.new }
     ensures sink_faults { K.faults sink.old ≤ K.faults sink.new }
 {
-    match command(words) {
+    match command_of(words) {
         None => finish(sink, b"papr: usage\n", Status::Usage),
         Some(Command::Run) => run(alloc, source, sink),
         Some(Command::Drill { seed, lines }) => drill(alloc, seed, lines, sink),

@@ -29,6 +29,7 @@ fn run_lines(
     requires cpus { AllByRecursion (λ (l : TraceLine). l.cpu < length machine.old.seats) lines.now }
     requires number { machine.old.home.table.number ≡ 0 }
     ensures replies { IfOk result (λ r. r.items ≡ replies_from machine.old lines.now) }
+    ensures count { IfOk result (λ r. length r.items ≡ length lines.now) }
     ensures world { OnOk result (machine.new ≡ world_after machine.old lines.now) }
 {
     let mut replies = Replies::new(alloc);
@@ -65,6 +66,7 @@ pub fn run_with_table(alloc: Global, trace: &Trace) -> Result<Ran, AllocError>
 /// The replies of the serial run of a trace. They are a good run.
 pub fn run_serial(alloc: Global, trace: &Trace) -> Result<Replies, AllocError>
     ensures replies { IfOk result (λ r. r.items ≡ serial trace.now) }
+    ensures count { IfOk result (λ r. length r.items ≡ length trace.now.lines) }
     ensures good { Good trace.now (serial trace.now) }
     ensures assured { Assures trace.now (serial trace.now) }
 {

@@ -13,8 +13,8 @@ returns-in-Ok-answer-clause-outcome g c =
     let taken = g.K.Sink.taken in
     let faults = g.K.Sink.faults in
     let answered : IsAnswered (trace_of c.in-Ok.bytes.items) c.in-Ok-answer.status (string_bytes c.in-Ok-answer.text) = rw c.deref.ensures.value at c.in-Ok-answer.ensures in
-    let finishes : Finishes c.in-Ok-answer.status (string_bytes c.in-Ok-answer.text) (taken c.args.sink.now) (taken c.finish-in-Ok-answer.new.sink) (faults c.args.sink.now) (faults c.finish-in-Ok-answer.new.sink) c.finish-in-Ok-answer.result = rw c.as_bytes.ensures.value at c.finish-in-Ok-answer.ensures.end in
-    outcome (left c.args.source.now) (left c.read_all.new.source) (taken c.args.sink.now) (taken c.finish-in-Ok-answer.new.sink) c.in-Ok.bytes.items (string_bytes c.in-Ok-answer.text) c.in-Ok-answer.status c.finish-in-Ok-answer.result (faults c.args.sink.now) (faults c.finish-in-Ok-answer.new.sink) c.in-Ok.ensures.bytes (λ _. c.in-Ok.ensures.end) answered finishes
+    let finishes : Finishes c.in-Ok-answer.status (string_bytes c.in-Ok-answer.text) (taken c.args.sink.now) (taken c.finish.new.sink) (faults c.args.sink.now) (faults c.finish.new.sink) c.finish.result = rw c.as_bytes.ensures.value at c.finish.ensures.end in
+    outcome (left c.args.source.now) (left c.read_all.new.source) (taken c.args.sink.now) (taken c.finish.new.sink) c.in-Ok.bytes.items (string_bytes c.in-Ok-answer.text) c.in-Ok-answer.status c.finish.result (faults c.args.sink.now) (faults c.finish.new.sink) c.in-Ok.ensures.bytes (λ _. c.in-Ok.ensures.end) answered finishes
 
 pub returns-in-Ok-refusal-clause-outcome : goal.returns-in-Ok-refusal-clause-outcome
 returns-in-Ok-refusal-clause-outcome g c =

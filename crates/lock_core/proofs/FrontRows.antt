@@ -1,18 +1,17 @@
 -- Worked values of fronts, which the checker computes.
-use Rattle.std.proofs.Common.{◌≡◌, ℕ, List, [], ◌∷◌, Bool, true, false, Some, None, refl}
+use Rattle.std.proofs.Common.{◌≡◌, ℕ, List, [], ◌∷◌, true, false, None, refl}
 use Rattle.std.specs.Prelude.{reverse}
 use Rattle.entry_model.specs.State.{State, empty_state}
 use Rattle.entry_model.specs.Reply.{has_base}
 use Rattle.entry_model.specs.declared.operation.Op.{Op}
-use Rattle.entry_model.specs.declared.operation.Op.TheVariants.{Remove, Read, Access}
+use Rattle.entry_model.specs.declared.operation.Op.TheVariants.{Remove, Access}
 use Rattle.entry_model.specs.History.{pair_of, state_eq}
-use Rattle.entry_model.specs.Fronts.{larger}
 use Rattle.storage_prot.specs.Protection.{permission, rows}
 use Rattle.storage_prot.specs.declared.want.Want.{Want}
-use Rattle.storage_prot.specs.declared.want.Want.TheVariants.{Load, Store}
+use Rattle.storage_prot.specs.declared.want.Want.TheVariants.{Store}
 use Rattle.lock_core.specs.declared.step.Step.{Step}
-use Rattle.lock_core.specs.declared.step.Step.TheVariants.{Lock, Look, LoadData, Shut, StoreData, Settle, Release, Mark, Split, Join}
-use Rattle.lock_core.specs.Machine.{Machine, opened, seen_in, seen_words}
+use Rattle.lock_core.specs.declared.step.Step.TheVariants.{Lock, Look, LoadData, Shut, Settle, Mark, Split, Join}
+use Rattle.lock_core.specs.Machine.{opened, seen_in, seen_words}
 use Rattle.lock_core.specs.Steps.{refusal, refusals, allowed, may_act, names_entry, fits_phase, fits, turn, second_look, made_by, moved, stepped}
 use Rattle.lock_core.specs.Words.{noted_state, next_state, changes, receipt, is_noted, is_still, same_access, is_stored}
 use Rattle.lock_core.specs.Runs.{run}

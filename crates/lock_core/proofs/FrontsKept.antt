@@ -1,7 +1,7 @@
 -- Fronts along every list of steps: no front of an actor is above the pair of the state that the entry counts with.
-use Rattle.std.proofs.Common.{◌≡◌, ◌⊎◌, ℕ, zero, suc, ◌+◌, ◌≢◌, ◌<◌, ◌≤◌, ◌&&◌, Bool, true, false, List, [], ◌∷◌, ◌++◌, map, length, replicate, set, inl, inr, ⊎_elim, refl, sym, ap, ◌∙◌, subst, arith, Option, Some, None}
-use Rattle.std.specs.Prelude.{slice_get, slice_index_or, if◌then◌else◌, All}
-use Rattle.std.proofs.lemmas.Bool.{cases_Bool, cond_both, false≢true}
+use Rattle.std.proofs.Common.{◌≡◌, ◌⊎◌, ℕ, zero, suc, ◌≢◌, ◌≤◌, true, false, List, [], ◌∷◌, length, replicate, set, inl, inr, ⊎_elim, refl, sym, ap, ◌∙◌, subst, arith, Option, Some, None}
+use Rattle.std.specs.Prelude.{slice_get, if◌then◌else◌, All}
+use Rattle.std.proofs.lemmas.Bool.{cond_both}
 use Rattle.entry_model.specs.State.{State}
 use Rattle.entry_model.specs.declared.receipt.Receipt.{Receipt}
 use Rattle.entry_model.specs.Receipt.{after_of}
@@ -10,18 +10,18 @@ use Rattle.entry_model.specs.Fronts.{front_at, opening_fronts, fronts_after, lar
 use Rattle.entry_model.proofs.FrontLaws.{front_set, after_rises, larger_low}
 use Rattle.lock_core.specs.declared.entry.Entry.{Entry}
 use Rattle.lock_core.specs.declared.step.Step.{Step}
-use Rattle.lock_core.specs.declared.step.Step.TheVariants.{Lock, Look, LoadData, Shut, StoreData, Settle, Release, Mark, Split, Join}
+use Rattle.lock_core.specs.declared.step.Step.TheVariants.{Split, Join}
 use Rattle.lock_core.specs.Words.{quiet_entry}
-use Rattle.lock_core.specs.Machine.{Actor, Machine, nobody, newcomer, opened, actor_at, entry_at, in_table}
+use Rattle.lock_core.specs.Machine.{Actor, Machine, nobody, newcomer, opened, actor_at, entry_at}
 use Rattle.lock_core.specs.declared.turn.Turn.{Turn}
-use Rattle.lock_core.specs.Steps.{fits_entry, actor_after, entry_of, fits, turn_of, with_turn, may_act, fits_phase, allowed, made_by, stepped, moved}
+use Rattle.lock_core.specs.Steps.{fits_entry, entry_of, turn_of, with_turn, may_act, fits_phase, allowed, made_by, stepped, moved}
 use Rattle.lock_core.specs.Runs.{run}
 use Rattle.lock_core.specs.ActorFronts.{fronts_of, raised_by, fronts_moved, run_fronts}
 use Rattle.lock_core.specs.Promises.{IsFair}
 use Rattle.lock_core.proofs.Kept.{Kept}
 use Rattle.lock_core.proofs.Lists.{some_same, none_some, at_set, at_mapped}
 use Rattle.lock_core.proofs.Moves.{Tells, Change}
-use Rattle.lock_core.proofs.Whole.{allowed_parts, step_change, moved_goes}
+use Rattle.lock_core.proofs.Whole.{allowed_parts, step_change}
 use Rattle.lock_core.proofs.Opening.{run_kept}
 
 -- ---- lists of fronts

@@ -1,10 +1,10 @@
 -- What the code of a join leaves of the list of actors.
-use Rattle.std.proofs.Common.{◌≡◌, ◌≢◌, ℕ, Bool, true, false, List, set, get_or, sym, ap, ◌∙◌, subst, Some}
+use Rattle.std.proofs.Common.{◌≡◌, ◌≢◌, ℕ, true, List, set, get_or, sym, ap, ◌∙◌, Some}
 use Rattle.std.specs.Prelude.{slice_get, slice_index_or}
 use Rattle.std.proofs.lemmas.Option.{get_or_from_slice_get}
 use Rattle.lock_core.specs.Machine.{Actor, nobody}
 use Rattle.lock_core.specs.Steps.{joined}
-use Rattle.lock_core.proofs.Lists.{set_else, set_found, set_again, set_twice, set_apart}
+use Rattle.lock_core.proofs.Lists.{set_else, set_again, set_twice, set_apart}
 use Rattle.lock_core.proofs.Whole.{live_there}
 
 -- x stands at `from`, and y at i once z has come in x's place.

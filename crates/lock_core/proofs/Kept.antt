@@ -1,10 +1,10 @@
 -- What every step keeps.
-use Rattle.std.specs.Prelude.{◌≡◌, ◌⊎◌, ℕ, ◌+◌, ◌≤◌, ◌<◌, ◌^◌, ◌==◌, length, Bool, true, false, List, [], ◌∷◌, ◌++◌, filter, Option, Some, None, slice_get}
+use Rattle.std.specs.Prelude.{◌≡◌, ℕ, ◌≤◌, ◌<◌, ◌^◌, ◌==◌, length, true, false, List, [], ◌∷◌, ◌++◌, filter, Option, Some, None, slice_get}
 use Rattle.power_addr.specs.Pages.{virtual_page}
 use Rattle.entry_model.specs.State.{State}
 use Rattle.entry_model.specs.declared.line.Line.{Line}
 use Rattle.entry_model.specs.declared.receipt.Receipt.{Receipt}
-use Rattle.entry_model.specs.Receipt.{after_of, is_access}
+use Rattle.entry_model.specs.Receipt.{is_access}
 use Rattle.entry_model.specs.Lines.{Holds}
 use Rattle.entry_model.specs.History.{IsLegal, Regrouped}
 use Rattle.entry_model.proofs.Follows.{Follows}

@@ -1,33 +1,26 @@
 -- The steps of an access: looks, data loads and marks.
-use Rattle.std.proofs.Common.{◌≡◌, ◌≢◌, ◌⊎◌, ℕ, zero, suc, bit_and, ◌+◌, ◌≤◌, ◌<◌, ◌==◌, ◌&&◌, ◌||◌, not, Bool, true, false, cond, List, [], ◌∷◌, inl, inr, ⊎_elim, refl, sym, ap, ◌∙◌, subst, arith, Option, Some, None, find, length}
-use Rattle.std.specs.Prelude.{slice_get, slice_index_or, if◌then◌else◌, is_some, option_map}
-use Rattle.std.proofs.lemmas.Bool.{and_parts, cases_Bool, cond_both, false≢true, eqb-true}
+use Rattle.std.proofs.Common.{◌≡◌, ◌⊎◌, ℕ, suc, bit_and, ◌<◌, ◌==◌, ◌&&◌, Bool, true, false, List, [], ◌∷◌, inl, inr, ⊎_elim, refl, sym, ap, ◌∙◌, subst, arith, Option, Some, None, find, length}
+use Rattle.std.specs.Prelude.{slice_get, if◌then◌else◌, option_map}
+use Rattle.std.proofs.lemmas.Bool.{and_parts, cases_Bool, cond_both, eqb-true}
 use Rattle.std.proofs.lemmas.Option.{slice_get-get_or, slice_get_within}
 use Rattle.entry_model.specs.State.{State, empty_state}
-use Rattle.entry_model.specs.declared.line.Line.{Line}
 use Rattle.entry_model.specs.declared.operation.Op.{Op}
-use Rattle.entry_model.specs.Reply.{reply_of}
-use Rattle.entry_model.specs.Receipt.{is_access, after_of}
+use Rattle.entry_model.specs.Receipt.{is_access}
 use Rattle.entry_model.specs.Lines.{Holds, IsCurrent}
 use Rattle.entry_model.specs.declared.receipt.Receipt.{Receipt}
-use Rattle.entry_model.proofs.Follows.{Follows, HasFurtherBits}
-use Rattle.entry_model.proofs.OperationLaws.{access_further, access_still}
-use Rattle.entry_model.proofs.ReplyLaws.{empty_untouched}
-use Rattle.lock_core.specs.declared.control.Control.{Control}
+use Rattle.entry_model.proofs.Follows.{HasFurtherBits}
 use Rattle.lock_core.specs.declared.doing.Doing.{Doing}
 use Rattle.lock_core.specs.declared.entry.Entry.{Entry}
-use Rattle.lock_core.specs.declared.phase.Phase.{Phase}
-use Rattle.lock_core.specs.declared.phase.Phase.TheVariants.{Idle, Held, HeldShut, Looked}
+use Rattle.lock_core.specs.declared.phase.Phase.TheVariants.{Idle, Looked}
 use Rattle.lock_core.specs.declared.sighting.Sighting.{Sighting}
-use Rattle.lock_core.specs.Words.{without_bits, state_of, known, known_or_nothing, is_read, none_loaded, noted_state, next_state, changes, receipt, is_noted, is_still}
+use Rattle.lock_core.specs.Words.{without_bits, state_of}
 use Rattle.lock_core.specs.Machine.{Actor, Machine, opening_at, is_at, words_in, words_at, or_else, seen_in, seen_words}
-use Rattle.lock_core.specs.declared.turn.Turn.{Turn}
-use Rattle.lock_core.specs.Steps.{goes_on, ends, begun, noting, loaded, marked_entry, second_look}
-use Rattle.lock_core.proofs.Kept.{HasLock, IsOn, EntryOk, HeldOk, ShutOk, IsFresh, HasMoreBits, LookedOk, PhaseOk, as_line, Kept}
+use Rattle.lock_core.specs.Steps.{goes_on, begun, loaded}
+use Rattle.lock_core.proofs.Kept.{HasLock, IsOn, IsFresh, LookedOk, PhaseOk, as_line, Kept}
 use Rattle.lock_core.proofs.Moves.{Change}
 use Rattle.lock_core.proofs.Lists.{some_same, none_some}
-use Rattle.lock_core.proofs.Noted.{not_is, or_has, cleared_same, state_canonical, same_words, state_is, known_words, still_is, still_if, next_canonical, noted_same}
-use Rattle.lock_core.proofs.Steps.{looks_on, only_phase, receipt_entry, receipt_before, receipt_after, loaded_entry}
+use Rattle.lock_core.proofs.Noted.{cleared_same, state_canonical}
+use Rattle.lock_core.proofs.Steps.{only_phase, loaded_entry}
 
 -- ---- words that were seen
 found_at : (p : Sighting → Bool) (ls : List Sighting) (l : Sighting) → find p ls ≡ Some l → (j : ℕ) × (slice_get ls j ≡ Some l) × (p l ≡ true)

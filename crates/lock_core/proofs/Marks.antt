@@ -1,9 +1,8 @@
 -- How an access is decided: second looks and marks.
-use Rattle.std.proofs.Common.{◌≡◌, ◌≢◌, ◌⊎◌, ℕ, ◌+◌, ◌≤◌, ◌<◌, ◌==◌, ◌&&◌, ◌||◌, not, Bool, true, false, cond, List, inl, inr, ⊎_elim, refl, sym, ap, ◌∙◌, subst, arith, Option, Some, None}
-use Rattle.std.specs.Prelude.{slice_get, if◌then◌else◌, is_some}
+use Rattle.std.proofs.Common.{◌≡◌, ◌⊎◌, ℕ, ◌&&◌, not, Bool, true, false, List, inl, inr, refl, sym, ap, ◌∙◌, subst, Some}
+use Rattle.std.specs.Prelude.{slice_get, if◌then◌else◌}
 use Rattle.std.proofs.lemmas.Bool.{and_parts, cases_Bool, cond_both, false≢true, eqb-true}
-use Rattle.entry_model.specs.State.{State, IsCanonicalState}
-use Rattle.entry_model.specs.Reply.{reply_of}
+use Rattle.entry_model.specs.State.{State}
 use Rattle.entry_model.specs.Receipt.{is_access}
 use Rattle.entry_model.specs.declared.receipt.Receipt.{Receipt}
 use Rattle.entry_model.proofs.Follows.{HasFurtherBits}
@@ -16,11 +15,10 @@ use Rattle.lock_core.specs.declared.phase.Phase.{Phase}
 use Rattle.lock_core.specs.declared.phase.Phase.TheVariants.{Idle, Held, HeldShut, Looked}
 use Rattle.lock_core.specs.Words.{without_bits, state_of, known, known_or_nothing, is_read, noted_state, next_state, changes, receipt, is_noted, is_still}
 use Rattle.lock_core.specs.Machine.{Actor, Machine}
-use Rattle.lock_core.specs.declared.turn.Turn.{Turn}
 use Rattle.lock_core.specs.Steps.{goes_on, ends, noting, marked_entry, second_look}
-use Rattle.lock_core.proofs.Kept.{HasLock, IsOn, EntryOk, HeldOk, ShutOk, IsFresh, HasMoreBits, LookedOk, PhaseOk, Kept}
+use Rattle.lock_core.proofs.Kept.{HasLock, EntryOk, IsFresh, HasMoreBits, LookedOk, PhaseOk, Kept}
 use Rattle.lock_core.proofs.Moves.{Change}
-use Rattle.lock_core.proofs.Noted.{not_is, or_has, cleared_same, same_words, state_is, known_words, still_is, still_if, next_canonical, noted_canonical, noted_same}
+use Rattle.lock_core.proofs.Noted.{not_is, or_has, cleared_same, same_words, state_is, known_words, still_is, still_if, next_canonical, noted_same}
 use Rattle.lock_core.proofs.Steps.{looks_on, receipt_entry, receipt_before, receipt_after}
 use Rattle.lock_core.proofs.Looks.{looked_ok, no_lock, idle_change}
 

@@ -1,20 +1,17 @@
 -- A step of an actor on an entry keeps what is kept.
-use Rattle.std.proofs.Common.{◌≡◌, ◌≢◌, ◌⊎◌, ℕ, zero, suc, ◌+◌, ◌≤◌, Bool, true, false, List, [], ◌∷◌, ◌++◌, set, inl, inr, ⊎_elim, refl, sym, ap, ◌∙◌, subst, arith, length-set, Option, Some, None, eq-eqb, ne_eqb, eqb, append-nil, append_assoc}
-use Rattle.std.specs.Prelude.{slice_get, filter, if◌then◌else◌}
+use Rattle.std.proofs.Common.{◌≡◌, ◌≢◌, ◌⊎◌, ℕ, zero, suc, Bool, true, false, List, [], ◌∷◌, ◌++◌, set, inl, inr, ⊎_elim, refl, sym, ap, ◌∙◌, subst, length-set, Option, Some, None, eq-eqb, ne_eqb, eqb, append-nil, append_assoc}
+use Rattle.std.specs.Prelude.{slice_get, if◌then◌else◌}
 use Rattle.std.proofs.lemmas.Bool.{cases_Bool, false≢true}
-use mathlib.Core.Logic.{dite}
-use native.Mathlib.Decide.{ℕ_discrete}
 use Rattle.entry_model.specs.State.{State}
-use Rattle.entry_model.specs.declared.line.Line.{Line}
 use Rattle.entry_model.specs.declared.receipt.Receipt.{Receipt}
 use Rattle.entry_model.specs.Receipt.{after_of, is_decided}
 use Rattle.entry_model.specs.Lines.{Holds}
-use Rattle.entry_model.specs.History.{IsLegal, Regrouped, kept, twice}
+use Rattle.entry_model.specs.History.{IsLegal, Regrouped, twice}
 use Rattle.entry_model.proofs.Follows.{Follows, stays, follows_on, reply_follows}
 use Rattle.entry_model.proofs.OperationLaws.{decided_valid}
 use Rattle.entry_model.proofs.LineLaws.{holds_on}
 use Rattle.entry_model.proofs.Regroup.{regrouped_self}
-use Rattle.entry_model.proofs.Logged.{legal_more, regrouped_before, regrouped_behind, regrouped_last, regrouped_swap, regrouped_first, regrouped_along}
+use Rattle.entry_model.proofs.Logged.{legal_more, regrouped_before, regrouped_behind, regrouped_swap, regrouped_along}
 use Rattle.lock_core.specs.declared.doing.Doing.{Doing}
 use Rattle.lock_core.specs.declared.entry.Entry.{Entry}
 use Rattle.lock_core.specs.declared.phase.Phase.{Phase}
@@ -24,7 +21,7 @@ use Rattle.lock_core.specs.Machine.{Actor, Machine, nobody, sighting_of, shown_b
 use Rattle.lock_core.specs.declared.turn.Turn.{Turn}
 use Rattle.lock_core.specs.Steps.{actor_after}
 use Rattle.lock_core.specs.Runs.{receipts_of}
-use Rattle.lock_core.proofs.Kept.{HasLock, IsOn, EntryOk, HeldOk, ShutOk, LookedOk, PhaseOk, as_line, on_entry, logged, Kept}
+use Rattle.lock_core.proofs.Kept.{HasLock, IsOn, EntryOk, LookedOk, PhaseOk, as_line, on_entry, logged, Kept}
 use Rattle.lock_core.proofs.Lists.{some_same, none_some, at_set, set_found, set_else, same_at, in_append}
 
 pub lock_is_on : (e : ℕ) (p : Phase) → HasLock e p → IsOn e p

@@ -1,21 +1,19 @@
 -- The state that an actor noted, and what the laws of replies say of it.
-use Rattle.std.proofs.Common.{◌≡◌, ℕ, ◌+◌, ◌<◌, ◌^◌, ◌&&◌, ◌||◌, ◌==◌, not, Bool, true, false, cond, if◌then◌else◌, Option, Some, None, ◌⊎◌, inl, inr, refl, sym, ap, ◌∙◌, subst, arith, bit_and, bit_xor}
+use Rattle.std.proofs.Common.{◌≡◌, ℕ, ◌+◌, ◌||◌, not, Bool, true, false, if◌then◌else◌, Option, Some, None, ◌⊎◌, inl, inr, refl, sym, ap, ◌∙◌, subst, arith, bit_and, bit_xor}
 use Rattle.std.specs.Prelude.{is_some}
 use Rattle.std.specs.Int.Bits.{xor_zero_r}
 use Rattle.std.proofs.lemmas.Bool.{and_parts, cases_Bool, false≢true, eqb-true}
 use Rattle.std.proofs.lemmas.Nat.Bits.{same_from_bits, bit_at_and, bit_at_xor}
 use Rattle.entry_model.specs.State.{State, IsCanonicalState}
-use Rattle.entry_model.specs.declared.operation.Op.{Op}
 use Rattle.entry_model.specs.Reply.{reply_of}
 use Rattle.entry_model.specs.Receipt.{is_access}
-use Rattle.entry_model.specs.History.{bool_eq, state_eq}
+use Rattle.entry_model.specs.History.{state_eq}
 use Rattle.entry_model.proofs.Sorted.{bool_same, state_same, state_self}
 use Rattle.entry_model.proofs.OperationLaws.{other_rises, other_still, reply_canonical}
 use Rattle.lock_core.specs.declared.control.Control.{Control}
 use Rattle.lock_core.specs.declared.doing.Doing.{Doing}
-use Rattle.lock_core.specs.Words.{without_bits, state_of, settled_word, known, known_of, known_or_nothing, is_read, noted_state, next_state, changes, is_noted}
+use Rattle.lock_core.specs.Words.{without_bits, state_of, known, known_of, known_or_nothing, noted_state, next_state, changes, is_noted}
 use Rattle.lock_core.specs.Steps.{noting}
-use Rattle.lock_core.proofs.Lists.{some_same, none_some}
 
 -- ---- tests
 pub not_is : (b : Bool) → not b ≡ true → b ≡ false

@@ -1,12 +1,11 @@
 -- What holds of the opened machine, and after every list of steps.
-use Rattle.std.proofs.Common.{◌≡◌, ◌⊎◌, ℕ, zero, suc, ◌+◌, ◌≢◌, ◌<◌, ◌^◌, Bool, true, false, List, [], ◌∷◌, ◌++◌, map, length, replicate, set, inl, inr, ⊎_elim, refl, sym, ap, ◌∙◌, subst, arith, Option, Some, None}
+use Rattle.std.proofs.Common.{◌≡◌, ◌⊎◌, ℕ, zero, suc, ◌≢◌, ◌<◌, false, List, [], ◌∷◌, ◌++◌, length, replicate, set, inl, inr, ⊎_elim, refl, sym, ap, ◌∙◌, subst, arith, Some}
 use Rattle.std.specs.Prelude.{slice_get, slice_index_or, All, Contains}
 use Rattle.std.proofs.lemmas.List.{length-map}
 use Rattle.std.proofs.lemmas.Bool.{false≢true}
 use Rattle.std.proofs.lemmas.Option.{slice_get-get_or, slice_get_within, get_or_from_slice_get}
 use Rattle.entry_model.specs.State.{State, empty_state}
 use Rattle.entry_model.specs.declared.line.Line.{Line}
-use Rattle.entry_model.specs.declared.receipt.Receipt.{Receipt}
 use Rattle.entry_model.specs.Lines.{Holds, IsCurrent}
 use Rattle.entry_model.specs.History.{IsLegal, history, Regrouped, nothing}
 use Rattle.entry_model.proofs.Follows.{Follows, stays}
@@ -18,11 +17,10 @@ use Rattle.lock_core.specs.declared.sighting.Sighting.{Sighting}
 use Rattle.lock_core.specs.declared.step.Step.{Step}
 use Rattle.lock_core.specs.Words.{state_of, quiet_entry, settled_word}
 use Rattle.lock_core.specs.Machine.{Actor, Machine, nobody, newcomer, opened, actor_at, entry_at, opening_at}
-use Rattle.lock_core.specs.Steps.{moved}
 use Rattle.lock_core.specs.Runs.{run, receipts_of}
 use Rattle.lock_core.specs.Promises.{IsFair, published_at, sighting_by, HasSeen}
 use Rattle.lock_core.proofs.Kept.{HasLock, IsOn, EntryOk, as_line, Kept}
-use Rattle.lock_core.proofs.Lists.{some_same, none_some, at_set, same_at, at_copies, at_mapped}
+use Rattle.lock_core.proofs.Lists.{none_some, at_set, same_at, at_copies, at_mapped}
 use Rattle.lock_core.proofs.Noted.{state_is}
 use Rattle.lock_core.proofs.Whole.{Goes, moved_goes}
 

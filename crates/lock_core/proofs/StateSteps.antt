@@ -1,24 +1,22 @@
 -- What a step does to the states that entries count with.
 use Rattle.std.proofs.Common.{◌≡◌, ◌⊎◌, inl, inr, ℕ, zero, suc, ◌<◌, Bool, true, false, List, [], ◌∷◌, map, length, set, refl, sym, ap, ◌∙◌, subst, Option, Some, None, MatchOption}
-use Rattle.std.specs.Prelude.{slice_get, slice_index_or, if◌then◌else◌, All}
+use Rattle.std.specs.Prelude.{slice_get, if◌then◌else◌, All}
 use Rattle.std.proofs.lemmas.List.{map-set}
 use Rattle.std.proofs.lemmas.Bool.{cases_Bool}
 use Rattle.std.proofs.lemmas.Option.{slice_get_within, get_or_from_slice_get}
 use Rattle.entry_model.specs.State.{State, empty_state}
 use Rattle.entry_model.specs.declared.receipt.Receipt.{Receipt}
-use Rattle.entry_model.specs.Receipt.{after_of}
-use Rattle.entry_model.specs.Run.{IsStep, states_after, state_at}
+use Rattle.entry_model.specs.Run.{IsStep, state_at}
 use Rattle.lock_core.specs.declared.entry.Entry.{Entry}
 use Rattle.lock_core.specs.declared.step.Step.{Step}
 use Rattle.lock_core.specs.declared.step.Step.TheVariants.{Split, Join}
-use Rattle.lock_core.specs.declared.turn.Turn.{Turn}
-use Rattle.lock_core.specs.Machine.{Actor, Machine, opened, actor_at, entry_at}
+use Rattle.lock_core.specs.Machine.{Machine, opened, actor_at, entry_at}
 use Rattle.lock_core.specs.Steps.{fits_entry, entry_of, turn_of, with_turn, may_act, fits_phase, allowed, made_by, stepped, moved}
 use Rattle.lock_core.specs.Runs.{run}
 use Rattle.lock_core.specs.Promises.{IsFair, published}
 use Rattle.lock_core.proofs.Kept.{Kept}
 use Rattle.lock_core.proofs.Lists.{set_again}
-use Rattle.lock_core.proofs.Moves.{Tells, Change}
+use Rattle.lock_core.proofs.Moves.{Tells}
 use Rattle.lock_core.proofs.Whole.{allowed_parts, step_change}
 use Rattle.lock_core.proofs.Opening.{run_kept}
 

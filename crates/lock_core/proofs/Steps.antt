@@ -1,8 +1,8 @@
 -- The steps of a holder: lock, data loads, shut, data stores, settle and release.
-use Rattle.std.proofs.Common.{◌≡◌, ◌≢◌, ◌⊎◌, ℕ, ◌+◌, ◌≤◌, ◌<◌, ◌^◌, ◌==◌, ◌&&◌, ◌||◌, not, Bool, true, false, cond, List, [], ◌∷◌, inl, inr, refl, sym, ap, ◌∙◌, subst, arith, Option, Some, None}
-use Rattle.std.specs.Prelude.{slice_get, if◌then◌else◌, is_some}
-use Rattle.std.proofs.lemmas.Bool.{and_parts, cases_Bool, cond_both, false≢true, eqb-true}
-use Rattle.entry_model.specs.State.{State, IsCanonicalState}
+use Rattle.std.proofs.Common.{◌≡◌, ◌≢◌, ℕ, ◌+◌, ◌<◌, ◌^◌, ◌&&◌, not, Bool, true, false, List, inl, inr, refl, sym, ap, ◌∙◌, subst, arith, Some, None}
+use Rattle.std.specs.Prelude.{slice_get, if◌then◌else◌}
+use Rattle.std.proofs.lemmas.Bool.{and_parts, cond_both, false≢true, eqb-true}
+use Rattle.entry_model.specs.State.{State}
 use Rattle.entry_model.specs.declared.operation.Op.{Op}
 use Rattle.entry_model.specs.declared.receipt.Receipt.{Receipt}
 use Rattle.entry_model.specs.Receipt.{is_access, after_of}
@@ -12,9 +12,8 @@ use Rattle.lock_core.specs.declared.doing.Doing.{Doing}
 use Rattle.lock_core.specs.declared.entry.Entry.{Entry}
 use Rattle.lock_core.specs.declared.phase.Phase.{Phase}
 use Rattle.lock_core.specs.declared.phase.Phase.TheVariants.{Idle, Held, HeldShut, Looked}
-use Rattle.lock_core.specs.Words.{without_bits, state_of, settled_word, known, known_of, known_or_nothing, is_read, noted_state, next_state, changes, receipt, is_stored}
+use Rattle.lock_core.specs.Words.{without_bits, settled_word, is_read, noted_state, next_state, changes, receipt, is_stored}
 use Rattle.lock_core.specs.Machine.{Actor, Machine}
-use Rattle.lock_core.specs.declared.turn.Turn.{Turn}
 use Rattle.lock_core.specs.Steps.{goes_on, ends, begun, noting, loaded, stored, locked_entry, shut_entry, settled_entry}
 use Rattle.lock_core.proofs.Kept.{HasLock, IsOn, EntryOk, HeldOk, ShutOk, IsFresh, HasMoreBits, LookedOk, PhaseOk, Kept}
 use Rattle.lock_core.proofs.Moves.{Change, lock_is_on, phase_stays}

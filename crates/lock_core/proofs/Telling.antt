@@ -1,13 +1,13 @@
 -- What the code of a step is told by the table, and what a step leaves of the number of entries and actors.
-use Rattle.std.proofs.Common.{◌≡◌, ◌≢◌, ℕ, ◌<◌, ◌==◌, ◌&&◌, not, Bool, true, false, List, length, length-set, refl, sym, ap, ◌∙◌, subst, Option, Some, None, eq-eqb}
+use Rattle.std.proofs.Common.{◌≡◌, ◌≢◌, ℕ, ◌<◌, ◌==◌, true, length, length-set, refl, sym, ap, ◌∙◌, subst, Option, None, eq-eqb}
 use Rattle.std.specs.Prelude.{is_none, OnOk, OnErr, Ok, Err, if◌then◌else◌}
 use Rattle.std.specs.declared.result.Result.{Result}
 use Rattle.std.proofs.lemmas.Bool.{and_parts, cond_both, false≢true, ltb-true}
 use Rattle.lock_core.specs.declared.error.CoreError.{CoreError}
 use Rattle.lock_core.specs.declared.step.Step.{Step}
 use Rattle.lock_core.specs.declared.step.Step.TheVariants.{Split, Join}
-use Rattle.lock_core.specs.Machine.{Machine, actor_at, entry_at, in_table}
-use Rattle.lock_core.specs.Steps.{fits_entry, entry_of, fits, turn_of, with_turn, split_off, join_in, may_act, fits_phase, refusal, allowed, stepped, moved}
+use Rattle.lock_core.specs.Machine.{Machine, actor_at}
+use Rattle.lock_core.specs.Steps.{fits_entry, entry_of, turn_of, with_turn, split_off, join_in, may_act, fits_phase, refusal, allowed, stepped, moved}
 use Rattle.lock_core.proofs.Noted.{not_is}
 use Rattle.lock_core.proofs.Whole.{allowed_parts}
 

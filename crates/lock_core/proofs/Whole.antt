@@ -1,16 +1,11 @@
 -- Over every list of steps.
-use Rattle.std.proofs.Common.{◌≡◌, ◌⊎◌, ℕ, zero, suc, ◌+◌, ◌≢◌, ◌<◌, ◌^◌, ◌==◌, ◌&&◌, ◌||◌, not, Bool, true, false, List, [], ◌∷◌, ◌++◌, map, length, replicate, set, inl, inr, ⊎_elim, refl, sym, ap, ◌∙◌, subst, arith, Option, Some, None, eq-eqb, find}
-use Rattle.std.specs.Prelude.{slice_get, slice_index_or, if◌then◌else◌, nat_lt, is_none, option_map}
-use Rattle.std.proofs.lemmas.List.{length-map}
-use Rattle.std.proofs.lemmas.Bool.{and_parts, cases_Bool, cond_both, false≢true, ltb-true}
-use Rattle.std.proofs.lemmas.Option.{slice_get-get_or, slice_get_past}
-use Rattle.entry_model.specs.State.{State, empty_state, IsCanonicalState}
+use Rattle.std.proofs.Common.{◌≡◌, ℕ, zero, suc, ◌≢◌, ◌==◌, not, Bool, true, false, List, [], ◌∷◌, length, refl, sym, ◌∙◌, Some, eq-eqb, find}
+use Rattle.std.specs.Prelude.{slice_get, slice_index_or, is_none, option_map}
+use Rattle.std.proofs.lemmas.Bool.{and_parts, cond_both, false≢true, ltb-true}
+use Rattle.std.proofs.lemmas.Option.{slice_get-get_or}
+use Rattle.entry_model.specs.State.{State, empty_state}
 use Rattle.entry_model.specs.declared.receipt.Receipt.{Receipt}
-use Rattle.entry_model.specs.declared.operation.Op.{Op}
 use Rattle.entry_model.specs.Receipt.{is_access}
-use Rattle.entry_model.specs.History.{nothing}
-use Rattle.entry_model.proofs.Follows.{stays}
-use Rattle.lock_core.specs.declared.doing.Doing.{Doing}
 use Rattle.lock_core.specs.declared.entry.Entry.{Entry}
 use Rattle.lock_core.specs.declared.error.CoreError.{CoreError}
 use Rattle.lock_core.specs.declared.error.CoreError.TheVariants.{Actor as ActorFault, Entry as EntryFault, Phase as PhaseFault}
@@ -18,14 +13,12 @@ use Rattle.lock_core.specs.declared.phase.Phase.{Phase}
 use Rattle.lock_core.specs.declared.phase.Phase.TheVariants.{Idle, Held, HeldShut, Looked}
 use Rattle.lock_core.specs.declared.step.Step.{Step}
 use Rattle.lock_core.specs.declared.step.Step.TheVariants.{Lock, Look, LoadData, Shut, StoreData, Settle, Release, Mark, Split, Join}
-use Rattle.lock_core.specs.Words.{quiet_entry, settled_word}
-use Rattle.lock_core.specs.Machine.{Actor, Machine, nobody, newcomer, opened, actor_at, entry_at, in_table, seen_words}
-use Rattle.lock_core.specs.Steps.{fits_entry, entry_of, fits, turn, turn_of, with_turn, split_off, join_in, is_idle, may_act, names_entry, fits_phase, refusals, refusal, allowed, stepped, moved, joined}
-use Rattle.lock_core.specs.Runs.{run, receipts_of}
-use Rattle.lock_core.proofs.Kept.{HasLock, IsOn, EntryOk, logged, Kept}
+use Rattle.lock_core.specs.Words.{quiet_entry}
+use Rattle.lock_core.specs.Machine.{Actor, Machine, nobody, actor_at, entry_at, seen_words}
+use Rattle.lock_core.specs.Steps.{fits_entry, entry_of, fits, turn, turn_of, with_turn, split_off, join_in, is_idle, may_act, names_entry, fits_phase, refusals, refusal, allowed, stepped, moved}
+use Rattle.lock_core.proofs.Kept.{logged, Kept}
 use Rattle.lock_core.proofs.Moves.{Change, both_kept}
-use Rattle.lock_core.proofs.Lists.{some_same, none_some, at_set, same_at, at_copies, at_mapped}
-use Rattle.lock_core.proofs.Noted.{not_is, state_is}
+use Rattle.lock_core.proofs.Noted.{not_is}
 use Rattle.lock_core.proofs.Steps.{lock_change, load_change, shut_change, store_change, settle_change, release_change}
 use Rattle.lock_core.proofs.Looks.{look_change, looked_load_change}
 use Rattle.lock_core.proofs.Marks.{second_change, mark_change}

@@ -1,5 +1,5 @@
 -- What holds over every list of steps of any actors.
-use Rattle.std.specs.Prelude.{◌≡◌, ◌⊎◌, ℕ, ◌≤◌, ◌<◌, ◌^◌, true, List, [], ◌∷◌, ◌++◌, false, length, map, slice_index_or, Option, Some, All, Contains, MatchOption}
+use Rattle.std.specs.Prelude.{◌≡◌, ◌⊎◌, ℕ, ◌<◌, ◌^◌, List, [], ◌∷◌, ◌++◌, false, length, map, slice_index_or, Some, All, Contains, MatchOption}
 use Rattle.entry_model.specs.State.{State, empty_state, IsCanonicalState}
 use Rattle.entry_model.specs.declared.line.Line.{Line}
 use Rattle.entry_model.specs.declared.receipt.Receipt.{Receipt}

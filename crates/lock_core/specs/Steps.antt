@@ -1,5 +1,5 @@
 -- The table of steps: in which phase each is allowed, and what it does.
-use Rattle.std.specs.Prelude.{ℕ, ◌==◌, ◌&&◌, ◌||◌, Bool, true, false, not, if◌then◌else◌, nat_lt, List, [], ◌∷◌, ◌++◌, length, find, slice_set, Option, Some, None, option_map, is_none}
+use Rattle.std.specs.Prelude.{ℕ, ◌==◌, ◌&&◌, Bool, true, false, not, if◌then◌else◌, nat_lt, List, [], ◌∷◌, ◌++◌, length, find, slice_set, Option, Some, None, option_map, is_none}
 use Rattle.entry_model.specs.State.{State}
 use Rattle.entry_model.specs.declared.operation.Op.{Op}
 use Rattle.entry_model.specs.declared.receipt.Receipt.{Receipt}
@@ -14,7 +14,7 @@ use Rattle.lock_core.specs.declared.phase.Phase.TheVariants.{Idle, Held, HeldShu
 use Rattle.lock_core.specs.declared.step.Step.{Step}
 use Rattle.lock_core.specs.declared.step.Step.TheVariants.{Lock, Look, LoadData, Shut, StoreData, Settle, Release, Mark, Split, Join}
 use Rattle.lock_core.specs.declared.turn.Turn.{Turn}
-use Rattle.lock_core.specs.Words.{noted_state, next_state, is_read, changes, receipt, is_noted, is_still, same_access, is_stored, settled_word}
+use Rattle.lock_core.specs.Words.{next_state, is_read, changes, receipt, is_noted, is_still, same_access, is_stored, settled_word}
 use Rattle.lock_core.specs.Machine.{Actor, Machine, nobody, newcomer, actor_at, entry_at, in_table, seen_words, shown_by}
 
 -- ---- in which phase a step is allowed

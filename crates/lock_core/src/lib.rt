@@ -28,8 +28,8 @@ pub use doing::Doing;
 pub use entry::Entry;
 pub use error::CoreError;
 pub use laws::{
-    every_history_is_legal, every_receipt_is_listed, every_receipt_keeps_its_front, seen_lines_hold,
-    states_are_in_words, states_change_by_receipts,
+    every_history_is_legal, every_receipt_is_listed, every_receipt_keeps_its_front,
+    seen_lines_hold, states_are_in_words, states_change_by_receipts,
 };
 pub use machine::Core;
 pub use phase::Phase;

@@ -1,8 +1,7 @@
-ghost use Rattle.std.specs.Prelude.{◌≡◌, ◌≢◌, ◌<◌, ◌&&◌, length, true, false, Err, MatchOption, IfOk, OnOk, OnErr, IsOkUnless, nat_lt, ◌==◌, ◌||◌, if◌then◌else◌, MatchBool, map, replicate, slice_set, []};
-ghost use Rattle.lock_core.specs.Machine.{nobody, newcomer};
+ghost use Rattle.std.specs.Prelude.{◌≡◌, ◌≢◌, ◌<◌, ◌==◌, ◌||◌, [], length, map, replicate, slice_set, nat_lt, true, Err, IfOk, OnOk, OnErr, IsOkUnless, MatchBool, MatchOption};
 ghost use Rattle.lock_core.specs.Words.{quiet_entry as quiet_entry_of};
-ghost use Rattle.lock_core.specs.Machine.{opened, actor_at, entry_at, opening_at as opening_of, in_table as is_in_table, seen_words as seen_words_of, seen_in};
-ghost use Rattle.lock_core.specs.Steps.{may_act as may_act_of, names_entry as names_entry_of, fits_entry as fits_entry_of, fits_phase as fits_phase_of, refusal as refusal_of, allowed, stepped, moved, entry_of as entry_by, fits as fits_of, turn_of, with_turn, split_off, join_in, is_idle as is_idle_of};
+ghost use Rattle.lock_core.specs.Machine.{opened, nobody, newcomer, actor_at, opening_at as opening_of, in_table as is_in_table, seen_words as seen_words_of};
+ghost use Rattle.lock_core.specs.Steps.{may_act as may_act_of, names_entry as names_entry_of, fits_entry as fits_entry_of, fits_phase as fits_phase_of, is_idle as is_idle_of, refusal as refusal_of, allowed, stepped, moved, entry_of as entry_by, turn_of, with_turn, split_off, join_in};
 ghost use Rattle.lock_core.specs.Promises.{published_at};
 
 use crate::actor::Actor;

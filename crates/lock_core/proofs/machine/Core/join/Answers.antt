@@ -1,5 +1,5 @@
 use Rattle.std.proofs.Common.{◌≡◌, ◌∙◌, true, sym, ap, subst}
-use Rattle.lock_core.specs.Machine.{Actor, Machine, actor_at}
+use Rattle.lock_core.specs.Machine.{Machine, actor_at}
 use Rattle.lock_core.specs.Steps.{join_in}
 use Rattle.lock_core.proofs.Joining.{join_lists, join_undone}
 use Rattle.lock_core.proofs.machine.Core.join.Goals as goal

@@ -18,3 +18,5 @@ pub mod Mild
 pub mod SafeTurns
 pub mod MildWorlds
 pub mod AllSafe
+mod Small
+mod RunRows

@@ -20,3 +20,4 @@ pub mod MildWorlds
 pub mod AllSafe
 mod Small
 mod RunRows
+mod CallRows

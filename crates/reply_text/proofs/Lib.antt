@@ -21,3 +21,4 @@ pub mod AllSafe
 mod Small
 mod RunRows
 mod CallRows
+mod QuietRows

@@ -22,3 +22,4 @@ mod Small
 mod RunRows
 mod CallRows
 mod QuietRows
+mod TextRows

@@ -1,10 +1,11 @@
 -- The quiet lines of worked traces: the two resize calls, as far as no table is written out, and dumps.
 use Rattle.std.proofs.Common.{◌≡◌, ℕ, List, [], ◌∷◌, ◌++◌, Bool, true, false, Some, None, refl}
-use Rattle.std.specs.Prelude.{codes}
+use Rattle.std.specs.Prelude.{codes, map, slice_set}
 use Rattle.std.specs.Fmt.{digits}
 use Rattle.frame_grants.specs.Grants.{machine_range}
 use Rattle.power_addr.specs.Pages.{virtual_page, tag_of}
 use Rattle.papr_codes.specs.Hcalls.{hcall_of, row_of}
+use Rattle.papr_codes.specs.declared.codes.Rc.TheVariants.{Success}
 use Rattle.storage_prot.specs.declared.want.Want.TheVariants.{Store}
 use Rattle.storage_prot.specs.Protection.{permission, rows}
 use Rattle.slb_model.specs.Buffer.{no_slots, slots_after, segment_of}
@@ -16,11 +17,12 @@ use Rattle.hpt_pool.specs.Pool.{lowest_place, multiples, taken_with, taken_witho
 use Rattle.entry_model.specs.Cache.{empty_cache, cached, same_page}
 use Rattle.entry_model.specs.State.{State, empty_state}
 use Rattle.entry_model.specs.Reply.{has_base}
+use Rattle.entry_model.specs.Run.{state_at}
 use Rattle.entry_model.specs.Trial.{trial_run, plan_run}
 use Rattle.h_enter.specs.Checks.{suits_grants, h_enter_plan}
 use Rattle.h_enter.specs.Enter.{candidates}
 use Rattle.h_update.specs.Single.{h_read_plan}
-use Rattle.hpt_resize.specs.Home.{Home, opening_home, prepare_at_home, commit_at_home}
+use Rattle.hpt_resize.specs.Home.{Home, opening_home, empty_states, prepare_at_home, commit_at_home}
 use Rattle.hpt_resize.specs.Rehash.{carried_page, target_of, first_with, collision_at, collision_of, entry_at}
 use Rattle.hpt_resize.specs.Resize.{prepared, committed}
 use Rattle.hpt_walk.specs.Accesses.{outcome_of}
@@ -33,7 +35,7 @@ use Rattle.trace_read.specs.Trace.{is_quiet}
 use Rattle.reply_text.specs.Calls.{hcall_plan}
 use Rattle.reply_text.specs.Serial.{reply_on, line_reply, replies_from, world_after}
 use Rattle.reply_text.specs.Text.{text_from, head_text, code_text, entry_text, dump_head, table_text}
-use Rattle.reply_text.specs.Worlds.{World, resize_of, quiet_of, shown_of, opening}
+use Rattle.reply_text.specs.Worlds.{World, resize_of, quiet_of, shown_of, opening, with_states}
 use Rattle.reply_text.proofs.Small.{home_of, small, calls, reaches, mte}
 
 abbrev dumps : ℕ → TraceLine
@@ -95,3 +97,75 @@ resized =
 resizes_in_two_calls : text_from resized (replies_from (small 1) resized) ≡ codes "4 0 H_ENTER 0 0x0 | 0x0.0.0.entered\n5 0 H_ENTER 0 0x8 | 0x8.0.0.entered\n6 0 H_ENTER 0 0x1 | 0x1.0.0.entered\n7 0 H_RESIZE_HPT_PREPARE 9900\n8 0 H_RESIZE_HPT_COMMIT 1\n9 0 H_RESIZE_HPT_PREPARE 0\n10 0 H_RESIZE_HPT_COMMIT 0\n11 0 H_RESIZE_HPT_COMMIT 2\n12 0 H_READ -4\n"
 unfolding digits resized text_from head_text code_text line_reply reply_on quiet_of resize_of hcall_plan is_quiet hcall_of row_of plan_run trial_run candidates suits_grants h_enter_plan h_read_plan machine_range prepare_at_home commit_at_home prepared committed lowest_place multiples taken_with taken_without collision_of collision_at first_with target_of carried_page page_at group_of tag_of
 resizes_in_two_calls = refl
+
+-- The entries before the commit.
+old : List State
+old =
+    record { valid = true; dword0 = 0x801011; dword1 = 0x3012; referenced = true; changed = true; stamp = 1 }
+    ∷ record { valid = true; dword0 = 0x1001; dword1 = 0x4012; referenced = false; changed = false; stamp = 1 }
+    ∷ empty_state 0
+    ∷ empty_state 0
+    ∷ empty_state 0
+    ∷ empty_state 0
+    ∷ empty_state 0
+    ∷ empty_state 0
+    ∷ record { valid = true; dword0 = 0x81015; dword1 = 0x11012; referenced = false; changed = false; stamp = 1 }
+    ∷ []
+
+-- The first goes to the first entry of the group 0x800 with its doublewords, R and C; no other goes to where one of the three stood.
+carried : map (entry_at 18 19 old) (0x4000 ∷ 0 ∷ 0x1 ∷ 0x8 ∷ []) ≡ record { valid = true; dword0 = 0x801011; dword1 = 0x3012; referenced = true; changed = true; stamp = 0 } ∷ empty_state 0 ∷ empty_state 0 ∷ empty_state 0 ∷ []
+unfolding old entry_at first_with target_of carried_page page_at group_of tag_of
+carried = refl
+
+-- ---- after a commit
+-- The table of the next number at the place that was prepared; the old block is free again, and no table is pending.
+ready : Home
+ready = record (home_of old) { pool = record { base = 0x1000000000; order = 20; taken = record { place = 0x1000000000; order = 18 } ∷ record { place = 0x1000080000; order = 19 } ∷ [] }; pending = Some (record { order = 19; place = 0x1000080000; ready = 0x8000 }) }
+
+-- The same without the entries, which are too many to write out.
+abbrev bare : Home → Home
+bare home = with_states home []
+
+new_home : bare (commit_at_home ready 0 19).1 ≡ record { limit = 20; pool = record { base = 0x1000000000; order = 20; taken = record { place = 0x1000080000; order = 19 } ∷ [] }; pending = None; table = record { order = 19; place = 0x1000080000; number = 1; states = [] } }
+unfolding ready old commit_at_home committed taken_without collision_of collision_at first_with target_of carried_page page_at group_of tag_of
+new_home = refl
+
+-- A line of the entry 0, in the set of the index 1.
+filled : Seat
+unfolding empty_cache
+filled = record empty_seat { cache = slice_set empty_cache 1 (record { page = virtual_page false 0x801 12 1; entry = 0; stamp = 1; dword0 = 0x801011; dword1 = 0x3012 } ∷ []) }
+
+cached_then : World
+cached_then = record (small 2) { home = ready; seats = filled ∷ filled ∷ [] }
+
+-- Each processor's cache is cleared, and no other part of it.
+caches_are_cleared : (line_reply cached_then (calls 5 0x370 (0 ∷ 19 ∷ []))).1.seats ≡ empty_seat ∷ empty_seat ∷ []
+unfolding cached_then ready filled old line_reply quiet_of resize_of is_quiet hcall_of row_of commit_at_home committed collision_of collision_at first_with target_of carried_page page_at group_of tag_of empty_seat empty_cache
+caches_are_cleared = refl
+
+-- By a commit that is refused they aren't, nor by a prepare.
+caches_are_kept : (line_reply cached_then (calls 5 0x370 (0 ∷ 18 ∷ []))).1.seats ≡ filled ∷ filled ∷ []
+unfolding cached_then ready line_reply quiet_of resize_of is_quiet hcall_of row_of commit_at_home committed
+caches_are_kept = refl
+
+prepare_keeps_caches : (line_reply cached_then (calls 5 0x36C (0 ∷ 0 ∷ []))).1.seats ≡ filled ∷ filled ∷ []
+unfolding cached_then line_reply quiet_of resize_of is_quiet hcall_of row_of prepare_at_home
+prepare_keeps_caches = refl
+
+-- ---- the beginning
+-- Two processors without segments, and a table at the lowest place of the pool.
+opened : World
+unfolding opening
+opened = opening (record { order = 18; limit = 20; cpus = 2; granted = record { pool_base = 0x1000000000; pool_order = 20; grants = [] } })
+
+opens_without_segments : opened.seats ≡ empty_seat ∷ empty_seat ∷ []
+unfolding opened opening
+opens_without_segments = refl
+
+opens_at_the_lowest_place : bare opened.home ≡ home_of []
+unfolding opened opening opening_home lowest_place multiples taken_with
+opens_at_the_lowest_place = refl
+
+last_is_empty : state_at opened.home.table.states 0x3FFF ≡ empty_state 0
+unfolding opened opening opening_home empty_states
+last_is_empty = refl

@@ -23,3 +23,5 @@ mod RunRows
 mod CallRows
 mod QuietRows
 mod TextRows
+mod HistoryRows
+mod SectionRows

@@ -1,5 +1,5 @@
 -- In a good run each reply is safe.
-use Rattle.std.proofs.Common.{◌≡◌, ℕ, ◌+◌, ◌*◌, ◌^◌, ◌<◌, ◌≤◌, List, [], ◌∷◌, ◌++◌, Bool, true, false, ap, sym, ◌∙◌, refl, subst, ◌⊎◌, inl, inr, length, Option, Some, None, arith}
+use Rattle.std.proofs.Common.{◌≡◌, ℕ, ◌+◌, ◌*◌, ◌^◌, ◌<◌, ◌≤◌, List, [], ◌∷◌, true, false, sym, subst, ◌⊎◌, inl, inr, length, Option, Some, None, arith}
 use Rattle.std.specs.List.{AllByRecursion}
 use Rattle.std.proofs.lemmas.Bool.{cases_Bool}
 use Rattle.frame_grants.specs.Grants.{Granted, AreApart}
@@ -20,7 +20,7 @@ use Rattle.reply_text.specs.Seats.{seats_after}
 use Rattle.reply_text.specs.Calls.{IsCallReply}
 use Rattle.reply_text.specs.Worlds.{World, setting_of, states_in, opening, quiet_of}
 use Rattle.reply_text.specs.Histories.{receipts_by}
-use Rattle.reply_text.specs.Sections.{Section, made_by, closed, sections_from, sections_of, cut, in_front}
+use Rattle.reply_text.specs.Sections.{made_by, closed, sections_from, cut, in_front}
 use Rattle.reply_text.specs.Good.{AreLegal, CallsAreReplied, IsReachTurn, AccessesAreReplied, QuietIsReplied, Good}
 use Rattle.reply_text.specs.Promise.{IsAccepted}
 use Rattle.reply_text.specs.Claims.{IsSafe}
@@ -29,7 +29,7 @@ use Rattle.reply_text.proofs.Own.{Cpus, InFileOrder, file_lines, file_listed}
 use Rattle.reply_text.proofs.SectionGood.{each_regrouped}
 use Rattle.reply_text.proofs.SerialGood.{opening_seats}
 use Rattle.reply_text.proofs.Mild.{IsMild, mild_more, top, EnterGranted, FromMild, closed_size, states_mild}
-use Rattle.reply_text.proofs.MildWorlds.{IsMildWorld, AreMild, quiet_safe, closed_world, opening_states, opening_grants}
+use Rattle.reply_text.proofs.MildWorlds.{IsMildWorld, quiet_safe, closed_world, opening_states, opening_grants}
 use Rattle.reply_text.proofs.SafeTurns.{IsTameLine, line_tame}
 
 -- ---- the lines of a section

@@ -1,5 +1,5 @@
 -- The serial run on worked traces: the hypervisor calls on entries, and walks that find nothing.
-use Rattle.std.proofs.Common.{◌≡◌, ℕ, List, [], ◌∷◌, ◌++◌, true, false, refl}
+use Rattle.std.proofs.Common.{◌≡◌, List, [], ◌∷◌, false, refl}
 use Rattle.std.specs.Prelude.{codes}
 use Rattle.std.specs.Fmt.{digits}
 use Rattle.frame_grants.specs.Grants.{machine_range}
@@ -46,7 +46,7 @@ nine =
     ∷ []
 
 the_ninth_is_full : text_from nine (replies_from (small 1) nine) ≡ codes "4 0 H_ENTER 0 0x0 | 0x0.0.0.entered\n5 0 H_ENTER 0 0x1 | 0x0.1.0.taken 0x1.0.0.entered\n6 0 H_ENTER 0 0x2 | 0x0.1.0.taken 0x1.1.0.taken 0x2.0.0.entered\n7 0 H_ENTER 0 0x3 | 0x0.1.0.taken 0x1.1.0.taken 0x2.1.0.taken 0x3.0.0.entered\n8 0 H_ENTER 0 0x4 | 0x0.1.0.taken 0x1.1.0.taken 0x2.1.0.taken 0x3.1.0.taken 0x4.0.0.entered\n9 0 H_ENTER 0 0x5 | 0x0.1.0.taken 0x1.1.0.taken 0x2.1.0.taken 0x3.1.0.taken 0x4.1.0.taken 0x5.0.0.entered\n10 0 H_ENTER 0 0x6 | 0x0.1.0.taken 0x1.1.0.taken 0x2.1.0.taken 0x3.1.0.taken 0x4.1.0.taken 0x5.1.0.taken 0x6.0.0.entered\n11 0 H_ENTER 0 0x7 | 0x0.1.0.taken 0x1.1.0.taken 0x2.1.0.taken 0x3.1.0.taken 0x4.1.0.taken 0x5.1.0.taken 0x6.1.0.taken 0x7.0.0.entered\n12 0 H_ENTER -6 | 0x0.1.0.taken 0x1.1.0.taken 0x2.1.0.taken 0x3.1.0.taken 0x4.1.0.taken 0x5.1.0.taken 0x6.1.0.taken 0x7.1.0.taken\n"
-unfolding digits nine text_from head_text code_text line_reply reply_on hcall_plan is_quiet hcall_of row_of plan_run trial_run candidates suits_grants h_enter_plan  machine_range mte_refusal tests_of_words no_slots slots_after slot_of_words segment_of empty_seat empty_cache cached same_page after_walk walk_calls group_of tag_of has_base permission rows outcome_of
+unfolding digits nine text_from head_text code_text line_reply reply_on hcall_plan is_quiet hcall_of row_of plan_run trial_run candidates suits_grants h_enter_plan machine_range mte_refusal tests_of_words no_slots slots_after slot_of_words segment_of empty_seat empty_cache cached same_page after_walk walk_calls group_of tag_of has_base permission rows outcome_of
 the_ninth_is_full = refl
 
 -- Only the entry itself is tried under the flag; and an index past the table.
@@ -134,7 +134,7 @@ nowhere =
     ∷ []
 
 nothing_there : text_from nowhere (replies_from (small 1) nowhere) ≡ codes "4 0 load nosegment\n5 0 slbmte refused\n6 0 load nosegment\n7 0 slbmte ok\n8 0 load nopage walk | 0x0.0.0.nomatch 0x1.0.0.nomatch 0x2.0.0.nomatch 0x3.0.0.nomatch 0x4.0.0.nomatch 0x5.0.0.nomatch 0x6.0.0.nomatch 0x7.0.0.nomatch 0x3ff8.0.0.nomatch 0x3ff9.0.0.nomatch 0x3ffa.0.0.nomatch 0x3ffb.0.0.nomatch 0x3ffc.0.0.nomatch 0x3ffd.0.0.nomatch 0x3ffe.0.0.nomatch 0x3fff.0.0.nomatch\n9 0 slbclear ok\n10 0 load nosegment\n"
-unfolding digits nowhere text_from head_text code_text line_reply reply_on hcall_plan is_quiet hcall_of row_of plan_run trial_run candidates suits_grants h_enter_plan  machine_range mte_refusal tests_of_words no_slots slots_after slot_of_words segment_of empty_seat empty_cache cached same_page after_walk walk_calls group_of tag_of has_base permission rows outcome_of
+unfolding digits nowhere text_from head_text code_text line_reply reply_on hcall_plan is_quiet hcall_of row_of plan_run trial_run candidates suits_grants h_enter_plan machine_range mte_refusal tests_of_words no_slots slots_after slot_of_words segment_of empty_seat empty_cache cached same_page after_walk walk_calls group_of tag_of has_base permission rows outcome_of
 nothing_there = refl
 
 -- The page of VSID 0x7FE and index 1 has hash 0x7FF: its secondary group is the first. There the entry has H, without which it is none of the page.
@@ -148,5 +148,5 @@ second =
     ∷ []
 
 in_the_second_group : text_from second (replies_from (small 1) second) ≡ codes "4 0 slbmte ok\n5 0 H_ENTER 0 0x0 | 0x0.0.0.entered\n6 0 H_ENTER 0 0x1 | 0x1.0.0.entered\n7 0 fetch at 0x2000003000 walk | 0x3ff8.0.0.nomatch 0x3ff9.0.0.nomatch 0x3ffa.0.0.nomatch 0x3ffb.0.0.nomatch 0x3ffc.0.0.nomatch 0x3ffd.0.0.nomatch 0x3ffe.0.0.nomatch 0x3fff.0.0.nomatch 0x0.1.0.nomatch 0x1.1.0.at\n8 0 fetch at 0x2000003000 hit | 0x1.1.2.at\n"
-unfolding digits second text_from head_text code_text line_reply reply_on hcall_plan is_quiet hcall_of row_of plan_run trial_run candidates suits_grants h_enter_plan  machine_range mte_refusal tests_of_words no_slots slots_after slot_of_words segment_of empty_seat empty_cache cached same_page after_walk walk_calls group_of tag_of has_base permission rows outcome_of
+unfolding digits second text_from head_text code_text line_reply reply_on hcall_plan is_quiet hcall_of row_of plan_run trial_run candidates suits_grants h_enter_plan machine_range mte_refusal tests_of_words no_slots slots_after slot_of_words segment_of empty_seat empty_cache cached same_page after_walk walk_calls group_of tag_of has_base permission rows outcome_of
 in_the_second_group = refl

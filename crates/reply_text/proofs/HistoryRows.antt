@@ -1,5 +1,5 @@
 -- Histories, closing states and fronts of made receipts.
-use Rattle.std.proofs.Common.{◌≡◌, ℕ, List, [], ◌∷◌, true, false, None, refl, ap, arith, ◌≤◌}
+use Rattle.std.proofs.Common.{◌≡◌, ℕ, [], ◌∷◌, true, false, None, refl, ap, arith, ◌≤◌}
 use Rattle.power_addr.specs.Pages.{virtual_page}
 use Rattle.storage_prot.specs.declared.want.Want.TheVariants.{Load, Store}
 use Rattle.storage_prot.specs.Protection.{permission, rows}
@@ -11,7 +11,7 @@ use Rattle.entry_model.specs.declared.receipt.Receipt.{Receipt}
 use Rattle.entry_model.specs.Receipt.{receipt_of}
 use Rattle.entry_model.specs.Reply.{has_base}
 use Rattle.entry_model.specs.History.{IsLegal, history, place, pair_of, state_eq}
-use Rattle.reply_text.specs.Histories.{Event, InOrder, made, left, closing}
+use Rattle.reply_text.specs.Histories.{InOrder, made, left, closing}
 
 -- An entry of the page of VSID 1 and index 1 at this stamp.
 at_stamp : ℕ → State

@@ -1,5 +1,5 @@
 -- Worlds of mild states, and what quiet lines keep of them.
-use Rattle.std.proofs.Common.{◌≡◌, ℕ, zero, suc, ◌+◌, ◌≤◌, List, [], ◌∷◌, Bool, true, false, not, ap, sym, ◌∙◌, refl, subst, length, Option, Some, None, arith}
+use Rattle.std.proofs.Common.{◌≡◌, ℕ, zero, suc, ◌≤◌, List, [], ◌∷◌, not, ap, ◌∙◌, refl, length, Option, Some, None, arith}
 use Rattle.std.specs.Prelude.{◌≢◌, ◌==◌, nat_lt, if◌then◌else◌, replicate, slice_index}
 use Rattle.std.specs.List.{AllByRecursion, range_with_len}
 use Rattle.std.specs.Option.{option_map_or}
@@ -11,7 +11,7 @@ use Rattle.papr_codes.specs.declared.codes.Rc.TheVariants as rc
 use Rattle.papr_codes.specs.Hcalls.{hcall_of}
 use Rattle.frame_grants.specs.declared.grant.Grant.{Grant}
 use Rattle.frame_grants.specs.Grants.{Granted}
-use Rattle.hpt_pool.specs.Pool.{Pooled, lowest_place, no_blocks}
+use Rattle.hpt_pool.specs.Pool.{Pooled, lowest_place}
 use Rattle.entry_model.specs.State.{State, empty_state}
 use Rattle.entry_model.specs.Run.{state_at}
 use Rattle.entry_model.proofs.Heights.{height}
@@ -30,7 +30,6 @@ use Rattle.reply_text.specs.Worlds.{World, states_in, opening, resize_of, quiet_
 use Rattle.reply_text.specs.Sections.{seats_by, closed}
 use Rattle.reply_text.specs.Claims.{IsSafe}
 use Rattle.reply_text.proofs.Each.{each_at, each_of_map}
-use Rattle.reply_text.proofs.Homes.{prepare_table}
 use Rattle.reply_text.proofs.Mild.{IsMild, empty_mild}
 use Rattle.reply_text.proofs.SectionGood.{quiet_size}
 

@@ -1,11 +1,10 @@
 -- The quiet lines of worked traces: the two resize calls, as far as no table is written out, and dumps.
-use Rattle.std.proofs.Common.{◌≡◌, ℕ, List, [], ◌∷◌, ◌++◌, Bool, true, false, Some, None, refl}
+use Rattle.std.proofs.Common.{◌≡◌, ℕ, List, [], ◌∷◌, true, false, Some, None, refl}
 use Rattle.std.specs.Prelude.{codes, map, slice_set}
 use Rattle.std.specs.Fmt.{digits}
 use Rattle.frame_grants.specs.Grants.{machine_range}
 use Rattle.power_addr.specs.Pages.{virtual_page, tag_of}
 use Rattle.papr_codes.specs.Hcalls.{hcall_of, row_of}
-use Rattle.papr_codes.specs.declared.codes.Rc.TheVariants.{Success}
 use Rattle.storage_prot.specs.declared.want.Want.TheVariants.{Store}
 use Rattle.storage_prot.specs.Protection.{permission, rows}
 use Rattle.slb_model.specs.Buffer.{no_slots, slots_after, segment_of}
@@ -29,11 +28,11 @@ use Rattle.hpt_walk.specs.Accesses.{outcome_of}
 use Rattle.hpt_walk.specs.CacheAfter.{after_walk}
 use Rattle.hpt_walk.specs.Seats.{Seat, empty_seat}
 use Rattle.hpt_walk.specs.Walk.{walk_calls}
-use Rattle.trace_read.specs.declared.trace.Act.TheVariants.{Call, Dump}
+use Rattle.trace_read.specs.declared.trace.Act.TheVariants.{Dump}
 use Rattle.trace_read.specs.declared.trace.TraceLine.{TraceLine}
 use Rattle.trace_read.specs.Trace.{is_quiet}
 use Rattle.reply_text.specs.Calls.{hcall_plan}
-use Rattle.reply_text.specs.Serial.{reply_on, line_reply, replies_from, world_after}
+use Rattle.reply_text.specs.Serial.{reply_on, line_reply, replies_from}
 use Rattle.reply_text.specs.Text.{text_from, head_text, code_text, entry_text, dump_head, table_text}
 use Rattle.reply_text.specs.Worlds.{World, resize_of, quiet_of, shown_of, opening, with_states}
 use Rattle.reply_text.proofs.Small.{home_of, small, calls, reaches, mte}

@@ -1,5 +1,5 @@
 -- The serial run on worked traces: what a store shows, and how long a cached translation is used.
-use Rattle.std.proofs.Common.{◌≡◌, ℕ, List, [], ◌∷◌, ◌++◌, true, false, refl}
+use Rattle.std.proofs.Common.{◌≡◌, List, [], ◌∷◌, true, false, refl}
 use Rattle.std.specs.Prelude.{codes}
 use Rattle.std.specs.Fmt.{digits}
 use Rattle.frame_grants.specs.Grants.{machine_range}
@@ -106,7 +106,7 @@ five =
     ∷ []
 
 the_fifth_evicts : text_from five (replies_from (small 1) five) ≡ codes "4 0 slbmte ok\n5 0 slbmte ok\n6 0 slbmte ok\n7 0 slbmte ok\n8 0 slbmte ok\n9 0 H_ENTER 0 0x0 | 0x0.0.0.entered\n10 0 H_ENTER 0 0x1 | 0x0.1.0.taken 0x1.0.0.entered\n11 0 H_ENTER 0 0x2 | 0x0.1.0.taken 0x1.1.0.taken 0x2.0.0.entered\n12 0 H_ENTER 0 0x3 | 0x0.1.0.taken 0x1.1.0.taken 0x2.1.0.taken 0x3.0.0.entered\n13 0 H_ENTER 0 0x4 | 0x0.1.0.taken 0x1.1.0.taken 0x2.1.0.taken 0x3.1.0.taken 0x4.0.0.entered\n14 0 load at 0x2000003000 walk | 0x0.1.0.at\n15 0 load at 0x2000003000 walk | 0x0.1.2.nomatch 0x1.1.0.at\n16 0 load at 0x2000003000 walk | 0x0.1.2.nomatch 0x1.1.2.nomatch 0x2.1.0.at\n17 0 load at 0x2000003000 walk | 0x0.1.2.nomatch 0x1.1.2.nomatch 0x2.1.2.nomatch 0x3.1.0.at\n18 0 load at 0x2000003000 walk | 0x0.1.2.nomatch 0x1.1.2.nomatch 0x2.1.2.nomatch 0x3.1.2.nomatch 0x4.1.0.at\n19 0 load at 0x2000003000 walk | 0x0.1.2.at\n20 0 load at 0x2000003000 hit | 0x4.1.2.at\n21 0 load at 0x2000003000 walk | 0x0.1.2.nomatch 0x1.1.2.at\n"
-unfolding digits five text_from head_text code_text line_reply reply_on hcall_plan is_quiet hcall_of row_of plan_run trial_run candidates suits_grants h_enter_plan  machine_range mte_refusal tests_of_words no_slots slots_after slot_of_words segment_of empty_seat empty_cache cached same_page after_walk walk_calls group_of tag_of has_base permission rows outcome_of
+unfolding digits five text_from head_text code_text line_reply reply_on hcall_plan is_quiet hcall_of row_of plan_run trial_run candidates suits_grants h_enter_plan machine_range mte_refusal tests_of_words no_slots slots_after slot_of_words segment_of empty_seat empty_cache cached same_page after_walk walk_calls group_of tag_of has_base permission rows outcome_of
 the_fifth_evicts = refl
 
 -- ---- page sizes
@@ -119,7 +119,7 @@ large =
     ∷ []
 
 in_16_mb : text_from large (replies_from (small 1) large) ≡ codes "4 0 slbmte ok\n5 0 H_ENTER 0 0x0 | 0x0.0.0.entered\n6 0 load at 0x2003123456 walk | 0x0.1.0.at\n"
-unfolding digits large text_from head_text code_text line_reply reply_on hcall_plan is_quiet hcall_of row_of plan_run trial_run candidates suits_grants h_enter_plan  machine_range mte_refusal tests_of_words no_slots slots_after slot_of_words segment_of empty_seat empty_cache cached same_page after_walk walk_calls group_of tag_of has_base permission rows outcome_of
+unfolding digits large text_from head_text code_text line_reply reply_on hcall_plan is_quiet hcall_of row_of plan_run trial_run candidates suits_grants h_enter_plan machine_range mte_refusal tests_of_words no_slots slots_after slot_of_words segment_of empty_seat empty_cache cached same_page after_walk walk_calls group_of tag_of has_base permission rows outcome_of
 in_16_mb = refl
 
 -- A segment of 1 TB.
@@ -131,5 +131,5 @@ wide =
     ∷ []
 
 in_1_tb : text_from wide (replies_from (small 1) wide) ≡ codes "4 0 slbmte ok\n5 0 H_ENTER 0 0x0 | 0x0.0.0.entered\n6 0 load at 0x2000003000 walk | 0x0.1.0.at\n"
-unfolding digits wide text_from head_text code_text line_reply reply_on hcall_plan is_quiet hcall_of row_of plan_run trial_run candidates suits_grants h_enter_plan  machine_range mte_refusal tests_of_words no_slots slots_after slot_of_words segment_of empty_seat empty_cache cached same_page after_walk walk_calls group_of tag_of has_base permission rows outcome_of
+unfolding digits wide text_from head_text code_text line_reply reply_on hcall_plan is_quiet hcall_of row_of plan_run trial_run candidates suits_grants h_enter_plan machine_range mte_refusal tests_of_words no_slots slots_after slot_of_words segment_of empty_seat empty_cache cached same_page after_walk walk_calls group_of tag_of has_base permission rows outcome_of
 in_1_tb = refl

@@ -1,18 +1,16 @@
 -- What each reply enters, how far it raises stamps, and that it is safe where its receipts were made on mild states.
-use Rattle.std.proofs.Common.{◌≡◌, ℕ, ◌+◌, ◌*◌, ◌≤◌, ◌^◌, List, [], ◌∷◌, ◌++◌, Bool, true, false, not, ap, sym, ◌∙◌, refl, subst, ◌⊎◌, inl, inr, map, arith, Option, Some, None}
-use Rattle.std.specs.Prelude.{◌≢◌, IfSome, find}
+use Rattle.std.proofs.Common.{◌≡◌, ℕ, ◌+◌, ◌*◌, ◌≤◌, ◌^◌, List, [], ◌∷◌, ◌++◌, true, false, ap, sym, ◌∙◌, refl, subst, ◌⊎◌, inl, inr, arith, Option, Some, None}
+use Rattle.std.specs.Prelude.{IfSome}
 use Rattle.std.specs.List.{AllByRecursion}
 use Rattle.std.specs.Option.{option_map_or}
 use Rattle.std.proofs.lemmas.Bool.{cases_Bool}
 use Rattle.papr_codes.specs.declared.calls.Hcall.{Hcall}
 use Rattle.papr_codes.specs.declared.calls.Hcall.TheVariants as calls
-use Rattle.papr_codes.specs.declared.codes.Rc.{Rc}
 use Rattle.papr_codes.specs.declared.codes.Rc.TheVariants as rc
 use Rattle.papr_codes.specs.Hcalls.{hcall_of}
-use Rattle.storage_prot.specs.declared.want.Want.{Want}
 use Rattle.page_sizes.specs.declared.size.PageSize.{PageSize}
 use Rattle.page_sizes.specs.Sizes.{size_of}
-use Rattle.hpte_fields.specs.Fields.{frame_of, is_secondary, wimg_of}
+use Rattle.hpte_fields.specs.Fields.{frame_of, wimg_of}
 use Rattle.frame_grants.specs.declared.grant.Grant.{Grant}
 use Rattle.frame_grants.specs.declared.grant.Kind.{Kind}
 use Rattle.frame_grants.specs.Grants.{Granted, AreApart, machine_range}
@@ -31,15 +29,15 @@ use Rattle.entry_model.specs.declared.receipt.Receipt.{Receipt}
 use Rattle.entry_model.specs.Receipt.{is_at, is_no_match}
 use Rattle.entry_model.specs.Cache.{cached}
 use Rattle.entry_model.specs.Trial.{Call, IsTrial, IsReplyOf, call, entries_from}
-use Rattle.entry_model.proofs.Heights.{cost, weight, calls_cost, trial_weight, at_valid}
-use Rattle.entry_model.proofs.Tame.{EntersOnly, IsTame, IsTameReply, NoneWorn, answered_tame, tame_reply, trial_ops, each_call, entries_cost}
+use Rattle.entry_model.proofs.Heights.{weight, calls_cost, trial_weight, at_valid}
+use Rattle.entry_model.proofs.Tame.{EntersOnly, IsTame, IsTameReply, answered_tame, tame_reply, trial_ops, each_call, entries_cost}
 use Rattle.h_enter.specs.Checks.{suits_grants, suits_size, suits_kind}
 use Rattle.h_enter.proofs.Suited.{IsSuited, h_enter_tame}
 use Rattle.h_update.proofs.Tame.{h_remove_tame, h_protect_tame, h_read_tame, h_clear_ref_tame, h_clear_mod_tame, h_bulk_remove_tame}
 use Rattle.slb_model.specs.declared.segment.Segment.{Segment}
 use Rattle.slb_model.specs.Buffer.{segment_of}
 use Rattle.hpt_walk.specs.Walk.{access_op, group_calls, walk_calls, found_of}
-use Rattle.hpt_walk.specs.Accesses.{Setting, Reach, key_for, logical_of, lands, outcome_by, outcome_of, hit_calls, nowhere, IsByWay, IsBySegment}
+use Rattle.hpt_walk.specs.Accesses.{Setting, Reach, key_for, logical_of, lands, outcome_by, outcome_of, hit_calls, IsByWay, IsBySegment}
 use Rattle.hpt_walk.specs.Seats.{Seat}
 use Rattle.hpt_walk.proofs.Found.{found-on, found-off}
 use Rattle.hpt_walk.proofs.Granted.{IsGrantedPage, IsGrantedWords, access_lands}
@@ -49,7 +47,7 @@ use Rattle.reply_text.specs.declared.reply.Reply.{Reply}
 use Rattle.reply_text.specs.declared.reply.Reply.TheVariants as replies
 use Rattle.reply_text.specs.Turns.{IsOfKind, receipts_in}
 use Rattle.reply_text.specs.Calls.{hcall_plan, reach, IsCallReply, IsReachReply}
-use Rattle.reply_text.specs.Claims.{IsInPool, IsLanding, Lands, IsSafe}
+use Rattle.reply_text.specs.Claims.{IsLanding, Lands, IsSafe}
 use Rattle.reply_text.proofs.Each.{each_map, each_append}
 use Rattle.reply_text.proofs.Mild.{IsMild, top, EnterGranted, FromMild, none_worn}
 

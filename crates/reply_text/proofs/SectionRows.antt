@@ -1,7 +1,7 @@
 -- The sections of worked runs: which lines fall where, on which states each opens, and what a processor's lines tell of an entry.
 use Rattle.std.proofs.Common.{◌≡◌, ℕ, List, [], ◌∷◌, true, false, Some, None, refl, ◌<◌, arith}
 use Rattle.std.specs.Prelude.{map, slice_set, take, IfSome}
-use Rattle.power_addr.specs.Pages.{virtual_page, tag_of}
+use Rattle.power_addr.specs.Pages.{virtual_page}
 use Rattle.papr_codes.specs.Hcalls.{hcall_of, row_of}
 use Rattle.papr_codes.specs.declared.codes.Rc.TheVariants.{Success}
 use Rattle.storage_prot.specs.declared.want.Want.TheVariants.{Load}
@@ -9,8 +9,6 @@ use Rattle.storage_prot.specs.Protection.{permission, rows}
 use Rattle.slb_model.specs.Buffer.{no_slots, slots_after, segment_of}
 use Rattle.slb_model.specs.Refusals.{mte_refusal, tests_of_words}
 use Rattle.slb_model.specs.Slots.{slot_of_words}
-use Rattle.hpt_hash.specs.Hash.{group_of}
-use Rattle.hpt_hash.specs.Entries.{page_at}
 use Rattle.entry_model.specs.Cache.{empty_cache, cached, same_page}
 use Rattle.entry_model.specs.History.{place, pair_of, state_eq}
 use Rattle.entry_model.specs.Receipt.{receipt_of}
@@ -29,17 +27,16 @@ use Rattle.hpt_walk.specs.CacheAfter.{after_walk}
 use Rattle.hpt_walk.specs.Seats.{Seat, empty_seat}
 use Rattle.trace_read.specs.declared.trace.Act.{Act}
 use Rattle.trace_read.specs.declared.trace.Act.TheVariants.{Call, Access, SlbMte, Dump}
-use Rattle.trace_read.specs.declared.trace.TraceLine.{TraceLine}
 use Rattle.trace_read.specs.Trace.{is_quiet}
 use Rattle.reply_text.specs.declared.reply.Reply.{Reply}
 use Rattle.reply_text.specs.declared.reply.Reply.TheVariants as replies
 use Rattle.reply_text.specs.Good.{IsReachTurn}
-use Rattle.reply_text.specs.Histories.{made, left, closing, events_by, own_turns}
+use Rattle.reply_text.specs.Histories.{made, left, closing, events_by}
 use Rattle.reply_text.specs.Seats.{line_past}
 use Rattle.reply_text.specs.Sections.{Section, closed, cut, sections_from, made_by}
 use Rattle.reply_text.specs.Turns.{Turn}
 use Rattle.reply_text.specs.Worlds.{coded, setting_of, quiet_of, resize_of, shown_of}
-use Rattle.reply_text.proofs.Small.{home_of, small}
+use Rattle.reply_text.proofs.Small.{small}
 
 turn : ℕ → ℕ → Act → Reply → Turn
 turn number cpu act reply = record { line = record { number = number; cpu = cpu; act = act }; reply = reply }

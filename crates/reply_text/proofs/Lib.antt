@@ -25,3 +25,4 @@ mod QuietRows
 mod TextRows
 mod HistoryRows
 mod SectionRows
+mod WholeRows

@@ -22,7 +22,7 @@ use Rattle.h_enter.specs.Checks.{suits_grants, h_enter_plan}
 use Rattle.h_enter.specs.Enter.{candidates}
 use Rattle.h_update.specs.Single.{h_read_plan}
 use Rattle.hpt_resize.specs.Home.{Home, opening_home, empty_states, prepare_at_home, commit_at_home}
-use Rattle.hpt_resize.specs.Rehash.{carried_page, target_of, first_with, collision_at, collision_of, entry_at}
+use Rattle.hpt_resize.specs.Rehash.{carried_page, target_of, first_with, collision_at, collision_of, entry_at, rehashed}
 use Rattle.hpt_resize.specs.Resize.{prepared, committed}
 use Rattle.hpt_walk.specs.Accesses.{outcome_of}
 use Rattle.hpt_walk.specs.CacheAfter.{after_walk}
@@ -128,6 +128,11 @@ bare home = with_states home []
 new_home : bare (commit_at_home ready 0 19).1 ≡ record { limit = 20; pool = record { base = 0x1000000000; order = 20; taken = record { place = 0x1000080000; order = 19 } ∷ [] }; pending = None; table = record { order = 19; place = 0x1000080000; number = 1; states = [] } }
 unfolding ready old commit_at_home committed taken_without collision_of collision_at first_with target_of carried_page page_at group_of tag_of
 new_home = refl
+
+-- Of the 0x8000 entries of the new table the one that was carried is valid.
+new_table : (shown_of (commit_at_home ready 0 19).1).states ≡ (0x4000, record { valid = true; dword0 = 0x801011; dword1 = 0x3012; referenced = true; changed = true; stamp = 0 }) ∷ []
+unfolding shown_of ready old commit_at_home committed taken_without collision_of collision_at first_with target_of carried_page page_at group_of tag_of rehashed entry_at
+new_table = refl
 
 -- A line of the entry 0, in the set of the index 1.
 filled : Seat

@@ -1,6 +1,6 @@
--- The quiet lines of worked traces: the two resize calls, as far as no table is written out, and dumps.
-use Rattle.std.proofs.Common.{◌≡◌, ℕ, List, [], ◌∷◌, true, false, Some, None, refl}
-use Rattle.std.specs.Prelude.{codes, map, slice_set}
+-- The quiet lines of worked traces: the two resize calls, and dumps.
+use Rattle.std.proofs.Common.{◌≡◌, ℕ, List, [], ◌∷◌, ◌++◌, true, false, Some, None, refl}
+use Rattle.std.specs.Prelude.{codes, replicate, map, slice_set}
 use Rattle.std.specs.Fmt.{digits}
 use Rattle.frame_grants.specs.Grants.{machine_range}
 use Rattle.power_addr.specs.Pages.{virtual_page, tag_of}
@@ -115,6 +115,14 @@ old =
 carried : map (entry_at 18 19 old) (0x4000 ∷ 0 ∷ 0x1 ∷ 0x8 ∷ []) ≡ record { valid = true; dword0 = 0x801011; dword1 = 0x3012; referenced = true; changed = true; stamp = 0 } ∷ empty_state 0 ∷ empty_state 0 ∷ empty_state 0 ∷ []
 unfolding old entry_at first_with target_of carried_page page_at group_of tag_of
 carried = refl
+
+-- In a table of 0x8000 entries the bolted ones of VSID 1 and of VSID 0x801, each of the page with index 1, which meet in one of 0x4000.
+at_1 : ℕ → State
+at_1 dword0 = record { valid = true; dword0 = dword0; dword1 = 0x3012; referenced = false; changed = false; stamp = 1 }
+
+they_meet : collision_at 19 18 (at_1 0x1011 ∷ replicate 0x3FFF (empty_state 0) ++ at_1 0x801011 ∷ []) 0x4000 ≡ Some (record { first = 0; second = 0x4000; target = 0 })
+unfolding at_1 collision_at first_with target_of carried_page page_at group_of tag_of
+they_meet = refl
 
 -- ---- after a commit
 -- The table of the next number at the place that was prepared; the old block is free again, and no table is pending.

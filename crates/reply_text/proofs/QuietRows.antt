@@ -91,10 +91,11 @@ resized =
     ∷ calls 10 0x370 (0 ∷ 19 ∷ [])
     ∷ calls 11 0x370 (0 ∷ 19 ∷ [])
     ∷ calls 12 0x0C (0 ∷ 0x8000 ∷ [])
+    ∷ dumps 13
     ∷ []
 
-resizes_in_two_calls : text_from resized (replies_from (small 1) resized) ≡ codes "4 0 H_ENTER 0 0x0 | 0x0.0.0.entered\n5 0 H_ENTER 0 0x8 | 0x8.0.0.entered\n6 0 H_ENTER 0 0x1 | 0x1.0.0.entered\n7 0 H_RESIZE_HPT_PREPARE 9900\n8 0 H_RESIZE_HPT_COMMIT 1\n9 0 H_RESIZE_HPT_PREPARE 0\n10 0 H_RESIZE_HPT_COMMIT 0\n11 0 H_RESIZE_HPT_COMMIT 2\n12 0 H_READ -4\n"
-unfolding digits resized text_from head_text code_text line_reply reply_on quiet_of resize_of hcall_plan is_quiet hcall_of row_of plan_run trial_run candidates suits_grants h_enter_plan h_read_plan machine_range prepare_at_home commit_at_home prepared committed lowest_place multiples taken_with taken_without collision_of collision_at first_with target_of carried_page page_at group_of tag_of
+resizes_in_two_calls : text_from resized (replies_from (small 1) resized) ≡ codes "4 0 H_ENTER 0 0x0 | 0x0.0.0.entered\n5 0 H_ENTER 0 0x8 | 0x8.0.0.entered\n6 0 H_ENTER 0 0x1 | 0x1.0.0.entered\n7 0 H_RESIZE_HPT_PREPARE 9900\n8 0 H_RESIZE_HPT_COMMIT 1\n9 0 H_RESIZE_HPT_PREPARE 0\n10 0 H_RESIZE_HPT_COMMIT 0\n11 0 H_RESIZE_HPT_COMMIT 2\n12 0 H_READ -4\n13 dump table 1 order 19 place 0x1000080000 entries 1\n 0x4000 0x801011 0x3192 0\n"
+unfolding digits resized dump_head table_text entry_text shown_of rehashed entry_at text_from head_text code_text line_reply reply_on quiet_of resize_of hcall_plan is_quiet hcall_of row_of plan_run trial_run candidates suits_grants h_enter_plan h_read_plan machine_range prepare_at_home commit_at_home prepared committed lowest_place multiples taken_with taken_without collision_of collision_at first_with target_of carried_page page_at group_of tag_of
 resizes_in_two_calls = refl
 
 -- The entries before the commit.

@@ -7,7 +7,7 @@ use Rattle.storage_prot.specs.declared.want.Want.TheVariants.{Load, Store}
 use Rattle.storage_prot.specs.Protection.{permission, rows}
 use Rattle.hpt_hash.specs.Hash.{group_of}
 use Rattle.hpt_hash.specs.Entries.{page_at}
-use Rattle.entry_model.specs.State.{State, empty_state}
+use Rattle.entry_model.specs.State.{State}
 use Rattle.entry_model.specs.declared.operation.Op.{Op}
 use Rattle.entry_model.specs.declared.operation.Op.TheVariants.{Remove, Read, ClearRef, ClearMod, Access}
 use Rattle.entry_model.specs.declared.receipt.Receipt.{Receipt}

@@ -1,16 +1,15 @@
 -- What the two resize calls keep of a partition at home.
-use Rattle.std.proofs.Common.{◌≡◌, ℕ, ◌+◌, ◌-◌, ◌^◌, ◌<◌, ◌≤◌, List, Bool, true, false, ap, sym, ◌∙◌, refl, subst, ◌⊎◌, inl, inr, not, length, Option, Some, None, arith}
-use Rattle.std.specs.Prelude.{◌==◌, ◌&&◌, ◌||◌, nat_lt, nat_le, if◌then◌else◌, IfSome}
-use Rattle.std.proofs.lemmas.Bool.{cases_Bool, cond_both, and_parts, eqb-true, ltb-false, leb-true}
+use Rattle.std.proofs.Common.{◌≡◌, ℕ, ◌-◌, ◌^◌, ◌≤◌, Bool, true, false, refl, ◌⊎◌, inl, inr, not, length, Option, Some, None, arith}
+use Rattle.std.specs.Prelude.{◌==◌, ◌&&◌, ◌||◌, nat_lt, nat_le, IfSome}
+use Rattle.std.proofs.lemmas.Bool.{cond_both, and_parts, ltb-false, leb-true}
 use Rattle.std.proofs.lemmas.List.{length-replicate}
 use Rattle.papr_codes.specs.declared.codes.Rc.{Rc}
-use Rattle.papr_codes.specs.declared.codes.Rc.TheVariants.{Success, NoMem}
+use Rattle.papr_codes.specs.declared.codes.Rc.TheVariants.{Success}
 use Rattle.hpt_pool.specs.Pool.{Pooled, lowest_place}
-use Rattle.entry_model.specs.State.{State}
 use Rattle.hpt_resize.specs.declared.carry.Collision.{Collision}
 use Rattle.hpt_resize.specs.Rehash.{collision_of}
 use Rattle.hpt_resize.proofs.Rehashed.{rehashed-length}
-use Rattle.hpt_resize.specs.Pending.{PendingTable, is_ready, advanced}
+use Rattle.hpt_resize.specs.Pending.{PendingTable}
 use Rattle.hpt_resize.specs.Resize.{Prepared, prepared_as, is_prepare_request, pool_without, is_pending, placed, started, continued, prepared, Table, Committed, commit_refusal, carried_over, completed, answered, committed}
 use Rattle.hpt_resize.specs.Home.{Home, opening_home, prepare_at_home, commit_at_home, empty_states}
 

@@ -18,3 +18,11 @@ pub mod Mild
 pub mod SafeTurns
 pub mod MildWorlds
 pub mod AllSafe
+mod Small
+mod RunRows
+mod CallRows
+mod QuietRows
+mod TextRows
+mod HistoryRows
+mod SectionRows
+mod WholeRows

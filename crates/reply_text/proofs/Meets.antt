@@ -1,5 +1,5 @@
 -- The serial run's reply is a reply of its line, with nobody else at the table.
-use Rattle.std.proofs.Common.{◌≡◌, ℕ, zero, suc, ◌<◌, ◌≤◌, ◌+◌, ◌*◌, ◌-◌, ◌^◌, List, [], ◌∷◌, Bool, true, false, ap, sym, ◌∙◌, refl, subst, ◌⊎◌, inl, inr, map, length, get_or, arith, Option, Some, None}
+use Rattle.std.proofs.Common.{◌≡◌, ℕ, zero, suc, ◌<◌, ◌≤◌, ◌+◌, ◌*◌, ◌-◌, ◌^◌, List, [], ◌∷◌, Bool, true, false, sym, ◌∙◌, refl, subst, ◌⊎◌, inl, inr, map, length, get_or, arith, Option, Some, None}
 use Rattle.std.specs.Prelude.{IfSome, ◌==◌}
 use Rattle.std.specs.List.{AllByRecursion}
 use Rattle.std.proofs.lemmas.Bool.{cases_Bool, eq-eqb, eqb-true, and_parts}
@@ -14,7 +14,7 @@ use Rattle.entry_model.specs.State.{State}
 use Rattle.entry_model.specs.declared.operation.Op.{Op}
 use Rattle.entry_model.specs.declared.line.Line.{Line}
 use Rattle.entry_model.specs.declared.access_reply.AccessReply.{AccessReply}
-use Rattle.entry_model.specs.declared.access_reply.By.TheVariants.{Hit, Walk}
+use Rattle.entry_model.specs.declared.access_reply.By.TheVariants.{Walk}
 use Rattle.entry_model.specs.declared.receipt.Receipt.{Receipt}
 use Rattle.entry_model.specs.Receipt.{is_no_match, is_decided}
 use Rattle.entry_model.specs.Reply.{reply_of}
@@ -44,9 +44,9 @@ use Rattle.trace_read.specs.declared.trace.TraceLine.{TraceLine}
 use Rattle.trace_read.specs.Trace.{is_quiet}
 use Rattle.reply_text.specs.declared.reply.Reply.{Reply}
 use Rattle.reply_text.specs.declared.reply.Reply.TheVariants as replies
-use Rattle.reply_text.specs.Turns.{Turn, receipts_in}
+use Rattle.reply_text.specs.Turns.{receipts_in}
 use Rattle.reply_text.specs.Seats.{seat_at, line_past}
-use Rattle.reply_text.specs.Calls.{hcall_plan, reach, IsCallReply, IsReachReply}
+use Rattle.reply_text.specs.Calls.{hcall_plan, reach, IsReachReply}
 use Rattle.reply_text.specs.Serial.{is_current, current, by_line, by_segment, reply_on}
 use Rattle.reply_text.specs.Standing.{IsTurn}
 use Rattle.reply_text.proofs.Each.{each_append}

@@ -1,5 +1,5 @@
 -- The serial run is a good run.
-use Rattle.std.proofs.Common.{◌≡◌, ℕ, zero, suc, ◌<◌, ◌≤◌, List, [], ◌∷◌, true, false, refl, ◌⊎◌, inl, inr, length, Option, Some, None, arith}
+use Rattle.std.proofs.Common.{◌≡◌, ℕ, zero, suc, ◌<◌, List, [], ◌∷◌, true, false, ◌⊎◌, inl, inr, length, Option, Some, None}
 use Rattle.std.specs.Prelude.{Bool, replicate}
 use Rattle.std.specs.List.{AllByRecursion}
 use Rattle.std.proofs.lemmas.Bool.{cases_Bool}
@@ -20,7 +20,6 @@ use Rattle.trace_read.specs.declared.trace.Act.TheVariants as acts
 use Rattle.trace_read.specs.declared.trace.TraceLine.{TraceLine}
 use Rattle.trace_read.specs.Trace.{Accepted, is_quiet}
 use Rattle.reply_text.specs.declared.reply.Reply.{Reply}
-use Rattle.reply_text.specs.declared.reply.Reply.TheVariants as replies
 use Rattle.reply_text.specs.Turns.{Turn, IsOfKind, AreReplies, turns_of}
 use Rattle.reply_text.specs.Seats.{seat_at}
 use Rattle.reply_text.specs.Calls.{reach}

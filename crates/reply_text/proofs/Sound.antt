@@ -1,6 +1,6 @@
 -- Each cached line holds of its entry's state, and each line that is run with nobody else at the table keeps this.
-use Rattle.std.proofs.Common.{◌≡◌, ℕ, ◌<◌, ◌≤◌, ◌-◌, ◌^◌, List, [], ◌∷◌, Bool, true, false, sym, ◌∙◌, refl, subst, ◌⊎◌, inl, inr, not, length, Option, Some, None, ap}
-use Rattle.std.specs.Prelude.{IfSome, IsTrue}
+use Rattle.std.proofs.Common.{◌≡◌, ℕ, ◌<◌, ◌≤◌, ◌-◌, ◌^◌, List, [], ◌∷◌, Bool, true, false, sym, ◌∙◌, refl, subst, ◌⊎◌, inl, inr, not, length, Option, Some, None}
+use Rattle.std.specs.Prelude.{IfSome}
 use Rattle.std.specs.List.{AllByRecursion}
 use Rattle.std.proofs.lemmas.Bool.{cases_Bool}
 use Rattle.power_addr.specs.Pages.{VirtualPage}
@@ -17,11 +17,11 @@ use Rattle.entry_model.specs.declared.access_reply.By.TheVariants.{Hit, Walk}
 use Rattle.entry_model.specs.declared.receipt.Receipt.{Receipt}
 use Rattle.entry_model.specs.Receipt.{is_no_match}
 use Rattle.entry_model.specs.Lines.{Holds, ShowsLine}
-use Rattle.entry_model.specs.Cache.{is_of, set_of, set_number, cached, without_page, put_last, empty_cache, AllInSet, AllCached}
+use Rattle.entry_model.specs.Cache.{is_of, set_of, set_number, cached, without_page, empty_cache, AllInSet, AllCached}
 use Rattle.entry_model.specs.Run.{state_at, IsRun, run-length}
 use Rattle.entry_model.specs.Trial.{IsTrial}
 use Rattle.entry_model.proofs.LineLaws.{run_holds, run_shows}
-use Rattle.entry_model.proofs.CachedPages.{all_filter, all_put_last, all_in_set_of, all_written, all_cached, all_cached_weaker, all_empty}
+use Rattle.entry_model.proofs.CachedPages.{all_filter, all_put_last, all_in_set_of, all_written, all_cached_weaker, all_empty}
 use Rattle.hpt_walk.specs.Walk.{found_of, walk_calls}
 use Rattle.hpt_walk.specs.Lines.{line_of, TranslatesItsPage}
 use Rattle.hpt_walk.specs.Accesses.{Setting, Reach, key_for, IsWalk, IsByWay, IsBySegment}

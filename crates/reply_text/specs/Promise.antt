@@ -1,9 +1,7 @@
 -- What is promised of the runs of an accepted trace.
-use Rattle.std.specs.Prelude.{◌≡◌, ℕ, List}
 use Rattle.frame_grants.specs.Grants.{IsSound}
 use Rattle.trace_read.specs.Config.{IsConfigured}
 use Rattle.trace_read.specs.Trace.{Accepted, IsTrace}
-use Rattle.reply_text.specs.declared.reply.Reply.{Reply}
 use Rattle.reply_text.specs.Serial.{serial}
 use Rattle.reply_text.specs.Good.{Good}
 

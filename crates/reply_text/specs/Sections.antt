@@ -5,7 +5,7 @@ use Rattle.hpt_walk.specs.Seats.{Seat}
 use Rattle.trace_read.specs.Trace.{Accepted, is_quiet}
 use Rattle.reply_text.specs.declared.reply.Reply.{Reply}
 use Rattle.reply_text.specs.Turns.{Turn, turns_of}
-use Rattle.reply_text.specs.Seats.{seat_at, seat_after}
+use Rattle.reply_text.specs.Seats.{seat_after}
 use Rattle.reply_text.specs.Worlds.{World, states_in, with_states, opening, quiet_of}
 use Rattle.reply_text.specs.Histories.{own_turns, listed, closing}
 

@@ -1,6 +1,5 @@
 -- The serial run: the replies to the lines of a trace, one line after the other.
-use Rattle.std.specs.Prelude.{ℕ, ◌==◌, ◌&&◌, Bool, true, List, [], ◌∷◌, Option, Some, None, is_none, if◌then◌else◌}
-use Rattle.storage_prot.specs.declared.want.Want.{Want}
+use Rattle.std.specs.Prelude.{◌==◌, ◌&&◌, Bool, true, List, [], ◌∷◌, Option, Some, None, is_none, if◌then◌else◌}
 use Rattle.papr_codes.specs.Hcalls.{hcall_of}
 use Rattle.entry_model.specs.State.{State}
 use Rattle.entry_model.specs.declared.line.Line.{Line}

@@ -1,5 +1,5 @@
 -- Run lines and their replies.
-use Rattle.std.specs.Prelude.{ℕ, List, [], ◌∷◌}
+use Rattle.std.specs.Prelude.{List, [], ◌∷◌}
 use Rattle.entry_model.specs.declared.receipt.Receipt.{Receipt}
 use Rattle.trace_read.specs.declared.trace.Act.{Act}
 use Rattle.trace_read.specs.declared.trace.Act.TheVariants as acts

@@ -1,0 +1,98 @@
+-- The texts of made replies: each form of a line once.
+use Rattle.std.proofs.Common.{◌≡◌, ℕ, List, [], ◌∷◌, true, false, Some, None, refl}
+use Rattle.std.specs.Prelude.{codes, map}
+use Rattle.std.specs.List.{flat_map}
+use Rattle.std.specs.Fmt.{digits}
+use Rattle.papr_codes.specs.Hcalls.{hcall_of, row_of}
+use Rattle.papr_codes.specs.ReturnCodes.{rc_code}
+use Rattle.papr_codes.specs.declared.codes.Rc.TheVariants as rc
+use Rattle.storage_prot.specs.declared.want.Want.TheVariants.{Load, Store, Fetch}
+use Rattle.storage_prot.specs.Protection.{permission, rows}
+use Rattle.entry_model.specs.State.{State, empty_state}
+use Rattle.entry_model.specs.declared.operation.Op.{Op}
+use Rattle.entry_model.specs.declared.operation.Op.TheVariants as ops
+use Rattle.entry_model.specs.declared.operation.Test.{Test}
+use Rattle.entry_model.specs.declared.access_reply.By.TheVariants.{Hit, Walk}
+use Rattle.entry_model.specs.declared.access_reply.Outcome.TheVariants.{At, Denied, NoPage, NoSegment, Ungranted}
+use Rattle.entry_model.specs.Receipt.{receipt_of}
+use Rattle.entry_model.specs.Reply.{has_base}
+use Rattle.trace_read.specs.declared.trace.TraceLine.{TraceLine}
+use Rattle.trace_read.specs.declared.trace.Act.TheVariants.{Call, Access, SlbMte, SlbClear, Dump}
+use Rattle.reply_text.specs.declared.reply.Reply.{Reply}
+use Rattle.reply_text.specs.declared.reply.Reply.TheVariants as replies
+use Rattle.reply_text.specs.Summary.{summary_text, row_text, entries_text}
+use Rattle.reply_text.specs.Text.{text_from, receipts_text, head_text, code_text, entry_text, dump_head, table_text}
+
+-- An entry of the page of VSID 1 and index 1, read-only, with C and without R.
+used : State
+used = record { valid = true; dword0 = 0x1001; dword1 = 0x3013; referenced = false; changed = true; stamp = 31 }
+
+-- The same with R, at the last stamp.
+worn : State
+worn = record used { referenced = true; stamp = 0xFFFFFFFF }
+
+-- ---- receipts
+any : Test
+any = record { avpn = None; andcond = None }
+
+reached : ℕ → Op
+reached tag = ops.Access tag 12 false false Store
+
+-- Each answer, with the entry in hexadecimal digits, the stamp in decimal ones, and R as 2 and C as 1.
+each_answer : receipts_text (receipt_of 0 (empty_state 7) (ops.Enter 0x1001 0x3013) ∷ receipt_of 9 used (ops.Enter 0x1001 0x3013) ∷ receipt_of 10 used (ops.Remove any) ∷ receipt_of 16 used (ops.Protect any 0) ∷ receipt_of 0x3FFF worn ops.ClearRef ∷ receipt_of 255 (record worn { changed = false }) ops.Read ∷ receipt_of 1 (empty_state 0) ops.ClearMod ∷ receipt_of 2 used (reached 0x2001) ∷ receipt_of 3 used (reached 0x1001) ∷ receipt_of 4 (record used { dword1 = 0x3012 }) (reached 0x1001) ∷ receipt_of 5 worn (ops.Remove any) ∷ []) ≡ codes " | 0x0.7.0.entered 0x9.31.1.taken 0xa.31.1.removed 0x10.31.1.protected 0x3fff.4294967295.3.worn 0xff.4294967295.2.read 0x1.0.0.notfound 0x2.31.1.nomatch 0x3.31.1.denied 0x4.31.1.at 0x5.4294967295.3.worn"
+unfolding digits used worn any reached has_base permission rows
+each_answer = refl
+
+-- ---- codes
+each_code : flat_map code_text (map rc_code (rc.Success ∷ rc.Busy ∷ rc.Closed ∷ rc.LongBusy ∷ rc.Hardware ∷ rc.Function ∷ rc.Parameter ∷ rc.PtegFull ∷ rc.NotFound ∷ rc.NoMem ∷ rc.Resource ∷ [])) ≡ codes " 0 1 2 9900 -1 -2 -4 -6 -7 -9 -16"
+unfolding digits code_text
+each_code = refl
+
+-- ---- lines
+lines : List TraceLine
+lines =
+    record { number = 10; cpu = 63; act = Call 0x08 [] true }
+    ∷ record { number = 11; cpu = 0; act = Call 0x0C [] false }
+    ∷ record { number = 12; cpu = 1; act = Access Load 0 true }
+    ∷ record { number = 13; cpu = 1; act = Access Store 0 false }
+    ∷ record { number = 14; cpu = 1; act = Access Fetch 0 false }
+    ∷ record { number = 15; cpu = 1; act = Access Load 0 false }
+    ∷ record { number = 16; cpu = 1; act = Access Load 0 false }
+    ∷ record { number = 17; cpu = 1; act = SlbMte 0 0 }
+    ∷ record { number = 18; cpu = 1; act = SlbMte 0 0 }
+    ∷ record { number = 19; cpu = 1; act = SlbClear }
+    ∷ record { number = 131072; cpu = 1; act = Dump }
+    ∷ []
+
+made : List Reply
+made =
+    replies.Hcall (record { rc = rc.PtegFull; words = []; receipts = receipt_of 9 used (ops.Enter 0x1001 0x3013) ∷ [] })
+    ∷ replies.Hcall (record { rc = rc.Success; words = 0xFFFFFFFFFFFFFFFF ∷ 0 ∷ []; receipts = receipt_of 9 used ops.Read ∷ receipt_of 10 (empty_state 0) ops.Read ∷ [] })
+    ∷ replies.Access (record { outcome = At 0x2000003ABC; by = Some Hit; receipts = receipt_of 4 (record used { dword1 = 0x3012 }) (reached 0x1001) ∷ [] })
+    ∷ replies.Access (record { outcome = Denied; by = Some Walk; receipts = receipt_of 2 used (reached 0x2001) ∷ receipt_of 3 used (reached 0x1001) ∷ [] })
+    ∷ replies.Access (record { outcome = NoPage; by = Some Walk; receipts = receipt_of 2 used (reached 0x2001) ∷ [] })
+    ∷ replies.Access (record { outcome = NoSegment; by = None; receipts = [] })
+    ∷ replies.Access (record { outcome = Ungranted 0x7000; by = Some Walk; receipts = [] })
+    ∷ replies.Segment true
+    ∷ replies.Segment false
+    ∷ replies.Segment true
+    ∷ replies.Dump (record { number = 12; order = 22; place = 0x1000400000; states = (0, worn) ∷ (0x3FFF, record used { dword0 = 0x4000000001000011; dword1 = 0x8000000000003012; changed = false; stamp = 2 }) ∷ [] })
+    ∷ []
+
+each_form : text_from lines made ≡ codes "10 63 H_ENTER -6 | 0x9.31.1.taken\n11 0 hcall 0 0xffffffffffffffff 0x0 | 0x9.31.1.read 0xa.0.0.read\n12 1 load at 0x2000003abc hit | 0x4.31.1.at\n13 1 store denied walk | 0x2.31.1.nomatch 0x3.31.1.denied\n14 1 fetch nopage walk | 0x2.31.1.nomatch\n15 1 load nosegment\n16 1 load ungranted 0x7000 walk\n17 1 slbmte ok\n18 1 slbmte refused\n19 1 slbclear ok\n131072 dump table 12 order 22 place 0x1000400000 entries 2\n 0x0 0x1001 0x3193 4294967295\n 0x3fff 0x4000000001000011 0x8000000000003012 2\n"
+unfolding digits lines made used worn reached has_base permission rows hcall_of row_of text_from head_text code_text entry_text dump_head table_text
+each_form = refl
+
+-- ---- the summary
+-- Of no replies, of four, and of those above. A hit that is denied is a hit; an access that is ungranted is an access alone.
+of_none : summary_text 0 [] [] ≡ codes "lines 0\nhcalls 0\nsuccess 0\nfull 0\nnotfound 0\naccesses 0\nat 0\ndenied 0\nnopage 0\nhits 0\nentries 0\nchanged 0\n"
+unfolding digits summary_text row_text entries_text
+of_none = refl
+
+of_four : summary_text 4 (replies.Hcall (record { rc = rc.NotFound; words = []; receipts = [] }) ∷ replies.Access (record { outcome = At 0; by = Some Hit; receipts = [] }) ∷ replies.Access (record { outcome = Denied; by = Some Hit; receipts = [] }) ∷ replies.Segment true ∷ []) ((1, used) ∷ (2, record used { changed = false }) ∷ (3, worn) ∷ []) ≡ codes "lines 4\nhcalls 1\nsuccess 0\nfull 0\nnotfound 1\naccesses 2\nat 1\ndenied 1\nnopage 0\nhits 2\nentries 3\nchanged 2\n"
+unfolding digits used worn summary_text row_text entries_text
+of_four = refl
+
+of_all : summary_text 11 made ((0, worn) ∷ []) ≡ codes "lines 11\nhcalls 2\nsuccess 1\nfull 1\nnotfound 0\naccesses 5\nat 1\ndenied 1\nnopage 1\nhits 1\nentries 1\nchanged 1\n"
+unfolding digits made worn used summary_text row_text entries_text
+of_all = refl

@@ -112,8 +112,7 @@ pub page_at-sound : (order index dword0 dword1 : ℕ) (p : VirtualPage) → dwor
 page_at-sound order index dword0 dword1 p range e =
     let made = made-page_at order index dword0 dword1 p e in
     let page = page_of_address-some _ _ _ _ p made.rebuilt in
-    let shift : p.shift ≡ made.size.base = ap (λ (r : VirtualPage). r.shift) page.1 in
-    (
+    let shift : p.shift ≡ made.size.base = ap (λ (r : VirtualPage). r.shift) page.1 in (
       page.0,
       record {
         valid = made.valid;

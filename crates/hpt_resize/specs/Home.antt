@@ -1,5 +1,5 @@
 -- What a partition has at home while no call of a processor runs, and what the two resize calls answer and leave there.
-use Rattle.std.specs.Prelude.{ℕ, ◌-◌, ◌^◌, List, Option, None, unwrap_or, replicate}
+use Rattle.std.specs.Prelude.{ℕ, List, Option, None, unwrap_or, replicate}
 use Rattle.hpt_pool.specs.Pool.{Pooled, block_at, lowest_place, with_block}
 use Rattle.entry_model.specs.State.{State, empty_state}
 use Rattle.papr_codes.specs.declared.codes.Rc.{Rc}

@@ -8,7 +8,6 @@ pub mod RunHistory
 pub mod Regroup
 pub mod Trials
 pub mod Plans
-pub mod Fronts
 pub mod CachedPages
 pub mod ReplyLaws
 pub mod FrontLaws

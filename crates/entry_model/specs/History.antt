@@ -1,5 +1,5 @@
 -- The history of an entry: its receipts, sorted by place.
-use Rattle.std.specs.Prelude.{◌≡◌, ℕ, ◌+◌, ◌*◌, ◌≤◌, ◌==◌, ◌&&◌, List, [], ◌∷◌, Bool, true, false, if◌then◌else◌, nat_le, filter, not, MatchBool}
+use Rattle.std.specs.Prelude.{◌≡◌, ℕ, ◌+◌, ◌*◌, ◌==◌, ◌&&◌, List, [], ◌∷◌, Bool, true, false, if◌then◌else◌, nat_le, filter, not}
 use Rattle.entry_model.specs.State.{State}
 use Rattle.entry_model.specs.declared.receipt.Receipt.{Receipt}
 use Rattle.entry_model.specs.Receipt.{after_of}
@@ -52,11 +52,6 @@ IsLegal a (r ∷ rs) b = (r.before ≡ a) × IsLegal (after_of r) rs b
 abbrev pub last_after : State → List Receipt → State
 last_after s [] = s
 last_after s (r ∷ rs) = last_after (after_of r) rs
-
--- No receipt of this entry comes before the front, and each sets the front to the pair of its state after. The list has one processor's receipts in its own order.
-abbrev pub KeepsFront : ℕ → ℕ → List Receipt → Type 0
-KeepsFront e front [] = Unit {0}
-KeepsFront e front (r ∷ rs) = MatchBool (r.entry == e) ((front ≤ pair_of r.before) × KeepsFront e (pair_of (after_of r)) rs) (KeepsFront e front rs)
 
 -- The same receipts, listed in another order.
 pub data Regrouped : List Receipt → List Receipt → Type 0 where

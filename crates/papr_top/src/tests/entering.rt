@@ -17,7 +17,7 @@ fn the_first_entry_that_is_not_taken_is_entered(rt: HostRuntime) -> Result<(), F
             replies: &["4 0 H_ENTER 0 0x20 | 0x20.0.0.entered"],
         },
         Row {
-            name: "bits of the first word that are not kept",
+            name: "two software bits of the first word are not kept, and the valid bit is set",
             config: BASIS,
             lines: &["0 H_ENTER 0x0 0x20 0x1060 0x3012", "0 H_READ 0x0 0x20"],
             replies: &[
@@ -76,7 +76,7 @@ fn the_first_entry_that_is_not_taken_is_entered(rt: HostRuntime) -> Result<(), F
             ],
         },
         Row {
-            name: "a large page by the bits of its frame, and a page class of 3",
+            name: "page and segment sizes that there are and that there are not",
             config: BASIS,
             lines: &[
                 "0 H_ENTER 0x0 0x20 0x1005 0x12012",

@@ -21,7 +21,7 @@ fn calls_on_entries_show_what_they_found(rt: HostRuntime) -> Result<(), Fail> {
             ],
         },
         Row {
-            name: "removed where bits of the first word are clear",
+            name: "not removed where a named bit of the first word is set",
             config: BASIS,
             lines: &[
                 "0 H_ENTER 0x0 0x20 0x1011 0x3012",
@@ -47,7 +47,7 @@ fn calls_on_entries_show_what_they_found(rt: HostRuntime) -> Result<(), Fail> {
             ],
         },
         Row {
-            name: "bulk removal up to a wrong translation",
+            name: "bulk removal up to flags that are reserved",
             config: BASIS,
             lines: &[
                 "0 H_ENTER 0x0 0x20 0x1001 0x3192",

@@ -28,7 +28,7 @@ fn a_resized_table_holds_the_bolted_entry_of_its_own_groups(rt: HostRuntime) -> 
             ],
         },
         Row {
-            name: "on, and back to an entry that is taken twice",
+            name: "and not back where two bolted entries fall on one",
             config: BASIS,
             lines: &[
                 "0 H_ENTER 0x8000000000 0x20 0x801011 0x3012",

@@ -8,3 +8,6 @@ mod machine;
 mod run;
 
 pub use run::{Ran, run_serial, run_with_table};
+
+#[cfg(test)]
+mod tests;

@@ -46,6 +46,8 @@ fn suits_grants(grants: &Grants, dword0: u64, dword1: u64) -> bool
 /// the entry, or the group by one of its entries, `pteh` and `ptel` are the two doublewords.
 /// H_PARAMETER comes for an index past the table, for words that can't be stored, and for a page
 /// that no single grant holds with these storage control bits; nothing is tried then.
+// Out of line: docs/PERFORMANCE.md says why.
+#[inline(never)]
 #[tactic(auto, unfolding(crate::specs::Checks::h_enter_plan))]
 pub fn h_enter<T: EntryStore>(
     store: &mut T,

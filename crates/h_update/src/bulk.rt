@@ -144,6 +144,8 @@ fn ended(rc: Rc, mut words: ReplyWords, unchanged: &[u64], receipts: Receipts) -
 /// The pairs are taken in order until one ends the list, is ill formed (H_PARAMETER), or finds an
 /// entry whose stamp is at its last value (H_HARDWARE). The reply has all eight words, with a
 /// response in place of each request that was taken up.
+// Out of line: docs/PERFORMANCE.md says why.
+#[inline(never)]
 pub fn h_bulk_remove<T: EntryStore>(store: &mut T, pairs: &[u64; 8]) -> HReply
     ensures made { T.made store.old store.new result.receipts }
     ensures reply { IsReplyOf (plans.h_bulk_remove_plan (T.table_order store.old) pairs.now) result }

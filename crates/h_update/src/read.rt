@@ -33,6 +33,8 @@ fn read_all<T: EntryStore>(store: &mut T, entries: &[u32]) -> HReply
 
 /// H_READ: both doublewords of the entry, with R and C; under H_READ_4 those of the four entries that
 /// it lies among. An entry that isn't valid reads as zeros.
+// Out of line: docs/PERFORMANCE.md says why.
+#[inline(never)]
 #[tactic(auto, unfolding(crate::specs::Single::h_read_plan))]
 pub fn h_read<T: EntryStore>(store: &mut T, flags: u64, ptex: u64) -> HReply
     ensures made { T.made store.old store.new result.receipts }

@@ -45,6 +45,8 @@ fn code_and_words(receipt: &Receipt, shown: Shown) -> (Rc, ReplyWords)
 }
 
 /// One operation on the entry that the index names. H_PARAMETER comes for an index past the table.
+// Out of line: docs/PERFORMANCE.md says why.
+#[inline(never)]
 fn single<T: EntryStore>(store: &mut T, ptex: u64, op: Op, shown: Shown) -> HReply
     requires { IsNormal op }
     ensures made { T.made store.old store.new result.receipts }

@@ -49,6 +49,14 @@ fn removal() -> Op {
     }
 }
 
+fn lock(op: Op) -> Step {
+    Step::Lock { entry: 0, op }
+}
+
+fn look(op: Op) -> Step {
+    Step::Look { entry: 0, op }
+}
+
 /// The machine of the entry at stamp 1 with two actors.
 fn machine(alloc: Global) -> Result<Core, &'static str>
     ensures entries { IfOk result (λ core. length core.entries ≡ 1) }
@@ -95,22 +103,8 @@ fn a_store_between_lock_and_shut_is_kept(rt: HostRuntime) -> Result<(), Fail> {
     let lines = [
         (0, Step::Mark, Some(CoreError::Phase)),
         (0, Step::Split { to: 1 }, None),
-        (
-            0,
-            Step::Lock {
-                entry: 0,
-                op: removal(),
-            },
-            None,
-        ),
-        (
-            1,
-            Step::Look {
-                entry: 0,
-                op: store,
-            },
-            None,
-        ),
+        (0, lock(removal()), None),
+        (1, look(store), None),
         (1, Step::LoadData { second: false }, None),
         (1, Step::LoadData { second: true }, None),
         (1, Step::Mark, None),
@@ -135,22 +129,8 @@ fn a_look_before_the_lock_gives_no_receipt(rt: HostRuntime) -> Result<(), Fail> 
     let store = access(Want::Store);
     let lines = [
         (0, Step::Split { to: 1 }, None),
-        (
-            1,
-            Step::Look {
-                entry: 0,
-                op: store,
-            },
-            None,
-        ),
-        (
-            0,
-            Step::Lock {
-                entry: 0,
-                op: removal(),
-            },
-            None,
-        ),
+        (1, look(store), None),
+        (0, lock(removal()), None),
         (1, Step::LoadData { second: false }, None),
         (1, Step::LoadData { second: true }, None),
         (1, Step::Mark, None),
@@ -174,35 +154,14 @@ fn a_bit_raised_between_lock_and_shut_is_told(rt: HostRuntime) -> Result<(), Fai
     let store = access(Want::Store);
     let lines = [
         (0, Step::Split { to: 1 }, None),
-        (
-            0,
-            Step::Lock {
-                entry: 0,
-                op: Op::ClearMod,
-            },
-            None,
-        ),
+        (0, lock(Op::ClearMod), None),
         (0, Step::LoadData { second: false }, None),
         (0, Step::LoadData { second: true }, None),
-        (
-            1,
-            Step::Look {
-                entry: 0,
-                op: store,
-            },
-            None,
-        ),
+        (1, look(store), None),
         (1, Step::Mark, None),
         (0, Step::Release, Some(CoreError::Phase)),
         (0, Step::Shut, None),
-        (
-            1,
-            Step::Look {
-                entry: 0,
-                op: store,
-            },
-            None,
-        ),
+        (1, look(store), None),
         (1, Step::Mark, Some(CoreError::Phase)),
         (0, Step::StoreData { second: true }, None),
         (0, Step::Settle, None),
@@ -225,35 +184,14 @@ fn another_entry_at_the_mark(rt: HostRuntime) -> Result<(), Fail> {
     };
     let lines = [
         (0, Step::Split { to: 1 }, None),
-        (
-            1,
-            Step::Look {
-                entry: 0,
-                op: access(Want::Load),
-            },
-            None,
-        ),
-        (
-            0,
-            Step::Lock {
-                entry: 0,
-                op: removal(),
-            },
-            None,
-        ),
+        (1, look(access(Want::Load)), None),
+        (0, lock(removal()), None),
         (0, Step::Shut, Some(CoreError::Phase)),
         (0, Step::LoadData { second: false }, None),
         (0, Step::LoadData { second: true }, None),
         (0, Step::Shut, None),
         (0, Step::Settle, None),
-        (
-            0,
-            Step::Lock {
-                entry: 0,
-                op: enter,
-            },
-            None,
-        ),
+        (0, lock(enter), None),
         (0, Step::LoadData { second: false }, Some(CoreError::Phase)),
         (0, Step::Shut, None),
         (0, Step::StoreData { second: false }, None),
@@ -290,40 +228,19 @@ fn two_readers_and_a_writer(rt: HostRuntime) -> Result<(), Fail> {
             },
             Some(CoreError::Entry),
         ),
-        (
-            0,
-            Step::Lock {
-                entry: 0,
-                op: Op::Read,
-            },
-            None,
-        ),
-        (
-            1,
-            Step::Lock {
-                entry: 0,
-                op: Op::Read,
-            },
-            None,
-        ),
+        (0, lock(Op::Read), None),
+        (1, lock(Op::Read), None),
         (1, Step::LoadData { second: false }, Some(CoreError::Phase)),
         (0, Step::LoadData { second: false }, None),
         (0, Step::LoadData { second: true }, None),
-        (1, Step::Look { entry: 0, op: load }, None),
+        (1, look(load), None),
         (1, Step::Mark, None),
         (0, Step::Join { from: 1 }, Some(CoreError::Phase)),
         (0, Step::Release, None),
-        (1, Step::Look { entry: 0, op: load }, None),
-        (
-            0,
-            Step::Look {
-                entry: 0,
-                op: access(Want::Store),
-            },
-            None,
-        ),
+        (1, look(load), None),
+        (0, look(access(Want::Store)), None),
         (0, Step::Mark, None),
-        (1, Step::Look { entry: 0, op: load }, None),
+        (1, look(load), None),
         (0, Step::Join { from: 0 }, Some(CoreError::Actor)),
         (0, Step::Join { from: 1 }, None),
         (1, Step::Release, Some(CoreError::Actor)),

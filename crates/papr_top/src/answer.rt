@@ -6,12 +6,12 @@ ghost use Rattle.reply_text.specs.Good.{Good};
 ghost use Rattle.papr_top.specs.Top.{refusal_text, drill_text, IsAnswered};
 
 use crate::status::Status;
-use reply_text::{summary_of, text_of};
+use reply_text::summary_of;
 use std::alloc::{AllocError, Global};
 use std::fmt::Write;
 use trace_gen::generate;
 use trace_read::{TraceError, Why, parse};
-use trace_runner::{run_serial, run_with_table};
+use trace_runner::{run_to_text, run_with_table};
 
 /// The line that refuses an input.
 pub fn refusal(alloc: Global, line: u32, why: Why) -> Result<String, AllocError>
@@ -28,10 +28,7 @@ pub fn answer(alloc: Global, bytes: &[u8]) -> Result<(Status, String), AllocErro
     ensures { IfOk result (λ x. IsAnswered (trace_of bytes.now) x.0 (string_bytes x.1)) }
 {
     match parse(alloc, bytes) {
-        Ok(trace) => {
-            let replies = run_serial(alloc, &trace)?;
-            Ok((Status::Done, text_of(alloc, &trace, &replies)?))
-        }
+        Ok(trace) => { Ok((Status::Done, run_to_text(alloc, &trace)?)) }
         Err(TraceError::Line { line, why }) => Ok((Status::Refused, refusal(alloc, line, why)?)),
         Err(TraceError::Memory) => Err(AllocError),
     }

@@ -9,6 +9,7 @@ mod words;
 
 use super::*;
 use std::alloc::Global;
+use std::process::Abort;
 use std::test::Fail;
 use trace_io::{MemorySink, MemorySource};
 
@@ -70,4 +71,12 @@ fn wanted(alloc: Global, row: &Row) -> Result<(Status, String), Fail> {
     let mut text = String::new(alloc);
     push_lines(&mut text, row.replies)?;
     Ok((Status::Done, text))
+}
+
+/// Each row's lines have the replies that it names.
+fn check_rows(rt: &impl Abort, alloc: Global, rows: &[Row]) -> Result<(), Fail> {
+    for row in rows {
+        assert_eq!(rt; ran(alloc, row)?, wanted(alloc, row)?, "at {}", row.name);
+    }
+    Ok(())
 }

@@ -19,4 +19,4 @@ pub use replies::Replies;
 pub use reply::Reply;
 pub use shown::{Shown, ShownStates};
 pub use summary::summary_of;
-pub use text::text_of;
+pub use text::{put_reply, text_of};

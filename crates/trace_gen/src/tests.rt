@@ -12,6 +12,15 @@ fn call(hcall: Hcall, args: [u64; 8]) -> Act {
     }
 }
 
+/// An access in privileged state.
+fn access(want: Want, ea: u64) -> Act {
+    Act::Access {
+        want,
+        ea,
+        user: false,
+    }
+}
+
 fn line(number: u32, cpu: u32, act: Act) -> TraceLine {
     TraceLine { number, cpu, act }
 }
@@ -41,35 +50,11 @@ fn the_first_lines_of_a_seed(rt: HostRuntime) -> Result<(), Fail> {
         line(7, 0, call(Hcall::ClearMod, [0, 1375, 0, 0, 0, 0, 0, 0])),
         line(8, 2, call(Hcall::ClearRef, [0, 1637, 0, 0, 0, 0, 0, 0])),
         line(9, 0, call(Hcall::Read, [0, 206, 0, 0, 0, 0, 0, 0])),
-        line(
-            10,
-            1,
-            Act::Access {
-                want: Want::Load,
-                ea: 0x20000,
-                user: false,
-            },
-        ),
+        line(10, 1, access(Want::Load, 0x20000)),
         line(11, 3, call(Hcall::ClearMod, [0, 1960, 0, 0, 0, 0, 0, 0])),
         line(12, 1, call(Hcall::Protect, [3, 787, 0, 0, 0, 0, 0, 0])),
-        line(
-            13,
-            0,
-            Act::Access {
-                want: Want::Load,
-                ea: 0x33000,
-                user: false,
-            },
-        ),
-        line(
-            14,
-            2,
-            Act::Access {
-                want: Want::Store,
-                ea: 0x26000,
-                user: false,
-            },
-        ),
+        line(13, 0, access(Want::Load, 0x33000)),
+        line(14, 2, access(Want::Store, 0x26000)),
         line(15, 1, call(Hcall::ClearRef, [0, 1652, 0, 0, 0, 0, 0, 0])),
         line(16, 3, call(Hcall::Read, [0, 879, 0, 0, 0, 0, 0, 0])),
     ];

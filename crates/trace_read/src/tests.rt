@@ -21,11 +21,40 @@ fn repeated(alloc: Global, line: &str, count: u32) -> Result<String, Fail> {
     Ok(input)
 }
 
+/// Each kind of line once, and some in two spellings.
+const WHOLE: &str = "order 19
+limit 20
+cpus 2
+pool 0x2000000000 20
+ram 0 0x100000 0x10000
+io 0x10000 0x200000 0x1000
+# begin
+begin
+1 H_ENTER 0x0 0X20 0x1001 4096\r
+
+0 hcall 0x36C 1
+1 load 0x5000 user
+0 store 1 priv
+0 fetch 1 priv
+0 slbmte 0x8000000 0x1000
+0 slbclear
+ \tdump";
+
+fn call(number: u64, args: [u64; 8], spelt: bool) -> Act {
+    Act::Call {
+        number,
+        args,
+        spelt,
+    }
+}
+
+fn access(want: Want, ea: u64, user: bool) -> Act {
+    Act::Access { want, ea, user }
+}
+
 #[test]
-fn a_whole_trace_is_read(rt: HostRuntime) -> Result<(), Fail> {
-    let input =
-        "order 19\nlimit 20\ncpus 2\npool 0x2000000000 20\nram 0 0x100000 0x10000\nio 0x10000 0x200000 0x1000\n# begin\nbegin\n1 H_ENTER 0x0 0X20 0x1001 4096\r\n\n0 hcall 0x36C 1\n1 load 0x5000 user\n0 store 1 priv\n0 fetch 1 priv\n0 slbmte 0x8000000 0x1000\n0 slbclear\n \tdump";
-    let trace = parse(rt.alloc(), input.as_bytes())?;
+fn the_configuration_is_read(rt: HostRuntime) -> Result<(), Fail> {
+    let trace = parse(rt.alloc(), WHOLE.as_bytes())?;
     let config = &trace.config;
     assert_eq!(rt; config.order, 19);
     assert_eq!(rt; config.limit, 20);
@@ -33,61 +62,24 @@ fn a_whole_trace_is_read(rt: HostRuntime) -> Result<(), Fail> {
     assert_eq!(rt; config.pool_base, 0x20_0000_0000);
     assert_eq!(rt; config.pool_order, 20);
     assert_eq!(rt; config.grants.list().len(), 2);
+    Ok(())
+}
+
+#[test]
+fn each_kind_of_line_is_read(rt: HostRuntime) -> Result<(), Fail> {
+    let trace = parse(rt.alloc(), WHOLE.as_bytes())?;
     let lines = trace.lines.as_slice();
+    let segment = Act::SlbMte {
+        rb: 0x800_0000,
+        rs: 0x1000,
+    };
     let expected = [
-        (
-            9,
-            1,
-            Act::Call {
-                number: 8,
-                args: [0, 0x20, 0x1001, 4096, 0, 0, 0, 0],
-                spelt: true,
-            },
-        ),
-        (
-            11,
-            0,
-            Act::Call {
-                number: 0x36C,
-                args: [1, 0, 0, 0, 0, 0, 0, 0],
-                spelt: false,
-            },
-        ),
-        (
-            12,
-            1,
-            Act::Access {
-                want: Want::Load,
-                ea: 0x5000,
-                user: true,
-            },
-        ),
-        (
-            13,
-            0,
-            Act::Access {
-                want: Want::Store,
-                ea: 1,
-                user: false,
-            },
-        ),
-        (
-            14,
-            0,
-            Act::Access {
-                want: Want::Fetch,
-                ea: 1,
-                user: false,
-            },
-        ),
-        (
-            15,
-            0,
-            Act::SlbMte {
-                rb: 0x800_0000,
-                rs: 0x1000,
-            },
-        ),
+        (9, 1, call(8, [0, 0x20, 0x1001, 4096, 0, 0, 0, 0], true)),
+        (11, 0, call(0x36C, [1, 0, 0, 0, 0, 0, 0, 0], false)),
+        (12, 1, access(Want::Load, 0x5000, true)),
+        (13, 0, access(Want::Store, 1, false)),
+        (14, 0, access(Want::Fetch, 1, false)),
+        (15, 0, segment),
         (16, 0, Act::SlbClear),
         (17, 0, Act::Dump),
     ];
@@ -100,66 +92,73 @@ fn a_whole_trace_is_read(rt: HostRuntime) -> Result<(), Fail> {
     Ok(())
 }
 
+/// Inputs, each with its first refused line and the reason.
+const REFUSED: &[(&str, (u32, &str))] = &[
+    ("", (1, "begin")),
+    ("order 18\n\n", (3, "begin")),
+    ("order 18\rx\n", (1, "ascii")),
+    ("order 18\r\r\n", (1, "ascii")),
+    ("# é\n", (1, "ascii")),
+    ("begin\n0 H_FLUSH 0x0\n", (2, "word")),
+    ("0 H_FLUSH 0x0\n", (1, "word")),
+    ("Order 18\n", (1, "word")),
+    ("H_ENTER 0\n", (1, "word")),
+    ("5\n", (1, "place")),
+    ("5x\n", (1, "place")),
+    ("begin\n5x\n", (2, "count")),
+    ("dump\n", (1, "place")),
+    ("cpus 1\nlimit 20\n", (2, "place")),
+    ("order 18\norder 18\n", (2, "place")),
+    ("ram 0 0x1000 0x1000\npool 0x1000000000 24\n", (2, "place")),
+    ("begin\nbegin\n", (2, "place")),
+    ("begin 1\n", (1, "count")),
+    ("begin\n0 H_ENTER 0x0 0x20 0x1001\n", (2, "count")),
+    ("begin\n0 H_ENTER 0x0 0x20 0x1001 0x3012 0\n", (2, "count")),
+    ("begin\n0 H_BULK_REMOVE 0 0 0 0 0 0 0\n", (2, "count")),
+    ("begin\n0 hcall\n", (2, "count")),
+    ("begin\n0 hcall 1 1 2 3 4 5 6 7 8 9\n", (2, "count")),
+    ("begin\n0 load x root 1\n", (2, "count")),
+    ("begin\ndump 0\n", (2, "count")),
+    ("begin\n0 H_ENTER 0x0 0x20 0x1001 0x\n", (2, "number")),
+    ("begin\n0x H_READ 0 0\n", (2, "number")),
+    ("begin\n1 load x root\n", (2, "number")),
+    ("order -1\n", (1, "number")),
+    ("cpus 18446744073709551616\n", (1, "number")),
+    ("begin\n1 load 0 root\n", (2, "mode")),
+    ("begin\n1 load 0 priv\n", (2, "cpu")),
+    ("cpus 64\nbegin\n64 slbclear\n", (3, "cpu")),
+    ("order 17\n", (1, "range")),
+    ("order 23\n", (1, "range")),
+    ("limit 17\n", (1, "range")),
+    ("order 20\nlimit 19\n", (2, "range")),
+    ("limit 23\n", (1, "range")),
+    ("cpus 0\n", (1, "range")),
+    ("cpus 65\n", (1, "range")),
+    ("pool 0x1000000000 35\n", (1, "range")),
+    ("pool 0x1000000001 18\n", (1, "range")),
+    ("pool 0x1000000000000000 18\n", (1, "range")),
+    ("pool 0 0xffffffffffffffff\n", (1, "range")),
+    ("ram 1 1 0\n", (1, "empty")),
+    ("ram 0x800 0 0x1000\n", (1, "unaligned")),
+    ("ram 0 0xffffffffffff000 0x2000\n", (1, "past")),
+    ("ram 0 0 0x1000\nio 0 0x1000 0x1000\n", (2, "overlap")),
+    ("ram 0 0x1000000000 0x1000\n", (1, "tables")),
+    (
+        "pool 0x2000000000 20\nram 0 0x20000ff000 0x1000\n",
+        (2, "tables"),
+    ),
+    ("order 20\npool 0x1000000000 19\nbegin\n", (3, "small")),
+];
+
 #[test]
 fn the_first_refused_line_is_told(rt: HostRuntime) -> Result<(), Fail> {
     let alloc = rt.alloc();
-    for (input, told) in [
-        ("", (1, "begin")),
-        ("order 18\n\n", (3, "begin")),
-        ("order 18\rx\n", (1, "ascii")),
-        ("order 18\r\r\n", (1, "ascii")),
-        ("# é\n", (1, "ascii")),
-        ("begin\n0 H_FLUSH 0x0\n", (2, "word")),
-        ("0 H_FLUSH 0x0\n", (1, "word")),
-        ("Order 18\n", (1, "word")),
-        ("H_ENTER 0\n", (1, "word")),
-        ("5\n", (1, "place")),
-        ("5x\n", (1, "place")),
-        ("begin\n5x\n", (2, "count")),
-        ("dump\n", (1, "place")),
-        ("cpus 1\nlimit 20\n", (2, "place")),
-        ("order 18\norder 18\n", (2, "place")),
-        ("ram 0 0x1000 0x1000\npool 0x1000000000 24\n", (2, "place")),
-        ("begin\nbegin\n", (2, "place")),
-        ("begin 1\n", (1, "count")),
-        ("begin\n0 H_ENTER 0x0 0x20 0x1001\n", (2, "count")),
-        ("begin\n0 H_ENTER 0x0 0x20 0x1001 0x3012 0\n", (2, "count")),
-        ("begin\n0 H_BULK_REMOVE 0 0 0 0 0 0 0\n", (2, "count")),
-        ("begin\n0 hcall\n", (2, "count")),
-        ("begin\n0 hcall 1 1 2 3 4 5 6 7 8 9\n", (2, "count")),
-        ("begin\n0 load x root 1\n", (2, "count")),
-        ("begin\ndump 0\n", (2, "count")),
-        ("begin\n0 H_ENTER 0x0 0x20 0x1001 0x\n", (2, "number")),
-        ("begin\n0x H_READ 0 0\n", (2, "number")),
-        ("begin\n1 load x root\n", (2, "number")),
-        ("order -1\n", (1, "number")),
-        ("cpus 18446744073709551616\n", (1, "number")),
-        ("begin\n1 load 0 root\n", (2, "mode")),
-        ("begin\n1 load 0 priv\n", (2, "cpu")),
-        ("cpus 64\nbegin\n64 slbclear\n", (3, "cpu")),
-        ("order 17\n", (1, "range")),
-        ("order 23\n", (1, "range")),
-        ("limit 17\n", (1, "range")),
-        ("order 20\nlimit 19\n", (2, "range")),
-        ("limit 23\n", (1, "range")),
-        ("cpus 0\n", (1, "range")),
-        ("cpus 65\n", (1, "range")),
-        ("pool 0x1000000000 35\n", (1, "range")),
-        ("pool 0x1000000001 18\n", (1, "range")),
-        ("pool 0x1000000000000000 18\n", (1, "range")),
-        ("pool 0 0xffffffffffffffff\n", (1, "range")),
-        ("ram 1 1 0\n", (1, "empty")),
-        ("ram 0x800 0 0x1000\n", (1, "unaligned")),
-        ("ram 0 0xffffffffffff000 0x2000\n", (1, "past")),
-        ("ram 0 0 0x1000\nio 0 0x1000 0x1000\n", (2, "overlap")),
-        ("ram 0 0x1000000000 0x1000\n", (1, "tables")),
-        (
-            "pool 0x2000000000 20\nram 0 0x20000ff000 0x1000\n",
-            (2, "tables"),
-        ),
-        ("order 20\npool 0x1000000000 19\nbegin\n", (3, "small")),
-    ] {
-        assert_eq!(rt; refusal(alloc, input.as_bytes())?, Some(told), "at {input}");
+    for (input, told) in REFUSED {
+        assert_eq!(rt;
+            refusal(alloc, input.as_bytes())?,
+            Some(*told),
+            "at {input}"
+        );
     }
     Ok(())
 }

@@ -5,8 +5,11 @@ mod act;
 mod calls;
 mod dump;
 mod machine;
+mod opening;
+mod printing;
 mod run;
 
+pub use printing::run_to_text;
 pub use run::{Ran, run_serial, run_with_table};
 
 #[cfg(test)]

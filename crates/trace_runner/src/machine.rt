@@ -111,7 +111,8 @@ impl Machine {
         reply
     }
 
-    // A quiet line.
+    // A quiet line. These are rare, so other lines make no room for what this holds.
+    #[inline(never)]
     #[tactic(auto, unfolding(reply_text::specs::Worlds::quiet_of, trace_read::specs::Trace::is_quiet))]
     fn quiet(&mut self, alloc: Global, act: &Act) -> Result<Reply, AllocError>
         requires quiet { is_quiet act.now ≡ true }

@@ -3,11 +3,11 @@ ghost use Rattle.std.specs.List.{AllByRecursion};
 ghost use Rattle.trace_read.specs.declared.trace.TraceLine.{TraceLine};
 ghost use Rattle.reply_text.specs.Worlds.{opening, shown_of};
 ghost use Rattle.reply_text.specs.Serial.{serial, replies_from, world_after};
-ghost use Rattle.reply_text.specs.Promise.{IsAccepted};
 ghost use Rattle.reply_text.specs.Good.{Good};
 ghost use Rattle.reply_text.specs.Claims.{Assures};
 
 use crate::machine::Machine;
+use crate::opening::opened;
 use reply_text::{Replies, Shown};
 use std::alloc::{AllocError, Global};
 use trace_read::{Trace, TraceLine};
@@ -40,15 +40,6 @@ fn run_lines(
     Ok(replies)
 }
 
-/// What each accepted trace has.
-fn keeps_limits(trace: &Trace)
-    ensures { IsAccepted trace.now }
-{
-    let _limit = trace.config.limit;
-    let _grants = trace.config.grants.list();
-    let _lines = trace.lines.as_slice();
-}
-
 /// The replies of the serial run of a trace, and the table at its end: its lines one after the other
 /// in file order, on a table that begins empty.
 pub fn run_with_table(alloc: Global, trace: &Trace) -> Result<Ran, AllocError>
@@ -56,8 +47,7 @@ pub fn run_with_table(alloc: Global, trace: &Trace) -> Result<Ran, AllocError>
     ensures table { IfOk result (λ ran. ran.table ≡ shown_of (world_after (opening trace.now.config) trace.now.lines).home) }
     ensures good { Good trace.now (serial trace.now) }
 {
-    keeps_limits(trace);
-    let mut machine = Machine::open(alloc, &trace.config)?;
+    let mut machine = opened(alloc, trace)?;
     let replies = run_lines(alloc, &mut machine, trace.lines.as_slice())?;
     let table = machine.shown(alloc)?;
     Ok(Ran { replies, table })
@@ -70,7 +60,6 @@ pub fn run_serial(alloc: Global, trace: &Trace) -> Result<Replies, AllocError>
     ensures good { Good trace.now (serial trace.now) }
     ensures assured { Assures trace.now (serial trace.now) }
 {
-    keeps_limits(trace);
-    let mut machine = Machine::open(alloc, &trace.config)?;
+    let mut machine = opened(alloc, trace)?;
     run_lines(alloc, &mut machine, trace.lines.as_slice())
 }

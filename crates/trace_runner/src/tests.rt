@@ -1,4 +1,4 @@
-use crate::{Ran, run_serial, run_with_table};
+use crate::{Ran, run_serial, run_to_text, run_with_table};
 use entry_model::EntryState;
 use reply_text::{Reply, text_of};
 use std::alloc::Global;
@@ -16,9 +16,7 @@ fn accepted(alloc: Global, input: &str) -> Result<Trace, Fail> {
 
 /// The text of the replies to an input.
 fn replies(alloc: Global, input: &str) -> Result<String, Fail> {
-    let trace = accepted(alloc, input)?;
-    let replies = run_serial(alloc, &trace)?;
-    Ok(text_of(alloc, &trace, &replies)?)
+    Ok(run_to_text(alloc, &accepted(alloc, input)?)?)
 }
 
 fn ran(alloc: Global, input: &str) -> Result<Ran, Fail> {
@@ -52,6 +50,19 @@ fn a_cached_line_is_used_until_another_processor_protects_its_page(
 9 1 H_PROTECT 0 | 0x20.1.2.protected
 10 0 load at 0x2000003000 walk | 0x20.2.2.at
 "
+    );
+    Ok(())
+}
+
+#[test]
+fn the_text_is_that_of_the_replies(rt: HostRuntime) -> Result<(), Fail> {
+    let alloc = rt.alloc();
+    let trace = accepted(alloc, SHARED_PAGE)?;
+    let replies = run_serial(alloc, &trace)?;
+    assert_eq!(rt; replies.as_slice().len(), 6);
+    assert_eq!(rt;
+        text_of(alloc, &trace, &replies)?.as_str(),
+        run_to_text(alloc, &trace)?.as_str()
     );
     Ok(())
 }

@@ -76,6 +76,8 @@ impl Cpu {
     /// Without a segment it ends at once. By the line of its page that is cached, one operation is
     /// made on the line's entry; where there is none, or its entry was changed since, the line goes
     /// and a walk follows, and where it ended at a machine address the entry's line is cached.
+    // Out of line: docs/PERFORMANCE.md says why.
+    #[inline(never)]
     pub fn access<T: EntryStore>(
         &mut self,
         store: &mut T,

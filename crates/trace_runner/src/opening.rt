@@ -1,0 +1,34 @@
+ghost use Rattle.std.specs.Prelude.{◌≡◌, ◌<◌, length, IfOk};
+ghost use Rattle.std.specs.List.{AllByRecursion};
+ghost use Rattle.trace_read.specs.declared.trace.TraceLine.{TraceLine};
+ghost use Rattle.reply_text.specs.Worlds.{opening};
+ghost use Rattle.reply_text.specs.Serial.{serial};
+ghost use Rattle.reply_text.specs.Promise.{IsAccepted};
+ghost use Rattle.reply_text.specs.Good.{Good};
+ghost use Rattle.reply_text.specs.Claims.{Assures};
+
+use crate::machine::Machine;
+use std::alloc::{AllocError, Global};
+use trace_read::Trace;
+
+/// What each accepted trace has.
+fn keeps_limits(trace: &Trace)
+    ensures { IsAccepted trace.now }
+{
+    let _limit = trace.config.limit;
+    let _grants = trace.config.grants.list();
+    let _lines = trace.lines.as_slice();
+}
+
+/// The machine of a trace, before its first line. The serial run of each trace is a good run.
+pub fn opened(alloc: Global, trace: &Trace) -> Result<Machine, AllocError>
+    ensures world { IfOk result (λ machine. machine ≡ opening trace.now.config) }
+    ensures cpus { IfOk result (λ machine. AllByRecursion (λ (l : TraceLine). l.cpu < length machine.seats) trace.now.lines) }
+    ensures number { IfOk result (λ machine. machine.home.table.number ≡ 0) }
+    ensures good { Good trace.now (serial trace.now) }
+    ensures assured { Assures trace.now (serial trace.now) }
+{
+    keeps_limits(trace);
+    let machine = Machine::open(alloc, &trace.config)?;
+    Ok(machine)
+}

@@ -45,8 +45,6 @@ fn code_and_words(receipt: &Receipt, shown: Shown) -> (Rc, ReplyWords)
 }
 
 /// One operation on the entry that the index names. H_PARAMETER comes for an index past the table.
-// Out of line: docs/PERFORMANCE.md says why.
-#[inline(never)]
 fn single<T: EntryStore>(store: &mut T, ptex: u64, op: Op, shown: Shown) -> HReply
     requires { IsNormal op }
     ensures made { T.made store.old store.new result.receipts }
@@ -76,6 +74,8 @@ fn where_flag(flags: CallFlags, flag: CallFlags, word: u64) -> Option<u64>
 /// H_REMOVE: empties the entry and gives both its doublewords, with R and C. Under H_AVPN `avpn` has
 /// to be the entry's abbreviated virtual page number, and under H_ANDCOND the entry may have none of
 /// these bits in doubleword 0; else H_NOT_FOUND comes.
+// Out of line: docs/PERFORMANCE.md says why.
+#[inline(never)]
 #[tactic(auto, unfolding(crate::specs::Single::h_remove_plan))]
 pub fn h_remove<T: EntryStore>(store: &mut T, flags: u64, ptex: u64, avpn: u64) -> HReply
     ensures made { T.made store.old store.new result.receipts }
@@ -91,6 +91,8 @@ pub fn h_remove<T: EntryStore>(store: &mut T, flags: u64, ptex: u64, avpn: u64) 
 
 /// H_PROTECT: gives the entry the protection, key and no-execute bits that lie in `flags`. Under
 /// H_AVPN `avpn` has to be the entry's abbreviated virtual page number; else H_NOT_FOUND comes.
+// Out of line: docs/PERFORMANCE.md says why.
+#[inline(never)]
 #[tactic(auto, unfolding(crate::specs::Single::h_protect_plan))]
 pub fn h_protect<T: EntryStore>(store: &mut T, flags: u64, ptex: u64, avpn: u64) -> HReply
     ensures made { T.made store.old store.new result.receipts }
@@ -104,6 +106,8 @@ pub fn h_protect<T: EntryStore>(store: &mut T, flags: u64, ptex: u64, avpn: u64)
 }
 
 /// H_CLEAR_REF: clears R, and gives doubleword 1 as it was. No flag has an effect.
+// Out of line: docs/PERFORMANCE.md says why.
+#[inline(never)]
 #[tactic(auto, unfolding(crate::specs::Single::h_clear_ref_plan))]
 pub fn h_clear_ref<T: EntryStore>(store: &mut T, _flags: u64, ptex: u64) -> HReply
     ensures made { T.made store.old store.new result.receipts }
@@ -113,6 +117,8 @@ pub fn h_clear_ref<T: EntryStore>(store: &mut T, _flags: u64, ptex: u64) -> HRep
 }
 
 /// H_CLEAR_MOD: clears C, and gives doubleword 1 as it was. No flag has an effect.
+// Out of line: docs/PERFORMANCE.md says why.
+#[inline(never)]
 #[tactic(auto, unfolding(crate::specs::Single::h_clear_mod_plan))]
 pub fn h_clear_mod<T: EntryStore>(store: &mut T, _flags: u64, ptex: u64) -> HReply
     ensures made { T.made store.old store.new result.receipts }

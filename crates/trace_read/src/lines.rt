@@ -5,6 +5,9 @@ ghost use Rattle.trace_read.specs.Rest.{parts_left, rest_size};
 
 use std::alloc::{AllocError, Global};
 
+/// No accepted line has more words; room for more is made where they come.
+const USUAL_WORDS: usize = 11;
+
 /// The lines of an input that are still to be read, if there are any: one LF at its end ends the last.
 pub fn lines(bytes: &[u8]) -> Option<&[u8]>
     ensures { parts_left result ≡ raw_lines bytes.now }
@@ -63,9 +66,12 @@ pub fn is_text(line: &[u8]) -> bool
 pub fn words(alloc: Global, line: &[u8]) -> Result<Vec<&[u8]>, AllocError>
     ensures { IfOk result (λ v. texts v.items ≡ words_of line.now) }
 {
-    line.split(|c| *c == b'\t' || *c == b' ')
-        .filter(|w| !w.is_empty())
-        .collect(alloc)
+    let mut words = Vec::with_capacity(alloc, USUAL_WORDS)?;
+    words.extend(
+        line.split(|c| *c == b'\t' || *c == b' ')
+            .filter(|w| !w.is_empty()),
+    )?;
+    Ok(words)
 }
 
 /// Whether a line with these words is a remark.

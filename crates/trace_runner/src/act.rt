@@ -13,27 +13,30 @@ use reply_text::Reply;
 use trace_read::Act;
 use vcpu::Cpu;
 
-/// Runs a line that isn't quiet, on the table with nobody else at it, by this processor.
-pub fn run_act(table: &mut PlainTable, cpu: &mut Cpu, grants: &Grants, act: &Act) -> Reply
+/// Runs a line that isn't quiet, on the table with nobody else at it, by this processor. The reply goes
+/// into `reply`, whatever stands there.
+pub fn run_act(table: &mut PlainTable, cpu: &mut Cpu, grants: &Grants, act: &Act, reply: &mut Reply)
     requires not_quiet { is_quiet act.now ≡ false }
     requires seen { AllCached (IsSeen table.old) cpu.old.cache }
-    ensures turn { IsActed (setting_on table.old.order grants.now) cpu.old table.old.states act.now result table.new.states }
-    ensures seat { cpu.new ≡ seat_after cpu.old act.now result }
+    ensures turn { IsActed (setting_on table.old.order grants.now) cpu.old table.old.states act.now reply.new table.new.states }
+    ensures seat { cpu.new ≡ seat_after cpu.old act.now reply.new }
     ensures order { table.new.order ≡ table.old.order }
     ensures size { length table.new.states ≡ length table.old.states }
     ensures seen { AllCached (IsSeen table.new) cpu.new.cache }
 {
     match *act {
         Act::Call { number, args, .. } => {
-            Reply::Hcall(make_call(table, grants, Hcall::of_number(number), &args))
+            *reply = Reply::Hcall(make_call(table, grants, Hcall::of_number(number), &args));
         }
-        Act::Access { want, ea, user } => Reply::Access(cpu.access(table, grants, ea, want, user)),
-        Act::SlbMte { rb, rs } => Reply::Segment(cpu.mte(rb, rs).is_ok()),
+        Act::Access { want, ea, user } => {
+            *reply = Reply::Access(cpu.access(table, grants, ea, want, user));
+        }
+        Act::SlbMte { rb, rs } => *reply = Reply::Segment(cpu.mte(rb, rs).is_ok()),
         Act::SlbClear => {
             cpu.clear_slb();
-            Reply::Segment(true)
+            *reply = Reply::Segment(true);
         }
         // Not reached: a dump is quiet.
-        Act::Dump => Reply::Segment(true),
+        Act::Dump => *reply = Reply::Segment(true),
     }
 }

@@ -71,19 +71,26 @@ impl Machine {
         Ok(Machine { partition, cpus })
     }
 
-    /// Runs a line.
+    /// Runs a line. The reply goes into `reply`, whatever stands there, so that one place can serve
+    /// for many lines.
     #[tactic(auto, unfolding(reply_text::specs::Serial::line_reply))]
-    pub fn line(&mut self, alloc: Global, line: &TraceLine) -> Result<Reply, AllocError>
+    pub fn line(
+        &mut self,
+        alloc: Global,
+        line: &TraceLine,
+        reply: &mut Reply,
+    ) -> Result<(), AllocError>
         requires cpu { line.now.cpu < length self.old.seats }
         requires number { self.old.home.table.number < 2 ^ 32 - 1 }
-        ensures reply { IfOk result (λ reply. (reply, self.new) ≡ line_reply self.old line.now) }
+        ensures reply { OnOk result ((reply.new, self.new) ≡ line_reply self.old line.now) }
         ensures number { OnOk result (self.new.home.table.number ≤ self.old.home.table.number + 1) }
         ensures cpus { OnOk result (length self.new.seats ≡ length self.old.seats) }
     {
         if line.act.is_quiet() {
-            self.quiet(alloc, &line.act)
+            self.quiet(alloc, &line.act, reply)
         } else {
-            Ok(self.run(line))
+            self.run(line, reply);
+            Ok(())
         }
     }
 
@@ -96,38 +103,37 @@ impl Machine {
 
     // A line that isn't quiet, by its processor.
     #[tactic(auto, unfolding(reply_text::specs::Serial::line_reply))]
-    fn run(&mut self, line: &TraceLine) -> Reply
+    fn run(&mut self, line: &TraceLine, reply: &mut Reply)
         requires not_quiet { is_quiet line.now.act ≡ false }
         requires cpu { line.now.cpu < length self.old.seats }
-        ensures reply { (result, self.new) ≡ line_reply self.old line.now }
+        ensures reply { (reply.new, self.new) ≡ line_reply self.old line.now }
         ensures number { self.new.home.table.number ≡ self.old.home.table.number }
         ensures cpus { length self.new.seats ≡ length self.old.seats }
     {
         let order = self.partition.order();
         let mut table = PlainTable::open(self.partition.take_states(), order);
         let cpu = &mut self.cpus[line.cpu as usize];
-        let reply = run_act(&mut table, cpu, self.partition.grants(), &line.act);
+        run_act(&mut table, cpu, self.partition.grants(), &line.act, reply);
         self.partition.put_states(table.close());
-        reply
     }
 
     // A quiet line. These are rare, so other lines make no room for what this holds.
     #[inline(never)]
     #[tactic(auto, unfolding(reply_text::specs::Worlds::quiet_of, trace_read::specs::Trace::is_quiet))]
-    fn quiet(&mut self, alloc: Global, act: &Act) -> Result<Reply, AllocError>
+    fn quiet(&mut self, alloc: Global, act: &Act, reply: &mut Reply) -> Result<(), AllocError>
         requires quiet { is_quiet act.now ≡ true }
         requires number { self.old.home.table.number < 2 ^ 32 - 1 }
-        ensures reply { IfOk result (λ reply. (reply, self.new) ≡ quiet_of self.old act.now) }
+        ensures reply { OnOk result ((reply.new, self.new) ≡ quiet_of self.old act.now) }
         ensures number { OnOk result (self.new.home.table.number ≤ self.old.home.table.number + 1) }
         ensures cpus { OnOk result (length self.new.seats ≡ length self.old.seats) }
     {
         match *act {
             Act::Call { number, args, .. } => {
-                let reply = self.resize(alloc, Hcall::of_number(number), &args)?;
-                Ok(Reply::Hcall(reply))
+                *reply = Reply::Hcall(self.resize(alloc, Hcall::of_number(number), &args)?);
             }
-            _ => Ok(Reply::Dump(self.shown(alloc)?)),
+            _ => *reply = Reply::Dump(self.shown(alloc)?),
         }
+        Ok(())
     }
 
     // One of the two resize calls. A committed resize clears each processor's cache.

@@ -8,7 +8,7 @@ ghost use Rattle.reply_text.specs.Claims.{Assures};
 
 use crate::machine::Machine;
 use crate::opening::opened;
-use reply_text::put_reply;
+use reply_text::{Reply, put_reply};
 use std::alloc::{AllocError, Global};
 use trace_read::{Trace, TraceLine};
 
@@ -24,8 +24,9 @@ fn put_lines(
     requires number { machine.old.home.table.number ≡ 0 }
     ensures text { OnOk result (string_bytes out.new ≡ string_bytes out.old ++ text_from lines.now (replies_from machine.old lines.now)) }
 {
+    let mut reply = Reply::Segment(true);
     for line in lines {
-        let reply = machine.line(alloc, line)?;
+        machine.line(alloc, line, &mut reply)?;
         put_reply(out, line, &reply)?;
     }
     Ok(())

@@ -8,7 +8,7 @@ ghost use Rattle.reply_text.specs.Claims.{Assures};
 
 use crate::machine::Machine;
 use crate::opening::opened;
-use reply_text::{Replies, Shown};
+use reply_text::{Replies, Reply, Shown};
 use std::alloc::{AllocError, Global};
 use trace_read::{Trace, TraceLine};
 
@@ -35,7 +35,9 @@ fn run_lines(
     let mut replies = Replies::new(alloc);
     replies.reserve(lines.len())?;
     for line in lines {
-        replies.push(machine.line(alloc, line)?)?;
+        let mut reply = Reply::Segment(true);
+        machine.line(alloc, line, &mut reply)?;
+        replies.push(reply)?;
     }
     Ok(replies)
 }

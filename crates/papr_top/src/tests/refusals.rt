@@ -64,7 +64,7 @@ fn an_input_is_refused_at_its_first_wrong_line(rt: HostRuntime) -> Result<(), Fa
     for (input, text) in REFUSED_INPUTS {
         let (status, written) = run(alloc, input.as_bytes())?;
         assert_eq!(rt; status, Status::Refused, "at {input}");
-        assert_eq!(rt; written.as_str(), text, "at {input}");
+        assert_eq!(rt; written.as_str(), *text, "at {input}");
     }
     Ok(())
 }

@@ -71,8 +71,8 @@ impl Machine {
         Ok(Machine { partition, cpus })
     }
 
-    /// Runs a line. The reply goes into `reply`, whatever stands there, so that one place can serve
-    /// for many lines.
+    /// Runs a line. Its reply takes the place of what is in `reply`, so that one place can serve for
+    /// many lines.
     #[tactic(auto, unfolding(reply_text::specs::Serial::line_reply))]
     pub fn line(
         &mut self,

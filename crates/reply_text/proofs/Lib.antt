@@ -7,6 +7,7 @@ pub mod Meets
 pub mod Homes
 pub mod SerialStands
 pub mod SerialGood
+pub mod WorkersGood
 pub mod TextSteps
 pub mod OneProcessor
 pub mod Resized
@@ -26,3 +27,4 @@ mod TextRows
 mod HistoryRows
 mod SectionRows
 mod WholeRows
+mod WorkerRows

@@ -9,6 +9,7 @@ pub mod Sections
 pub mod Good
 pub mod Standing
 pub mod Promise
+pub mod Workers
 pub mod Claims
 pub mod Text
 pub mod Summary

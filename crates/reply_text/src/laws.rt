@@ -1,11 +1,18 @@
 //! Laws of the runs of a trace. Each function does nothing, and its contract is the law.
 
 ghost use Rattle.reply_text.specs.Promise.{SerialIsGood};
+ghost use Rattle.reply_text.specs.Workers.{ParallelIsGood};
 ghost use Rattle.reply_text.specs.Claims.{SerialIsTheOneGoodRun, NoStoreIsLost, ResizesKeepBoltedPages, AccessesLandInGrants};
 
 /// The serial run of a trace is a good run.
 pub fn serial_is_good()
     ensures { SerialIsGood }
+{}
+
+/// A run in which each processor works on its own, on a table that gives each entry one legal history,
+/// is a good run.
+pub fn parallel_is_good()
+    ensures { ParallelIsGood }
 {}
 
 /// A trace of one processor has one good run, the serial one.

@@ -1,4 +1,5 @@
-//! Runs traces: the replies to the lines of a trace, one line after the other in file order.
+//! Runs traces: the replies to the lines of a trace, one line after the other in file order, and their
+//! text.
 #![tactic(auto)]
 
 mod act;

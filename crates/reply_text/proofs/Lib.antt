@@ -8,6 +8,7 @@ pub mod Homes
 pub mod SerialStands
 pub mod SerialGood
 pub mod WorkersGood
+pub mod SerialParallel
 pub mod TextSteps
 pub mod OneProcessor
 pub mod Resized

@@ -37,7 +37,7 @@ pub turns_run : (set : Setting) (seats : List Seat) (a b : List State) (ts : Lis
 turns_run set seats a b [] h = h
 turns_run set seats a b (t ∷ ts) h = run_more a h.0 b (receipts_in t.reply) (receipts_by ts) h.1.run (turns_run set (seats_after seats t) h.0 b ts h.2)
 
-within_run : (a b : List State) (rs : List Receipt) → IsRun a rs b → AllByRecursion (λ (r : Receipt). r.entry < length a) rs
+pub within_run : (a b : List State) (rs : List Receipt) → IsRun a rs b → AllByRecursion (λ (r : Receipt). r.entry < length a) rs
 within_run a b [] h = tt
 within_run a b (r ∷ rs) h = (h.1.in_table, subst (λ n. AllByRecursion (λ (r : Receipt). r.entry < n) rs) (run-length a h.0 (r ∷ []) (h.0, h.1, refl)) (within_run h.0 b rs h.2))
 
@@ -149,7 +149,7 @@ turns_reaches set seats a b (t ∷ ts) h = (record { reply = h.1.reach; gone = g
 abbrev pub IsGoodSection : Section → Type 0
 IsGoodSection s = AreLegal s × AreInOrder s × CallsAreReplied s × AccessesAreReplied s × QuietIsReplied s
 
-section_legal : (w : World) (ts : List Turn) (b : List State) → Cpus (length w.seats) ts → IsTurns (setting_of w) w.seats (states_in w) ts b → (e : ℕ) → IsLegal (state_at (states_in w) e) (history e (made_by w ts)) (state_at b e)
+pub section_legal : (w : World) (ts : List Turn) (b : List State) → Cpus (length w.seats) ts → IsTurns (setting_of w) w.seats (states_in w) ts b → (e : ℕ) → IsLegal (state_at (states_in w) e) (history e (made_by w ts)) (state_at b e)
 section_legal w ts b within h e = history_regrouped e _ _ (receipts_by ts) (made_by w ts) (file_listed (length w.seats) ts within) (run_history e (states_in w) b (receipts_by ts) (turns_run (setting_of w) w.seats (states_in w) b ts h))
 
 pub closed_is : (w : World) (ts : List Turn) (b : List State) → Cpus (length w.seats) ts → IsTurns (setting_of w) w.seats (states_in w) ts b → closed w ts ≡ at_home w ts b

@@ -18,7 +18,9 @@ use Rattle.reply_text.specs.Calls.{IsCallReply, IsReachReply}
 use Rattle.reply_text.specs.Worlds.{World, setting_of, states_in, with_states, opening, quiet_of}
 use Rattle.reply_text.specs.Histories.{own_turns}
 use Rattle.reply_text.specs.Sections.{made_by, seats_by, cut}
+use Rattle.reply_text.specs.Serial.{serial}
 use Rattle.reply_text.specs.Good.{Good}
+use Rattle.reply_text.specs.Promise.{IsAccepted}
 
 -- ---- a processor
 -- One of its lines, from the fronts that it had to those that it has then. A cached line that it went past was gone: its entry's receipts come later, and the front says so.
@@ -60,6 +62,11 @@ RunsParallel w ts (q ∷ qs) = (fronts : ℕ → List ℕ) × (states : List Sta
 abbrev pub IsParallel : Accepted → List Reply → Type 0
 IsParallel t rs = let c = cut (turns_of t.lines rs) in RunsParallel (opening t.config) c.0 c.1
 
+-- ---- laws
 -- Each such run is a good one.
 abbrev pub ParallelIsGood : Type 0
 ParallelIsGood = (t : Accepted) (rs : List Reply) → AreReplies t.lines rs → IsParallel t rs → Good t rs
+
+-- The serial run of an accepted trace is such a run: a processor that nobody disturbs keeps all that is promised.
+abbrev pub SerialIsParallel : Type 0
+SerialIsParallel = (t : Accepted) → IsAccepted t → IsParallel t (serial t)

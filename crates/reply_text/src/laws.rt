@@ -1,7 +1,7 @@
 //! Laws of the runs of a trace. Each function does nothing, and its contract is the law.
 
 ghost use Rattle.reply_text.specs.Promise.{SerialIsGood};
-ghost use Rattle.reply_text.specs.Workers.{ParallelIsGood};
+ghost use Rattle.reply_text.specs.Workers.{ParallelIsGood, SerialIsParallel};
 ghost use Rattle.reply_text.specs.Claims.{SerialIsTheOneGoodRun, NoStoreIsLost, ResizesKeepBoltedPages, AccessesLandInGrants};
 
 /// The serial run of a trace is a good run.
@@ -13,6 +13,11 @@ pub fn serial_is_good()
 /// is a good run.
 pub fn parallel_is_good()
     ensures { ParallelIsGood }
+{}
+
+/// The serial run of a trace is one in which each processor works on its own.
+pub fn serial_is_parallel()
+    ensures { SerialIsParallel }
 {}
 
 /// A trace of one processor has one good run, the serial one.

@@ -13,7 +13,7 @@ mod text;
 
 pub use laws::{
     accesses_land_in_grants, no_store_is_lost, one_good_run, parallel_is_good,
-    resizes_keep_bolted_pages, serial_is_good,
+    resizes_keep_bolted_pages, serial_is_good, serial_is_parallel,
 };
 pub use replies::Replies;
 pub use reply::Reply;

@@ -20,3 +20,6 @@ pub use reply::Reply;
 pub use shown::{Shown, ShownStates};
 pub use summary::summary_of;
 pub use text::{put_reply, text_of};
+
+#[cfg(test)]
+mod tests;

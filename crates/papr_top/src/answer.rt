@@ -28,7 +28,7 @@ pub fn answer(alloc: Global, bytes: &[u8]) -> Result<(Status, String), AllocErro
     ensures { IfOk result (λ x. IsAnswered (trace_of bytes.now) x.0 (string_bytes x.1)) }
 {
     match parse(alloc, bytes) {
-        Ok(trace) => { Ok((Status::Done, run_to_text(alloc, &trace)?)) }
+        Ok(trace) => Ok((Status::Done, run_to_text(alloc, &trace)?)),
         Err(TraceError::Line { line, why }) => Ok((Status::Refused, refusal(alloc, line, why)?)),
         Err(TraceError::Memory) => Err(AllocError),
     }

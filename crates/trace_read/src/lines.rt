@@ -5,7 +5,7 @@ ghost use Rattle.trace_read.specs.Rest.{parts_left, rest_size};
 
 use std::alloc::{AllocError, Global};
 
-/// No accepted line has more words; room for more is made where they come.
+/// No run line that is accepted has more words. A remark may, and room is made for them.
 const USUAL_WORDS: usize = 11;
 
 /// The lines of an input that are still to be read, if there are any: one LF at its end ends the last.

@@ -1,37 +1,28 @@
 -- What an operation leaves of an entry: a higher stamp, or the same entry with further bits.
 use Rattle.std.specs.Prelude.{◌≡◌, ◌+◌, ◌<◌, ◌⊎◌, Bool, true, false, if◌then◌else◌, ◌==◌, ◌||◌}
 use Rattle.std.proofs.Common.{arith, inl, inr, refl, ◌∙◌}
-use Rattle.entry_model.specs.State.{State, empty_state}
+use Rattle.entry_model.specs.State.{State, empty_state, OnlyRaisesBits}
 use Rattle.entry_model.specs.declared.operation.Answer.{Answer}
 use Rattle.entry_model.specs.declared.operation.Answer.TheVariants.{Entered, Taken, Removed, Protected, Was, NotFound, NoMatch, Denied, At, Worn}
 use Rattle.entry_model.specs.declared.operation.Op.{Op}
 use Rattle.entry_model.specs.declared.operation.Op.TheVariants.{Enter, Remove, Protect, Read, ClearRef, ClearMod, Access}
-use Rattle.entry_model.specs.Reply.{reply_of, changed_to, changed_where, entered, is_found, is_match, matched, touched, is_store}
+use Rattle.entry_model.specs.Reply.{reply_of, change_to, change_where, entered_state, is_found, is_match, answer_of_match, touched_state, is_store}
 use Rattle.entry_model.specs.History.{bits}
 use Rattle.hpte_fields.specs.Fields.{protected_word, pp_of, is_no_execute}
 use Rattle.storage_prot.specs.declared.want.Want.{Want}
 use Rattle.storage_prot.specs.Protection.{allowed}
 
--- The same entry: t has what s has, and each bit that s has.
-pub record HasFurtherBits (s t : State) : Type 0 where
-  pub valid : t.valid ≡ s.valid
-  pub dword0 : t.dword0 ≡ s.dword0
-  pub dword1 : t.dword1 ≡ s.dword1
-  pub stamp : t.stamp ≡ s.stamp
-  pub referenced : s.referenced ≡ true → t.referenced ≡ true
-  pub changed : s.changed ≡ true → t.changed ≡ true
-
 abbrev pub Follows : State → State → Type 0
-Follows s t = HasFurtherBits s t ⊎ (s.stamp < t.stamp)
+Follows s t = OnlyRaisesBits s t ⊎ (s.stamp < t.stamp)
 
-pub no_further : (s : State) → HasFurtherBits s s
+pub no_further : (s : State) → OnlyRaisesBits s s
 no_further s = record { valid = refl; dword0 = refl; dword1 = refl; stamp = refl; referenced = λ e. e; changed = λ e. e }
 
 pub stays : (s : State) → Follows s s
 stays s = inl (no_further s)
 
 -- ---- one behind the other
-pub further_on : (s t u : State) → HasFurtherBits s t → HasFurtherBits t u → HasFurtherBits s u
+pub further_on : (s t u : State) → OnlyRaisesBits s t → OnlyRaisesBits t u → OnlyRaisesBits s u
 further_on s t u a b = record {
   valid = b.valid ∙ a.valid;
   dword0 = b.dword0 ∙ a.dword0;
@@ -67,10 +58,10 @@ by_bits s false false true false f g = inr (omega arith)
 by_bits s false false false true f g = inr (omega arith)
 by_bits s false false false false f g = inl refl
 
-pub with_its_bits : (s t : State) → HasFurtherBits s t → t ≡ with_bits s t.referenced t.changed
+pub with_its_bits : (s t : State) → OnlyRaisesBits s t → t ≡ with_bits s t.referenced t.changed
 with_its_bits s t h = λ i. record { valid = h.valid i; dword0 = h.dword0 i; dword1 = h.dword1 i; referenced = t.referenced; changed = t.changed; stamp = h.stamp i }
 
-pub same_or_more : (s t : State) → HasFurtherBits s t → (t ≡ s) ⊎ (bits s < bits t)
+pub same_or_more : (s t : State) → OnlyRaisesBits s t → (t ≡ s) ⊎ (bits s < bits t)
 same_or_more s t h = at (by_bits s s.referenced s.changed t.referenced t.changed h.referenced h.changed) where
   at : (with_bits s t.referenced t.changed ≡ s) ⊎ (bits s < bits (with_bits s t.referenced t.changed)) → (t ≡ s) ⊎ (bits s < bits t)
   at (inl same) = inl (with_its_bits s t h ∙ same)
@@ -82,27 +73,27 @@ pub either_follows : (b : Bool) (s : State) (p q : Answer × State) → Follows 
 either_follows true s p q h k = h
 either_follows false s p q h k = k
 
-changed_follows : (s : State) (answer : Answer) (next : State) → Follows s (changed_to s answer next).1
+changed_follows : (s : State) (answer : Answer) (next : State) → Follows s (change_to s answer next).1
 changed_follows s answer next =
     either_follows (s.stamp == 0xFFFFFFFF) s (Worn, s) (answer, record next { stamp = s.stamp + 1 }) (stays s) (inr (omega arith))
 
-where_follows : (found : Bool) (s : State) (answer : Answer) (next : State) → Follows s (changed_where found s answer next).1
-where_follows found s answer next = either_follows found s (changed_to s answer next) (NotFound, s) (changed_follows s answer next) (stays s)
+where_follows : (found : Bool) (s : State) (answer : Answer) (next : State) → Follows s (change_where found s answer next).1
+where_follows found s answer next = either_follows found s (change_to s answer next) (NotFound, s) (changed_follows s answer next) (stays s)
 
 or_stays : (b w : Bool) → b ≡ true → (b || w) ≡ true
 or_stays true w e = refl
 or_stays false w e = cc
 
-pub touched_further : (s : State) (want : Want) → HasFurtherBits s (touched s want)
+pub touched_further : (s : State) (want : Want) → OnlyRaisesBits s (touched_state s want)
 touched_further s want = record { valid = refl; dword0 = refl; dword1 = refl; stamp = refl; referenced = λ e. refl; changed = or_stays s.changed (is_store want) }
 
 pub reply_follows : (s : State) (o : Op) → Follows s (reply_of s o).1
 reply_follows s (Enter dword0 dword1) =
-    either_follows s.valid s (Taken, s) (changed_to s Entered (entered dword0 dword1)) (stays s) (changed_follows s Entered (entered dword0 dword1))
+    either_follows s.valid s (Taken, s) (change_to s Entered (entered_state dword0 dword1)) (stays s) (changed_follows s Entered (entered_state dword0 dword1))
 reply_follows s (Remove test) = where_follows (is_found s test) s Removed (empty_state 0)
 reply_follows s (Protect test flags) = where_follows (is_found s test) s Protected (record s { dword1 = protected_word s.dword1 flags })
 reply_follows s Read = stays s
 reply_follows s ClearRef = where_follows s.valid s Was (record s { referenced = false })
 reply_follows s ClearMod = where_follows s.valid s Was (record s { changed = false })
 reply_follows s (Access tag base key no_execute want) =
-    either_follows (is_match s tag base) s (matched s key no_execute want) (NoMatch, s) (either_follows (allowed (pp_of s.dword1) key (no_execute || is_no_execute s.dword1) want) s (At, touched s want) (Denied, s) (inl (touched_further s want)) (stays s)) (stays s)
+    either_follows (is_match s tag base) s (answer_of_match s key no_execute want) (NoMatch, s) (either_follows (allowed (pp_of s.dword1) key (no_execute || is_no_execute s.dword1) want) s (At, touched_state s want) (Denied, s) (inl (touched_further s want)) (stays s)) (stays s)

@@ -4,7 +4,7 @@ use Rattle.entry_model.specs.declared.line.Line.{Line}
 use Rattle.entry_model.specs.declared.receipt.Receipt.{Receipt}
 use Rattle.entry_model.specs.Receipt.{after_of}
 use Rattle.entry_model.specs.History.{pair_of}
-use Rattle.entry_model.specs.Lines.{IsPast, AllPast}
+use Rattle.entry_model.specs.CachedLines.{IsLater, AllLater}
 use Rattle.entry_model.specs.Fronts.{front_at, IsAhead, fronts_after, AreBelow, KeepsFronts, larger, IsGone}
 use Rattle.entry_model.proofs.Sorted.{rises, bits_low}
 
@@ -74,12 +74,12 @@ keeps_below f g (r ∷ rs) k =
 pub gone_on : (f g : List ℕ) (line : Line) → AreBelow f g → IsGone f line → IsGone g line
 gone_on f g line b gone = let p = b.low line.entry in omega arith
 
-gone_before : (f : List ℕ) (r : Receipt) (line : Line) → IsAhead f r → IsGone f line → IsPast line r
+gone_before : (f : List ℕ) (r : Receipt) (line : Line) → IsAhead f r → IsGone f line → IsLater line r
 unfolding pair_of
 gone_before f r line ahead gone e = let p = ap (front_at f) e in let low = bits_low r.before.referenced r.before.changed in omega arith
 
 -- Receipts of an entry that had left the line's stamp come after the line.
-pub gone_past : (f g : List ℕ) (rs : List Receipt) (line : Line) → KeepsFronts f rs g → IsGone f line → AllPast line rs
+pub gone_past : (f g : List ℕ) (rs : List Receipt) (line : Line) → KeepsFronts f rs g → IsGone f line → AllLater line rs
 gone_past f g [] line k gone = tt
 gone_past f g (r ∷ rs) line k gone =
     (gone_before f r line k.0 gone, gone_past (fronts_after f r) g rs line k.1 (gone_on f (fronts_after f r) line (record { size = length-set f r.entry (pair_of (after_of r)); low = rises_by f r k.0 }) gone))

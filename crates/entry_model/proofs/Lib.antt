@@ -1,4 +1,5 @@
 pub mod Exact
+pub mod Runs
 pub mod Follows
 pub mod RunFollows
 pub mod OperationLaws
@@ -8,10 +9,9 @@ pub mod RunHistory
 pub mod Regroup
 pub mod Trials
 pub mod Plans
-pub mod CachedPages
 pub mod ReplyLaws
 pub mod FrontLaws
 pub mod Logged
 mod Rows
 pub mod Heights
-pub mod Tame
+pub mod PlanBounds

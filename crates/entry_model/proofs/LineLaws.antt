@@ -1,15 +1,15 @@
 -- What operations leave of lines: a line that holds of its entry's state holds from then on, and what has left its stamp never comes back.
-use Rattle.std.proofs.Common.{◌≡◌, ℕ, ◌<◌, List, [], ◌∷◌, true, ap, sym, ◌∙◌, refl, subst, inl, inr, arith}
 use Rattle.std.specs.Prelude.{IsTrue, ◌==◌}
+use Rattle.std.proofs.Common.{◌≡◌, ℕ, ◌<◌, List, [], ◌∷◌, true, ap, sym, ◌∙◌, refl, subst, inl, inr, arith}
 use Rattle.std.proofs.lemmas.Bool.{eq-eqb}
 use Rattle.entry_model.specs.State.{State}
 use Rattle.entry_model.specs.declared.line.Line.{Line}
 use Rattle.entry_model.specs.declared.operation.Op.{Op}
 use Rattle.entry_model.specs.declared.operation.Op.TheVariants.{Enter, Remove, Protect, Read, ClearRef, ClearMod, Access}
 use Rattle.entry_model.specs.declared.receipt.Receipt.{Receipt}
-use Rattle.entry_model.specs.Reply.{reply_of, compared, has_base, is_match}
+use Rattle.entry_model.specs.Reply.{reply_of, compared_bits, has_base, is_match}
 use Rattle.entry_model.specs.Receipt.{is_decided, IsReceiptOf}
-use Rattle.entry_model.specs.Lines.{IsCurrent, Holds, IsAccessOf, IsLineAt, ShowsLine, IsPast, AllPast}
+use Rattle.entry_model.specs.CachedLines.{IsCurrent, Holds, IsAccessOf, IsLineAt, ShowsLine, IsLater, AllLater}
 use Rattle.entry_model.specs.Run.{IsRun, IsStep, state_at}
 use Rattle.entry_model.proofs.Follows.{Follows}
 use Rattle.entry_model.proofs.RunFollows.{step_follows, run_follows}
@@ -48,17 +48,17 @@ pub run_leaves : (a b : List State) (rs : List Receipt) (line : Line) → IsRun 
 run_leaves a b rs line run past = past_on _ _ line.stamp (run_follows a b rs line.entry run) past
 
 -- Each receipt of an entry that had left the line's stamp comes after the line.
-pub run_past : (a b : List State) (rs : List Receipt) (line : Line) → IsRun a rs b → line.stamp < (state_at a line.entry).stamp → AllPast line rs
+pub run_past : (a b : List State) (rs : List Receipt) (line : Line) → IsRun a rs b → line.stamp < (state_at a line.entry).stamp → AllLater line rs
 run_past a b [] line h past = tt
 run_past a b (r ∷ rs) line h past = (here, run_past h.0 b rs line h.2 (past_on (state_at a line.entry) (state_at h.0 line.entry) line.stamp (step_follows a h.0 r line.entry h.1) past)) where
-  here : IsPast line r
+  here : IsLater line r
   here e = subst (λ s. line.stamp < s.stamp) (sym (h.1.before ∙ ap (state_at a) e)) past
 
 -- ---- an access by a line
-match_by_line : (line : Line) (s : State) (tag base : ℕ) → tag ≡ compared line.dword0 → has_base line.dword0 line.dword1 base ≡ true → IsCurrent line s → is_match s tag base ≡ true
+match_by_line : (line : Line) (s : State) (tag base : ℕ) → tag ≡ compared_bits line.dword0 → has_base line.dword0 line.dword1 base ≡ true → IsCurrent line s → is_match s tag base ≡ true
 match_by_line line s tag base same fits now =
     let valid : s.valid ≡ true = now.valid in
-    let tags : (compared s.dword0 == tag) ≡ true = eq-eqb (compared s.dword0) tag (ap compared now.dword0 ∙ sym same) in
+    let tags : (compared_bits s.dword0 == tag) ≡ true = eq-eqb (compared_bits s.dword0) tag (ap compared_bits now.dword0 ∙ sym same) in
     let sizes : has_base s.dword0 s.dword1 base ≡ true = rw (now.dword0, now.dword1) fits in
     rw (valid, tags, sizes) refl
 

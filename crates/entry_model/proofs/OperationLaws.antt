@@ -8,14 +8,14 @@ use Rattle.hpte_fields.proofs.KeptBits.{protected_keeps_rc}
 use Rattle.hpte_fields.proofs.Masks.{masks_join}
 use Rattle.storage_prot.specs.declared.want.Want.{Want}
 use Rattle.storage_prot.specs.Protection.{allowed}
-use Rattle.entry_model.specs.State.{State, empty_state, IsCanonicalState}
+use Rattle.entry_model.specs.State.{State, empty_state, IsCanonicalState, OnlyRaisesBits}
 use Rattle.entry_model.specs.declared.operation.Answer.{Answer}
 use Rattle.entry_model.specs.declared.operation.Answer.TheVariants.{Entered, Taken, Removed, Protected, Was, NotFound, NoMatch, Denied, At, Worn}
 use Rattle.entry_model.specs.declared.operation.Op.{Op}
 use Rattle.entry_model.specs.declared.operation.Op.TheVariants.{Enter, Remove, Protect, Read, ClearRef, ClearMod, Access}
-use Rattle.entry_model.specs.Reply.{reply_of, changed_to, changed_where, entered, is_found, is_match, matched, accessed, touched, is_store}
+use Rattle.entry_model.specs.Reply.{reply_of, change_to, change_where, entered_state, is_found, is_match, answer_of_match, answer_of_access, touched_state, is_store}
 use Rattle.entry_model.specs.Receipt.{is_access, is_decided, is_at}
-use Rattle.entry_model.proofs.Follows.{HasFurtherBits, no_further, with_bits, with_its_bits, touched_further}
+use Rattle.entry_model.proofs.Follows.{no_further, with_bits, with_its_bits, touched_further}
 
 -- ---- a reply that is one of two
 abbrev either : Bool → Answer × State → Answer × State → Answer × State
@@ -26,27 +26,27 @@ either_has P true p q h k = h refl
 either_has P false p q h k = k refl
 
 -- What holds of an access's reply where it holds of the three that it can be.
-accessed_has : (P : Answer × State → Type 0) (s : State) (tag base : ℕ) (key no_execute : Bool) (want : Want) → (s.valid ≡ true → P (At, touched s want)) → (s.valid ≡ true → P (Denied, s)) → P (NoMatch, s) → P (accessed s tag base key no_execute want)
+accessed_has : (P : Answer × State → Type 0) (s : State) (tag base : ℕ) (key no_execute : Bool) (want : Want) → (s.valid ≡ true → P (At, touched_state s want)) → (s.valid ≡ true → P (Denied, s)) → P (NoMatch, s) → P (answer_of_access s tag base key no_execute want)
 accessed_has P s tag base key no_execute want at denied other =
-    either_has P (is_match s tag base) (matched s key no_execute want) (NoMatch, s)
+    either_has P (is_match s tag base) (answer_of_match s key no_execute want) (NoMatch, s)
     (λ e. let valid : s.valid ≡ true = (and_parts _ _ e).0 in
-    either_has P (allowed (pp_of s.dword1) key (no_execute || is_no_execute s.dword1) want) (At, touched s want) (Denied, s) (λ _. at valid) (λ _. denied valid))
+    either_has P (allowed (pp_of s.dword1) key (no_execute || is_no_execute s.dword1) want) (At, touched_state s want) (Denied, s) (λ _. at valid) (λ _. denied valid))
     (λ _. other)
 
 -- What holds of the reply of a change.
-changed_has : (P : Answer × State → Type 0) (s : State) (answer : Answer) (next : State) → P (Worn, s) → ((s.stamp ≡ 0xFFFFFFFF → ⊥) → P (answer, record next { stamp = s.stamp + 1 })) → P (changed_to s answer next)
+changed_has : (P : Answer × State → Type 0) (s : State) (answer : Answer) (next : State) → P (Worn, s) → ((s.stamp ≡ 0xFFFFFFFF → ⊥) → P (answer, record next { stamp = s.stamp + 1 })) → P (change_to s answer next)
 changed_has P s answer next worn done =
     either_has P (s.stamp == 0xFFFFFFFF) (Worn, s) (answer, record next { stamp = s.stamp + 1 }) (λ _. worn) (λ e. done (eqb-false s.stamp 0xFFFFFFFF e))
 
-where_has : (P : Answer × State → Type 0) (found : Bool) (s : State) (answer : Answer) (next : State) → P (NotFound, s) → P (Worn, s) → (found ≡ true → (s.stamp ≡ 0xFFFFFFFF → ⊥) → P (answer, record next { stamp = s.stamp + 1 })) → P (changed_where found s answer next)
+where_has : (P : Answer × State → Type 0) (found : Bool) (s : State) (answer : Answer) (next : State) → P (NotFound, s) → P (Worn, s) → (found ≡ true → (s.stamp ≡ 0xFFFFFFFF → ⊥) → P (answer, record next { stamp = s.stamp + 1 })) → P (change_where found s answer next)
 where_has P found s answer next none worn done =
-    either_has P found (changed_to s answer next) (NotFound, s) (λ e. changed_has P s answer next worn (done e)) (λ _. none)
+    either_has P found (change_to s answer next) (NotFound, s) (λ e. changed_has P s answer next worn (done e)) (λ _. none)
 
 -- ---- accesses
 -- An access leaves valid, the doublewords and the stamp, and lowers no bit.
-pub access_further : (s : State) (op : Op) → is_access op ≡ true → HasFurtherBits s (reply_of s op).1
+pub access_further : (s : State) (op : Op) → is_access op ≡ true → OnlyRaisesBits s (reply_of s op).1
 access_further s (Access tag base key no_execute want) e =
-    accessed_has (λ p. HasFurtherBits s p.1) s tag base key no_execute want (λ _. touched_further s want) (λ _. no_further s) (no_further s)
+    accessed_has (λ p. OnlyRaisesBits s p.1) s tag base key no_execute want (λ _. touched_further s want) (λ _. no_further s) (no_further s)
 access_further s (Enter dword0 dword1) e = cc
 access_further s (Remove test) e = cc
 access_further s (Protect test flags) e = cc
@@ -66,16 +66,16 @@ access_undone s ClearRef e h = cc
 access_undone s ClearMod e h = cc
 
 -- One that is At sets R, and for a store C.
-pub access_touches : (s : State) (tag base : ℕ) (key no_execute : Bool) (want : Want) → is_at (accessed s tag base key no_execute want).0 ≡ true → (accessed s tag base key no_execute want).1 ≡ touched s want
+pub access_touches : (s : State) (tag base : ℕ) (key no_execute : Bool) (want : Want) → is_at (answer_of_access s tag base key no_execute want).0 ≡ true → (answer_of_access s tag base key no_execute want).1 ≡ touched_state s want
 access_touches s tag base key no_execute want =
-    accessed_has (λ p. is_at p.0 ≡ true → p.1 ≡ touched s want) s tag base key no_execute want (λ _ _. refl) (λ _ h. absurd (false≢true h)) (λ h. absurd (false≢true h))
+    accessed_has (λ p. is_at p.0 ≡ true → p.1 ≡ touched_state s want) s tag base key no_execute want (λ _ _. refl) (λ _ h. absurd (false≢true h)) (λ h. absurd (false≢true h))
 
 -- At and Denied come only on a valid entry, whatever the operation.
 pub decided_valid : (s : State) (op : Op) → is_decided (reply_of s op).0 ≡ true → s.valid ≡ true
 decided_valid s (Access tag base key no_execute want) h =
     accessed_has (λ p. is_decided p.0 ≡ true → s.valid ≡ true) s tag base key no_execute want (λ v _. v) (λ v _. v) (λ f. absurd (false≢true f)) h
 decided_valid s (Enter dword0 dword1) h =
-    either_has (λ p. is_decided p.0 ≡ true → s.valid ≡ true) s.valid (Taken, s) (changed_to s Entered (entered dword0 dword1)) (λ v _. v) (λ _. changed_has (λ p. is_decided p.0 ≡ true → s.valid ≡ true) s Entered (entered dword0 dword1) (λ f. absurd (false≢true f)) (λ _ f. absurd (false≢true f))) h
+    either_has (λ p. is_decided p.0 ≡ true → s.valid ≡ true) s.valid (Taken, s) (change_to s Entered (entered_state dword0 dword1)) (λ v _. v) (λ _. changed_has (λ p. is_decided p.0 ≡ true → s.valid ≡ true) s Entered (entered_state dword0 dword1) (λ f. absurd (false≢true f)) (λ _ f. absurd (false≢true f))) h
 decided_valid s (Remove test) h =
     where_has (λ p. is_decided p.0 ≡ true → s.valid ≡ true) (is_found s test) s Removed (empty_state 0) (λ f. absurd (false≢true f)) (λ f. absurd (false≢true f)) (λ _ _ f. absurd (false≢true f)) h
 decided_valid s (Protect test flags) h =
@@ -87,12 +87,12 @@ decided_valid s ClearMod h =
     where_has (λ p. is_decided p.0 ≡ true → s.valid ≡ true) s.valid s Was (record s { changed = false }) (λ f. absurd (false≢true f)) (λ f. absurd (false≢true f)) (λ _ _ f. absurd (false≢true f)) h
 
 -- An access of an entry that translates its page is At or Denied.
-pub decided_match : (s : State) (tag base : ℕ) (key no_execute : Bool) (want : Want) → is_match s tag base ≡ true → is_decided (accessed s tag base key no_execute want).0 ≡ true
+pub decided_match : (s : State) (tag base : ℕ) (key no_execute : Bool) (want : Want) → is_match s tag base ≡ true → is_decided (answer_of_access s tag base key no_execute want).0 ≡ true
 decided_match s tag base key no_execute want match =
-    rw match (either_has (λ p. is_decided p.0 ≡ true) (allowed (pp_of s.dword1) key (no_execute || is_no_execute s.dword1) want) (At, touched s want) (Denied, s) (λ _. refl) (λ _. refl))
+    rw match (either_has (λ p. is_decided p.0 ≡ true) (allowed (pp_of s.dword1) key (no_execute || is_no_execute s.dword1) want) (At, touched_state s want) (Denied, s) (λ _. refl) (λ _. refl))
 
 -- An access finds nothing in an entry that isn't valid.
-pub access_of_empty : (s : State) (tag base : ℕ) (key no_execute : Bool) (want : Want) → s.valid ≡ false → accessed s tag base key no_execute want ≡ (NoMatch, s)
+pub access_of_empty : (s : State) (tag base : ℕ) (key no_execute : Bool) (want : Want) → s.valid ≡ false → answer_of_access s tag base key no_execute want ≡ (NoMatch, s)
 access_of_empty s tag base key no_execute want empty =
     accessed_has (λ p. p ≡ (NoMatch, s)) s tag base key no_execute want (λ v. absurd (false≢true (sym empty ∙ v))) (λ v. absurd (false≢true (sym empty ∙ v))) refl
 
@@ -112,23 +112,23 @@ or_absorbs false false true e f = absurd (false≢true (sym e))
 abbrev StaysStill : State → State → Answer × State → Answer × State → Type 0
 StaysStill s t p q = p.1 ≡ s → (q.1 ≡ t) × (q.0 ≡ p.0)
 
-touched_still : (s : State) (r c : Bool) (want : Want) → (s.referenced ≡ true → r ≡ true) → (s.changed ≡ true → c ≡ true) → touched s want ≡ s → touched (with_bits s r c) want ≡ with_bits s r c
+touched_still : (s : State) (r c : Bool) (want : Want) → (s.referenced ≡ true → r ≡ true) → (s.changed ≡ true → c ≡ true) → touched_state s want ≡ s → touched_state (with_bits s r c) want ≡ with_bits s r c
 touched_still s r c want f g e =
     let referenced : true ≡ r = sym (f (sym (ap (λ (t : State). t.referenced) e))) in
     let changed : (c || is_store want) ≡ c = or_absorbs s.changed c (is_store want) (ap (λ (t : State). t.changed) e) g in
     λ i. with_bits s (referenced i) (changed i)
 
-still_with_bits : (s : State) (r c : Bool) (tag base : ℕ) (key no_execute : Bool) (want : Want) → (s.referenced ≡ true → r ≡ true) → (s.changed ≡ true → c ≡ true) → StaysStill s (with_bits s r c) (accessed s tag base key no_execute want) (accessed (with_bits s r c) tag base key no_execute want)
+still_with_bits : (s : State) (r c : Bool) (tag base : ℕ) (key no_execute : Bool) (want : Want) → (s.referenced ≡ true → r ≡ true) → (s.changed ≡ true → c ≡ true) → StaysStill s (with_bits s r c) (answer_of_access s tag base key no_execute want) (answer_of_access (with_bits s r c) tag base key no_execute want)
 still_with_bits s r c tag base key no_execute want f g =
     let t : State = with_bits s r c in
-    both_have (StaysStill s t) (is_match s tag base) (matched s key no_execute want) (NoMatch, s) (matched t key no_execute want) (NoMatch, t)
-    (both_have (StaysStill s t) (allowed (pp_of s.dword1) key (no_execute || is_no_execute s.dword1) want) (At, touched s want) (Denied, s) (At, touched t want) (Denied, t) (λ e. (touched_still s r c want f g e, refl)) (λ e. (refl, refl)))
+    both_have (StaysStill s t) (is_match s tag base) (answer_of_match s key no_execute want) (NoMatch, s) (answer_of_match t key no_execute want) (NoMatch, t)
+    (both_have (StaysStill s t) (allowed (pp_of s.dword1) key (no_execute || is_no_execute s.dword1) want) (At, touched_state s want) (Denied, s) (At, touched_state t want) (Denied, t) (λ e. (touched_still s r c want f g e, refl)) (λ e. (refl, refl)))
     (λ e. (refl, refl))
 
 -- An access that changes nothing on a state changes nothing, with the same answer, on the same entry with further bits.
-pub access_still : (s t : State) (op : Op) → is_access op ≡ true → HasFurtherBits s t → (reply_of s op).1 ≡ s → ((reply_of t op).1 ≡ t) × ((reply_of t op).0 ≡ (reply_of s op).0)
+pub access_still : (s t : State) (op : Op) → is_access op ≡ true → OnlyRaisesBits s t → (reply_of s op).1 ≡ s → ((reply_of t op).1 ≡ t) × ((reply_of t op).0 ≡ (reply_of s op).0)
 access_still s t (Access tag base key no_execute want) e h =
-    subst (λ u. StaysStill s u (accessed s tag base key no_execute want) (accessed u tag base key no_execute want)) (sym (with_its_bits s t h)) (still_with_bits s t.referenced t.changed tag base key no_execute want h.referenced h.changed)
+    subst (λ u. StaysStill s u (answer_of_access s tag base key no_execute want) (answer_of_access u tag base key no_execute want)) (sym (with_its_bits s t h)) (still_with_bits s t.referenced t.changed tag base key no_execute want h.referenced h.changed)
 access_still s t (Enter dword0 dword1) e h = cc
 access_still s t (Remove test) e h = cc
 access_still s t (Protect test flags) e h = cc
@@ -141,15 +141,15 @@ access_still s t ClearMod e h = cc
 abbrev Rises : State → Answer × State → Type 0
 Rises s p = (p.1 ≡ s) ⊎ (p.1.stamp ≡ s.stamp + 1)
 
-changed_rises : (s : State) (answer : Answer) (next : State) → Rises s (changed_to s answer next)
+changed_rises : (s : State) (answer : Answer) (next : State) → Rises s (change_to s answer next)
 changed_rises s answer next = changed_has (Rises s) s answer next (inl refl) (λ _. inr refl)
 
-where_rises : (found : Bool) (s : State) (answer : Answer) (next : State) → Rises s (changed_where found s answer next)
+where_rises : (found : Bool) (s : State) (answer : Answer) (next : State) → Rises s (change_where found s answer next)
 where_rises found s answer next = where_has (Rises s) found s answer next (inl refl) (inl refl) (λ _ _. inr refl)
 
 pub other_rises : (s : State) (op : Op) → is_access op ≡ false → Rises s (reply_of s op)
 other_rises s (Enter dword0 dword1) e =
-    either_has (Rises s) s.valid (Taken, s) (changed_to s Entered (entered dword0 dword1)) (λ _. inl refl) (λ _. changed_rises s Entered (entered dword0 dword1))
+    either_has (Rises s) s.valid (Taken, s) (change_to s Entered (entered_state dword0 dword1)) (λ _. inl refl) (λ _. changed_rises s Entered (entered_state dword0 dword1))
 other_rises s (Remove test) e = where_rises (is_found s test) s Removed (empty_state 0)
 other_rises s (Protect test flags) e = where_rises (is_found s test) s Protected (record s { dword1 = protected_word s.dword1 flags })
 other_rises s Read e = inl refl
@@ -165,17 +165,17 @@ both_alike : (b : Bool) (p q p' q' : Answer × State) → Alike p p' → Alike q
 both_alike true p q p' q' h k = h
 both_alike false p q p' q' h k = k
 
-changed_alike : (s : State) (r c : Bool) (answer : Answer) (n n' : State) → Alike (changed_to (with_bits s r c) answer n) (changed_to s answer n')
+changed_alike : (s : State) (r c : Bool) (answer : Answer) (n n' : State) → Alike (change_to (with_bits s r c) answer n) (change_to s answer n')
 changed_alike s r c answer n n' =
     both_alike (s.stamp == 0xFFFFFFFF) (Worn, with_bits s r c) (answer, record n { stamp = s.stamp + 1 }) (Worn, s) (answer, record n' { stamp = s.stamp + 1 }) (refl, refl) (refl, refl)
 
-where_alike : (found : Bool) (s : State) (r c : Bool) (answer : Answer) (n n' : State) → Alike (changed_where found (with_bits s r c) answer n) (changed_where found s answer n')
+where_alike : (found : Bool) (s : State) (r c : Bool) (answer : Answer) (n n' : State) → Alike (change_where found (with_bits s r c) answer n) (change_where found s answer n')
 where_alike found s r c answer n n' =
-    both_alike found (changed_to (with_bits s r c) answer n) (NotFound, with_bits s r c) (changed_to s answer n') (NotFound, s) (changed_alike s r c answer n n') (refl, refl)
+    both_alike found (change_to (with_bits s r c) answer n) (NotFound, with_bits s r c) (change_to s answer n') (NotFound, s) (changed_alike s r c answer n n') (refl, refl)
 
 pub other_alike : (s : State) (r c : Bool) (op : Op) → is_access op ≡ false → ((reply_of (with_bits s r c) op).0 ≡ (reply_of s op).0) × ((reply_of (with_bits s r c) op).1.stamp ≡ (reply_of s op).1.stamp)
 other_alike s r c (Enter dword0 dword1) e =
-    both_alike s.valid (Taken, with_bits s r c) (changed_to (with_bits s r c) Entered (entered dword0 dword1)) (Taken, s) (changed_to s Entered (entered dword0 dword1)) (refl, refl) (changed_alike s r c Entered (entered dword0 dword1) (entered dword0 dword1))
+    both_alike s.valid (Taken, with_bits s r c) (change_to (with_bits s r c) Entered (entered_state dword0 dword1)) (Taken, s) (change_to s Entered (entered_state dword0 dword1)) (refl, refl) (changed_alike s r c Entered (entered_state dword0 dword1) (entered_state dword0 dword1))
 other_alike s r c (Remove test) e = where_alike (is_found s test) s r c Removed (empty_state 0) (empty_state 0)
 other_alike s r c (Protect test flags) e =
     where_alike (is_found s test) s r c Protected (record (with_bits s r c) { dword1 = protected_word s.dword1 flags }) (record s { dword1 = protected_word s.dword1 flags })
@@ -208,14 +208,14 @@ abbrev Canonical : Answer × State → Type 0
 Canonical p = IsCanonicalState p.1
 
 -- what a change of a valid entry leaves
-kept_canonical : (found : Bool) (s : State) (answer : Answer) (next : State) → IsCanonicalState s → (found ≡ true → next.valid ≡ true) → bit_and next.dword1 0x180 ≡ 0 → Canonical (changed_where found s answer next)
+kept_canonical : (found : Bool) (s : State) (answer : Answer) (next : State) → IsCanonicalState s → (found ≡ true → next.valid ≡ true) → bit_and next.dword1 0x180 ≡ 0 → Canonical (change_where found s answer next)
 kept_canonical found s answer next h valid apart =
     where_has Canonical found s answer next h h (λ e _. canonical_if_valid (record next { stamp = s.stamp + 1 }) (valid e) apart)
 
 pub reply_canonical : (s : State) (op : Op) → IsCanonicalState s → IsCanonicalState (reply_of s op).1
 reply_canonical s (Enter dword0 dword1) h =
-    either_has Canonical s.valid (Taken, s) (changed_to s Entered (entered dword0 dword1)) (λ _. h)
-    (λ _. changed_has Canonical s Entered (entered dword0 dword1) h (λ _. canonical_if_valid (record (entered dword0 dword1) { stamp = s.stamp + 1 }) refl (masks_join dword1 0xFFFFFFFFFFFFFE7F 0x180 ∙ and_zero_r dword1)))
+    either_has Canonical s.valid (Taken, s) (change_to s Entered (entered_state dword0 dword1)) (λ _. h)
+    (λ _. changed_has Canonical s Entered (entered_state dword0 dword1) h (λ _. canonical_if_valid (record (entered_state dword0 dword1) { stamp = s.stamp + 1 }) refl (masks_join dword1 0xFFFFFFFFFFFFFE7F 0x180 ∙ and_zero_r dword1)))
 reply_canonical s (Remove test) h =
     where_has Canonical (is_found s test) s Removed (empty_state 0) h h (λ _ _. record { apart = refl; no_first = λ e. refl; no_second = λ e. refl; no_reference = λ e. refl; no_change = λ e. refl })
 reply_canonical s (Protect test flags) h =
@@ -224,21 +224,21 @@ reply_canonical s Read h = h
 reply_canonical s ClearRef h = kept_canonical s.valid s Was (record s { referenced = false }) h (λ e. e) h.apart
 reply_canonical s ClearMod h = kept_canonical s.valid s Was (record s { changed = false }) h (λ e. e) h.apart
 reply_canonical s (Access tag base key no_execute want) h =
-    accessed_has Canonical s tag base key no_execute want (λ v. canonical_if_valid (touched s want) v h.apart) (λ _. h) h
+    accessed_has Canonical s tag base key no_execute want (λ v. canonical_if_valid (touched_state s want) v h.apart) (λ _. h) h
 
 -- Stamps stay below 2 ^ 32.
 abbrev Fits : Answer × State → Type 0
 Fits p = p.1.stamp < 2 ^ 32
 
-changed_fits : (s : State) (answer : Answer) (next : State) → s.stamp < 2 ^ 32 → Fits (changed_to s answer next)
+changed_fits : (s : State) (answer : Answer) (next : State) → s.stamp < 2 ^ 32 → Fits (change_to s answer next)
 changed_fits s answer next h = changed_has Fits s answer next h (λ more. omega arith)
 
-where_fits : (found : Bool) (s : State) (answer : Answer) (next : State) → s.stamp < 2 ^ 32 → Fits (changed_where found s answer next)
-where_fits found s answer next h = either_has Fits found (changed_to s answer next) (NotFound, s) (λ _. changed_fits s answer next h) (λ _. h)
+where_fits : (found : Bool) (s : State) (answer : Answer) (next : State) → s.stamp < 2 ^ 32 → Fits (change_where found s answer next)
+where_fits found s answer next h = either_has Fits found (change_to s answer next) (NotFound, s) (λ _. changed_fits s answer next h) (λ _. h)
 
 pub stamp_fits : (s : State) (op : Op) → s.stamp < 2 ^ 32 → (reply_of s op).1.stamp < 2 ^ 32
 stamp_fits s (Enter dword0 dword1) h =
-    either_has Fits s.valid (Taken, s) (changed_to s Entered (entered dword0 dword1)) (λ _. h) (λ _. changed_fits s Entered (entered dword0 dword1) h)
+    either_has Fits s.valid (Taken, s) (change_to s Entered (entered_state dword0 dword1)) (λ _. h) (λ _. changed_fits s Entered (entered_state dword0 dword1) h)
 stamp_fits s (Remove test) h = where_fits (is_found s test) s Removed (empty_state 0) h
 stamp_fits s (Protect test flags) h = where_fits (is_found s test) s Protected (record s { dword1 = protected_word s.dword1 flags }) h
 stamp_fits s Read h = h

@@ -1,27 +1,19 @@
 -- The laws of replies that are stated by words of their own.
 use Rattle.std.proofs.Common.{◌≡◌, true, false, ap}
 use Rattle.std.proofs.lemmas.Bool.{false≢true}
-use Rattle.entry_model.specs.State.{State}
+use Rattle.entry_model.specs.State.{State, OnlyRaisesBits}
 use Rattle.entry_model.specs.declared.operation.Answer.{Answer}
 use Rattle.entry_model.specs.declared.operation.Op.{Op}
 use Rattle.entry_model.specs.declared.operation.Op.TheVariants.{Enter, Remove, Protect, Read, ClearRef, ClearMod, Access}
 use Rattle.entry_model.specs.Reply.{reply_of}
 use Rattle.entry_model.specs.Receipt.{is_access}
-use Rattle.entry_model.specs.ReplyLaws.{OnlyRaisesBits}
-use Rattle.entry_model.proofs.Follows.{HasFurtherBits}
 use Rattle.entry_model.proofs.OperationLaws.{access_further, access_still, access_of_empty}
 
-pub only_raises_of : (s t : State) → HasFurtherBits s t → OnlyRaisesBits s t
-only_raises_of s t h = record { valid = h.valid; dword0 = h.dword0; dword1 = h.dword1; stamp = h.stamp; referenced = h.referenced; changed = h.changed }
-
-pub further_of : (s t : State) → OnlyRaisesBits s t → HasFurtherBits s t
-further_of s t h = record { valid = h.valid; dword0 = h.dword0; dword1 = h.dword1; stamp = h.stamp; referenced = h.referenced; changed = h.changed }
-
 pub only_raises : (s : State) (op : Op) → is_access op ≡ true → OnlyRaisesBits s (reply_of s op).1
-only_raises s op access = only_raises_of s (reply_of s op).1 (access_further s op access)
+only_raises s op access = access_further s op access
 
 pub still_accesses : (s t : State) (op : Op) → is_access op ≡ true → OnlyRaisesBits s t → (reply_of s op).1 ≡ s → ((reply_of t op).1 ≡ t) × ((reply_of t op).0 ≡ (reply_of s op).0)
-still_accesses s t op access more = access_still s t op access (further_of s t more)
+still_accesses s t op access more = access_still s t op access more
 
 pub empty_untouched : (s : State) (op : Op) → is_access op ≡ true → s.valid ≡ false → (reply_of s op).1 ≡ s
 empty_untouched s (Access tag base key no_execute want) access none = ap (λ (p : Answer × State). p.1) (access_of_empty s tag base key no_execute want none)

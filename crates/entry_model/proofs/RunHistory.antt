@@ -1,11 +1,10 @@
 -- Receipts made one after the other give each entry a legal history.
-use Rattle.std.proofs.Common.{◌≡◌, ℕ, List, [], ◌∷◌, true, false, cond, ap, sym, ◌∙◌, subst, eqb, set}
 use Rattle.std.specs.Prelude.{filter}
+use Rattle.std.proofs.Common.{◌≡◌, ℕ, List, [], ◌∷◌, true, false, cond, ap, sym, ◌∙◌, subst, eqb, set}
 use Rattle.std.proofs.lemmas.Bool.{eqb-true, eqb-false, cond_both}
 use Rattle.std.proofs.lemmas.List.{get_or-set_same, get_or-set_other}
-use Rattle.entry_model.specs.State.{State}
+use Rattle.entry_model.specs.State.{State, empty_state}
 use Rattle.entry_model.specs.declared.receipt.Receipt.{Receipt}
-use Rattle.entry_model.specs.State.{empty_state}
 use Rattle.entry_model.specs.Receipt.{after_of}
 use Rattle.entry_model.specs.Run.{IsRun, IsStep, state_at}
 use Rattle.entry_model.specs.History.{IsLegal, history}

@@ -2,24 +2,16 @@
 use Rattle.std.proofs.Common.{◌≡◌, ℕ, ◌+◌, ◌*◌, ◌<◌, ◌≤◌, List, [], ◌∷◌, Bool, true, false, cond, arith, ap, sym, ◌∙◌, refl, subst, ◌⊎◌, inl, inr}
 use Rattle.std.proofs.lemmas.Bool.{and_parts, eq-eqb, eqb-true, cond_both}
 use Rattle.std.proofs.lemmas.Bool.Decides.{nat_tests}
-use Rattle.entry_model.specs.State.{State}
+use Rattle.entry_model.specs.State.{State, OnlyRaisesBits}
 use Rattle.entry_model.specs.declared.receipt.Receipt.{Receipt}
 use Rattle.entry_model.specs.Receipt.{after_of}
-use Rattle.entry_model.proofs.Follows.{Follows, HasFurtherBits, reply_follows, same_or_more}
-use Rattle.entry_model.specs.History.{bits, IsLegal, by_place, put_in, precedes, place, pair_of, state_eq, bool_eq}
+use Rattle.entry_model.proofs.Follows.{Follows, reply_follows, same_or_more}
+use Rattle.entry_model.specs.History.{bits, IsLegal, by_place, put_in, precedes, place, pair_of, state_eq}
+use Rattle.basics.proofs.Bools.{bool_same, bool_self}
 
 -- ---- the test of equal states
 same_fields : (s t : State) → s.valid ≡ t.valid → s.dword0 ≡ t.dword0 → s.dword1 ≡ t.dword1 → s.referenced ≡ t.referenced → s.changed ≡ t.changed → s.stamp ≡ t.stamp → s ≡ t
 same_fields s t a b c d e f = λ i. record { valid = a i; dword0 = b i; dword1 = c i; referenced = d i; changed = e i; stamp = f i }
-
-pub bool_same : (a b : Bool) → bool_eq a b ≡ true → a ≡ b
-bool_same true b h = sym h
-bool_same false true h = cc
-bool_same false false h = refl
-
-pub bool_self : (a : Bool) → bool_eq a a ≡ true
-bool_self true = refl
-bool_self false = refl
 
 pub state_same : (s t : State) → state_eq s t ≡ true → s ≡ t
 unfolding state_eq
@@ -54,7 +46,7 @@ bits_rise s t e h = omega arith
 -- A receipt leaves the state as it is, or raises its pair.
 pub rises : (r : Receipt) → (after_of r ≡ r.before) ⊎ (pair_of r.before < pair_of (after_of r))
 rises r = at (reply_follows r.before r.op) where
-  at_bits : HasFurtherBits r.before (after_of r) → (after_of r ≡ r.before) ⊎ (bits r.before < bits (after_of r)) → (after_of r ≡ r.before) ⊎ (pair_of r.before < pair_of (after_of r))
+  at_bits : OnlyRaisesBits r.before (after_of r) → (after_of r ≡ r.before) ⊎ (bits r.before < bits (after_of r)) → (after_of r ≡ r.before) ⊎ (pair_of r.before < pair_of (after_of r))
   at_bits h (inl same) = inl same
   at_bits h (inr more) = inr (bits_rise r.before (after_of r) h.stamp more)
 

@@ -5,7 +5,6 @@ use Rattle.entry_model.specs.declared.line.Line.{Line}
 use Rattle.entry_model.specs.declared.receipt.Receipt.{Receipt}
 use Rattle.entry_model.specs.Receipt.{after_of}
 use Rattle.entry_model.specs.History.{pair_of}
-use Rattle.entry_model.specs.Lines.{AllPast}
 
 abbrev pub front_at : List ℕ → ℕ → ℕ
 front_at fronts e = slice_index_or fronts e 0
@@ -38,19 +37,10 @@ larger [] others = others
 larger (front ∷ fronts) [] = front ∷ fronts
 larger (front ∷ fronts) (other ∷ others) = max front other ∷ larger fronts others
 
--- The line's entry has left the line's stamp.
+-- The least pair of an entry that has left the line's stamp.
+abbrev pub pair_beyond : Line → ℕ
+pair_beyond line = (line.stamp + 1) * 4
+
+-- The line is gone: its entry has left the line's stamp.
 abbrev pub IsGone : List ℕ → Line → Type 0
-IsGone fronts line = (line.stamp + 1) * 4 ≤ front_at fronts line.entry
-
--- ---- laws
--- Two lists of receipts that keep fronts, one behind the other, are one.
-abbrev pub FrontsCompose : Type 0
-FrontsCompose = (fronts mid later : List ℕ) (xs ys : List Receipt) → KeepsFronts fronts xs mid → KeepsFronts mid ys later → KeepsFronts fronts (xs ++ ys) later
-
--- No front falls.
-abbrev pub FrontsNeverFall : Type 0
-FrontsNeverFall = (fronts later : List ℕ) (rs : List Receipt) → KeepsFronts fronts rs later → AreBelow fronts later
-
--- Receipts of an entry that had left a line's stamp come after the line.
-abbrev pub GoneLinesArePast : Type 0
-GoneLinesArePast = (fronts later : List ℕ) (rs : List Receipt) (line : Line) → KeepsFronts fronts rs later → IsGone fronts line → AllPast line rs
+IsGone fronts line = pair_beyond line ≤ front_at fronts line.entry

@@ -3,6 +3,7 @@ use Rattle.std.specs.Prelude.{◌≡◌, ℕ, ◌+◌, ◌*◌, ◌==◌, ◌&&�
 use Rattle.entry_model.specs.State.{State}
 use Rattle.entry_model.specs.declared.receipt.Receipt.{Receipt}
 use Rattle.entry_model.specs.Receipt.{after_of}
+use Rattle.basics.specs.Words.{bool_eq}
 
 -- How many of R and C are set.
 abbrev pub bits : State → ℕ
@@ -11,10 +12,6 @@ bits s = (if s.referenced then 1 else 0) + (if s.changed then 1 else 0)
 -- The stamp and the number of bits, as one number that compares as the two do from the left.
 unfoldable pub pair_of : State → ℕ
 pair_of s = s.stamp * 4 + bits s
-
-abbrev pub bool_eq : Bool → Bool → Bool
-bool_eq true b = b
-bool_eq false b = not b
 
 unfoldable pub state_eq : State → State → Bool
 state_eq s t =

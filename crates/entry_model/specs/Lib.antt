@@ -1,11 +1,9 @@
 pub mod State
 pub mod Reply
 pub mod Receipt
-pub mod Lines
+pub mod CachedLines
 pub mod Run
 pub mod Trial
 pub mod History
-pub mod Cache
-pub mod ReplyLaws
 pub mod Fronts
-pub mod Logs
+pub mod Laws

@@ -1,5 +1,5 @@
 -- Receipts: one operation that was made on one entry.
-use Rattle.std.specs.Prelude.{refl, ◌≡◌, ℕ, Some, Bool, true, false}
+use Rattle.std.specs.Prelude.{refl, ◌≡◌, ℕ, Some, Bool, true, false, List, Option, find, not}
 use Rattle.entry_model.specs.State.{State}
 use Rattle.entry_model.specs.declared.operation.Answer.{Answer}
 use Rattle.entry_model.specs.declared.operation.Answer.TheVariants.{Entered, Taken, Worn, NotFound, NoMatch, Denied, At}
@@ -32,17 +32,9 @@ abbrev pub is_taken : Answer → Bool
 is_taken Taken = true
 is_taken other = false
 
-abbrev pub is_entered : Answer → Bool
-is_entered Entered = true
-is_entered other = false
-
 abbrev pub is_worn : Answer → Bool
 is_worn Worn = true
 is_worn other = false
-
-abbrev pub is_not_found : Answer → Bool
-is_not_found NotFound = true
-is_not_found other = false
 
 abbrev pub is_no_match : Answer → Bool
 is_no_match NoMatch = true
@@ -62,3 +54,8 @@ is_at other = false
 abbrev pub is_access : Op → Bool
 is_access (Access tag base key no_execute want) = true
 is_access other = false
+
+-- ---- searches
+-- The receipt that was found: the first that doesn't say NoMatch.
+abbrev pub found_of : List Receipt → Option Receipt
+found_of rs = find (λ (r : Receipt). not (is_no_match r.answer)) rs

@@ -1,5 +1,6 @@
 -- One entry by itself: what it answers to an operation, and its next state.
 use Rattle.std.specs.Prelude.{◌&&◌, ◌||◌, ℕ, ◌+◌, ◌==◌, Bool, true, false, if◌then◌else◌, bit_and, Option, Some, None}
+use Rattle.std.specs.Option.{option_map_or}
 use Rattle.entry_model.specs.State.{State, empty_state}
 use Rattle.entry_model.specs.declared.operation.Op.{Op}
 use Rattle.entry_model.specs.declared.operation.Op.TheVariants.{Enter, Remove, Protect, Read, ClearRef, ClearMod, Access}
@@ -9,7 +10,6 @@ use Rattle.entry_model.specs.declared.operation.Answer.TheVariants.{Entered, Tak
 use Rattle.hpte_fields.specs.Fields.{is_referenced, is_changed, without_rc, with_rc, protected_word, pp_of, is_no_execute}
 use Rattle.page_sizes.specs.Sizes.{size_of}
 use Rattle.page_sizes.specs.declared.size.PageSize.{PageSize}
-use Rattle.std.specs.Option.{option_map_or}
 use Rattle.storage_prot.specs.declared.want.Want.{Want}
 use Rattle.storage_prot.specs.declared.want.Want.TheVariants.{Load, Store, Fetch}
 use Rattle.storage_prot.specs.Protection.{allowed}
@@ -35,21 +35,21 @@ is_found s test = s.valid && (fits_avpn s.dword0 test.avpn && fits_andcond s.dwo
 
 -- ---- changes
 -- A change raises the stamp by one. At the last stamp there is no further change.
-abbrev pub changed_to : State → Answer → State → Answer × State
-changed_to s answer next = if s.stamp == 0xFFFFFFFF then (Worn, s) else (answer, record next { stamp = s.stamp + 1 })
+abbrev pub change_to : State → Answer → State → Answer × State
+change_to s answer next = if s.stamp == 0xFFFFFFFF then (Worn, s) else (answer, record next { stamp = s.stamp + 1 })
 
 -- The same where there is an entry to change.
-abbrev pub changed_where : Bool → State → Answer → State → Answer × State
-changed_where found s answer next = if found then changed_to s answer next else (NotFound, s)
+abbrev pub change_where : Bool → State → Answer → State → Answer × State
+change_where found s answer next = if found then change_to s answer next else (NotFound, s)
 
 -- What H_ENTER makes of an empty entry, but for the stamp: R and C are those of the given doubleword.
-abbrev pub entered : ℕ → ℕ → State
-entered dword0 dword1 = record { valid = true; dword0 = dword0; dword1 = without_rc dword1; referenced = is_referenced dword1; changed = is_changed dword1; stamp = 0 }
+abbrev pub entered_state : ℕ → ℕ → State
+entered_state dword0 dword1 = record { valid = true; dword0 = dword0; dword1 = without_rc dword1; referenced = is_referenced dword1; changed = is_changed dword1; stamp = 0 }
 
 -- ---- accesses
 -- What an access compares of doubleword 0: B, the abbreviated virtual page number, H and V.
-abbrev pub compared : ℕ → ℕ
-compared dword0 = bit_and dword0 0xFFFFFFFFFFFFFF83
+abbrev pub compared_bits : ℕ → ℕ
+compared_bits dword0 = bit_and dword0 0xFFFFFFFFFFFFFF83
 
 -- The page size that the doublewords encode has this base size.
 unfoldable pub has_base : ℕ → ℕ → ℕ → Bool
@@ -57,7 +57,7 @@ has_base dword0 dword1 base = option_map_or (λ (size : PageSize). size.base == 
 
 -- The entry translates pages with this tag and base size.
 abbrev pub is_match : State → ℕ → ℕ → Bool
-is_match s tag base = s.valid && ((compared s.dword0 == tag) && has_base s.dword0 s.dword1 base)
+is_match s tag base = s.valid && ((compared_bits s.dword0 == tag) && has_base s.dword0 s.dword1 base)
 
 abbrev pub is_store : Want → Bool
 is_store Load = false
@@ -65,22 +65,22 @@ is_store Store = true
 is_store Fetch = false
 
 -- The same entry after an access that was allowed: R is set, and after a store C.
-abbrev pub touched : State → Want → State
-touched s want = record s { referenced = true; changed = s.changed || is_store want }
+abbrev pub touched_state : State → Want → State
+touched_state s want = record s { referenced = true; changed = s.changed || is_store want }
 
 -- What an entry that translates the page answers: its own N or G refuses fetches as the segment's N does.
-abbrev pub matched : State → Bool → Bool → Want → Answer × State
-matched s key no_execute want = if allowed (pp_of s.dword1) key (no_execute || is_no_execute s.dword1) want then (At, touched s want) else (Denied, s)
+abbrev pub answer_of_match : State → Bool → Bool → Want → Answer × State
+answer_of_match s key no_execute want = if allowed (pp_of s.dword1) key (no_execute || is_no_execute s.dword1) want then (At, touched_state s want) else (Denied, s)
 
-abbrev pub accessed : State → ℕ → ℕ → Bool → Bool → Want → Answer × State
-accessed s tag base key no_execute want = if is_match s tag base then matched s key no_execute want else (NoMatch, s)
+abbrev pub answer_of_access : State → ℕ → ℕ → Bool → Bool → Want → Answer × State
+answer_of_access s tag base key no_execute want = if is_match s tag base then answer_of_match s key no_execute want else (NoMatch, s)
 
 -- ---- the table of operations
 abbrev pub reply_of : State → Op → Answer × State
-reply_of s (Enter dword0 dword1) = if s.valid then (Taken, s) else changed_to s Entered (entered dword0 dword1)
-reply_of s (Remove test) = changed_where (is_found s test) s Removed (empty_state 0)
-reply_of s (Protect test flags) = changed_where (is_found s test) s Protected (record s { dword1 = protected_word s.dword1 flags })
+reply_of s (Enter dword0 dword1) = if s.valid then (Taken, s) else change_to s Entered (entered_state dword0 dword1)
+reply_of s (Remove test) = change_where (is_found s test) s Removed (empty_state 0)
+reply_of s (Protect test flags) = change_where (is_found s test) s Protected (record s { dword1 = protected_word s.dword1 flags })
 reply_of s Read = (Words, s)
-reply_of s ClearRef = changed_where s.valid s Was (record s { referenced = false })
-reply_of s ClearMod = changed_where s.valid s Was (record s { changed = false })
-reply_of s (Access tag base key no_execute want) = accessed s tag base key no_execute want
+reply_of s ClearRef = change_where s.valid s Was (record s { referenced = false })
+reply_of s ClearMod = change_where s.valid s Was (record s { changed = false })
+reply_of s (Access tag base key no_execute want) = answer_of_access s tag base key no_execute want

@@ -1,5 +1,5 @@
 -- The state of one page table entry.
-use Rattle.std.specs.Prelude.{◌≡◌, ℕ, Bool, false, bit_and}
+use Rattle.std.specs.Prelude.{◌≡◌, ℕ, Bool, false, bit_and, true}
 
 -- The two doublewords without R and C, the two bits, and the stamp: how often the entry has changed, but for R and C that accesses set.
 pub record State : Type 0 where
@@ -24,3 +24,17 @@ IsCanonicalState s = IsCanonical s.valid s.dword0 s.dword1 s.referenced s.change
 -- An entry with nothing in it.
 abbrev pub empty_state : ℕ → State
 empty_state stamp = record { valid = false; dword0 = 0; dword1 = 0; referenced = false; changed = false; stamp = stamp }
+
+-- ---- R and C
+-- The second state has what the first has, and each of its bits.
+pub record OnlyRaisesBits (s t : State) : Type 0 where
+  pub valid : t.valid ≡ s.valid
+  pub dword0 : t.dword0 ≡ s.dword0
+  pub dword1 : t.dword1 ≡ s.dword1
+  pub stamp : t.stamp ≡ s.stamp
+  pub referenced : s.referenced ≡ true → t.referenced ≡ true
+  pub changed : s.changed ≡ true → t.changed ≡ true
+
+-- The state with these R and C.
+abbrev pub with_these_bits : State → Bool → Bool → State
+with_these_bits s referenced changed = record s { referenced = referenced; changed = changed }

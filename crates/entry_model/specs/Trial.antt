@@ -17,11 +17,6 @@ pub record Call : Type 0 where
 abbrev pub call : Op → ℕ → Call
 call op e = record { entry = e; op = op }
 
--- So many entries, one behind the other, from the first on.
-abbrev pub entries_from : ℕ → ℕ → List ℕ
-entries_from first zero = []
-entries_from first (suc n) = first ∷ entries_from (first + 1) n
-
 -- Each operation was made on its entry, in turn, as long as the answers go on.
 abbrev pub IsTrial : (Answer → Bool) → List Call → List Receipt → Type 0
 IsTrial goes [] [] = Unit {0}
@@ -63,5 +58,5 @@ unfoldable pub plan_run : Plan → List State → HReply × List State
 plan_run plan states = (reply_by plan (trial_run plan.goes_on states plan.calls).0, (trial_run plan.goes_on states plan.calls).1)
 
 -- A call that is answered by itself names no entry.
-abbrev pub answered_by : Rc → Plan
-answered_by rc = record { calls = []; goes_on = λ answer. true; told = λ rs. (rc, []) }
+abbrev pub plan_of_code : Rc → Plan
+plan_of_code rc = record { calls = []; goes_on = λ answer. true; told = λ rs. (rc, []) }

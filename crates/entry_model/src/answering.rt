@@ -1,7 +1,7 @@
 ghost use Rattle.std.specs.Prelude.{◌≡◌, true, false, if◌then◌else◌};
-ghost use Rattle.entry_model.specs.Reply as table;
 ghost use Rattle.hpte_fields.specs.Fields.{protected_word};
 ghost use Rattle.entry_model.specs.Receipt.{after_of};
+ghost use Rattle.entry_model.specs.Reply as table;
 
 use crate::accessing::accessed;
 use crate::operation::{Answer, Op, Test};
@@ -33,7 +33,7 @@ fn is_found(state: &EntryState, test: &Test) -> bool
 
 /// Changes an entry, unless its stamp is at its last value.
 fn changed_to(before: &EntryState, answer: Answer, next: EntryState) -> (Answer, EntryState)
-    ensures { result ≡ table.changed_to before.now answer next }
+    ensures { result ≡ table.change_to before.now answer next }
 {
     if before.stamp == u32::MAX {
         return (Answer::Worn, *before);
@@ -45,7 +45,7 @@ fn changed_to(before: &EntryState, answer: Answer, next: EntryState) -> (Answer,
 
 /// The state that H_ENTER makes of an empty entry, but for its stamp.
 fn entered(dword0: u64, dword1: u64) -> EntryState
-    ensures { result ≡ table.entered dword0 dword1 }
+    ensures { result ≡ table.entered_state dword0 dword1 }
 {
     EntryState {
         valid: true,
@@ -105,7 +105,7 @@ pub fn reply(before: &EntryState, op: &Op) -> (Answer, EntryState)
 
 /// Clears C (`change`) or R.
 fn cleared(before: &EntryState, change: bool) -> (Answer, EntryState)
-    ensures { result ≡ table.changed_where before.now.valid before.now Answer.Was (if change then record before.now { changed = false } else record before.now { referenced = false }) }
+    ensures { result ≡ table.change_where before.now.valid before.now Answer.Was (if change then record before.now { changed = false } else record before.now { referenced = false }) }
 {
     if !before.valid {
         return (Answer::NotFound, *before);

@@ -11,11 +11,11 @@ pub struct HReply {
 }
 
 impl HReply {
-    ghost use Rattle.entry_model.specs.Trial.{IsReplyOf, answered_by};
+    ghost use Rattle.entry_model.specs.Trial.{IsReplyOf, plan_of_code};
 
     /// The reply of a call that touches no entry.
     pub fn without_receipts(rc: Rc) -> HReply
-        ensures { IsReplyOf (answered_by rc) result }
+        ensures { IsReplyOf (plan_of_code rc) result }
     {
         HReply {
             rc,

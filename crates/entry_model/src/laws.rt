@@ -1,9 +1,7 @@
 //! Laws of replies, and of receipts in histories. Each function does nothing, and its contract is the
 //! law.
 
-ghost use Rattle.entry_model.specs.ReplyLaws.{AccessesOnlyRaiseBits, OnlyAtTouches, EmptyStaysEmpty, StillAccessesStayStill, OthersRaiseStamps, OthersIgnoreBits, DecidedIsValid, RepliesStayCanonical, StampsStayLow};
-ghost use Rattle.entry_model.specs.Logs.{LoggedHistoriesAreLegal};
-ghost use Rattle.entry_model.specs.Fronts.{FrontsCompose, FrontsNeverFall, GoneLinesArePast};
+ghost use Rattle.entry_model.specs.Laws.{AccessesOnlyRaiseBits, OnlyAtTouches, EmptyStaysEmpty, StillAccessesStayStill, OthersRaiseStamps, OthersIgnoreBits, DecidedIsValid, RepliesStayCanonical, StampsStayLow, LoggedHistoriesAreLegal, FrontsCompose, FrontsNeverFall, ReceiptsOfGoneLinesAreLater};
 
 /// An access leaves an entry's doublewords and its stamp, and lowers no bit.
 pub fn accesses_only_raise_bits()
@@ -67,6 +65,6 @@ pub fn fronts_never_fall()
 {}
 
 /// Receipts of an entry whose front is past a line's stamp come after the line.
-pub fn gone_lines_are_past()
-    ensures { GoneLinesArePast }
+pub fn receipts_of_gone_lines_are_later()
+    ensures { ReceiptsOfGoneLinesAreLater }
 {}

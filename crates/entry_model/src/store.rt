@@ -2,7 +2,7 @@ ghost use Rattle.std.specs.Prelude.{IfSome, IfNone, ◌≡◌, ◌≤◌, ◌<�
 ghost use Rattle.entry_model.specs.declared.receipt.Receipt.{Receipt};
 ghost use Rattle.entry_model.specs.declared.line.Line.{Line};
 ghost use Rattle.entry_model.specs.Receipt.{IsNormal, IsReceiptOf};
-ghost use Rattle.entry_model.specs.Lines.{IsAccessOf, IsCurrent, ShowsLine, AllPast};
+ghost use Rattle.entry_model.specs.CachedLines.{IsAccessOf, IsCurrent, ShowsLine, AllLater};
 
 use crate::line::Line;
 use crate::operation::Op;
@@ -47,7 +47,7 @@ pub trait EntryStore {
         ensures current { IfSome result (λ r. IsCurrent known.now r.before) }
         ensures made { IfSome result (λ r. made self.old self.new (r ∷ [])) }
         ensures nothing { IfNone result (made self.old self.new []) }
-        ensures left { IfNone result (gone self.new known.now) };
+        ensures is_gone { IfNone result (gone self.new known.now) };
 
     /// Between a moment and itself nothing was made.
     ghost made_none: { (s : Self) → made s s [] };
@@ -68,5 +68,5 @@ pub trait EntryStore {
     ghost gone_stays: { (a b : Self) (xs : List Receipt) (line : Line) → made a b xs → gone a line → gone b line };
 
     /// Receipts of an entry that had left the line's stamp come after the line.
-    ghost gone_is_past: { (a b : Self) (xs : List Receipt) (line : Line) → made a b xs → gone a line → AllPast line xs };
+    ghost later_than_gone: { (a b : Self) (xs : List Receipt) (line : Line) → made a b xs → gone a line → AllLater line xs };
 }

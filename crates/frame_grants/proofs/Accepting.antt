@@ -1,6 +1,6 @@
 -- A grant that is not refused: the list stays apart, and the place that the code counts is the grant's.
-use Rattle.std.proofs.Common.{◌≡◌, ℕ, ◌<◌, get_or, Bool, true, false, not, nat_le, List, [], ◌∷◌, ◌++◌, length, filter, find, insert, count_by, All, AllPairs, None, refl, sym, ap, ◌∙◌, subst, arith}
 use Rattle.std.specs.Prelude.{option_map}
+use Rattle.std.proofs.Common.{◌≡◌, ℕ, ◌<◌, get_or, Bool, true, false, not, nat_le, List, [], ◌∷◌, ◌++◌, length, filter, find, insert, count_by, All, AllPairs, None, refl, sym, ap, ◌∙◌, subst, arith}
 use Rattle.std.specs.List.{list_any, AllByRecursion}
 use Rattle.std.proofs.lemmas.Bool.Decides.{nat_tests}
 use Rattle.std.proofs.lemmas.List.Elements.{All-cons, All-append, All-filter, filter_passes}
@@ -8,11 +8,11 @@ use Rattle.std.proofs.lemmas.List.Sums.{length-filter}
 use Rattle.std.proofs.Math.Seq.{take-append_seam, drop-append_seam}
 use Rattle.frame_grants.specs.declared.grant.Grant.{Grant}
 use Rattle.frame_grants.specs.declared.error.GrantError.{GrantError}
-use Rattle.frame_grants.specs.Grants.{Granted, IsPlaced, AreApart, IsSound, is_empty, is_aligned, ends_past, meets_logical, meets_machine, overlaps, meets_pool, starts_below, refusals, add_refusal, with_grant}
-use Rattle.frame_grants.proofs.Parts.{AllPairs-between, filters_join, list_any-false}
+use Rattle.frame_grants.specs.Grants.{GrantedMemory, IsPlaced, AreApart, IsSound, is_empty, is_aligned, ends_past, meets_logical, meets_machine, overlaps, meets_pool, starts_below, refusals, add_refusal, with_grant}
+use Rattle.basics.proofs.Lists.{AllPairs-between, filters_join, list_any-false}
 
 -- ---- what a grant has that is not refused
-pub record IsAccepted (granted : Granted) (grant : Grant) : Type 0 where
+pub record IsAccepted (granted : GrantedMemory) (grant : Grant) : Type 0 where
   pub has_bytes : is_empty grant ≡ false
   pub aligned : is_aligned grant ≡ true
   pub below_top : ends_past grant ≡ false
@@ -25,7 +25,7 @@ none_wrong [] none = tt
 none_wrong ((true, e) ∷ rows) none = absurd (cc)
 none_wrong ((false, e) ∷ rows) none = (refl, none_wrong rows none)
 
-pub accepted : (granted : Granted) (grant : Grant) → add_refusal granted grant ≡ None → IsAccepted granted grant
+pub accepted : (granted : GrantedMemory) (grant : Grant) → add_refusal granted grant ≡ None → IsAccepted granted grant
 unfolding add_refusal refusals
 accepted granted grant none =
     let right = none_wrong (refusals granted grant) none in
@@ -39,7 +39,7 @@ accepted granted grant none =
       off_pool = right.1.1.1.1.1.0;
     }
 
-pub is_placed : (granted : Granted) (grant : Grant) → IsAccepted granted grant → IsPlaced grant
+pub is_placed : (granted : GrantedMemory) (grant : Grant) → IsAccepted granted grant → IsPlaced grant
 is_placed granted grant ok = grind (arith, nat_tests, ok.has_bytes, ok.aligned, ok.below_top)
 
 -- ---- where it stands
@@ -62,13 +62,13 @@ above grant other here there apart below =
     let meet = logical_apart grant other apart in
     grind (arith, nat_tests, here.has_bytes, there.has_bytes, meet, below)
 
-abbrev pub lower_part : Granted → Grant → List Grant
+abbrev pub lower_part : GrantedMemory → Grant → List Grant
 lower_part granted grant = filter (starts_below grant) granted.grants
 
-abbrev pub higher_part : Granted → Grant → List Grant
+abbrev pub higher_part : GrantedMemory → Grant → List Grant
 higher_part granted grant = filter (λ (other : Grant). not (starts_below grant other)) granted.grants
 
-parts_join : (granted : Granted) (grant : Grant) → AreApart granted → lower_part granted grant ++ higher_part granted grant ≡ granted.grants
+parts_join : (granted : GrantedMemory) (grant : Grant) → AreApart granted → lower_part granted grant ++ higher_part granted grant ≡ granted.grants
 parts_join granted grant apart =
     filters_join (starts_below grant) granted.grants (λ i j d before inside.
     let rise = apart.rising i j d before inside in
@@ -78,7 +78,7 @@ insert_seam : {X : Type 0} (xs ys : List X) (x : X) → insert (xs ++ ys) (lengt
 insert_seam xs ys x = rw (take-append_seam xs ys, drop-append_seam xs ys) refl
 
 -- What the code makes is the list that the definition says.
-pub place_is : (granted : Granted) (grant : Grant) → AreApart granted → insert granted.grants (count_by (starts_below grant) granted.grants) grant ≡ (with_grant granted grant).grants
+pub place_is : (granted : GrantedMemory) (grant : Grant) → AreApart granted → insert granted.grants (count_by (starts_below grant) granted.grants) grant ≡ (with_grant granted grant).grants
 unfolding with_grant
 place_is granted grant apart =
     ap (λ n. insert granted.grants n grant) (sym (length-filter (starts_below grant) granted.grants))
@@ -93,7 +93,7 @@ not_false false passes = refl
 starts_lower : (grant other : Grant) → starts_below grant other ≡ true → other.logical < grant.logical
 starts_lower grant other below = grind (arith, nat_tests, below)
 
-pub stays_apart : (granted : Granted) (grant : Grant) → AreApart granted → IsAccepted granted grant → AreApart (with_grant granted grant)
+pub stays_apart : (granted : GrantedMemory) (grant : Grant) → AreApart granted → IsAccepted granted grant → AreApart (with_grant granted grant)
 unfolding with_grant
 stays_apart granted grant apart ok =
     let gs = granted.grants in
@@ -129,38 +129,38 @@ stays_apart granted grant apart ok =
       off_pool = All-append OffPool low (grant ∷ high) (All-filter below OffPool gs apart.off_pool) (All-cons OffPool grant high ok.off_pool (All-filter others OffPool gs apart.off_pool));
     }
 
-sound_with : (granted : Granted) (grant : Grant) → IsSound granted → AreApart (with_grant granted grant) → IsSound (record granted { grants = (with_grant granted grant).grants })
+sound_with : (granted : GrantedMemory) (grant : Grant) → IsSound granted → AreApart (with_grant granted grant) → IsSound (record granted { grants = (with_grant granted grant).grants })
 unfolding with_grant
 sound_with granted grant sound kept = record { pool = sound.pool; apart = kept }
 
-with_is : (granted : Granted) (grant : Grant) → record granted { grants = (with_grant granted grant).grants } ≡ with_grant granted grant
+with_is : (granted : GrantedMemory) (grant : Grant) → record granted { grants = (with_grant granted grant).grants } ≡ with_grant granted grant
 unfolding with_grant
 with_is granted grant = refl
 
-pub room_left : (granted : Granted) (grant : Grant) → add_refusal granted grant ≡ None → length granted.grants < 64
+pub room_left : (granted : GrantedMemory) (grant : Grant) → add_refusal granted grant ≡ None → length granted.grants < 64
 room_left granted grant none = let room = (accepted granted grant none).room in grind (arith, nat_tests, room)
 
 -- ---- what the code makes of the grants before
 -- They are `now` to the caller, and the list becomes `items` by an insert at the place that was counted.
-pub record IsInserted (before now : Granted) (grant : Grant) (place : ℕ) (items : List Grant) : Type 0 where
+pub record IsInserted (before now : GrantedMemory) (grant : Grant) (place : ℕ) (items : List Grant) : Type 0 where
   pub same : before ≡ now
   pub sound : IsSound before
   pub fine : add_refusal now grant ≡ None
   pub counted : place ≡ count_by (starts_below grant) now.grants
   pub inserted : items ≡ insert before.grants place grant
 
-items_are : (before now : Granted) (grant : Grant) (place : ℕ) (items : List Grant) → IsInserted before now grant place items → items ≡ (with_grant before grant).grants
+items_are : (before now : GrantedMemory) (grant : Grant) (place : ℕ) (items : List Grant) → IsInserted before now grant place items → items ≡ (with_grant before grant).grants
 items_are before now grant place items made =
     made.inserted
-    ∙ ap (λ n. insert before.grants n grant) (made.counted ∙ ap (λ (g : Granted). count_by (starts_below grant) g.grants) (sym made.same))
+    ∙ ap (λ n. insert before.grants n grant) (made.counted ∙ ap (λ (g : GrantedMemory). count_by (starts_below grant) g.grants) (sym made.same))
     ∙ place_is before grant made.sound.apart
 
-pub made_sound : (before now : Granted) (grant : Grant) (place : ℕ) (items : List Grant) → IsInserted before now grant place items → IsSound (record before { grants = items })
+pub made_sound : (before now : GrantedMemory) (grant : Grant) (place : ℕ) (items : List Grant) → IsInserted before now grant place items → IsSound (record before { grants = items })
 made_sound before now grant place items made =
     let fine : add_refusal before grant ≡ None = ap (λ g. add_refusal g grant) made.same ∙ made.fine in
     let kept = stays_apart before grant made.sound.apart (accepted before grant fine) in
     subst (λ (gs : List Grant). IsSound (record before { grants = gs })) (sym (items_are before now grant place items made)) (sound_with before grant made.sound kept)
 
-pub made_is : (before now : Granted) (grant : Grant) (place : ℕ) (items : List Grant) → IsInserted before now grant place items → record before { grants = items } ≡ with_grant now grant
+pub made_is : (before now : GrantedMemory) (grant : Grant) (place : ℕ) (items : List Grant) → IsInserted before now grant place items → record before { grants = items } ≡ with_grant now grant
 made_is before now grant place items made =
     ap (λ (gs : List Grant). record before { grants = gs }) (items_are before now grant place items made) ∙ with_is before grant ∙ ap (λ g. with_grant g grant) made.same

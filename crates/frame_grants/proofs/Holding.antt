@@ -1,6 +1,6 @@
 -- What the machine range of a logical range is: it lies in one grant, off the pool, and no other grant holds the range.
-use Rattle.std.proofs.Common.{◌≡◌, ℕ, ◌+◌, ◌-◌, ◌<◌, ◌≤◌, ◌^◌, ◌==◌, if◌then◌else◌, Bool, true, false, List, length, get_or, find, All, Contains, Option, Some, None, IfSome, refl, sym, ap, subst, ◌∙◌, inl, inr, ◌⊎◌, arith}
 use Rattle.std.specs.Prelude.{option_map}
+use Rattle.std.proofs.Common.{◌≡◌, ℕ, ◌+◌, ◌-◌, ◌<◌, ◌≤◌, ◌^◌, ◌==◌, if◌then◌else◌, Bool, true, false, List, length, get_or, find, All, Contains, Option, Some, None, IfSome, refl, sym, ap, subst, ◌∙◌, inl, inr, ◌⊎◌, arith}
 use Rattle.std.proofs.lemmas.Bool.{cases_lt}
 use Rattle.std.proofs.lemmas.Bool.Decides.{nat_tests}
 use Rattle.std.proofs.lemmas.List.{get_or_default}
@@ -8,27 +8,27 @@ use Rattle.std.proofs.lemmas.List.Elements.{All-contains}
 use Rattle.frame_grants.specs.declared.grant.Grant.{Grant}
 use Rattle.frame_grants.specs.declared.grant.Kind.{Kind}
 use Rattle.frame_grants.specs.Ranges.{ranges_meet, range_within}
-use Rattle.frame_grants.specs.Grants.{Granted, IsPlaced, AreApart, meets_logical, meets_pool, holds, machine_at, machine_range}
-use Rattle.frame_grants.proofs.Parts.{find-Some, find-None}
+use Rattle.frame_grants.specs.Grants.{GrantedMemory, IsPlaced, AreApart, meets_logical, meets_pool, holds, machine_at, machine_range}
+use Rattle.basics.proofs.Lists.{find-Some, find-None}
 
 -- ---- the grant that is found
 some_of : {A : Type 0} (o : Option A) (P : A → Type 0) → ((x : A) → o ≡ Some x → P x) → IfSome o P
 some_of None P each = tt
 some_of (Some x) P each = each x refl
 
-pub found_placed : (granted : Granted) (logical length : ℕ) → AreApart granted → IfSome (find (holds logical length) granted.grants) IsPlaced
+pub found_placed : (granted : GrantedMemory) (logical length : ℕ) → AreApart granted → IfSome (find (holds logical length) granted.grants) IsPlaced
 found_placed granted logical length apart =
     some_of (find (holds logical length) granted.grants) IsPlaced (λ grant found.
     All-contains IsPlaced granted.grants grant apart.placed (find-Some (holds logical length) granted.grants grant found).1)
 
-pub found_holds : (granted : Granted) (logical length : ℕ) → IfSome (find (holds logical length) granted.grants) (λ grant. holds logical length grant ≡ true)
+pub found_holds : (granted : GrantedMemory) (logical length : ℕ) → IfSome (find (holds logical length) granted.grants) (λ grant. holds logical length grant ≡ true)
 found_holds granted logical length =
     some_of (find (holds logical length) granted.grants) (λ grant. holds logical length grant ≡ true) (λ grant found.
     (find-Some (holds logical length) granted.grants grant found).0)
 
 -- ---- what a machine range is
 -- A grant of the list that holds the logical range; the machine range lies at the same distance in the grant's own.
-pub record IsWithinGrant (granted : Granted) (logical length machine : ℕ) (kind : Kind) (grant : Grant) : Type 0 where
+pub record IsWithinGrant (granted : GrantedMemory) (logical length machine : ℕ) (kind : Kind) (grant : Grant) : Type 0 where
   pub granted_is : Contains granted.grants grant
   pub kind_is : kind ≡ grant.kind
   pub holding : holds logical length grant ≡ true
@@ -37,7 +37,7 @@ pub record IsWithinGrant (granted : Granted) (logical length machine : ℕ) (kin
   pub below_top : machine + length ≤ 2 ^ 60
   pub has_bytes : 0 < length
 
-within_of : (granted : Granted) (logical length : ℕ) (grant : Grant) → AreApart granted → 0 < length → holds logical length grant ≡ true → Contains granted.grants grant → IsWithinGrant granted logical length (machine_at logical grant).0 (machine_at logical grant).1 grant
+within_of : (granted : GrantedMemory) (logical length : ℕ) (grant : Grant) → AreApart granted → 0 < length → holds logical length grant ≡ true → Contains granted.grants grant → IsWithinGrant granted logical length (machine_at logical grant).0 (machine_at logical grant).1 grant
 within_of granted logical length grant apart some holding here =
     let placed = All-contains IsPlaced granted.grants grant apart.placed here in
     let low : grant.logical ≤ logical = grind (arith, nat_tests, holding) in
@@ -66,7 +66,7 @@ found_of false None f found some = absurd (cc)
 found_of false (Some grant) f found some = (refl, (grant, refl, cc))
 
 -- What `machine_range` gives lies wholly in the machine range of one grant.
-pub machine_range-within : (granted : Granted) (logical length : ℕ) (found : ℕ × Kind) → AreApart granted → machine_range granted.grants logical length ≡ Some found → (grant : Grant) × IsWithinGrant granted logical length found.0 found.1 grant
+pub machine_range-within : (granted : GrantedMemory) (logical length : ℕ) (found : ℕ × Kind) → AreApart granted → machine_range granted.grants logical length ≡ Some found → (grant : Grant) × IsWithinGrant granted logical length found.0 found.1 grant
 unfolding machine_range
 machine_range-within granted logical length found apart some =
     let (has_bytes, (grant, is, at)) = found_of (length == 0) (find (holds logical length) granted.grants) (machine_at logical) found some in
@@ -78,13 +78,13 @@ within_off : (start length outer outer_length base size : ℕ) → range_within 
 within_off start length outer outer_length base size within off = grind (arith, nat_tests, within, off)
 
 -- It meets no byte of the pool.
-pub machine_range-off_pool : (granted : Granted) (logical length : ℕ) (found : ℕ × Kind) → AreApart granted → machine_range granted.grants logical length ≡ Some found → ranges_meet found.0 length granted.pool_base (2 ^ granted.pool_order) ≡ false
+pub machine_range-off_pool : (granted : GrantedMemory) (logical length : ℕ) (found : ℕ × Kind) → AreApart granted → machine_range granted.grants logical length ≡ Some found → ranges_meet found.0 length granted.pool_base (2 ^ granted.pool_order) ≡ false
 machine_range-off_pool granted logical length found apart some =
     let (grant, is) = machine_range-within granted logical length found apart some in
     within_off found.0 length grant.machine grant.length granted.pool_base (2 ^ granted.pool_order) is.within (All-contains (λ g. meets_pool granted g ≡ false) granted.grants grant apart.off_pool is.granted_is)
 
 -- It is given exactly where the range has bytes and some grant holds it.
-pub machine_range-None : (granted : Granted) (logical length : ℕ) → 0 < length → machine_range granted.grants logical length ≡ None → All (λ grant. holds logical length grant ≡ false) granted.grants
+pub machine_range-None : (granted : GrantedMemory) (logical length : ℕ) → 0 < length → machine_range granted.grants logical length ≡ None → All (λ grant. holds logical length grant ≡ false) granted.grants
 unfolding machine_range
 machine_range-None granted logical length bytes none = find-None (holds logical length) granted.grants (none_of (length == 0) (find (holds logical length) granted.grants) (machine_at logical) (grind (arith, nat_tests)) none)
 
@@ -97,7 +97,7 @@ place_of : (grants : List Grant) (k : ℕ) (grant d : Grant) → k < length gran
 place_of grants k grant d inside is = get_or_default grants k d grant inside ∙ is
 
 -- At most one grant holds a range that is not empty.
-pub one_holds : (granted : Granted) (logical length : ℕ) (one other : Grant) → AreApart granted → 0 < length → Contains granted.grants one → Contains granted.grants other → holds logical length one ≡ true → holds logical length other ≡ true → one ≡ other
+pub one_holds : (granted : GrantedMemory) (logical length : ℕ) (one other : Grant) → AreApart granted → 0 < length → Contains granted.grants one → Contains granted.grants other → holds logical length one ≡ true → holds logical length other ≡ true → one ≡ other
 one_holds granted logical length one other apart bytes (k, k_in, k_is) (j, j_in, j_is) holds_one holds_other = at (cases_lt k j) (cases_lt j k) where
   Apart : Grant → Grant → Type 0
   Apart lower higher = meets_logical lower higher ≡ false

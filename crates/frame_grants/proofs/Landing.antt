@@ -1,13 +1,13 @@
 -- Where one address of a logical range that lies in a grant lands.
-use Rattle.std.proofs.Common.{◌≡◌, ℕ, ◌+◌, ◌<◌, ◌≤◌, ◌^◌, ◌==◌, true, false, List, find, Option, Some, None, refl, sym, ap, ◌∙◌, arith}
 use Rattle.std.specs.Prelude.{option_map}
+use Rattle.std.proofs.Common.{◌≡◌, ℕ, ◌+◌, ◌<◌, ◌≤◌, ◌^◌, ◌==◌, true, false, List, find, Option, Some, None, refl, sym, ap, ◌∙◌, arith, length}
 use Rattle.std.proofs.lemmas.Bool.Decides.{nat_tests}
 use Rattle.std.proofs.lemmas.List.Elements.{All-contains}
 use Rattle.frame_grants.specs.declared.grant.Grant.{Grant}
 use Rattle.frame_grants.specs.declared.grant.Kind.{Kind}
 use Rattle.frame_grants.specs.Ranges.{ranges_meet}
-use Rattle.frame_grants.specs.Grants.{Granted, AreApart, holds, machine_at, machine_range}
-use Rattle.frame_grants.proofs.Parts.{find-Some, find-None}
+use Rattle.frame_grants.specs.Grants.{GrantedMemory, AreApart, holds, machine_at, machine_range}
+use Rattle.basics.proofs.Lists.{find-Some, find-None}
 use Rattle.frame_grants.proofs.Holding.{found_of, machine_range-off_pool}
 
 part_held : (logical length part : ℕ) (grant : Grant) → holds logical length grant ≡ true → logical ≤ part → part + 1 ≤ logical + length → holds part 1 grant ≡ true
@@ -30,5 +30,5 @@ one_off : (address base size : ℕ) → ranges_meet address 1 base size ≡ fals
 one_off address base size off low high = grind (arith, nat_tests, off, low, high)
 
 -- The machine address of a logical one is none of the pool's.
-pub lands_off_pool : (granted : Granted) (logical : ℕ) (found : ℕ × Kind) → AreApart granted → machine_range granted.grants logical 1 ≡ Some found → granted.pool_base ≤ found.0 → found.0 < granted.pool_base + 2 ^ granted.pool_order → ⊥
+pub lands_off_pool : (granted : GrantedMemory) (logical : ℕ) (found : ℕ × Kind) → AreApart granted → machine_range granted.grants logical 1 ≡ Some found → granted.pool_base ≤ found.0 → found.0 < granted.pool_base + 2 ^ granted.pool_order → ⊥
 lands_off_pool granted logical found apart some low high = one_off found.0 granted.pool_base (2 ^ granted.pool_order) (machine_range-off_pool granted logical 1 found apart some) low high

@@ -1,4 +1,3 @@
-pub mod Parts
 pub mod Accepting
 pub mod Holding
 pub mod Meeting

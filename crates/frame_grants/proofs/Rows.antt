@@ -1,9 +1,9 @@
 -- Worked values, which the checker computes.
-use Rattle.std.proofs.Common.{◌≡◌, ℕ, List, [], ◌∷◌, Some, None, refl}
+use Rattle.std.proofs.Common.{◌≡◌, ℕ, List, [], ◌∷◌, Some, None, refl, length}
 use Rattle.frame_grants.specs.declared.error.GrantError.TheVariants.{Empty, Unaligned, Past, Overlap, PoolOverlap}
 use Rattle.frame_grants.specs.declared.grant.Grant.{Grant}
 use Rattle.frame_grants.specs.declared.grant.Kind.TheVariants.{Ram}
-use Rattle.frame_grants.specs.Grants.{Granted, no_grants, refusals, add_refusal, with_grant, machine_range}
+use Rattle.frame_grants.specs.Grants.{GrantedMemory, no_grants, refusals, add_refusal, with_grant, machine_range}
 
 ram : ℕ → ℕ → ℕ → Grant
 ram logical machine length = record { logical = logical; machine = machine; length = length; kind = Ram }
@@ -12,7 +12,7 @@ ram logical machine length = record { logical = logical; machine = machine; leng
 two : List Grant
 two = ram 0 0x2000000000 0x1f000 ∷ ram 0x1f000 0x200001f000 0x1000 ∷ []
 
-pool : Granted
+pool : GrantedMemory
 pool = no_grants 0x1000000000 24
 
 -- ---- ranges

@@ -1,6 +1,7 @@
 -- The memory granted to the guest: which grant is refused, where one is put, and the machine range of a logical range.
 use Rattle.std.specs.Prelude.{◌≡◌, ◌<◌, ◌≤◌, ℕ, ◌+◌, ◌-◌, ◌%◌, ◌^◌, ◌==◌, Bool, false, not, ◌&&◌, ◌||◌, if◌then◌else◌, nat_lt, nat_le, List, [], ◌∷◌, ◌++◌, length, filter, find, All, AllPairs, Option, None, option_map}
 use Rattle.std.specs.List.{list_any}
+use Rattle.basics.specs.Words.{first_refusal}
 use Rattle.frame_grants.specs.Ranges.{ranges_meet, range_within}
 use Rattle.frame_grants.specs.declared.error.GrantError.{GrantError}
 use Rattle.frame_grants.specs.declared.error.GrantError.TheVariants.{Empty, Unaligned, Past, TooMany, Overlap, PoolOverlap}
@@ -9,13 +10,13 @@ use Rattle.frame_grants.specs.declared.grant.Kind.{Kind}
 use Rattle.frame_grants.specs.declared.grant.Kind.TheVariants.{Ram}
 
 -- The grants beside the pool of page tables, which is a machine range of 2 ^ pool_order bytes.
-pub record Granted : Type 0 where
+pub record GrantedMemory : Type 0 where
   pub pool_base : ℕ
   pub pool_order : ℕ
   pub grants : List Grant
 
 -- No grant beside this pool.
-abbrev pub no_grants : ℕ → ℕ → Granted
+abbrev pub no_grants : ℕ → ℕ → GrantedMemory
 no_grants pool_base pool_order = record { pool_base = pool_base; pool_order = pool_order; grants = [] }
 
 -- ---- one grant
@@ -45,12 +46,12 @@ abbrev pub overlaps : Grant → Grant → Bool
 overlaps grant other = meets_logical grant other || meets_machine grant other
 
 -- The machine range meets the pool.
-abbrev pub meets_pool : Granted → Grant → Bool
+abbrev pub meets_pool : GrantedMemory → Grant → Bool
 meets_pool granted grant = ranges_meet grant.machine grant.length granted.pool_base (2 ^ granted.pool_order)
 
 -- ---- a further grant
 -- What may be wrong with it, in the order in which it is tried.
-unfoldable pub refusals : Granted → Grant → List (Bool × GrantError)
+unfoldable pub refusals : GrantedMemory → Grant → List (Bool × GrantError)
 refusals granted grant =
     (is_empty grant, Empty)
     ∷ (not (is_aligned grant), Unaligned)
@@ -61,14 +62,14 @@ refusals granted grant =
     ∷ []
 
 -- The first that is wrong, or none.
-unfoldable pub add_refusal : Granted → Grant → Option GrantError
-add_refusal granted grant = option_map (λ (refusal : Bool × GrantError). refusal.1) (find (λ (refusal : Bool × GrantError). refusal.0) (refusals granted grant))
+unfoldable pub add_refusal : GrantedMemory → Grant → Option GrantError
+add_refusal granted grant = first_refusal (refusals granted grant)
 
 -- It stands after the grants whose logical range starts below its own, and before the others.
 abbrev pub starts_below : Grant → Grant → Bool
 starts_below grant other = nat_lt other.logical grant.logical
 
-unfoldable pub with_grant : Granted → Grant → Granted
+unfoldable pub with_grant : GrantedMemory → Grant → GrantedMemory
 with_grant granted grant =
     record granted {
       grants = filter (starts_below grant) granted.grants ++ grant ∷ filter (λ (other : Grant). not (starts_below grant other)) granted.grants;
@@ -98,7 +99,7 @@ pub record IsPlaced (grant : Grant) : Type 0 where
   pub machine_end : grant.machine + grant.length ≤ 2 ^ 60
 
 -- Each grant is as it should be, they rise by logical address, and none meets another or the pool.
-pub record AreApart (granted : Granted) : Type 0 where
+pub record AreApart (granted : GrantedMemory) : Type 0 where
   pub placed : All IsPlaced granted.grants
   pub rising : AllPairs (λ (lower higher : Grant). lower.logical < higher.logical) granted.grants
   pub logical_apart : AllPairs (λ (lower higher : Grant). meets_logical lower higher ≡ false) granted.grants
@@ -113,6 +114,6 @@ pub record IsPool (base order : ℕ) : Type 0 where
   pub end : base + 2 ^ order ≤ 2 ^ 60
 
 -- A pool, and grants that are apart.
-pub record IsSound (granted : Granted) : Type 0 where
+pub record IsSound (granted : GrantedMemory) : Type 0 where
   pub pool : IsPool granted.pool_base granted.pool_order
   pub apart : AreApart granted

@@ -1,5 +1,5 @@
 -- Ranges of numbers, each by its start and its length.
-use Rattle.std.specs.Prelude.{ℕ, ◌+◌, ◌≤◌, ◌<◌, Bool, ◌&&◌, nat_lt, nat_le}
+use Rattle.std.specs.Prelude.{ℕ, ◌+◌, ◌≤◌, ◌<◌, Bool, ◌&&◌, nat_lt, nat_le, length}
 
 -- A number that lies in a range.
 pub record LiesIn (address start length : ℕ) : Type 0 where

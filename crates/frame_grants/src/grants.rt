@@ -17,9 +17,9 @@ pub struct Grants {
 }
 
 impl Model for Grants {
-    ghost use Rattle.frame_grants.specs.Grants.{Granted, IsSound};
+    ghost use Rattle.frame_grants.specs.Grants.{GrantedMemory, IsSound};
 
-    ghost Value = { Granted };
+    ghost Value = { GrantedMemory };
 
     ghost view = { λ g. record { pool_base = g.pool_base; pool_order = g.pool_order; grants = g.items.items } };
 

@@ -1,6 +1,6 @@
 -- The calls of H_ENTER are of entries of the table.
-use Rattle.std.proofs.Common.{◌≡◌, ℕ, zero, suc, ◌+◌, ◌-◌, ◌*◌, ◌/◌, ◌^◌, ◌<◌, ◌≤◌, List, true, false, Option, Some, None, ◌⊎◌, inl, inr, nat_lt, arith}
 use Rattle.std.specs.Prelude.{map}
+use Rattle.std.proofs.Common.{◌≡◌, ℕ, zero, suc, ◌+◌, ◌-◌, ◌*◌, ◌/◌, ◌^◌, ◌<◌, ◌≤◌, List, true, false, Option, Some, None, ◌⊎◌, inl, inr, nat_lt, arith}
 use Rattle.std.proofs.lemmas.Bool.{cases_Bool, ltb-true}
 use Rattle.hpte_fields.specs.Fields.{normal_words}
 use Rattle.papr_codes.specs.FlagBits.{has_flag}

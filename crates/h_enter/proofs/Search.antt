@@ -1,17 +1,18 @@
 -- One step of a search for an entry that isn't taken.
-use Rattle.std.proofs.Common.{◌≡◌, ℕ, suc, ◌+◌, ◌-◌, ◌*◌, ◌^◌, ◌<◌, ◌≤◌, List, [], ◌∷◌, true, false, arith, subst, sym, ap, ◌∙◌, refl, pow-add}
 use Rattle.std.specs.Prelude.{map}
+use Rattle.std.proofs.Common.{◌≡◌, ℕ, suc, ◌+◌, ◌-◌, ◌*◌, ◌^◌, ◌<◌, ◌≤◌, List, [], ◌∷◌, true, false, arith, subst, sym, ap, ◌∙◌, refl, pow-add}
 use Rattle.std.proofs.Math.Pow.{pow_mono}
+use Rattle.std.specs.List.{range_with_len}
 use Rattle.entry_model.specs.declared.operation.Op.{Op}
 use Rattle.entry_model.specs.declared.operation.Answer.{Answer}
 use Rattle.entry_model.specs.declared.operation.Answer.TheVariants.{Taken, Worn}
 use Rattle.entry_model.specs.declared.receipt.Receipt.{Receipt}
 use Rattle.entry_model.specs.Receipt.{IsReceiptOf, is_taken, is_worn}
-use Rattle.entry_model.specs.Trial.{Call, IsTrial, call, entries_from}
+use Rattle.entry_model.specs.Trial.{Call, IsTrial, call}
 
 -- The trials of n entries from one on.
 abbrev pub trials_from : Op → ℕ → ℕ → List Call
-trials_from op first n = map (call op) (entries_from first n)
+trials_from op first n = map (call op) (range_with_len first n)
 
 -- The rest of the candidates begins with this one.
 trials_step : (op : Op) (first i count : ℕ) → i < count → trials_from op (first + i) (count - i) ≡ call op (first + i) ∷ trials_from op (first + (i + 1)) (count - (i + 1))

@@ -1,7 +1,8 @@
 -- What H_ENTER enters, and when it gives H_HARDWARE.
-use Rattle.std.proofs.Common.{◌≡◌, ℕ, ◌-◌, ◌*◌, ◌/◌, ◌^◌, ◌≤◌, List, [], ◌∷◌, true, false, Option, Some, None, ◌⊎◌, inl, inr, nat_lt, arith}
 use Rattle.std.specs.Prelude.{map, ◌≢◌}
+use Rattle.std.proofs.Common.{◌≡◌, ℕ, ◌-◌, ◌*◌, ◌/◌, ◌^◌, ◌≤◌, List, [], ◌∷◌, true, false, Option, Some, None, ◌⊎◌, inl, inr, nat_lt, arith}
 use Rattle.std.proofs.lemmas.Bool.{cases_Bool}
+use Rattle.std.specs.List.{range_with_len}
 use Rattle.hpte_fields.specs.Fields.{normal_words}
 use Rattle.papr_codes.specs.FlagBits.{has_flag}
 use Rattle.papr_codes.specs.declared.codes.Rc.TheVariants.{Parameter, Hardware}
@@ -10,9 +11,9 @@ use Rattle.entry_model.specs.declared.operation.Op.{Op}
 use Rattle.entry_model.specs.declared.operation.Op.TheVariants.{Enter}
 use Rattle.entry_model.specs.declared.receipt.Receipt.{Receipt}
 use Rattle.entry_model.specs.Receipt.{is_taken, is_worn}
-use Rattle.entry_model.specs.Trial.{answered_by, call, entries_from}
+use Rattle.entry_model.specs.Trial.{plan_of_code, call}
 use Rattle.entry_model.proofs.Heights.{calls_cost}
-use Rattle.entry_model.proofs.Tame.{EntersOnly, IsTame, NoneWorn, answered_tame, each_call, entries_cost}
+use Rattle.entry_model.proofs.PlanBounds.{EntersOnly, IsTame, NoneWorn, answered_tame, each_call, entries_cost}
 use Rattle.h_enter.specs.Enter.{candidates, enter_told, enter_plan}
 use Rattle.h_enter.specs.Checks.{h_enter_plan, words_plan, suits_grants}
 
@@ -24,8 +25,8 @@ candidates_cost : (op : Op) (flags ptex : ℕ) → calls_cost (map (call op) (ca
 unfolding candidates
 candidates_cost op flags ptex = at (cases_Bool (has_flag flags 0x8000000000)) where
   at : (has_flag flags 0x8000000000 ≡ true) ⊎ (has_flag flags 0x8000000000 ≡ false) → calls_cost (map (call op) (candidates flags ptex)) ≤ 32
-  at (inl exact) = let one : calls_cost (map (call op) (entries_from ptex 1)) ≤ 32 = omega (arith, entries_cost op ptex 1) in rw exact one
-  at (inr group) = let eight : calls_cost (map (call op) (entries_from (ptex / 8 * 8) 8)) ≤ 32 = omega (arith, entries_cost op (ptex / 8 * 8) 8) in rw group eight
+  at (inl exact) = let one : calls_cost (map (call op) (range_with_len ptex 1)) ≤ 32 = omega (arith, entries_cost op ptex 1) in rw exact one
+  at (inr group) = let eight : calls_cost (map (call op) (range_with_len (ptex / 8 * 8) 8)) ≤ 32 = omega (arith, entries_cost op (ptex / 8 * 8) 8) in rw group eight
 
 told_one : (r : Receipt) (rs : List Receipt) → is_worn r.answer ≡ false → (enter_told rs).0 ≢ Hardware → (enter_told (r ∷ rs)).0 ≢ Hardware
 told_one r rs fine rest = at (cases_Bool (is_taken r.answer)) where
@@ -37,7 +38,7 @@ told_fine : (rs : List Receipt) → NoneWorn rs → (enter_told rs).0 ≢ Hardwa
 told_fine [] fine = λ e. cc
 told_fine (r ∷ rs) fine = told_one r rs fine.0 (told_fine rs fine.1)
 
-refused_tame : (grants : List Grant) → IsTame (IsSuited grants) (answered_by Parameter)
+refused_tame : (grants : List Grant) → IsTame (IsSuited grants) (plan_of_code Parameter)
 refused_tame grants = answered_tame (IsSuited grants) Parameter (λ e. cc)
 
 words_tame : (grants : List Grant) (flags ptex : ℕ) (words : Option (ℕ × ℕ)) → IsTame (IsSuited grants) (words_plan grants flags ptex words)

@@ -9,7 +9,7 @@ use Rattle.frame_grants.specs.declared.grant.Grant.{Grant}
 use Rattle.frame_grants.specs.declared.grant.Kind.{Kind}
 use Rattle.frame_grants.specs.declared.grant.Kind.TheVariants.{Ram, Io}
 use Rattle.frame_grants.specs.Grants.{machine_range}
-use Rattle.entry_model.specs.Trial.{Plan, answered_by}
+use Rattle.entry_model.specs.Trial.{Plan, plan_of_code}
 use Rattle.h_enter.specs.Enter.{enter_plan}
 
 -- The storage control bits W, I, M and G that suit what is granted. Main storage takes M alone, or W, I and M, which is strong access ordering; a device's registers take I, with G or without it.
@@ -27,9 +27,9 @@ suits_grants grants dword0 dword1 = option_map_or (suits_size grants dword1) (si
 
 -- H_ENTER of the words that are stored, if there are any.
 abbrev pub words_plan : List Grant → ℕ → ℕ → Option (ℕ × ℕ) → Plan
-words_plan grants flags ptex None = answered_by Parameter
-words_plan grants flags ptex (Some w) = if suits_grants grants w.0 w.1 then enter_plan flags ptex w.0 w.1 else answered_by Parameter
+words_plan grants flags ptex None = plan_of_code Parameter
+words_plan grants flags ptex (Some w) = if suits_grants grants w.0 w.1 then enter_plan flags ptex w.0 w.1 else plan_of_code Parameter
 
 -- H_ENTER. H_PARAMETER comes where the index is past the table, where the doublewords can't be stored, or where no single grant holds the page with these storage control bits; nothing is tried then.
 unfoldable pub h_enter_plan : ℕ → List Grant → ℕ → ℕ → ℕ → ℕ → Plan
-h_enter_plan order grants flags ptex pteh ptel = if nat_lt ptex (2 ^ (order - 4)) then words_plan grants flags ptex (normal_words pteh ptel) else answered_by Parameter
+h_enter_plan order grants flags ptex pteh ptel = if nat_lt ptex (2 ^ (order - 4)) then words_plan grants flags ptex (normal_words pteh ptel) else plan_of_code Parameter

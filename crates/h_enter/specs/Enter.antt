@@ -1,16 +1,17 @@
 -- H_ENTER after its checks: the entries that it tries, and the reply that their answers give.
 use Rattle.std.specs.Prelude.{ℕ, ◌*◌, ◌/◌, List, [], ◌∷◌, map, if◌then◌else◌}
+use Rattle.std.specs.List.{range_with_len}
 use Rattle.papr_codes.specs.FlagBits.{has_flag}
 use Rattle.papr_codes.specs.declared.codes.Rc.{Rc}
 use Rattle.papr_codes.specs.declared.codes.Rc.TheVariants.{Success, PtegFull, Hardware}
 use Rattle.entry_model.specs.declared.operation.Op.TheVariants.{Enter}
 use Rattle.entry_model.specs.declared.receipt.Receipt.{Receipt}
 use Rattle.entry_model.specs.Receipt.{is_taken, is_worn}
-use Rattle.entry_model.specs.Trial.{Plan, call, entries_from}
+use Rattle.entry_model.specs.Trial.{Plan, call}
 
 -- Under H_EXACT the named entry, else the eight of its group in slot order.
 unfoldable pub candidates : ℕ → ℕ → List ℕ
-candidates flags ptex = if has_flag flags 0x8000000000 then entries_from ptex 1 else entries_from (ptex / 8 * 8) 8
+candidates flags ptex = if has_flag flags 0x8000000000 then range_with_len ptex 1 else range_with_len (ptex / 8 * 8) 8
 
 -- The last receipt decides: Entered gives H_SUCCESS and the index, Worn gives H_HARDWARE. Where each was Taken the group is full.
 abbrev pub enter_told : List Receipt → Rc × List ℕ

@@ -6,6 +6,3 @@ mod words;
 
 pub use checks::h_enter;
 pub use words::enter_words;
-
-#[cfg(test)]
-mod tests;

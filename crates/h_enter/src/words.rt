@@ -1,8 +1,9 @@
 ghost use Rattle.std.specs.Prelude.{◌≡◌, ◌≤◌, ◌<◌, ◌-◌, ◌+◌, ◌^◌, Some, map};
+ghost use Rattle.std.specs.List.{range_with_len};
 ghost use Rattle.hpte_fields.specs.Fields.{normal_words};
 ghost use Rattle.entry_model.specs.declared.operation.Op.TheVariants.{Enter};
 ghost use Rattle.entry_model.specs.Receipt.{is_taken, IsNormal};
-ghost use Rattle.entry_model.specs.Trial.{IsReplyOf, IsTrial, call, entries_from};
+ghost use Rattle.entry_model.specs.Trial.{IsReplyOf, IsTrial, call};
 ghost use Rattle.h_enter.specs.Enter.{enter_plan, enter_told};
 
 use entry_model::{Answer, EntryStore, HReply, Op, Receipts, ReplyWords};
@@ -44,7 +45,7 @@ fn search<T: EntryStore>(store: &mut T, first: u32, count: u32, op: Op) -> HRepl
     requires small { first + count ≤ 2 ^ 22 }
     requires normal { IsNormal op }
     ensures made { T.made store.old store.new result.receipts }
-    ensures trial { IsTrial is_taken (map (call op) (entries_from first count)) result.receipts }
+    ensures trial { IsTrial is_taken (map (call op) (range_with_len first count)) result.receipts }
     ensures told { (result.rc, result.words) ≡ enter_told result.receipts }
 {
     let mut receipts = Receipts::new();

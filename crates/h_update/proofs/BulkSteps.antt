@@ -3,19 +3,19 @@ use Rattle.std.proofs.Common.{◌≡◌, ℕ, ◌+◌, ◌-◌, ◌*◌, ◌%◌
 use Rattle.std.proofs.lemmas.Bool.{cases_Bool, ltb-true}
 use Rattle.std.proofs.lemmas.List.{drop_more, drop_all, take_rest}
 use Rattle.papr_codes.specs.declared.codes.Rc.{Rc}
-use Rattle.papr_codes.specs.declared.codes.Rc.TheVariants as rc
-use Rattle.entry_model.specs.declared.operation.Op.TheVariants as ops
 use Rattle.entry_model.specs.declared.operation.Test.{Test}
-use denote.Enum.Bare.{sameb}
-use Rattle.entry_model.specs.contracts.operation.Answer.{the_type}
 use Rattle.entry_model.specs.declared.operation.Answer.{Answer}
+use Rattle.entry_model.specs.contracts.operation.Answer.{the_type}
 use Rattle.entry_model.specs.declared.operation.Answer.TheVariants.{Entered, Taken, Removed, Protected, Was, Words, NotFound, NoMatch, Denied, At, Worn}
 use Rattle.entry_model.specs.declared.receipt.Receipt.{Receipt}
 use Rattle.entry_model.specs.Receipt.{IsReceiptOf, is_worn}
 use Rattle.entry_model.specs.Trial.{Call, IsTrial, IsReplyOf}
 use Rattle.h_update.specs.declared.bulk.Asked.{Asked}
 use Rattle.h_update.specs.declared.bulk.Asked.TheVariants.{End, Remove, Refused}
-use Rattle.h_update.specs.Bulk.{Pair, pairs_of, type_of, flags_of, index_of, test_by, removes_under, asked_by, bulk_calls, bulk_told, response, status_of, worn_status, ill_formed, unchanged, behind, h_bulk_remove_plan}
+use Rattle.h_update.specs.Bulk.{Pair, pairs_of, type_of, flags_of, index_of, test_by, removes_under, asked_by, bulk_calls, bulk_told, response, status_of, worn_status, ill_formed, words_of_pairs, words_before, h_bulk_remove_plan}
+use Rattle.papr_codes.specs.declared.codes.Rc.TheVariants as rc
+use Rattle.entry_model.specs.declared.operation.Op.TheVariants as ops
+use denote.Enum.Bare.{sameb}
 
 -- An answer after which the next pair is taken.
 abbrev pub not_worn : Answer → Bool
@@ -52,12 +52,12 @@ second_word_on i words eight h =
     drop_more words (2 * i + 1) 0 (omega arith) ∙ ap (λ n. get_or words (2 * i + 1) 0 ∷ drop n words) next
 
 -- Whole pairs are the words that they came from.
-unchanged_even : (words : List ℕ) → length words % 2 ≡ 0 → unchanged (pairs_of words) ≡ words
+unchanged_even : (words : List ℕ) → length words % 2 ≡ 0 → words_of_pairs (pairs_of words) ≡ words
 unchanged_even [] even = refl
 unchanged_even (request ∷ []) even = absurd (omega arith)
 unchanged_even (request ∷ word ∷ rest) even = ap (λ ws. request ∷ word ∷ ws) (unchanged_even rest (omega arith))
 
-pub unchanged-words_from : (i : ℕ) (words : List ℕ) → length words ≡ 8 → unchanged (pairs_of (words_from i words)) ≡ words_from i words
+pub unchanged-words_from : (i : ℕ) (words : List ℕ) → length words ≡ 8 → words_of_pairs (pairs_of (words_from i words)) ≡ words_from i words
 unchanged-words_from i words eight = unchanged_even (words_from i words) (omega (arith, length-drop (2 * i) words))
 
 -- ---- one pair
@@ -65,7 +65,7 @@ pub end_trial : (order request word : ℕ) (later : List ℕ) → asked_by order
 unfolding bulk_calls
 end_trial order request word later asks = rw asks tt
 
-pub end_told : (order request word : ℕ) (later : List ℕ) → asked_by order (pair request word) ≡ End → told_of order (request ∷ word ∷ later) [] ≡ (rc.Success, request ∷ word ∷ unchanged (pairs_of later))
+pub end_told : (order request word : ℕ) (later : List ℕ) → asked_by order (pair request word) ≡ End → told_of order (request ∷ word ∷ later) [] ≡ (rc.Success, request ∷ word ∷ words_of_pairs (pairs_of later))
 unfolding bulk_told
 end_told order request word later asks = rw asks refl
 
@@ -73,7 +73,7 @@ pub refused_trial : (order request word : ℕ) (later : List ℕ) → asked_by o
 unfolding bulk_calls
 refused_trial order request word later asks = rw asks tt
 
-pub refused_told : (order request word : ℕ) (later : List ℕ) → asked_by order (pair request word) ≡ Refused → told_of order (request ∷ word ∷ later) [] ≡ (rc.Parameter, response ill_formed request ∷ word ∷ unchanged (pairs_of later))
+pub refused_told : (order request word : ℕ) (later : List ℕ) → asked_by order (pair request word) ≡ Refused → told_of order (request ∷ word ∷ later) [] ≡ (rc.Parameter, response ill_formed request ∷ word ∷ words_of_pairs (pairs_of later))
 unfolding bulk_told
 refused_told order request word later asks = rw asks refl
 
@@ -81,7 +81,7 @@ pub worn_trial : (order request word : ℕ) (later : List ℕ) (entry : ℕ) (te
 unfolding bulk_calls
 worn_trial order request word later entry test r asks of worn = rw asks (of, rw worn refl)
 
-pub worn_told : (order request word : ℕ) (later : List ℕ) (entry : ℕ) (test : Test) (r : Receipt) → asked_by order (pair request word) ≡ Remove entry test → is_worn r.answer ≡ true → told_of order (request ∷ word ∷ later) (r ∷ []) ≡ (rc.Hardware, response worn_status request ∷ word ∷ unchanged (pairs_of later))
+pub worn_told : (order request word : ℕ) (later : List ℕ) (entry : ℕ) (test : Test) (r : Receipt) → asked_by order (pair request word) ≡ Remove entry test → is_worn r.answer ≡ true → told_of order (request ∷ word ∷ later) (r ∷ []) ≡ (rc.Hardware, response worn_status request ∷ word ∷ words_of_pairs (pairs_of later))
 unfolding bulk_told
 worn_told order request word later entry test r asks worn = rw (asks, worn) refl
 
@@ -89,7 +89,7 @@ pub goes_trial : (order request word : ℕ) (later : List ℕ) (entry : ℕ) (te
 unfolding bulk_calls
 goes_trial order request word later entry test r rs asks of goes rest = rw asks (of, rw goes rest)
 
-pub goes_told : (order request word : ℕ) (later : List ℕ) (entry : ℕ) (test : Test) (r : Receipt) (rs : List Receipt) → asked_by order (pair request word) ≡ Remove entry test → is_worn r.answer ≡ false → told_of order (request ∷ word ∷ later) (r ∷ rs) ≡ behind (response (status_of r.answer r.before) request) word (told_of order later rs)
+pub goes_told : (order request word : ℕ) (later : List ℕ) (entry : ℕ) (test : Test) (r : Receipt) (rs : List Receipt) → asked_by order (pair request word) ≡ Remove entry test → is_worn r.answer ≡ false → told_of order (request ∷ word ∷ later) (r ∷ rs) ≡ words_before (response (status_of r.answer r.before) request) word (told_of order later rs)
 unfolding bulk_told
 goes_told order request word later entry test r rs asks goes = rw (asks, goes) refl
 
@@ -141,10 +141,10 @@ ends_at_end order i pairs words receipts eight h asks so_far =
     (closes order i pairs words receipts _ _ [] rc.Success so_far first (end_trial order _ _ _ (sym asks)) (end_told order _ _ _ (sym asks)))
 
 -- A response, and the words that stay behind it.
-response_and_rest : (i answer : ℕ) (pairs words : List ℕ) → length pairs ≡ 8 → i < 4 → words ++ (answer ∷ get_or pairs (2 * i + 1) 0 ∷ unchanged (pairs_of (words_from (i + 1) pairs))) ≡ (words ++ answer ∷ []) ++ take (8 - (2 * i + 1)) (drop (2 * i + 1) pairs)
+response_and_rest : (i answer : ℕ) (pairs words : List ℕ) → length pairs ≡ 8 → i < 4 → words ++ (answer ∷ get_or pairs (2 * i + 1) 0 ∷ words_of_pairs (pairs_of (words_from (i + 1) pairs))) ≡ (words ++ answer ∷ []) ++ take (8 - (2 * i + 1)) (drop (2 * i + 1) pairs)
 response_and_rest i answer pairs words eight h =
-    let behind : take (8 - (2 * i + 1)) (drop (2 * i + 1) pairs) ≡ get_or pairs (2 * i + 1) 0 ∷ unchanged (pairs_of (words_from (i + 1) pairs)) = words_to_end (2 * i + 1) pairs eight ∙ second_word_on i pairs eight h ∙ ap (λ ws. get_or pairs (2 * i + 1) 0 ∷ ws) (sym (unchanged-words_from (i + 1) pairs eight)) in
-    sym (append_assoc words (answer ∷ []) (take (8 - (2 * i + 1)) (drop (2 * i + 1) pairs)) ∙ ap (λ ws. words ++ (answer ∷ ws)) behind)
+    let words_before : take (8 - (2 * i + 1)) (drop (2 * i + 1) pairs) ≡ get_or pairs (2 * i + 1) 0 ∷ words_of_pairs (pairs_of (words_from (i + 1) pairs)) = words_to_end (2 * i + 1) pairs eight ∙ second_word_on i pairs eight h ∙ ap (λ ws. get_or pairs (2 * i + 1) 0 ∷ ws) (sym (unchanged-words_from (i + 1) pairs eight)) in
+    sym (append_assoc words (answer ∷ []) (take (8 - (2 * i + 1)) (drop (2 * i + 1) pairs)) ∙ ap (λ ws. words ++ (answer ∷ ws)) words_before)
 
 pub ends_at_refused : (order i : ℕ) (pairs words : List ℕ) (receipts : List Receipt) → length pairs ≡ 8 → i < 4 → asked_at order i pairs ≡ Refused → IsSoFar order i pairs words receipts → IsReplyOf (h_bulk_remove_plan order pairs) (record { rc = rc.Parameter; words = (words ++ response ill_formed (get_or pairs (2 * i) 0) ∷ []) ++ take (8 - (2 * i + 1)) (drop (2 * i + 1) pairs); receipts = receipts })
 ends_at_refused order i pairs words receipts eight h asks so_far =
@@ -173,7 +173,7 @@ goes_on order i pairs words receipts entry test r eight h asks of goes so_far =
     record {
       trial = λ rs rest. subst (IsTrial not_worn (calls_of order pairs)) (sym (append_assoc receipts (r ∷ []) rs)) (so_far.trial (r ∷ rs) (subst (λ ws. IsTrial not_worn (calls_of order ws) (r ∷ rs)) (sym first) (goes_trial order request word later entry test r rs (sym asks) of goes rest)));
       told = λ rs.
-          let told : told_of order (words_from i pairs) (r ∷ rs) ≡ behind answer word (told_of order later rs) = ap (λ ws. told_of order ws (r ∷ rs)) first ∙ goes_told order request word later entry test r rs (sym asks) goes in
+          let told : told_of order (words_from i pairs) (r ∷ rs) ≡ words_before answer word (told_of order later rs) = ap (λ ws. told_of order ws (r ∷ rs)) first ∙ goes_told order request word later entry test r rs (sym asks) goes in
           let regrouped : words ++ (answer ∷ word ∷ (told_of order later rs).1) ≡ ((words ++ answer ∷ []) ++ word ∷ []) ++ (told_of order later rs).1 = sym (append_assoc (words ++ answer ∷ []) (word ∷ []) (told_of order later rs).1 ∙ append_assoc words (answer ∷ []) (word ∷ (told_of order later rs).1)) in
           ap (told_of order pairs) (append_assoc receipts (r ∷ []) rs) ∙ so_far.told (r ∷ rs) ∙ ap (after_words words) told ∙ (λ k. ((told_of order later rs).0, regrouped k));
     }

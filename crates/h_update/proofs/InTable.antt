@@ -1,9 +1,9 @@
 -- The calls of each plan are of entries of the table.
+use Rattle.std.specs.Prelude.{map}
 use Rattle.std.proofs.Common.{◌≡◌, ℕ, ◌-◌, ◌^◌, ◌<◌, ◌≤◌, List, [], ◌∷◌, true, false, ◌⊎◌, inl, inr, nat_lt, arith, refl}
 use Rattle.std.proofs.lemmas.Bool.{cases_Bool, ltb-true}
 use Rattle.papr_codes.specs.FlagBits.{has_flag}
 use Rattle.entry_model.specs.declared.operation.Op.{Op}
-use Rattle.entry_model.specs.declared.operation.Op.TheVariants as ops
 use Rattle.entry_model.specs.declared.operation.Test.{Test}
 use Rattle.entry_model.specs.declared.receipt.Receipt.{Receipt}
 use Rattle.entry_model.specs.Trial.{Call, call}
@@ -14,7 +14,7 @@ use Rattle.h_update.specs.Single.{single_plan, h_remove_plan, h_protect_plan, h_
 use Rattle.h_update.specs.Bulk.{Pair, pairs_of, asked_by, calls_before, bulk_calls, h_bulk_remove_plan}
 use Rattle.h_update.proofs.ReadSteps.{fours_in_table}
 use Rattle.h_update.proofs.BulkSteps.{asked_in_table}
-use Rattle.std.specs.Prelude.{map}
+use Rattle.entry_model.specs.declared.operation.Op.TheVariants as ops
 
 -- ---- one entry
 single_within : (order ptex : ℕ) (op : Op) (words : Receipt → List ℕ) → Within (2 ^ (order - 4)) (single_plan order ptex op words).calls

@@ -1,6 +1,6 @@
 -- Reading entries one after the other, and the four entries of H_READ_4.
-use Rattle.std.proofs.Common.{◌≡◌, ℕ, zero, suc, ◌+◌, ◌-◌, ◌*◌, ◌/◌, ◌^◌, ◌<◌, ◌≤◌, List, [], ◌∷◌, All, Bool, true, arith, ap, sym, ◌∙◌, subst, length, drop, pow-add}
 use Rattle.std.specs.Prelude.{map}
+use Rattle.std.proofs.Common.{◌≡◌, ℕ, zero, suc, ◌+◌, ◌-◌, ◌*◌, ◌/◌, ◌^◌, ◌<◌, ◌≤◌, List, [], ◌∷◌, All, Bool, true, arith, ap, sym, ◌∙◌, subst, length, drop, pow-add}
 use Rattle.std.proofs.lemmas.List.{drop_all}
 use Rattle.entry_model.specs.declared.operation.Op.TheVariants.{Read}
 use Rattle.entry_model.specs.declared.operation.Answer.{Answer}

@@ -1,7 +1,6 @@
 -- Worked values of the definitions, which the checker computes.
 use Rattle.std.proofs.Common.{◌≡◌, ℕ, List, [], ◌∷◌, Bool, true, false, replicate, slice_set, map, refl}
 use Rattle.papr_codes.specs.declared.codes.Rc.{Rc}
-use Rattle.papr_codes.specs.declared.codes.Rc.TheVariants as rc
 use Rattle.entry_model.specs.State.{State, empty_state}
 use Rattle.entry_model.specs.declared.operation.Answer.{Answer}
 use Rattle.entry_model.specs.declared.operation.Answer.TheVariants.{Removed, Protected, Was, Words, NotFound, Worn}
@@ -9,6 +8,7 @@ use Rattle.entry_model.specs.declared.hreply.HReply.{HReply}
 use Rattle.entry_model.specs.Trial.{Plan, plan_run, trial_run}
 use Rattle.h_update.specs.Single.{h_remove_plan, h_protect_plan, h_read_plan, h_clear_ref_plan, h_clear_mod_plan}
 use Rattle.h_update.specs.Bulk.{bulk_calls, bulk_told, asked_by, h_bulk_remove_plan}
+use Rattle.papr_codes.specs.declared.codes.Rc.TheVariants as rc
 
 -- The first entries of a table, of which entry 0x20 has this state.
 table : State → List State

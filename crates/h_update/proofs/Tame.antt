@@ -1,25 +1,25 @@
 -- The calls on entries that are there enter nothing, and give H_HARDWARE only where an entry was worn.
-use Rattle.std.proofs.Common.{◌≡◌, ℕ, ◌-◌, ◌^◌, ◌≤◌, List, [], ◌∷◌, true, false, ◌⊎◌, inl, inr, nat_lt, arith}
 use Rattle.std.specs.Prelude.{map, ◌≢◌, MatchBool}
+use Rattle.std.proofs.Common.{◌≡◌, ℕ, ◌-◌, ◌^◌, ◌≤◌, List, [], ◌∷◌, true, false, ◌⊎◌, inl, inr, nat_lt, arith}
 use Rattle.std.specs.List.{AllByRecursion}
 use Rattle.std.proofs.lemmas.Bool.{cases_Bool}
 use Rattle.papr_codes.specs.FlagBits.{has_flag}
 use Rattle.papr_codes.specs.declared.codes.Rc.{Rc}
-use Rattle.papr_codes.specs.declared.codes.Rc.TheVariants as rc
 use Rattle.entry_model.specs.declared.operation.Answer.{Answer}
-use Rattle.entry_model.specs.declared.operation.Answer.TheVariants as answers
 use Rattle.entry_model.specs.declared.operation.Op.{Op}
-use Rattle.entry_model.specs.declared.operation.Op.TheVariants as ops
 use Rattle.entry_model.specs.declared.receipt.Receipt.{Receipt}
 use Rattle.entry_model.specs.Receipt.{is_worn}
-use Rattle.entry_model.specs.Trial.{Call, IsTrial, answered_by, call}
+use Rattle.entry_model.specs.Trial.{Call, IsTrial, plan_of_code, call}
 use Rattle.entry_model.proofs.Heights.{cost, calls_cost}
-use Rattle.entry_model.proofs.Tame.{EntersOnly, IsTame, NoneWorn, answered_tame, each_call}
+use Rattle.entry_model.proofs.PlanBounds.{EntersOnly, IsTame, NoneWorn, answered_tame, each_call}
 use Rattle.h_update.specs.declared.bulk.Asked.{Asked}
 use Rattle.h_update.specs.declared.bulk.Asked.TheVariants.{End, Remove, Refused}
 use Rattle.h_update.specs.Single.{single_plan, h_remove_plan, h_protect_plan, h_read_plan, h_clear_ref_plan, h_clear_mod_plan, remove_test, protect_test, both_words, second_word, read_entries, told_by, code_and_words}
 use Rattle.h_update.specs.Bulk.{Pair, pairs_of, asked_by, calls_before, bulk_calls, pair_told, bulk_told, h_bulk_remove_plan}
 use Rattle.h_update.proofs.BulkSteps.{not_worn}
+use Rattle.papr_codes.specs.declared.codes.Rc.TheVariants as rc
+use Rattle.entry_model.specs.declared.operation.Answer.TheVariants as answers
+use Rattle.entry_model.specs.declared.operation.Op.TheVariants as ops
 
 -- ---- one entry
 answer_fine : (answer : Answer) (words : List ℕ) → is_worn answer ≡ false → (code_and_words answer words).0 ≢ rc.Hardware
@@ -31,7 +31,7 @@ told_fine : (words : Receipt → List ℕ) (rs : List Receipt) → NoneWorn rs �
 told_fine words [] fine = λ e. cc
 told_fine words (r ∷ rs) fine = answer_fine r.answer (words r) fine.0
 
-refused_tame : (W : ℕ → ℕ → Type 0) → IsTame W (answered_by rc.Parameter)
+refused_tame : (W : ℕ → ℕ → Type 0) → IsTame W (plan_of_code rc.Parameter)
 refused_tame W = answered_tame W rc.Parameter (λ e. cc)
 
 single_tame : (W : ℕ → ℕ → Type 0) (order ptex : ℕ) (op : Op) (words : Receipt → List ℕ) → EntersOnly W op → cost op ≤ 32 → IsTame W (single_plan order ptex op words)

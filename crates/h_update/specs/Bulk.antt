@@ -1,9 +1,7 @@
 -- H_BULK_REMOVE: four pairs of words, each a request to remove one entry.
 use Rattle.std.specs.Prelude.{ℕ, ◌+◌, ◌-◌, ◌*◌, ◌/◌, ◌%◌, ◌^◌, ◌==◌, ◌&&◌, List, [], ◌∷◌, not, Option, Some, None, if◌then◌else◌, nat_lt}
 use Rattle.papr_codes.specs.declared.codes.Rc.{Rc}
-use Rattle.papr_codes.specs.declared.codes.Rc.TheVariants as rc
 use Rattle.entry_model.specs.State.{State}
-use Rattle.entry_model.specs.declared.operation.Op.TheVariants as ops
 use Rattle.entry_model.specs.declared.operation.Test.{Test}
 use Rattle.entry_model.specs.declared.operation.Answer.{Answer}
 use Rattle.entry_model.specs.declared.operation.Answer.TheVariants.{NotFound}
@@ -12,6 +10,8 @@ use Rattle.entry_model.specs.Receipt.{is_worn}
 use Rattle.entry_model.specs.Trial.{Plan, Call, call}
 use Rattle.h_update.specs.declared.bulk.Asked.{Asked}
 use Rattle.h_update.specs.declared.bulk.Asked.TheVariants.{End, Remove, Refused}
+use Rattle.papr_codes.specs.declared.codes.Rc.TheVariants as rc
+use Rattle.entry_model.specs.declared.operation.Op.TheVariants as ops
 
 -- One pair: the word that says what is asked, and the word of the test.
 pub record Pair : Type 0 where
@@ -77,9 +77,9 @@ status_of other s = removed_status s
 
 -- ---- the call
 -- Pairs as they were given.
-abbrev pub unchanged : List Pair → List ℕ
-unchanged [] = []
-unchanged (p ∷ ps) = p.request ∷ p.word ∷ unchanged ps
+abbrev pub words_of_pairs : List Pair → List ℕ
+words_of_pairs [] = []
+words_of_pairs (p ∷ ps) = p.request ∷ p.word ∷ words_of_pairs ps
 
 -- The entries of the pairs before the first end or ill-formed pair, in order.
 abbrev pub calls_before : Asked → List Call → List Call
@@ -92,19 +92,19 @@ bulk_calls order [] = []
 bulk_calls order (p ∷ ps) = calls_before (asked_by order p) (bulk_calls order ps)
 
 -- Words put before those of the pairs behind.
-abbrev pub behind : ℕ → ℕ → Rc × List ℕ → Rc × List ℕ
-behind request word rest = (rest.0, request ∷ word ∷ rest.1)
+abbrev pub words_before : ℕ → ℕ → Rc × List ℕ → Rc × List ℕ
+words_before request word rest = (rest.0, request ∷ word ∷ rest.1)
 
 -- A pair whose entry answered: at the last stamp the call ends with H_HARDWARE, else it goes on.
-abbrev pub answered : Pair → Receipt → List Pair → Rc × List ℕ → Rc × List ℕ
-answered p r ps rest = if is_worn r.answer then (rc.Hardware, response worn_status p.request ∷ p.word ∷ unchanged ps) else behind (response (status_of r.answer r.before) p.request) p.word rest
+abbrev pub words_after_answer : Pair → Receipt → List Pair → Rc × List ℕ → Rc × List ℕ
+words_after_answer p r ps rest = if is_worn r.answer then (rc.Hardware, response worn_status p.request ∷ p.word ∷ words_of_pairs ps) else words_before (response (status_of r.answer r.before) p.request) p.word rest
 
 -- One pair, with the receipts of it and of the pairs behind.
 abbrev pub pair_told : Asked → Pair → List Pair → List Receipt → (List Receipt → Rc × List ℕ) → Rc × List ℕ
-pair_told End p ps rs rest = (rc.Success, unchanged (p ∷ ps))
-pair_told Refused p ps rs rest = (rc.Parameter, response ill_formed p.request ∷ p.word ∷ unchanged ps)
-pair_told (Remove entry test) p ps [] rest = (rc.Hardware, unchanged (p ∷ ps))
-pair_told (Remove entry test) p ps (r ∷ rs) rest = answered p r ps (rest rs)
+pair_told End p ps rs rest = (rc.Success, words_of_pairs (p ∷ ps))
+pair_told Refused p ps rs rest = (rc.Parameter, response ill_formed p.request ∷ p.word ∷ words_of_pairs ps)
+pair_told (Remove entry test) p ps [] rest = (rc.Hardware, words_of_pairs (p ∷ ps))
+pair_told (Remove entry test) p ps (r ∷ rs) rest = words_after_answer p r ps (rest rs)
 
 -- Code and all words, pair by pair.
 unfoldable pub bulk_told : ℕ → List Pair → List Receipt → Rc × List ℕ

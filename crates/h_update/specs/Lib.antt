@@ -1,3 +1,3 @@
 pub mod Single
-pub mod Shown
+pub mod ShownWords
 pub mod Bulk

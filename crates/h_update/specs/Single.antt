@@ -2,7 +2,6 @@
 use Rattle.std.specs.Prelude.{ℕ, ◌+◌, ◌-◌, ◌*◌, ◌/◌, ◌^◌, List, [], ◌∷◌, true, Option, Some, None, if◌then◌else◌, nat_lt, map, flat_map}
 use Rattle.papr_codes.specs.FlagBits.{has_flag}
 use Rattle.papr_codes.specs.declared.codes.Rc.{Rc}
-use Rattle.papr_codes.specs.declared.codes.Rc.TheVariants as rc
 use Rattle.entry_model.specs.declared.operation.Op.{Op}
 use Rattle.entry_model.specs.declared.operation.Op.TheVariants.{Remove, Protect, Read, ClearRef, ClearMod}
 use Rattle.entry_model.specs.declared.operation.Test.{Test}
@@ -10,7 +9,8 @@ use Rattle.entry_model.specs.declared.operation.Answer.{Answer}
 use Rattle.entry_model.specs.declared.operation.Answer.TheVariants.{NotFound, Worn}
 use Rattle.entry_model.specs.declared.receipt.Receipt.{Receipt}
 use Rattle.entry_model.specs.Reply.{words_of}
-use Rattle.entry_model.specs.Trial.{Plan, call, answered_by}
+use Rattle.entry_model.specs.Trial.{Plan, call, plan_of_code}
+use Rattle.papr_codes.specs.declared.codes.Rc.TheVariants as rc
 
 -- ---- arguments
 -- A test by this word, where the flag is set.
@@ -48,7 +48,7 @@ told_by words (r ∷ rs) = code_and_words r.answer (words r)
 -- ---- plans
 -- One operation on the named entry; H_PARAMETER where the index is past the table.
 abbrev pub single_plan : ℕ → ℕ → Op → (Receipt → List ℕ) → Plan
-single_plan order ptex op words = if nat_lt ptex (2 ^ (order - 4)) then record { calls = call op ptex ∷ []; goes_on = λ answer. true; told = told_by words } else answered_by rc.Parameter
+single_plan order ptex op words = if nat_lt ptex (2 ^ (order - 4)) then record { calls = call op ptex ∷ []; goes_on = λ answer. true; told = told_by words } else plan_of_code rc.Parameter
 
 unfoldable pub h_remove_plan : ℕ → ℕ → ℕ → ℕ → Plan
 h_remove_plan order flags ptex avpn = single_plan order ptex (Remove (remove_test flags avpn)) both_words
@@ -69,4 +69,4 @@ read_entries flags ptex = if has_flag flags 0x2000000000 then (let first = ptex 
 
 -- Each entry's doublewords, in order.
 unfoldable pub h_read_plan : ℕ → ℕ → ℕ → Plan
-h_read_plan order flags ptex = if nat_lt ptex (2 ^ (order - 4)) then record { calls = map (call Read) (read_entries flags ptex); goes_on = λ answer. true; told = λ rs. (rc.Success, flat_map both_words rs) } else answered_by rc.Parameter
+h_read_plan order flags ptex = if nat_lt ptex (2 ^ (order - 4)) then record { calls = map (call Read) (read_entries flags ptex); goes_on = λ answer. true; told = λ rs. (rc.Success, flat_map both_words rs) } else plan_of_code rc.Parameter

@@ -9,6 +9,3 @@ mod single;
 pub use bulk::h_bulk_remove;
 pub use read::h_read;
 pub use single::{h_clear_mod, h_clear_ref, h_protect, h_remove};
-
-#[cfg(test)]
-mod tests;

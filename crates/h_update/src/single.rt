@@ -1,7 +1,7 @@
 ghost use Rattle.std.specs.Prelude.{◌≡◌};
 ghost use Rattle.entry_model.specs.Receipt.{IsNormal};
 ghost use Rattle.entry_model.specs.Trial.{IsReplyOf};
-ghost use Rattle.h_update.specs.Shown.{words_shown};
+ghost use Rattle.h_update.specs.ShownWords.{words_shown};
 ghost use Rattle.h_update.specs.Single as plans;
 
 use entry_model::{Answer, EntryStore, HReply, Op, Receipt, Receipts, ReplyWords, Test};
@@ -9,22 +9,22 @@ use papr_codes::{CallFlags, Rc};
 
 /// The doublewords of the entry as it was that a reply shows.
 #[derive(Clone, Copy)]
-enum Shown {
+enum ShownWords {
     Neither,
     Second,
     Both,
 }
 
-impl Shown {
+impl ShownWords {
     fn words(self, receipt: &Receipt) -> ReplyWords
         ensures { result ≡ words_shown self receipt.now }
     {
         let (dword0, dword1) = receipt.before.words();
         let mut words = ReplyWords::new();
         match self {
-            Shown::Neither => {}
-            Shown::Second => words.push(dword1),
-            Shown::Both => {
+            ShownWords::Neither => {}
+            ShownWords::Second => words.push(dword1),
+            ShownWords::Both => {
                 words.push(dword0);
                 words.push(dword1);
             }
@@ -34,7 +34,7 @@ impl Shown {
 }
 
 /// The return code of an answer, and the words of a call that shows these.
-fn code_and_words(receipt: &Receipt, shown: Shown) -> (Rc, ReplyWords)
+fn code_and_words(receipt: &Receipt, shown: ShownWords) -> (Rc, ReplyWords)
     ensures { result ≡ plans.code_and_words receipt.now.answer (words_shown shown receipt.now) }
 {
     match receipt.answer {
@@ -45,7 +45,7 @@ fn code_and_words(receipt: &Receipt, shown: Shown) -> (Rc, ReplyWords)
 }
 
 /// One operation on the entry that the index names. H_PARAMETER comes for an index past the table.
-fn single<T: EntryStore>(store: &mut T, ptex: u64, op: Op, shown: Shown) -> HReply
+fn single<T: EntryStore>(store: &mut T, ptex: u64, op: Op, shown: ShownWords) -> HReply
     requires { IsNormal op }
     ensures made { T.made store.old store.new result.receipts }
     ensures reply { IsReplyOf (plans.single_plan (T.table_order store.old) ptex op (words_shown shown)) result }
@@ -86,7 +86,7 @@ pub fn h_remove<T: EntryStore>(store: &mut T, flags: u64, ptex: u64, avpn: u64) 
         avpn: where_flag(known, CallFlags::AVPN, avpn),
         andcond: where_flag(known, CallFlags::AND_COND, avpn),
     };
-    single(store, ptex, Op::Remove { test }, Shown::Both)
+    single(store, ptex, Op::Remove { test }, ShownWords::Both)
 }
 
 /// H_PROTECT: gives the entry the protection, key and no-execute bits that lie in `flags`. Under
@@ -102,7 +102,7 @@ pub fn h_protect<T: EntryStore>(store: &mut T, flags: u64, ptex: u64, avpn: u64)
         avpn: where_flag(CallFlags::of(flags), CallFlags::AVPN, avpn),
         andcond: None,
     };
-    single(store, ptex, Op::Protect { test, flags }, Shown::Neither)
+    single(store, ptex, Op::Protect { test, flags }, ShownWords::Neither)
 }
 
 /// H_CLEAR_REF: clears R, and gives doubleword 1 as it was. No flag has an effect.
@@ -113,7 +113,7 @@ pub fn h_clear_ref<T: EntryStore>(store: &mut T, _flags: u64, ptex: u64) -> HRep
     ensures made { T.made store.old store.new result.receipts }
     ensures reply { IsReplyOf (plans.h_clear_ref_plan (T.table_order store.old) ptex) result }
 {
-    single(store, ptex, Op::ClearRef, Shown::Second)
+    single(store, ptex, Op::ClearRef, ShownWords::Second)
 }
 
 /// H_CLEAR_MOD: clears C, and gives doubleword 1 as it was. No flag has an effect.
@@ -124,5 +124,5 @@ pub fn h_clear_mod<T: EntryStore>(store: &mut T, _flags: u64, ptex: u64) -> HRep
     ensures made { T.made store.old store.new result.receipts }
     ensures reply { IsReplyOf (plans.h_clear_mod_plan (T.table_order store.old) ptex) result }
 {
-    single(store, ptex, Op::ClearMod, Shown::Second)
+    single(store, ptex, Op::ClearMod, ShownWords::Second)
 }

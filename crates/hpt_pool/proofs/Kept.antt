@@ -2,7 +2,7 @@
 use Rattle.std.proofs.Common.{◌≡◌, ℕ, zero, suc, ◌==◌, Bool, true, false, not, List, [], ◌∷◌, ◌++◌, filter, Contains, Option, Some, None, IfSome, IfNone, refl, sym, ap, subst, inl, inr, ◌⊎◌, arith}
 use Rattle.std.proofs.lemmas.Bool.{cases_Bool, ne_eqb}
 use Rattle.std.proofs.lemmas.List.Elements.{Contains-append_left, Contains-append_right}
-use Rattle.hpt_pool.specs.Pool.{Block, Pooled, block_at, begins_below, taken_with, taken_without, with_block, without_block}
+use Rattle.hpt_pool.specs.Pool.{Block, PoolState, block_at, begins_below, taken_with, taken_without, with_block, without_block}
 
 contains_more : {X : Type 0} (x y : X) (xs : List X) → Contains xs y → Contains (x ∷ xs) y
 contains_more x y xs (k, inside, is) = (suc k, omega arith, is)
@@ -36,12 +36,12 @@ unfolding taken_without
 without_keeps taken place kept other here = Contains-filter (λ block. not (block.place == place)) taken kept (ap not (ne_eqb kept.place place other)) here
 
 -- ---- after `take` and `give`, by their clauses
-pub take_holds : (old new : Pooled) (order place : ℕ) → new ≡ with_block old (block_at place order) → Contains new.taken (block_at place order)
-take_holds old new order place made = subst (λ (p : Pooled). Contains p.taken (block_at place order)) (sym made) (with_contains old.taken (block_at place order))
+pub take_holds : (old new : PoolState) (order place : ℕ) → new ≡ with_block old (block_at place order) → Contains new.taken (block_at place order)
+take_holds old new order place made = subst (λ (p : PoolState). Contains p.taken (block_at place order)) (sym made) (with_contains old.taken (block_at place order))
 
-pub take_keeps : (old new : Pooled) (order : ℕ) (answer : Option ℕ) (kept : Block) → IfSome answer (λ place. new ≡ with_block old (block_at place order)) → IfNone answer (new ≡ old) → Contains old.taken kept → Contains new.taken kept
-take_keeps old new order (Some place) kept made same here = subst (λ (p : Pooled). Contains p.taken kept) (sym made) (with_keeps old.taken (block_at place order) kept here)
-take_keeps old new order None kept made same here = subst (λ (p : Pooled). Contains p.taken kept) (sym same) here
+pub take_keeps : (old new : PoolState) (order : ℕ) (answer : Option ℕ) (kept : Block) → IfSome answer (λ place. new ≡ with_block old (block_at place order)) → IfNone answer (new ≡ old) → Contains old.taken kept → Contains new.taken kept
+take_keeps old new order (Some place) kept made same here = subst (λ (p : PoolState). Contains p.taken kept) (sym made) (with_keeps old.taken (block_at place order) kept here)
+take_keeps old new order None kept made same here = subst (λ (p : PoolState). Contains p.taken kept) (sym same) here
 
-pub give_keeps : (old new : Pooled) (place : ℕ) (kept : Block) → new ≡ without_block old place → (kept.place ≡ place → ⊥) → Contains old.taken kept → Contains new.taken kept
-give_keeps old new place kept made other here = subst (λ (p : Pooled). Contains p.taken kept) (sym made) (without_keeps old.taken place kept other here)
+pub give_keeps : (old new : PoolState) (place : ℕ) (kept : Block) → new ≡ without_block old place → (kept.place ≡ place → ⊥) → Contains old.taken kept → Contains new.taken kept
+give_keeps old new place kept made other here = subst (λ (p : PoolState). Contains p.taken kept) (sym made) (without_keeps old.taken place kept other here)

@@ -3,7 +3,7 @@ use Rattle.std.proofs.Common.{◌≡◌, ℕ, ◌+◌, ◌-◌, ◌*◌, ◌/◌
 use Rattle.std.proofs.lemmas.Bool.{cases_order, cases_lt}
 use Rattle.std.proofs.Math.Nat.{mul_assoc}
 use Rattle.std.proofs.lemmas.Nat.{pow-add, pow_pos, pow_below, div-add-mod'}
-use Rattle.hpt_pool.specs.Pool.{Block, Pooled, IsPool, IsPlaced, end_of}
+use Rattle.hpt_pool.specs.Pool.{Block, PoolState, IsPool, IsPlaced, end_of}
 use Rattle.hpt_pool.specs.Marks.{leaf_place}
 
 pub pow_split : (low high : ℕ) → low ≤ high → 2 ^ high ≡ 2 ^ (high - low) * 2 ^ low
@@ -16,14 +16,14 @@ pow_most i j below = at (cases_order i j) where
   at (inr (inl lower)) = let e : 2 ^ i < 2 ^ j = pow_below i j lower in omega arith
   at (inr (inr higher)) = absurd (omega arith)
 
-pub order_most : (pooled : Pooled) (block : Block) → IsPool pooled.base pooled.order → IsPlaced pooled block → block.order ≤ 34
-order_most pooled block pool placed = at (cases_lt pooled.order block.order) where
-  at : (pooled.order < block.order) ⊎ (block.order ≤ pooled.order) → block.order ≤ 34
-  at (inr small) = let most : pooled.order ≤ 34 = pool.at_most in omega arith
+pub order_most : (pool_state : PoolState) (block : Block) → IsPool pool_state.base pool_state.order → IsPlaced pool_state block → block.order ≤ 34
+order_most pool_state block pool placed = at (cases_lt pool_state.order block.order) where
+  at : (pool_state.order < block.order) ⊎ (block.order ≤ pool_state.order) → block.order ≤ 34
+  at (inr small) = let most : pool_state.order ≤ 34 = pool.at_most in omega arith
   at (inl large) =
-      let larger : 2 ^ pooled.order < 2 ^ block.order = pow_below pooled.order block.order large in
-      let low : pooled.base ≤ block.place = placed.from_base in
-      let high : block.place + 2 ^ block.order ≤ pooled.base + 2 ^ pooled.order = placed.to_end in
+      let larger : 2 ^ pool_state.order < 2 ^ block.order = pow_below pool_state.order block.order large in
+      let low : pool_state.base ≤ block.place = placed.from_base in
+      let high : block.place + 2 ^ block.order ≤ pool_state.base + 2 ^ pool_state.order = placed.to_end in
       absurd (omega arith)
 
 -- A multiple of a size is one of each smaller size too.
@@ -40,15 +40,15 @@ pub record IsInLeaves (base order : ℕ) (block : Block) (first count : ℕ) : T
   pub some : 0 < count
   pub inside : first + count ≤ 2 ^ (order - 18)
 
-pub in_leaves : (pooled : Pooled) (block : Block) → IsPool pooled.base pooled.order → IsPlaced pooled block → IsInLeaves pooled.base pooled.order block ((block.place - pooled.base) / 2 ^ 18) (2 ^ (block.order - 18))
-in_leaves pooled block pool placed =
-    let at_base = multiple_of_lower pooled.base 18 pooled.order pool.at_least pool.aligned in
+pub in_leaves : (pool_state : PoolState) (block : Block) → IsPool pool_state.base pool_state.order → IsPlaced pool_state block → IsInLeaves pool_state.base pool_state.order block ((block.place - pool_state.base) / 2 ^ 18) (2 ^ (block.order - 18))
+in_leaves pool_state block pool placed =
+    let at_base = multiple_of_lower pool_state.base 18 pool_state.order pool.at_least pool.aligned in
     let at_place = multiple_of_lower block.place 18 block.order placed.at_least placed.aligned in
     let size : 2 ^ block.order ≡ 2 ^ (block.order - 18) * 2 ^ 18 = pow_split 18 block.order placed.at_least in
-    let whole : 2 ^ pooled.order ≡ 2 ^ (pooled.order - 18) * 2 ^ 18 = pow_split 18 pooled.order pool.at_least in
-    let base_is : pooled.base ≡ at_base.0 * 2 ^ 18 = at_base.1 in
+    let whole : 2 ^ pool_state.order ≡ 2 ^ (pool_state.order - 18) * 2 ^ 18 = pow_split 18 pool_state.order pool.at_least in
+    let base_is : pool_state.base ≡ at_base.0 * 2 ^ 18 = at_base.1 in
     let place_is : block.place ≡ at_place.0 * 2 ^ 18 = at_place.1 in
-    let low : pooled.base ≤ block.place = placed.from_base in
-    let high : block.place + 2 ^ block.order ≤ pooled.base + 2 ^ pooled.order = placed.to_end in
+    let low : pool_state.base ≤ block.place = placed.from_base in
+    let high : block.place + 2 ^ block.order ≤ pool_state.base + 2 ^ pool_state.order = placed.to_end in
     let some : 0 < 2 ^ (block.order - 18) = pow_pos (block.order - 18) in
     record { begins = omega arith; ends = omega arith; some = some; inside = omega arith }

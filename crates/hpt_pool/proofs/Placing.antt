@@ -9,7 +9,7 @@ use Rattle.std.proofs.lemmas.List.Kept.{AllPairs-filter}
 use Rattle.hpt_pool.specs.declared.mark.Mark.{Mark}
 use Rattle.hpt_pool.specs.declared.mark.Mark.TheVariants.{Free}
 use Rattle.std.proofs.lemmas.List.{length-replicate, get_or-replicate}
-use Rattle.hpt_pool.specs.Pool.{Block, Pooled, block_at, end_of, overlap, fits, begins_below, taken_with, taken_without, with_block, without_block, IsPlaced, AreApart, IsPool, IsSound}
+use Rattle.hpt_pool.specs.Pool.{Block, PoolState, block_at, end_of, overlap, fits, begins_below, taken_with, taken_without, with_block, without_block, IsPlaced, AreApart, IsPool, IsSound}
 use Rattle.hpt_pool.specs.Marks.{is_free, blocks_from, leaf_place, mark_at, AreFree, SomeTaken, lies_outside, covers, marked_pool, IsMarked}
 use Rattle.hpt_pool.proofs.Lists.{AllPairs-between, others_related, filter_all, filter_same, filters_join, list_any-none, list_any-false, list_any-weaker, list_any-append, list_any-kept, list_any-dropped}
 use Rattle.hpt_pool.proofs.Leaves.{IsInLeaves, in_leaves}
@@ -57,8 +57,8 @@ covering_overlaps base order block other first count leaf here from_first before
     grind (arith, nat_tests, below, above)
 
 -- ---- whether a block overlaps no taken one
-others_in_leaves : (pooled : Pooled) → IsSound pooled → (k : ℕ) (d : Block) → k < length pooled.taken → IsInLeaves pooled.base pooled.order (get_or pooled.taken k d) (((get_or pooled.taken k d).place - pooled.base) / 2 ^ 18) (2 ^ ((get_or pooled.taken k d).order - 18))
-others_in_leaves pooled sound k d inside = in_leaves pooled (get_or pooled.taken k d) sound.pool (sound.blocks.placed k d inside)
+others_in_leaves : (pool_state : PoolState) → IsSound pool_state → (k : ℕ) (d : Block) → k < length pool_state.taken → IsInLeaves pool_state.base pool_state.order (get_or pool_state.taken k d) (((get_or pool_state.taken k d).place - pool_state.base) / 2 ^ 18) (2 ^ ((get_or pool_state.taken k d).order - 18))
+others_in_leaves pool_state sound k d inside = in_leaves pool_state (get_or pool_state.taken k d) sound.pool (sound.blocks.placed k d inside)
 
 pub free_apart : (base order : ℕ) (marks : List Mark) (block : Block) (first count : ℕ) → IsMarked base order marks → IsInLeaves base order block first count → AreFree marks first count → list_any (overlap block) (blocks_from base marks) ≡ false
 free_apart base order marks block first count marked here free =
@@ -95,22 +95,22 @@ is_free_is true base order marks block first count marked here free = rw (free_a
 is_free_is false base order marks block first count marked here some = rw (taken_meets base order marks block first count marked here some) refl
 
 -- ---- a block that is taken
-pub record FitsIn (pooled : Pooled) (block : Block) : Type 0 where
-  pub placed : IsPlaced pooled block
-  pub apart : All (λ other. overlap block other ≡ false) pooled.taken
+pub record FitsIn (pool_state : PoolState) (block : Block) : Type 0 where
+  pub placed : IsPlaced pool_state block
+  pub apart : All (λ other. overlap block other ≡ false) pool_state.taken
 
-pub fits_in : (pooled : Pooled) (order place : ℕ) → 18 ≤ order → fits pooled order place ≡ true → FitsIn pooled (block_at place order)
-fits_in pooled order place large fit =
-    let meets = list_any (overlap (block_at place order)) pooled.taken in
-    let lies : Bool = place % 2 ^ order == 0 && nat_le pooled.base place && nat_le (place + 2 ^ order) (pooled.base + 2 ^ pooled.order) in
+pub fits_in : (pool_state : PoolState) (order place : ℕ) → 18 ≤ order → fits pool_state order place ≡ true → FitsIn pool_state (block_at place order)
+fits_in pool_state order place large fit =
+    let meets = list_any (overlap (block_at place order)) pool_state.taken in
+    let lies : Bool = place % 2 ^ order == 0 && nat_le pool_state.base place && nat_le (place + 2 ^ order) (pool_state.base + 2 ^ pool_state.order) in
     let free : not meets ≡ true = (and_parts lies (not meets) fit).1 in
     let whole : lies ≡ true = (and_parts lies (not meets) fit).0 in
     let aligned : place % 2 ^ order ≡ 0 = grind (arith, nat_tests, whole) in
-    let low : pooled.base ≤ place = grind (arith, nat_tests, whole) in
-    let high : place + 2 ^ order ≤ pooled.base + 2 ^ pooled.order = grind (arith, nat_tests, whole) in
+    let low : pool_state.base ≤ place = grind (arith, nat_tests, whole) in
+    let high : place + 2 ^ order ≤ pool_state.base + 2 ^ pool_state.order = grind (arith, nat_tests, whole) in
     record {
       placed = record { at_least = large; aligned = aligned; from_base = low; to_end = high };
-      apart = list_any-false (overlap (block_at place order)) pooled.taken (not-true _ free);
+      apart = list_any-false (overlap (block_at place order)) pool_state.taken (not-true _ free);
     }
 
 -- It begins below none that begins below it.
@@ -123,22 +123,22 @@ higher_place block other apart not_below =
     let other_size = size_above other in
     grind (arith, nat_tests, apart, not_below)
 
-parts_join : (pooled : Pooled) (block : Block) → AreApart pooled → filter (begins_below block) pooled.taken ++ filter (λ other. not (begins_below block other)) pooled.taken ≡ pooled.taken
-parts_join pooled block apart =
-    filters_join (begins_below block) pooled.taken (λ i j d before inside.
+parts_join : (pool_state : PoolState) (block : Block) → AreApart pool_state → filter (begins_below block) pool_state.taken ++ filter (λ other. not (begins_below block other)) pool_state.taken ≡ pool_state.taken
+parts_join pool_state block apart =
+    filters_join (begins_below block) pool_state.taken (λ i j d before inside.
     let rise = apart.rising i j d before inside in
     λ fails. grind (arith, nat_tests, rise, fails))
 
-pub sound_with : (pooled : Pooled) (block : Block) → IsSound pooled → FitsIn pooled block → IsSound (with_block pooled block)
+pub sound_with : (pool_state : PoolState) (block : Block) → IsSound pool_state → FitsIn pool_state block → IsSound (with_block pool_state block)
 unfolding taken_with
-sound_with pooled block sound fit =
-    let taken = pooled.taken in
+sound_with pool_state block sound fit =
+    let taken = pool_state.taken in
     let apart = sound.blocks in
     let below = begins_below block in
     let others : Block → Bool = λ other. not (begins_below block other) in
     let low = filter below taken in
     let high = filter others taken in
-    let join = parts_join pooled block apart in
+    let join = parts_join pool_state block apart in
     let Rise : Block → Block → Type 0 = λ lower higher. lower.place < higher.place in
     let Apart : Block → Block → Type 0 = λ lower higher. overlap lower higher ≡ false in
     let Clear : Block → Type 0 = λ other. overlap block other ≡ false in
@@ -147,7 +147,7 @@ sound_with pooled block sound fit =
     record {
       pool = sound.pool;
       blocks = record {
-        placed = λ k d inside. again pooled block _ (All-append (IsPlaced pooled) low (block ∷ high) (All-filter below (IsPlaced pooled) taken apart.placed) (All-cons (IsPlaced pooled) block high fit.placed (All-filter others (IsPlaced pooled) taken apart.placed)) k d inside);
+        placed = λ k d inside. again pool_state block _ (All-append (IsPlaced pool_state) low (block ∷ high) (All-filter below (IsPlaced pool_state) taken apart.placed) (All-cons (IsPlaced pool_state) block high fit.placed (All-filter others (IsPlaced pool_state) taken apart.placed)) k d inside);
         rising =
             AllPairs-between Rise block low high (subst (AllPairs Rise) (sym join) apart.rising)
             (λ k d inside. lower_place block (get_or low k d) (filter_passes below taken k d inside))
@@ -158,36 +158,36 @@ sound_with pooled block sound fit =
             clear_high;
       };
     } where
-      again : (before : Pooled) (new other : Block) → IsPlaced before other → IsPlaced (with_block before new) other
+      again : (before : PoolState) (new other : Block) → IsPlaced before other → IsPlaced (with_block before new) other
       again before new other placed = record { at_least = placed.at_least; aligned = placed.aligned; from_base = placed.from_base; to_end = placed.to_end }
 
 -- ---- a block that is given back
-pub sound_without : (pooled : Pooled) (place : ℕ) → IsSound pooled → IsSound (without_block pooled place)
+pub sound_without : (pool_state : PoolState) (place : ℕ) → IsSound pool_state → IsSound (without_block pool_state place)
 unfolding taken_without
-sound_without pooled place sound =
+sound_without pool_state place sound =
     let apart = sound.blocks in
     let stays : Block → Bool = λ block. not (block.place == place) in
     record {
       pool = sound.pool;
       blocks = record {
-        placed = λ k d inside. again pooled place _ (All-filter stays (IsPlaced pooled) pooled.taken apart.placed k d inside);
-        rising = AllPairs-filter (λ (lower higher : Block). lower.place < higher.place) stays pooled.taken apart.rising;
-        apart = AllPairs-filter (λ (lower higher : Block). overlap lower higher ≡ false) stays pooled.taken apart.apart;
+        placed = λ k d inside. again pool_state place _ (All-filter stays (IsPlaced pool_state) pool_state.taken apart.placed k d inside);
+        rising = AllPairs-filter (λ (lower higher : Block). lower.place < higher.place) stays pool_state.taken apart.rising;
+        apart = AllPairs-filter (λ (lower higher : Block). overlap lower higher ≡ false) stays pool_state.taken apart.apart;
       };
     } where
-      again : (before : Pooled) (at_place : ℕ) (other : Block) → IsPlaced before other → IsPlaced (without_block before at_place) other
+      again : (before : PoolState) (at_place : ℕ) (other : Block) → IsPlaced before other → IsPlaced (without_block before at_place) other
       again before at_place other placed = record { at_least = placed.at_least; aligned = placed.aligned; from_base = placed.from_base; to_end = placed.to_end }
 
 -- Each taken block is this one or overlaps it nowhere.
-pub others_apart : (pooled : Pooled) (block : Block) → AreApart pooled → Contains pooled.taken block → All (λ other. (other ≡ block) ⊎ (overlap block other ≡ false)) pooled.taken
-others_apart pooled block apart here =
-    others_related (λ one other. overlap one other ≡ false) overlap_turned pooled.taken block apart.apart here
+pub others_apart : (pool_state : PoolState) (block : Block) → AreApart pool_state → Contains pool_state.taken block → All (λ other. (other ≡ block) ⊎ (overlap block other ≡ false)) pool_state.taken
+others_apart pool_state block apart here =
+    others_related (λ one other. overlap one other ≡ false) overlap_turned pool_state.taken block apart.apart here
 
 -- ---- the marks after the block is taken
 -- The blocks that begin at other leaves are as they were, since none began at one of these.
-pub filled_taken : (pooled : Pooled) (block : Block) (low high : ℕ) → low ≡ block.place → high ≡ end_of block → All (λ other. overlap block other ≡ false) pooled.taken → filter (lies_outside low high) pooled.taken ≡ pooled.taken
-filled_taken pooled block low high low_is high_is apart =
-    filter_all (lies_outside low high) pooled.taken (λ k d inside. kept (get_or pooled.taken k d) (apart k d inside)) where
+pub filled_taken : (pool_state : PoolState) (block : Block) (low high : ℕ) → low ≡ block.place → high ≡ end_of block → All (λ other. overlap block other ≡ false) pool_state.taken → filter (lies_outside low high) pool_state.taken ≡ pool_state.taken
+filled_taken pool_state block low high low_is high_is apart =
+    filter_all (lies_outside low high) pool_state.taken (λ k d inside. kept (get_or pool_state.taken k d) (apart k d inside)) where
       kept : (other : Block) → overlap block other ≡ false → lies_outside low high other ≡ true
       kept other clear = let size = size_above other in grind (arith, nat_tests, clear)
 
@@ -295,10 +295,10 @@ apart_place block other apart =
 same_place : (block other : Block) → other ≡ block → (other.place == block.place) ≡ true
 same_place block other same = let e : other.place ≡ block.place = ap (λ (b : Block). b.place) same in grind (arith, nat_tests)
 
-pub filled_given : (pooled : Pooled) (block : Block) (low high : ℕ) → low ≡ block.place → high ≡ end_of block → All (EitherApart block) pooled.taken → filter (lies_outside low high) pooled.taken ≡ taken_without pooled.taken block.place
+pub filled_given : (pool_state : PoolState) (block : Block) (low high : ℕ) → low ≡ block.place → high ≡ end_of block → All (EitherApart block) pool_state.taken → filter (lies_outside low high) pool_state.taken ≡ taken_without pool_state.taken block.place
 unfolding taken_without
-filled_given pooled block low high low_is high_is either =
-    filter_same (lies_outside low high) (λ other. not (other.place == block.place)) pooled.taken (λ k d inside. agree (get_or pooled.taken k d) (either k d inside)) where
+filled_given pool_state block low high low_is high_is either =
+    filter_same (lies_outside low high) (λ other. not (other.place == block.place)) pool_state.taken (λ k d inside. agree (get_or pool_state.taken k d) (either k d inside)) where
       agree : (other : Block) → EitherApart block other → lies_outside low high other ≡ not (other.place == block.place)
       agree other (inl same) =
           let here : other.place ≡ block.place = ap (λ (b : Block). b.place) same in
@@ -373,9 +373,9 @@ pub pool_without : (base order : ℕ) (marks after : List Mark) (block : Block) 
 pool_without base order marks after block first count made = ap (λ (taken : List Block). record { base = base; order = order; taken = taken }) made.blocks
 
 -- ---- a block of the pool that a caller sees
-pub located : (base order : ℕ) (marks : List Mark) (now : Pooled) (block : Block) (first count : ℕ) → marked_pool base order marks ≡ now → IsMarked base order marks → IsPlaced now block → first ≡ (block.place - now.base) / 2 ^ 18 → count ≡ 2 ^ (block.order - 18) → IsInLeaves base order block first count
+pub located : (base order : ℕ) (marks : List Mark) (now : PoolState) (block : Block) (first count : ℕ) → marked_pool base order marks ≡ now → IsMarked base order marks → IsPlaced now block → first ≡ (block.place - now.base) / 2 ^ 18 → count ≡ 2 ^ (block.order - 18) → IsInLeaves base order block first count
 located base order marks now block first count view marked placed first_is count_is =
-    let base_is : base ≡ now.base = ap (λ (p : Pooled). p.base) view in
+    let base_is : base ≡ now.base = ap (λ (p : PoolState). p.base) view in
     let here = in_leaves (marked_pool base order marks) block marked.sound.pool (subst (λ p. IsPlaced p block) (sym view) placed) in
     let at_first : (block.place - base) / 2 ^ 18 ≡ first = ap (λ n. (block.place - n) / 2 ^ 18) base_is ∙ sym first_is in
     subst (λ n. IsInLeaves base order block first n) (sym count_is) (subst (λ n. IsInLeaves base order block n (2 ^ (block.order - 18))) at_first here)

@@ -1,10 +1,10 @@
 -- Worked values, which the checker computes.
 use Rattle.std.proofs.Common.{◌≡◌, List, [], ◌∷◌, Some, None, refl}
 use Rattle.hpt_pool.specs.declared.error.PoolError.TheVariants.{Order, Unaligned, Past}
-use Rattle.hpt_pool.specs.Pool.{Block, Pooled, block_at, refusals, pool_refusal, multiples, lowest_place, taken_with, taken_without}
+use Rattle.hpt_pool.specs.Pool.{Block, PoolState, block_at, refusals, pool_refusal, multiples, lowest_place, taken_with, taken_without}
 
 -- A pool of four leaves, and what is taken of it.
-small : List Block → Pooled
+small : List Block → PoolState
 small taken = record { base = 0x1000000000; order = 20; taken = taken }
 
 first_leaf : Block

@@ -1,7 +1,7 @@
 -- The marks of a pool's leaves of 2 ^ 18 bytes, and the taken blocks that they stand for.
 use Rattle.std.specs.Prelude.{◌≡◌, ◌<◌, ◌≤◌, ℕ, ◌+◌, ◌-◌, ◌*◌, ◌^◌, Bool, true, false, not, ◌&&◌, ◌||◌, nat_lt, nat_le, List, [], ◌∷◌, length, slice_index_or}
 use Rattle.std.specs.List.{list_any}
-use Rattle.hpt_pool.specs.Pool.{Block, block_at, end_of, Pooled, IsSound}
+use Rattle.hpt_pool.specs.Pool.{Block, block_at, end_of, PoolState, IsSound}
 use Rattle.hpt_pool.specs.declared.mark.Mark.{Mark}
 use Rattle.hpt_pool.specs.declared.mark.Mark.TheVariants.{Free, Inside, Begins}
 
@@ -45,7 +45,7 @@ abbrev pub lies_outside : ℕ → ℕ → Block → Bool
 lies_outside low high block = nat_lt block.place low || nat_le high block.place
 
 -- ---- the pool of some marks
-abbrev pub marked_pool : ℕ → ℕ → List Mark → Pooled
+abbrev pub marked_pool : ℕ → ℕ → List Mark → PoolState
 marked_pool base order marks = record { base = base; order = order; taken = blocks_from base marks }
 
 -- The address lies in the block.

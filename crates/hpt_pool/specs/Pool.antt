@@ -1,5 +1,6 @@
 -- A pool of memory, as the list of the blocks that are taken: where a further block fits, and what taking and giving change.
 use Rattle.std.specs.Prelude.{◌≡◌, ◌<◌, ◌≤◌, ℕ, ◌+◌, ◌-◌, ◌*◌, ◌%◌, ◌^◌, ◌==◌, Bool, true, false, not, ◌&&◌, ◌||◌, nat_lt, nat_le, List, [], ◌∷◌, ◌++◌, filter, find, map, All, AllPairs, Option, option_map}
+use Rattle.basics.specs.Words.{first_refusal}
 use Rattle.std.specs.List.{list_any, range_with_len}
 use Rattle.hpt_pool.specs.declared.error.PoolError.{PoolError}
 use Rattle.hpt_pool.specs.declared.error.PoolError.TheVariants.{Order, Unaligned, Past}
@@ -16,13 +17,13 @@ abbrev pub end_of : Block → ℕ
 end_of block = block.place + 2 ^ block.order
 
 -- A pool of 2 ^ order bytes from base, with its taken blocks in rising place.
-pub record Pooled : Type 0 where
+pub record PoolState : Type 0 where
   pub base : ℕ
   pub order : ℕ
   pub taken : List Block
 
 -- ---- a new pool
-abbrev pub no_blocks : ℕ → ℕ → Pooled
+abbrev pub no_blocks : ℕ → ℕ → PoolState
 no_blocks base order = record { base = base; order = order; taken = [] }
 
 -- What may be wrong with a pool, in the order in which it is tried.
@@ -35,7 +36,7 @@ refusals base order =
 
 -- The first that is wrong, or none.
 unfoldable pub pool_refusal : ℕ → ℕ → Option PoolError
-pool_refusal base order = option_map (λ (refusal : Bool × PoolError). refusal.1) (find (λ (refusal : Bool × PoolError). refusal.0) (refusals base order))
+pool_refusal base order = first_refusal (refusals base order)
 
 -- ---- a further block
 -- Each of the two begins below the end of the other: they share an address.
@@ -43,28 +44,28 @@ abbrev pub overlap : Block → Block → Bool
 overlap block other = nat_lt block.place (end_of other) && nat_lt other.place (end_of block)
 
 -- A block of this order at this place is aligned, lies in the pool, and overlaps no taken block.
-abbrev pub fits : Pooled → ℕ → ℕ → Bool
-fits pooled order place =
+abbrev pub fits : PoolState → ℕ → ℕ → Bool
+fits pool_state order place =
     place % 2 ^ order == 0
-    && nat_le pooled.base place
-    && nat_le (place + 2 ^ order) (pooled.base + 2 ^ pooled.order)
-    && not (list_any (overlap (block_at place order)) pooled.taken)
+    && nat_le pool_state.base place
+    && nat_le (place + 2 ^ order) (pool_state.base + 2 ^ pool_state.order)
+    && not (list_any (overlap (block_at place order)) pool_state.taken)
 
 -- The places in the pool, in rising order, that are multiples of 2 ^ order: the pool begins at one, and where the order is above the pool's, that is the only one.
-unfoldable pub multiples : Pooled → ℕ → List ℕ
-multiples pooled order = map (λ n. pooled.base + n * 2 ^ order) (range_with_len 0 (2 ^ (pooled.order - order)))
+unfoldable pub multiples : PoolState → ℕ → List ℕ
+multiples pool_state order = map (λ n. pool_state.base + n * 2 ^ order) (range_with_len 0 (2 ^ (pool_state.order - order)))
 
 -- The lowest place at which a block of this order fits, or none.
-unfoldable pub lowest_place : Pooled → ℕ → Option ℕ
-lowest_place pooled order = find (fits pooled order) (multiples pooled order)
+unfoldable pub lowest_place : PoolState → ℕ → Option ℕ
+lowest_place pool_state order = find (fits pool_state order) (multiples pool_state order)
 
 -- ---- the same as relations, which speak of every place
-pub record IsLowest (pooled : Pooled) (order place : ℕ) : Type 0 where
-  pub fitting : fits pooled order place ≡ true
-  pub lowest : (lower : ℕ) → lower < place → fits pooled order lower ≡ false
+pub record IsLowest (pool_state : PoolState) (order place : ℕ) : Type 0 where
+  pub fitting : fits pool_state order place ≡ true
+  pub lowest : (lower : ℕ) → lower < place → fits pool_state order lower ≡ false
 
-abbrev pub FitsNowhere : Pooled → ℕ → Type 0
-FitsNowhere pooled order = (place : ℕ) → fits pooled order place ≡ false
+abbrev pub FitsNowhere : PoolState → ℕ → Type 0
+FitsNowhere pool_state order = (place : ℕ) → fits pool_state order place ≡ false
 
 -- ---- the taken blocks after a call
 abbrev pub begins_below : Block → Block → Bool
@@ -78,25 +79,25 @@ taken_with taken block = filter (begins_below block) taken ++ block ∷ filter (
 unfoldable pub taken_without : List Block → ℕ → List Block
 taken_without taken place = filter (λ block. not (block.place == place)) taken
 
-abbrev pub with_block : Pooled → Block → Pooled
-with_block pooled block = record pooled { taken = taken_with pooled.taken block }
+abbrev pub with_block : PoolState → Block → PoolState
+with_block pool_state block = record pool_state { taken = taken_with pool_state.taken block }
 
-abbrev pub without_block : Pooled → ℕ → Pooled
-without_block pooled place = record pooled { taken = taken_without pooled.taken place }
+abbrev pub without_block : PoolState → ℕ → PoolState
+without_block pool_state place = record pool_state { taken = taken_without pool_state.taken place }
 
 -- ---- what holds of a pool at all times
 -- A block is aligned to its size and lies in the pool.
-pub record IsPlaced (pooled : Pooled) (block : Block) : Type 0 where
+pub record IsPlaced (pool_state : PoolState) (block : Block) : Type 0 where
   pub at_least : 18 ≤ block.order
   pub aligned : block.place % 2 ^ block.order ≡ 0
-  pub from_base : pooled.base ≤ block.place
-  pub to_end : end_of block ≤ pooled.base + 2 ^ pooled.order
+  pub from_base : pool_state.base ≤ block.place
+  pub to_end : end_of block ≤ pool_state.base + 2 ^ pool_state.order
 
 -- The taken blocks are placed so, rise, and no two overlap.
-pub record AreApart (pooled : Pooled) : Type 0 where
-  pub placed : All (IsPlaced pooled) pooled.taken
-  pub rising : AllPairs (λ (lower higher : Block). lower.place < higher.place) pooled.taken
-  pub apart : AllPairs (λ (lower higher : Block). overlap lower higher ≡ false) pooled.taken
+pub record AreApart (pool_state : PoolState) : Type 0 where
+  pub placed : All (IsPlaced pool_state) pool_state.taken
+  pub rising : AllPairs (λ (lower higher : Block). lower.place < higher.place) pool_state.taken
+  pub apart : AllPairs (λ (lower higher : Block). overlap lower higher ≡ false) pool_state.taken
 
 -- The pool has 2 ^ 18 to 2 ^ 34 bytes, is aligned to its size and ends at most at 2 ^ 60.
 pub record IsPool (base order : ℕ) : Type 0 where
@@ -105,6 +106,6 @@ pub record IsPool (base order : ℕ) : Type 0 where
   pub aligned : base % 2 ^ order ≡ 0
   pub to_end : base + 2 ^ order ≤ 2 ^ 60
 
-pub record IsSound (pooled : Pooled) : Type 0 where
-  pub pool : IsPool pooled.base pooled.order
-  pub blocks : AreApart pooled
+pub record IsSound (pool_state : PoolState) : Type 0 where
+  pub pool : IsPool pool_state.base pool_state.order
+  pub blocks : AreApart pool_state

@@ -23,9 +23,9 @@ pub struct Pool {
 }
 
 impl Model for Pool {
-    ghost use Rattle.hpt_pool.specs.Pool.{Pooled};
+    ghost use Rattle.hpt_pool.specs.Pool.{PoolState};
 
-    ghost Value = { Pooled };
+    ghost Value = { PoolState };
 
     ghost use Rattle.hpt_pool.specs.Marks.{marked_pool, IsMarked};
 

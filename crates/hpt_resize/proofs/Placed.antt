@@ -9,7 +9,7 @@ use Rattle.std.proofs.lemmas.List.FromFn.{fill_by_all}
 use Rattle.entry_model.specs.State.{State, empty_state}
 use Rattle.entry_model.specs.Run.{state_at}
 use Rattle.hpt_resize.specs.declared.carry.Collision.{Collision}
-use Rattle.hpt_resize.specs.Rehash.{entry_count, target_at, is_target, first_with, collision_at, collision_of, entry_at, rehashed, IsPlacedBelow, restamped}
+use Rattle.hpt_resize.specs.Rehash.{entry_count, target_at, is_target, first_with, collision_at, collision_of, entry_at, rehashed_states, IsPlacedBelow, at_stamp_0}
 use Rattle.hpt_resize.proofs.Finds.{find_none, find_first, found_is, none_found}
 use Rattle.hpt_resize.proofs.Groups.{carried_is, one_source}
 
@@ -49,7 +49,7 @@ placed_skip from to states into index placed none = record {
   never : (k target : ℕ) → k ≡ index → target_at from to states k ≡ Some target → ⊥
   never k target same is = let gone : target_at from to states k ≡ None = ap (target_at from to states) same ∙ none in absurd (cc)
 
-  carry : (k target : ℕ) → k < index + 1 → target_at from to states k ≡ Some target → (k ≡ index) ⊎ (k ≡ index → ⊥) → state_at into target ≡ restamped (state_at states k)
+  carry : (k target : ℕ) → k < index + 1 → target_at from to states k ≡ Some target → (k ≡ index) ⊎ (k ≡ index → ⊥) → state_at into target ≡ at_stamp_0 (state_at states k)
   carry k target below is (inl same) = absurd (never k target same is)
   carry k target below is (inr other) = placed.carried k target (omega arith) is
 
@@ -66,25 +66,25 @@ free_target from to states into index k target placed free below is =
     let here : (state_at into target).valid ≡ true = ap (λ (s : State). s.valid) (placed.carried k target below is) ∙ carried_valid from to states k target is in
     absurd (cc)
 
-pub placed_more : (from to : ℕ) (states into : List State) (index target : ℕ) → IsPlacedBelow from to states into index → target_at from to states index ≡ Some target → target < length into → (state_at into target).valid ≡ false → IsPlacedBelow from to states (set into target (restamped (state_at states index))) (index + 1)
+pub placed_more : (from to : ℕ) (states into : List State) (index target : ℕ) → IsPlacedBelow from to states into index → target_at from to states index ≡ Some target → target < length into → (state_at into target).valid ≡ false → IsPlacedBelow from to states (set into target (at_stamp_0 (state_at states index))) (index + 1)
 placed_more from to states into index target placed is inside free = record {
-  long = length-set into target (restamped (state_at states index)) ∙ placed.long;
+  long = length-set into target (at_stamp_0 (state_at states index)) ∙ placed.long;
   carried = λ k other below goes. carry k other below goes (cases_eq k index);
   others = λ other clear. empty other clear (cases_eq other target);
   differ = λ j k other low below one two. apart j k other low below one two (cases_eq k index);
 } where
-  carry : (k other : ℕ) → k < index + 1 → target_at from to states k ≡ Some other → (k ≡ index) ⊎ (k ≡ index → ⊥) → state_at (set into target (restamped (state_at states index))) other ≡ restamped (state_at states k)
+  carry : (k other : ℕ) → k < index + 1 → target_at from to states k ≡ Some other → (k ≡ index) ⊎ (k ≡ index → ⊥) → state_at (set into target (at_stamp_0 (state_at states index))) other ≡ at_stamp_0 (state_at states k)
   carry k other below goes (inl same) =
       let there : target_at from to states k ≡ Some target = ap (target_at from to states) same ∙ is in
       let one : other ≡ target = cc in
-      ap (λ m. state_at (set into target (restamped (state_at states index))) m) one ∙ get_or-set_same into target (restamped (state_at states index)) (empty_state 0) inside ∙ ap (λ m. restamped (state_at states m)) (sym same)
+      ap (λ m. state_at (set into target (at_stamp_0 (state_at states index))) m) one ∙ get_or-set_same into target (at_stamp_0 (state_at states index)) (empty_state 0) inside ∙ ap (λ m. at_stamp_0 (state_at states m)) (sym same)
   carry k other below goes (inr lower) =
       let apart : other ≢ target = λ one. free_target from to states into index k target placed free (omega arith) (goes ∙ ap Some one) in
-      get_or-set_other into target other (restamped (state_at states index)) (empty_state 0) apart ∙ placed.carried k other (omega arith) goes
+      get_or-set_other into target other (at_stamp_0 (state_at states index)) (empty_state 0) apart ∙ placed.carried k other (omega arith) goes
 
-  empty : (other : ℕ) → ((k : ℕ) → k < index + 1 → target_at from to states k ≢ Some other) → (other ≡ target) ⊎ (other ≡ target → ⊥) → state_at (set into target (restamped (state_at states index))) other ≡ empty_state 0
+  empty : (other : ℕ) → ((k : ℕ) → k < index + 1 → target_at from to states k ≢ Some other) → (other ≡ target) ⊎ (other ≡ target → ⊥) → state_at (set into target (at_stamp_0 (state_at states index))) other ≡ empty_state 0
   empty other clear (inl one) = absurd (clear index (omega arith) (is ∙ ap Some (sym one)))
-  empty other clear (inr apart) = get_or-set_other into target other (restamped (state_at states index)) (empty_state 0) apart ∙ placed.others other (λ k below. clear k (omega arith))
+  empty other clear (inr apart) = get_or-set_other into target other (at_stamp_0 (state_at states index)) (empty_state 0) apart ∙ placed.others other (λ k below. clear k (omega arith))
 
   apart : (j k other : ℕ) → j < k → k < index + 1 → target_at from to states j ≡ Some other → target_at from to states k ≡ Some other → (k ≡ index) ⊎ (k ≡ index → ⊥) → ⊥
   apart j k other low below one two (inr lower) = placed.differ j k other low (omega arith) one two
@@ -147,8 +147,8 @@ no_collision from to states into index placed all =
     (λ k before. let same : 0 + k ≡ k = omega arith in ap (λ m. is_some (collision_at from to states m)) same ∙ ap is_some (none_at from to states k (λ j other low goes back. placed.differ j k other low (omega arith) back goes))))
 
 -- ---- the whole table
-pub all_placed : (from to : ℕ) (states into : List State) (index : ℕ) → IsPlacedBelow from to states into index → index ≡ length states → into ≡ rehashed from to states
-unfolding rehashed entry_at first_with
+pub all_placed : (from to : ℕ) (states into : List State) (index : ℕ) → IsPlacedBelow from to states into index → index ≡ length states → into ≡ rehashed_states from to states
+unfolding rehashed_states entry_at first_with
 all_placed from to states into index placed all =
     fill_by_all (entry_at from to states) into (entry_count to) (empty_state 0) placed.long (λ target below. each target (first_with from to states (length states) target) refl) where
       each : (target : ℕ) (o : Option ℕ) → first_with from to states (length states) target ≡ o → get_or into target (empty_state 0) ≡ entry_at from to states target
@@ -158,12 +158,12 @@ all_placed from to states into index placed all =
           let same : 0 + k ≡ k = omega arith in
           let passes = target_is target (target_at from to states (0 + k)) (ap (target_at from to states) same ∙ goes) in
           absurd (cc))
-          ∙ sym (ap (λ (o : Option ℕ). option_map_or (λ (m : ℕ). restamped (state_at states m)) o (empty_state 0)) none)
+          ∙ sym (ap (λ (o : Option ℕ). option_map_or (λ (m : ℕ). at_stamp_0 (state_at states m)) o (empty_state 0)) none)
       each target (Some k) found =
           let is = found_is (λ m. is_target target (target_at from to states m)) 0 (length states) k found in
           let below : k < 0 + length states = is.below in
           placed.carried k target (omega arith) (target_true target (target_at from to states k) is.passes)
-          ∙ sym (ap (λ (o : Option ℕ). option_map_or (λ (m : ℕ). restamped (state_at states m)) o (empty_state 0)) found)
+          ∙ sym (ap (λ (o : Option ℕ). option_map_or (λ (m : ℕ). at_stamp_0 (state_at states m)) o (empty_state 0)) found)
 
 -- ---- to an order that isn't lower
 pub never_collides : (from to : ℕ) (states : List State) (first second target : ℕ) → 18 ≤ from → from ≤ to → target_at from to states second ≡ Some target → first_with from to states second target ≡ Some first → ⊥

@@ -8,7 +8,7 @@ use Rattle.std.proofs.lemmas.List.{get_or_past}
 use Rattle.std.proofs.lemmas.List.FromFn.{length-map-range_with_len, get_or-map-range_with_len}
 use Rattle.entry_model.specs.State.{State, empty_state}
 use Rattle.entry_model.specs.Run.{state_at}
-use Rattle.hpt_resize.specs.Rehash.{entry_count, target_at, is_target, first_with, collision_at, collision_of, entry_at, rehashed, restamped, AreApartBelow, IsPlacedBelow}
+use Rattle.hpt_resize.specs.Rehash.{entry_count, target_at, is_target, first_with, collision_at, collision_of, entry_at, rehashed_states, at_stamp_0, AreApartBelow, IsPlacedBelow}
 use Rattle.hpt_resize.proofs.Finds.{found_is, none_found}
 use Rattle.hpt_resize.proofs.Groups.{carried_is, target_in_table}
 use Rattle.hpt_resize.proofs.Placed.{target_is, target_true, first_is, first_none}
@@ -54,15 +54,15 @@ apart_where_none from to states none j k target low below one two = at (find (λ
       absurd (cc)
 
 -- ---- the whole table
-rehashed_at : (from to : ℕ) (states : List State) (target : ℕ) → target < entry_count to → state_at (rehashed from to states) target ≡ entry_at from to states target
-unfolding rehashed
+rehashed_at : (from to : ℕ) (states : List State) (target : ℕ) → target < entry_count to → state_at (rehashed_states from to states) target ≡ entry_at from to states target
+unfolding rehashed_states
 rehashed_at from to states target below = get_or-map-range_with_len (entry_at from to states) 0 (entry_count to) target target (empty_state 0) below (omega arith)
 
-pub rehashed-length : (from to : ℕ) (states : List State) → length (rehashed from to states) ≡ entry_count to
-unfolding rehashed
+pub rehashed-length : (from to : ℕ) (states : List State) → length (rehashed_states from to states) ≡ entry_count to
+unfolding rehashed_states
 rehashed-length from to states = length-map-range_with_len (entry_at from to states) 0 (entry_count to)
 
-entry_found : (from to : ℕ) (states : List State) (target index : ℕ) → first_with from to states (length states) target ≡ Some index → entry_at from to states target ≡ restamped (state_at states index)
+entry_found : (from to : ℕ) (states : List State) (target index : ℕ) → first_with from to states (length states) target ≡ Some index → entry_at from to states target ≡ at_stamp_0 (state_at states index)
 unfolding entry_at
 entry_found from to states target index found = rw found refl
 
@@ -71,7 +71,7 @@ unfolding entry_at
 entry_none from to states target none = rw none refl
 
 -- Without a collision all entries of the old table are carried.
-pub rehashed_placed : (from to : ℕ) (states : List State) → 18 ≤ to → collision_of from to states ≡ None → IsPlacedBelow from to states (rehashed from to states) (length states)
+pub rehashed_placed : (from to : ℕ) (states : List State) → 18 ≤ to → collision_of from to states ≡ None → IsPlacedBelow from to states (rehashed_states from to states) (length states)
 rehashed_placed from to states large none = record {
   long = rehashed-length from to states;
   carried = λ k target below goes.
@@ -81,11 +81,11 @@ rehashed_placed from to states large none = record {
   others = λ target clear. at target clear (cases_lt target (entry_count to));
   differ = apart_where_none from to states none;
 } where
-  at : (target : ℕ) → ((k : ℕ) → k < length states → target_at from to states k ≢ Some target) → (target < entry_count to) ⊎ (entry_count to ≤ target) → state_at (rehashed from to states) target ≡ empty_state 0
+  at : (target : ℕ) → ((k : ℕ) → k < length states → target_at from to states k ≢ Some target) → (target < entry_count to) ⊎ (entry_count to ≤ target) → state_at (rehashed_states from to states) target ≡ empty_state 0
   at target clear (inl inside) = rehashed_at from to states target inside ∙ entry_none from to states target (first_none from to states (length states) target clear)
   at target clear (inr past) =
       let long = rehashed-length from to states in
-      get_or_past (rehashed from to states) target (empty_state 0) (omega arith)
+      get_or_past (rehashed_states from to states) target (empty_state 0) (omega arith)
 
 -- An entry that is carried is one of the old table.
 pub source_in_table : (from to : ℕ) (states : List State) (index target : ℕ) → target_at from to states index ≡ Some target → index < length states

@@ -1,6 +1,6 @@
 -- Worked values, which the checker computes.
 use Rattle.std.proofs.Common.{◌≡◌, ℕ, true, false, List, [], ◌∷◌, Option, Some, None, refl}
-use Rattle.hpt_pool.specs.Pool.{Block, Pooled, block_at, multiples, lowest_place, taken_with, taken_without}
+use Rattle.hpt_pool.specs.Pool.{Block, PoolState, block_at, multiples, lowest_place, taken_with, taken_without}
 use Rattle.power_addr.specs.Pages.{tag_of}
 use Rattle.hpt_hash.specs.Hash.{group_of}
 use Rattle.hpt_hash.specs.Entries.{page_at}
@@ -8,7 +8,7 @@ use Rattle.entry_model.specs.State.{State}
 use Rattle.papr_codes.specs.declared.codes.Rc.TheVariants.{Success, Busy, Closed, LongBusy, Parameter, NoMem, Resource}
 use Rattle.hpt_resize.specs.Rehash.{carried_page, target_of}
 use Rattle.hpt_resize.specs.Pending.{PendingTable}
-use Rattle.hpt_resize.specs.Resize.{prepared_as, prepared, commit_refusal}
+use Rattle.hpt_resize.specs.Resize.{prepare_outcome, outcome_of_prepare, commit_refusal}
 
 entry : ℕ → ℕ → State
 entry dword0 dword1 = record { valid = true; dword0 = dword0; dword1 = dword1; referenced = false; changed = false; stamp = 3 }
@@ -35,43 +35,43 @@ not_bolted = refl
 
 -- ---- prepare
 -- A pool of four leaves, of which the first is taken.
-pool : List Block → Pooled
+pool : List Block → PoolState
 pool more = record { base = 0x1000000000; order = 20; taken = block_at 0x1000000000 18 ∷ more }
 
 pending : ℕ → ℕ → ℕ → Option PendingTable
 pending order place ready = Some (record { order = order; place = place; ready = ready })
 
-a_first_part : prepared 20 0 19 None (pool []) ≡ prepared_as LongBusy (pending 19 0x1000080000 16384) (pool (block_at 0x1000080000 19 ∷ []))
-unfolding prepared lowest_place multiples taken_with pool pending
+a_first_part : outcome_of_prepare 20 0 19 None (pool []) ≡ prepare_outcome LongBusy (pending 19 0x1000080000 16384) (pool (block_at 0x1000080000 19 ∷ []))
+unfolding outcome_of_prepare lowest_place multiples taken_with pool pending
 a_first_part = refl
 
-the_rest : prepared 20 0 19 (pending 19 0x1000080000 16384) (pool (block_at 0x1000080000 19 ∷ [])) ≡ prepared_as Success (pending 19 0x1000080000 32768) (pool (block_at 0x1000080000 19 ∷ []))
-unfolding prepared pool pending
+the_rest : outcome_of_prepare 20 0 19 (pending 19 0x1000080000 16384) (pool (block_at 0x1000080000 19 ∷ [])) ≡ prepare_outcome Success (pending 19 0x1000080000 32768) (pool (block_at 0x1000080000 19 ∷ []))
+unfolding outcome_of_prepare pool pending
 the_rest = refl
 
-no_block : prepared 20 0 20 None (pool []) ≡ prepared_as NoMem None (pool [])
-unfolding prepared lowest_place multiples pool
+no_block : outcome_of_prepare 20 0 20 None (pool []) ≡ prepare_outcome NoMem None (pool [])
+unfolding outcome_of_prepare lowest_place multiples pool
 no_block = refl
 
 -- The drop stays where the pool has no block.
-no_block_after_the_drop : prepared 20 0 20 (pending 19 0x1000080000 16384) (pool (block_at 0x1000080000 19 ∷ [])) ≡ prepared_as NoMem None (pool [])
-unfolding prepared lowest_place multiples taken_without pool pending
+no_block_after_the_drop : outcome_of_prepare 20 0 20 (pending 19 0x1000080000 16384) (pool (block_at 0x1000080000 19 ∷ [])) ≡ prepare_outcome NoMem None (pool [])
+unfolding outcome_of_prepare lowest_place multiples taken_without pool pending
 no_block_after_the_drop = refl
 
-given_up : prepared 20 0 0 (pending 19 0x1000080000 16384) (pool (block_at 0x1000080000 19 ∷ [])) ≡ prepared_as Success None (pool [])
-unfolding prepared taken_without pool pending
+given_up : outcome_of_prepare 20 0 0 (pending 19 0x1000080000 16384) (pool (block_at 0x1000080000 19 ∷ [])) ≡ prepare_outcome Success None (pool [])
+unfolding outcome_of_prepare taken_without pool pending
 given_up = refl
 
-too_small : prepared 20 0 17 None (pool []) ≡ prepared_as Parameter None (pool [])
-unfolding prepared pool
+too_small : outcome_of_prepare 20 0 17 None (pool []) ≡ prepare_outcome Parameter None (pool [])
+unfolding outcome_of_prepare pool
 too_small = refl
 
-above_the_limit : prepared 20 0 21 (pending 19 0x1000080000 5) (pool []) ≡ prepared_as Resource (pending 19 0x1000080000 5) (pool [])
-unfolding prepared pool pending
+above_the_limit : outcome_of_prepare 20 0 21 (pending 19 0x1000080000 5) (pool []) ≡ prepare_outcome Resource (pending 19 0x1000080000 5) (pool [])
+unfolding outcome_of_prepare pool pending
 above_the_limit = refl
 
-flags_first : prepared 20 1 21 None (pool []) ≡ prepared_as Parameter None (pool [])
-unfolding prepared pool
+flags_first : outcome_of_prepare 20 1 21 None (pool []) ≡ prepare_outcome Parameter None (pool [])
+unfolding outcome_of_prepare pool
 flags_first = refl
 
 -- ---- commit

@@ -1,4 +1,5 @@
 pub mod Rehash
 pub mod Pending
 pub mod Resize
-pub mod Home
+pub mod TableMemory
+pub mod Translations

@@ -16,8 +16,8 @@ abbrev pub is_ready : PendingTable → Bool
 is_ready table = table.ready == entry_count table.order
 
 -- One call makes the next 16,384 entries ready, or all that are left where these are fewer.
-abbrev pub advanced : PendingTable → PendingTable
-advanced table = record table { ready = min (table.ready + 16384) (entry_count table.order) }
+abbrev pub with_more_ready : PendingTable → PendingTable
+with_more_ready table = record table { ready = min (table.ready + 16384) (entry_count table.order) }
 
 -- Its order is one that a table can have, its ready entries are empty, and there is room for all.
 pub record IsPreparing (order : ℕ) (states : List State) (capacity : ℕ) : Type 0 where

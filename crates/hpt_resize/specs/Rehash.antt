@@ -24,8 +24,8 @@ unfoldable pub target_of : ℕ → ℕ → State → ℕ → Option ℕ
 target_of from to state index = option_map (λ page. group_of page to (is_secondary state.dword0) * 8 + index % 8) (carried_page from state index)
 
 -- It keeps its doublewords, R and C.
-abbrev pub restamped : State → State
-restamped state = record state { stamp = 0 }
+abbrev pub at_stamp_0 : State → State
+at_stamp_0 state = record state { stamp = 0 }
 
 -- ---- the table
 abbrev pub target_at : ℕ → ℕ → List State → ℕ → Option ℕ
@@ -51,11 +51,11 @@ collision_of from to states =
 
 -- The new entry at an index: the one that goes there, or else an empty one.
 unfoldable pub entry_at : ℕ → ℕ → List State → ℕ → State
-entry_at from to states target = option_map_or (λ index. restamped (state_at states index)) (first_with from to states (length states) target) (empty_state 0)
+entry_at from to states target = option_map_or (λ index. at_stamp_0 (state_at states index)) (first_with from to states (length states) target) (empty_state 0)
 
 -- The new table, where no two entries go to one index.
-unfoldable pub rehashed : ℕ → ℕ → List State → List State
-rehashed from to states = map (entry_at from to states) (range_with_len 0 (entry_count to))
+unfoldable pub rehashed_states : ℕ → ℕ → List State → List State
+rehashed_states from to states = map (entry_at from to states) (range_with_len 0 (entry_count to))
 
 -- ---- the same as relations
 -- Before an index no two entries go to one target.
@@ -74,6 +74,6 @@ pub record IsCollision (from to : ℕ) (states : List State) (collision : Collis
 -- The entries before an index are carried: no two of them go to one target, each is at its target with its doublewords, R and C, at stamp 0, and every other entry of the new table is empty at stamp 0.
 pub record IsPlacedBelow (from to : ℕ) (states new : List State) (index : ℕ) : Type 0 where
   pub long : length new ≡ entry_count to
-  pub carried : (k target : ℕ) → k < index → target_at from to states k ≡ Some target → state_at new target ≡ restamped (state_at states k)
+  pub carried : (k target : ℕ) → k < index → target_at from to states k ≡ Some target → state_at new target ≡ at_stamp_0 (state_at states k)
   pub others : (target : ℕ) → ((k : ℕ) → k < index → target_at from to states k ≢ Some target) → state_at new target ≡ empty_state 0
   pub differ : AreApartBelow from to states index

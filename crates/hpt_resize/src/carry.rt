@@ -1,7 +1,7 @@
 ghost use Rattle.std.specs.Prelude.{◌≡◌, ◌≢◌, ℕ, ◌-◌, ◌^◌, ◌<◌, ◌≤◌, length, Option, Some, None, IsOk, IfErr, OnOk, MatchOption, MatchResult, replicate, vec_len};
 ghost use Rattle.entry_model.specs.State.{State, empty_state};
 ghost use Rattle.entry_model.specs.Run.{state_at};
-ghost use Rattle.hpt_resize.specs.Rehash.{target_of, target_at, restamped, first_with, collision_of, rehashed, IsCollision, IsPlacedBelow};
+ghost use Rattle.hpt_resize.specs.Rehash.{target_of, target_at, at_stamp_0, first_with, collision_of, rehashed_states, IsCollision, IsPlacedBelow};
 
 use entry_model::EntryState;
 use hpt_hash::{groups, page_of};
@@ -36,7 +36,7 @@ pub fn rehash(
     ensures told { MatchResult result (λ _. collision_of order_from order_to states.now ≡ None) (λ collision. collision_of order_from order_to states.now ≡ Some collision) }
     ensures meet { IfErr result (IsCollision order_from order_to states.now) }
     ensures placed { MatchResult result (λ _. IsPlacedBelow order_from order_to states.now into.new.items (length states.now)) (λ collision. IsPlacedBelow order_from order_to states.now into.new.items collision.second) }
-    ensures carried { OnOk result (into.new.items ≡ rehashed order_from order_to states.now) }
+    ensures carried { OnOk result (into.new.items ≡ rehashed_states order_from order_to states.now) }
     ensures never { order_from ≤ order_to → IsOk result }
     ensures length { vec_len into.new ≡ vec_len into.old }
 {
@@ -81,7 +81,7 @@ fn target_index(order_from: u8, order_to: u8, state: EntryState, index: usize) -
 
 // The same entry at stamp 0.
 fn fresh(state: EntryState) -> EntryState
-    ensures { result ≡ restamped state }
+    ensures { result ≡ at_stamp_0 state }
 {
     EntryState {
         valid: state.valid,

@@ -1,6 +1,6 @@
 ghost use Rattle.std.specs.Prelude.{◌≡◌, ◌+◌, ◌-◌, ◌^◌, ◌<◌, ◌≤◌, [], ◌++◌, replicate, vec_len, vec_capacity};
 ghost use Rattle.entry_model.specs.State.{empty_state};
-ghost use Rattle.hpt_resize.specs.Pending.{no_entries, is_ready, advanced};
+ghost use Rattle.hpt_resize.specs.Pending.{no_entries, is_ready, with_more_ready};
 
 use entry_model::EntryState;
 use std::marker::Model;
@@ -68,7 +68,7 @@ impl Pending {
 
     /// Makes the next entries ready.
     pub fn advance(&mut self)
-        ensures { self.new ≡ advanced self.old }
+        ensures { self.new ≡ with_more_ready self.old }
     {
         let left = entry_count(self.order) - self.states.len();
         push_empty(&mut self.states, left.min(READY_A_CALL));

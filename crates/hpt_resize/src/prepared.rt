@@ -3,8 +3,8 @@ ghost use Rattle.std.specs.Option.{ForSome};
 ghost use Rattle.hpt_pool.specs.Pool.{block_at};
 ghost use Rattle.entry_model.specs.State.{empty_state};
 ghost use Rattle.hpt_resize.specs.Rehash.{entry_count};
-ghost use Rattle.hpt_resize.specs.Pending.{PendingTable, is_ready, advanced};
-ghost use Rattle.hpt_resize.specs.Resize.{IsHeld, IsElsewhere, IsTable, prepared_as, is_prepare_request, is_commit_request, pool_without, is_pending, needs_table, started, prepared, table_of, commit_refusal, pending_refusal, completed, committed, committed_as, KeepsBlocks};
+ghost use Rattle.hpt_resize.specs.Pending.{PendingTable, is_ready, with_more_ready};
+ghost use Rattle.hpt_resize.specs.Resize.{IsHeld, IsElsewhere, IsTable, prepare_outcome, is_prepare_request, is_commit_request, pool_without, is_pending, needs_table, start_outcome, outcome_of_prepare, table_of, commit_refusal, pending_refusal, complete_outcome, outcome_of_commit, commit_outcome, KeepsBlocks};
 
 use crate::carry::rehash;
 use crate::current::{CommitAnswer, Current};
@@ -39,7 +39,7 @@ impl Resize {
 
     /// H_RESIZE_HPT_PREPARE: makes a table of `2^shift` bytes ready, a part at each call. `limit` is
     /// the highest order that the guest may ask for. Where memory ends, nothing changes.
-    #[tactic(auto, unfolding(crate::specs::Resize::prepared))]
+    #[tactic(auto, unfolding(crate::specs::Resize::outcome_of_prepare))]
     pub fn prepare(
         &mut self,
         alloc: Global,
@@ -51,7 +51,7 @@ impl Resize {
         requires limit_low { 18 ≤ limit }
         requires limit_high { limit ≤ 22 }
         requires held { IsHeld self.old pool.old }
-        ensures ok { IfOk result (λ rc. prepared_as rc self.new pool.new ≡ prepared limit flags shift self.old pool.old) }
+        ensures ok { IfOk result (λ rc. prepare_outcome rc self.new pool.new ≡ outcome_of_prepare limit flags shift self.old pool.old) }
         ensures memory { OnErr result (needs_table limit flags shift self.old ≡ true) }
         ensures same_pending { OnErr result (self.new ≡ self.old) }
         ensures same_pool { OnErr result (pool.new ≡ pool.old) }
@@ -74,7 +74,7 @@ impl Resize {
 
     /// H_RESIZE_HPT_COMMIT: makes the pending table of `2^shift` bytes the guest's own, with the
     /// bolted entries that have a page. It takes no memory.
-    #[tactic(auto, unfolding(crate::specs::Resize::committed))]
+    #[tactic(auto, unfolding(crate::specs::Resize::outcome_of_commit))]
     pub fn commit(
         &mut self,
         pool: &mut Pool,
@@ -86,7 +86,7 @@ impl Resize {
         requires number { current.old.number < 2 ^ 32 - 1 }
         requires held { IsHeld self.old pool.old }
         requires taken { Contains pool.old.taken (block_at current.old.place current.old.order) }
-        ensures done { committed_as result self.new pool.new (table_of current.new) ≡ committed flags shift self.old pool.old (table_of current.old) }
+        ensures done { commit_outcome result self.new pool.new (table_of current.new) ≡ outcome_of_commit flags shift self.old pool.old (table_of current.old) }
         ensures table { IsTable current.new }
         ensures held { IsHeld self.new pool.new }
         ensures taken { IsElsewhere self.old (block_at current.old.place current.old.order) → Contains pool.new.taken (block_at current.new.place current.new.order) }
@@ -125,7 +125,7 @@ impl Resize {
         requires low { 18 ≤ order }
         requires high { order ≤ 22 }
         requires held { IsHeld self.old pool.old }
-        ensures ok { IfOk result (λ rc. prepared_as rc self.new pool.new ≡ started order self.old pool.old) }
+        ensures ok { IfOk result (λ rc. prepare_outcome rc self.new pool.new ≡ start_outcome order self.old pool.old) }
         ensures memory { OnErr result (is_pending order self.old ≡ false) }
         ensures same_pending { OnErr result (self.new ≡ self.old) }
         ensures same_pool { OnErr result (pool.new ≡ pool.old) }
@@ -164,7 +164,7 @@ impl Resize {
 
     // Makes further entries of the pending table ready. Where there is none, the answer stays.
     fn advance(&mut self, rc: Rc) -> Rc
-        ensures { MatchOption self.old ((result ≡ rc) × (self.new ≡ None)) (λ table. (self.new ≡ Some (advanced table)) × (result ≡ (if is_ready (advanced table) then Rc.Success else Rc.LongBusy))) }
+        ensures { MatchOption self.old ((result ≡ rc) × (self.new ≡ None)) (λ table. (self.new ≡ Some (with_more_ready table)) × (result ≡ (if is_ready (with_more_ready table) then Rc.Success else Rc.LongBusy))) }
     {
         let Some(pending) = &mut self.pending else {
             return rc;
@@ -191,7 +191,7 @@ fn complete(pending: Pending, pool: &mut Pool, current: &mut Current) -> CommitA
     requires ready { pending.ready ≡ entry_count pending.order }
     requires held { Contains pool.old.taken (block_at pending.place pending.order) }
     requires taken { Contains pool.old.taken (block_at current.old.place current.old.order) }
-    ensures done { committed_as result None pool.new (table_of current.new) ≡ completed (Some pending) pool.old (table_of current.old) }
+    ensures done { commit_outcome result None pool.new (table_of current.new) ≡ complete_outcome (Some pending) pool.old (table_of current.old) }
     ensures table { IsTable current.new }
     ensures taken { pending.place ≢ current.old.place → Contains pool.new.taken (block_at current.new.place current.new.order) }
 {

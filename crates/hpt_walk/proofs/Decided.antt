@@ -1,6 +1,6 @@
 -- An access that an entry decides: its doublewords translate the page.
-use Rattle.std.proofs.Common.{◌≡◌, ℕ, ◌+◌, Bool, true, false, ap, sym, ◌∙◌, refl, ◌⊎◌, inl, inr}
 use Rattle.std.specs.Prelude.{IsTrue, ◌==◌, ◌&&◌}
+use Rattle.std.proofs.Common.{◌≡◌, ℕ, ◌+◌, Bool, true, false, ap, sym, ◌∙◌, refl, ◌⊎◌, inl, inr}
 use Rattle.std.proofs.lemmas.Bool.{cases_Bool, and_parts, eqb-true}
 use Rattle.storage_prot.specs.declared.want.Want.{Want}
 use Rattle.power_addr.specs.Pages.{VirtualPage, tag_of}
@@ -11,12 +11,12 @@ use Rattle.entry_model.specs.declared.operation.Answer.{Answer}
 use Rattle.entry_model.specs.declared.operation.Answer.TheVariants.{NoMatch}
 use Rattle.entry_model.specs.declared.operation.Op.{Op}
 use Rattle.entry_model.specs.declared.receipt.Receipt.{Receipt}
-use Rattle.entry_model.specs.Reply.{compared, has_base, is_match, accessed, reply_of}
+use Rattle.entry_model.specs.Reply.{compared_bits, has_base, is_match, answer_of_access, reply_of}
 use Rattle.entry_model.specs.Receipt.{is_no_match, is_decided}
-use Rattle.entry_model.specs.Lines.{IsAccessOf}
+use Rattle.entry_model.specs.CachedLines.{IsAccessOf, line_of}
 use Rattle.entry_model.proofs.OperationLaws.{decided_match}
 use Rattle.hpt_walk.specs.Walk.{access_op, h_bit}
-use Rattle.hpt_walk.specs.Lines.{line_of, TranslatesItsPage}
+use Rattle.hpt_walk.specs.Translations.{TranslatesItsPage}
 use Rattle.hpt_walk.proofs.Tags.{compared-has}
 
 -- ---- answers
@@ -29,11 +29,11 @@ pub no_match_or_decided : (answer : Answer) → is_no_match answer ≡ true → 
 no_match_or_decided NoMatch h d = cc
 no_match_or_decided other h d = cc
 
-pub accessed_no_match : (s : State) (tag base : ℕ) (key no_execute : Bool) (want : Want) → is_match s tag base ≡ false → is_no_match (accessed s tag base key no_execute want).0 ≡ true
+pub accessed_no_match : (s : State) (tag base : ℕ) (key no_execute : Bool) (want : Want) → is_match s tag base ≡ false → is_no_match (answer_of_access s tag base key no_execute want).0 ≡ true
 accessed_no_match s tag base key no_execute want differs = rw differs refl
 
 -- An answer to an access that isn't NoMatch comes of a match.
-pub match_of : (s : State) (tag base : ℕ) (key no_execute : Bool) (want : Want) → is_no_match (accessed s tag base key no_execute want).0 ≡ false → is_match s tag base ≡ true
+pub match_of : (s : State) (tag base : ℕ) (key no_execute : Bool) (want : Want) → is_no_match (answer_of_access s tag base key no_execute want).0 ≡ false → is_match s tag base ≡ true
 match_of s tag base key no_execute want off = at (cases_Bool (is_match s tag base)) where
   at : (is_match s tag base ≡ true) ⊎ (is_match s tag base ≡ false) → is_match s tag base ≡ true
   at (inl same) = same
@@ -43,12 +43,12 @@ match_of s tag base key no_execute want off = at (cases_Bool (is_match s tag bas
 -- A match of a page's tag gives a line that translates the page.
 pub match_translates : (page : VirtualPage) (line : Line) (s : State) (secondary : Bool) → line.page ≡ page → line.dword0 ≡ s.dword0 → line.dword1 ≡ s.dword1 → is_match s (tag_of page + h_bit secondary + 1) page.shift ≡ true → TranslatesItsPage line
 match_translates page line s secondary of first second same =
-    let parts = and_parts s.valid ((compared s.dword0 == tag_of page + h_bit secondary + 1) && has_base s.dword0 s.dword1 page.shift) same in
-    let words = and_parts (compared s.dword0 == tag_of page + h_bit secondary + 1) (has_base s.dword0 s.dword1 page.shift) parts.1 in
-    let tag : compared s.dword0 ≡ tag_of page + h_bit secondary + 1 = eqb-true _ _ words.0 in
+    let parts = and_parts s.valid ((compared_bits s.dword0 == tag_of page + h_bit secondary + 1) && has_base s.dword0 s.dword1 page.shift) same in
+    let words = and_parts (compared_bits s.dword0 == tag_of page + h_bit secondary + 1) (has_base s.dword0 s.dword1 page.shift) parts.1 in
+    let tag : compared_bits s.dword0 ≡ tag_of page + h_bit secondary + 1 = eqb-true _ _ words.0 in
     let h : is_secondary s.dword0 ≡ secondary = (compared-has page s.dword0 secondary tag).secondary in
     record {
-      tag = (λ i. tag_of (of i) + h_bit (is_secondary (first i)) + 1) ∙ ap (λ b. tag_of page + h_bit b + 1) h ∙ sym tag ∙ ap compared (sym first);
+      tag = (λ i. tag_of (of i) + h_bit (is_secondary (first i)) + 1) ∙ ap (λ b. tag_of page + h_bit b + 1) h ∙ sym tag ∙ ap compared_bits (sym first);
       size = (λ i. has_base (first i) (second i) (of i).shift) ∙ words.1;
     }
 

@@ -1,25 +1,24 @@
 -- On states that nobody else changes, a walk finds the first entry that the list of translations pairs with the page.
-use Rattle.std.proofs.Common.{◌≡◌, ℕ, zero, suc, ◌+◌, ◌*◌, ◌/◌, ◌<◌, ◌≤◌, List, [], ◌∷◌, length, Bool, true, false, Option, Some, None, ap, sym, ◌∙◌, refl, subst, ◌⊎◌, inl, inr, arith, set, get_or}
 use Rattle.std.specs.Prelude.{◌==◌, ◌&&◌, ◌||◌, if◌then◌else◌, map, find, option_map}
-use Rattle.std.specs.List.{AllByRecursion}
+use Rattle.std.proofs.Common.{◌≡◌, ℕ, zero, suc, ◌+◌, ◌*◌, ◌/◌, ◌<◌, ◌≤◌, List, [], ◌∷◌, length, Bool, true, false, Option, Some, None, ap, sym, ◌∙◌, refl, subst, ◌⊎◌, inl, inr, arith, set, get_or}
+use Rattle.std.specs.List.{AllByRecursion, range_with_len}
 use Rattle.std.specs.Option.{option_map_or}
 use Rattle.std.proofs.lemmas.Bool.{cases_Bool, eqb-true, eq-eqb}
 use Rattle.std.proofs.lemmas.List.{set-get_or}
 use Rattle.storage_prot.specs.declared.want.Want.{Want}
-use Rattle.power_addr.specs.Pages.{VirtualPage, IsPage, tag_of}
+use Rattle.power_addr.specs.Pages.{VirtualPage, IsPage, tag_of, same_page}
 use Rattle.hpt_hash.specs.Hash.{group_of}
 use Rattle.hpt_hash.specs.Entries.{IsPageOf, page_at}
 use Rattle.hpt_hash.proofs.PageLemmas.{page_at-sound, page_at-complete}
 use Rattle.entry_model.specs.State.{State, empty_state}
 use Rattle.entry_model.specs.declared.receipt.Receipt.{Receipt}
-use Rattle.entry_model.specs.Reply.{is_match, accessed, reply_of}
-use Rattle.entry_model.specs.Receipt.{is_no_match, is_decided, after_of, IsReceiptOf}
+use Rattle.entry_model.specs.Reply.{is_match, answer_of_access, reply_of}
+use Rattle.entry_model.specs.Receipt.{is_no_match, is_decided, after_of, IsReceiptOf, found_of}
 use Rattle.entry_model.specs.Run.{IsRun, IsStep, state_at}
-use Rattle.entry_model.specs.Trial.{Call, IsTrial, call, entries_from}
-use Rattle.entry_model.specs.Cache.{same_page}
-use Rattle.entry_model.proofs.CachedPages.{page_same, page_self}
+use Rattle.entry_model.specs.Trial.{Call, IsTrial, call}
+use Rattle.power_addr.proofs.SamePages.{page_same, page_self}
 use Rattle.entry_model.proofs.OperationLaws.{decided_match}
-use Rattle.hpt_walk.specs.Walk.{access_op, h_bit, walk_calls, walk_entries, found_of}
+use Rattle.hpt_walk.specs.Walk.{access_op, h_bit, walk_calls, walk_entries}
 use Rattle.hpt_walk.specs.Translations.{Translation, translations, translations_from, put_first, page_in, is_paired}
 use Rattle.hpt_walk.specs.Laws.{IsEntryState}
 use Rattle.hpt_walk.proofs.Found.{found-on, found-off, both_calls}
@@ -110,7 +109,7 @@ state_of (s ∷ ss) (suc e) all h = state_of ss e all.1 (omega arith)
 abbrev IsCallOf : ℕ → VirtualPage → Bool → Bool → Want → Call → Type 0
 IsCallOf order page key no_execute want c = (secondary : Bool) × (c.op ≡ access_op page key no_execute want secondary) × (group_of page order secondary ≡ c.entry / 8)
 
-answer_of : (page : VirtualPage) (key no_execute : Bool) (want : Want) (secondary : Bool) (r : Receipt) (s : State) → r.op ≡ access_op page key no_execute want secondary → r.before ≡ s → (r.answer, after_of r) ≡ accessed s (tag_of page + h_bit secondary + 1) page.shift key no_execute want
+answer_of : (page : VirtualPage) (key no_execute : Bool) (want : Want) (secondary : Bool) (r : Receipt) (s : State) → r.op ≡ access_op page key no_execute want secondary → r.before ≡ s → (r.answer, after_of r) ≡ answer_of_access s (tag_of page + h_bit secondary + 1) page.shift key no_execute want
 answer_of page key no_execute want secondary r s op before = ap (λ x. (x, after_of r)) r.lawful ∙ (λ i. reply_of (before i) (op i))
 
 paired_found : (order : ℕ) (page : VirtualPage) (key no_execute : Bool) (want : Want) (a : List State) (c : Call) (r : Receipt) (mid : List State) → 18 ≤ order → IsPage page → AllByRecursion IsEntryState a → IsCallOf order page key no_execute want c → IsReceiptOf c.entry c.op r → IsStep a r mid → is_no_match r.answer ≡ false → is_paired (translations order a) page c.entry ≡ true
@@ -139,7 +138,7 @@ unpaired_none order page key no_execute want a c r mid low is states of receipt 
   state : IsEntryState s
   state = state_of a c.entry states within
 
-  both : (r.answer, after_of r) ≡ accessed s tag page.shift key no_execute want
+  both : (r.answer, after_of r) ≡ answer_of_access s tag page.shift key no_execute want
   both = answer_of page key no_execute want of.0 r s (receipt.op ∙ of.1) (step.before ∙ ap (state_at a) receipt.entry)
 
   clash : matching ≡ true → ⊥
@@ -181,14 +180,14 @@ finds order page key no_execute want a b (c ∷ cs) (r ∷ rs) low is states of 
       ap (option_map (λ (x : Receipt). x.entry)) (found-off r rs off) ∙ ap Some s.0.entry ∙ sym (ap (λ t. if t then Some c.entry else rest) fact)
 
 -- ---- the calls of a walk
-calls_of_group : (order : ℕ) (page : VirtualPage) (key no_execute : Bool) (want : Want) (secondary : Bool) (first i n : ℕ) → first ≡ group_of page order secondary * 8 + i → i + n ≤ 8 → AllByRecursion (IsCallOf order page key no_execute want) (map (call (access_op page key no_execute want secondary)) (entries_from first n))
+calls_of_group : (order : ℕ) (page : VirtualPage) (key no_execute : Bool) (want : Want) (secondary : Bool) (first i n : ℕ) → first ≡ group_of page order secondary * 8 + i → i + n ≤ 8 → AllByRecursion (IsCallOf order page key no_execute want) (map (call (access_op page key no_execute want secondary)) (range_with_len first n))
 calls_of_group order page key no_execute want secondary first i zero at few = tt
 calls_of_group order page key no_execute want secondary first i (suc n) at few = ((secondary, refl, omega arith), calls_of_group order page key no_execute want secondary (first + 1) (i + 1) n (omega arith) (omega arith))
 
 calls_of_walk : (order : ℕ) (page : VirtualPage) (key no_execute : Bool) (want : Want) → AllByRecursion (IsCallOf order page key no_execute want) (walk_calls order page key no_execute want)
 unfolding walk_calls
 calls_of_walk order page key no_execute want =
-    both_calls (IsCallOf order page key no_execute want) (map (call (access_op page key no_execute want false)) (entries_from (group_of page order false * 8) 8)) (map (call (access_op page key no_execute want true)) (entries_from (group_of page order true * 8) 8)) (calls_of_group order page key no_execute want false (group_of page order false * 8) 0 8 (omega arith) (omega arith)) (calls_of_group order page key no_execute want true (group_of page order true * 8) 0 8 (omega arith) (omega arith))
+    both_calls (IsCallOf order page key no_execute want) (map (call (access_op page key no_execute want false)) (range_with_len (group_of page order false * 8) 8)) (map (call (access_op page key no_execute want true)) (range_with_len (group_of page order true * 8) 8)) (calls_of_group order page key no_execute want false (group_of page order false * 8) 0 8 (omega arith) (omega arith)) (calls_of_group order page key no_execute want true (group_of page order true * 8) 0 8 (omega arith) (omega arith))
 
 entries_of_walk : (order : ℕ) (page : VirtualPage) (key no_execute : Bool) (want : Want) → map (λ (c : Call). c.entry) (walk_calls order page key no_execute want) ≡ walk_entries order page
 unfolding walk_calls walk_entries

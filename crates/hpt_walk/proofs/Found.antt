@@ -1,16 +1,14 @@
 -- What a walk found.
-use Rattle.std.proofs.Common.{◌≡◌, ℕ, suc, List, [], ◌∷◌, ◌++◌, length, true, false, ap, sym, ◌∙◌, refl, subst, ◌⊎◌, inl, inr, Some, None}
 use Rattle.std.specs.Prelude.{IsTrue, map}
+use Rattle.std.proofs.Common.{◌≡◌, ℕ, suc, List, [], ◌∷◌, ◌++◌, length, true, false, ap, sym, ◌∙◌, refl, subst, ◌⊎◌, inl, inr, Some, None}
 use Rattle.std.specs.List.{AllByRecursion}
 use Rattle.std.proofs.lemmas.Bool.{cases_Bool}
 use Rattle.entry_model.specs.declared.receipt.Receipt.{Receipt}
 use Rattle.entry_model.specs.declared.operation.Op.{Op}
-use Rattle.entry_model.specs.Receipt.{is_no_match, is_decided}
-use Rattle.entry_model.specs.Lines.{ShowsLine}
+use Rattle.entry_model.specs.Receipt.{is_no_match, is_decided, found_of}
+use Rattle.entry_model.specs.CachedLines.{ShowsLine, line_of}
 use Rattle.entry_model.specs.Trial.{Call, IsTrial, call}
 use Rattle.power_addr.specs.Pages.{VirtualPage}
-use Rattle.hpt_walk.specs.Walk.{found_of}
-use Rattle.hpt_walk.specs.Lines.{line_of}
 
 -- ---- one receipt before others
 pub found-on : (r : Receipt) (rs : List Receipt) → is_no_match r.answer ≡ true → found_of (r ∷ rs) ≡ found_of rs

@@ -1,6 +1,6 @@
 -- The page of each valid entry lies in a grant, and no operation changes that but one that enters words of another page.
-use Rattle.std.proofs.Common.{◌≡◌, ℕ, ◌+◌, ◌^◌, ◌<◌, List, Bool, true, false, Option, Some, ap, sym, subst, arith}
 use Rattle.std.specs.Prelude.{if◌then◌else◌, ◌==◌, ◌||◌}
+use Rattle.std.proofs.Common.{◌≡◌, ℕ, ◌+◌, ◌^◌, ◌<◌, List, Bool, true, false, Option, Some, ap, sym, subst, arith}
 use Rattle.std.specs.Option.{option_map_or}
 use Rattle.std.proofs.lemmas.Nat.{pow_pos}
 use Rattle.storage_prot.specs.Protection.{allowed}
@@ -14,12 +14,12 @@ use Rattle.frame_grants.specs.Grants.{machine_range}
 use Rattle.frame_grants.proofs.Landing.{part_range}
 use Rattle.entry_model.specs.State.{State, empty_state}
 use Rattle.entry_model.specs.declared.operation.Answer.{Answer}
-use Rattle.entry_model.specs.declared.operation.Answer.TheVariants as answers
 use Rattle.entry_model.specs.declared.operation.Op.{Op}
+use Rattle.entry_model.specs.Reply.{reply_of, change_to, change_where, entered_state, is_found, is_match, answer_of_match, touched_state}
+use Rattle.entry_model.proofs.PlanBounds.{EntersOnly}
+use Rattle.hpt_walk.specs.Access.{actual_size, logical_of}
+use Rattle.entry_model.specs.declared.operation.Answer.TheVariants as answers
 use Rattle.entry_model.specs.declared.operation.Op.TheVariants as ops
-use Rattle.entry_model.specs.Reply.{reply_of, changed_to, changed_where, entered, is_found, is_match, matched, touched}
-use Rattle.entry_model.proofs.Tame.{EntersOnly}
-use Rattle.hpt_walk.specs.Accesses.{actual_size, logical_of}
 
 -- The range of this size from a frame on lies in one grant.
 abbrev pub IsGrantedPage : List Grant → ℕ → ℕ → Type 0
@@ -49,23 +49,23 @@ either_granted : (b : Bool) (grants : List Grant) (p q : Answer × State) → Is
 either_granted true grants p q h k = h
 either_granted false grants p q h k = k
 
-changed_granted : (grants : List Grant) (s : State) (answer : Answer) (next : State) → IsGranted grants s → IsGranted grants next → IsGranted grants (changed_to s answer next).1
+changed_granted : (grants : List Grant) (s : State) (answer : Answer) (next : State) → IsGranted grants s → IsGranted grants next → IsGranted grants (change_to s answer next).1
 changed_granted grants s answer next h k = either_granted (s.stamp == 0xFFFFFFFF) grants (answers.Worn, s) (answer, record next { stamp = s.stamp + 1 }) h k
 
-where_granted : (found : Bool) (grants : List Grant) (s : State) (answer : Answer) (next : State) → IsGranted grants s → IsGranted grants next → IsGranted grants (changed_where found s answer next).1
-where_granted found grants s answer next h k = either_granted found grants (changed_to s answer next) (answers.NotFound, s) (changed_granted grants s answer next h k) h
+where_granted : (found : Bool) (grants : List Grant) (s : State) (answer : Answer) (next : State) → IsGranted grants s → IsGranted grants next → IsGranted grants (change_where found s answer next).1
+where_granted found grants s answer next h k = either_granted found grants (change_to s answer next) (answers.NotFound, s) (changed_granted grants s answer next h k) h
 
 pub empty_granted : (grants : List Grant) (stamp : ℕ) → IsGranted grants (empty_state stamp)
 empty_granted grants stamp = λ e. absurd (let never : false ≡ true = e in cc)
 
 pub reply_granted : (grants : List Grant) (s : State) (op : Op) → EntersOnly (IsGrantedWords grants) op → IsGranted grants s → IsGranted grants (reply_of s op).1
-reply_granted grants s (ops.Enter dword0 dword1) w h = either_granted s.valid grants (answers.Taken, s) (changed_to s answers.Entered (entered dword0 dword1)) h (changed_granted grants s answers.Entered (entered dword0 dword1) h (λ _. same_words grants dword0 dword1 (without_rc dword1) (without_rc_page dword1) w))
+reply_granted grants s (ops.Enter dword0 dword1) w h = either_granted s.valid grants (answers.Taken, s) (change_to s answers.Entered (entered_state dword0 dword1)) h (changed_granted grants s answers.Entered (entered_state dword0 dword1) h (λ _. same_words grants dword0 dword1 (without_rc dword1) (without_rc_page dword1) w))
 reply_granted grants s (ops.Remove test) w h = where_granted (is_found s test) grants s answers.Removed (empty_state 0) h (empty_granted grants 0)
 reply_granted grants s (ops.Protect test flags) w h = where_granted (is_found s test) grants s answers.Protected (record s { dword1 = protected_word s.dword1 flags }) h (λ e. same_words grants s.dword0 s.dword1 (protected_word s.dword1 flags) (protected_page s.dword1 flags) (h e))
 reply_granted grants s ops.Read w h = h
 reply_granted grants s ops.ClearRef w h = where_granted s.valid grants s answers.Was (record s { referenced = false }) h h
 reply_granted grants s ops.ClearMod w h = where_granted s.valid grants s answers.Was (record s { changed = false }) h h
-reply_granted grants s (ops.Access tag base key no_execute want) w h = either_granted (is_match s tag base) grants (matched s key no_execute want) (answers.NoMatch, s) (either_granted (allowed (pp_of s.dword1) key (no_execute || is_no_execute s.dword1) want) grants (answers.At, touched s want) (answers.Denied, s) h h) h
+reply_granted grants s (ops.Access tag base key no_execute want) w h = either_granted (is_match s tag base) grants (answer_of_match s key no_execute want) (answers.NoMatch, s) (either_granted (allowed (pp_of s.dword1) key (no_execute || is_no_execute s.dword1) want) grants (answers.At, touched_state s want) (answers.Denied, s) h h) h
 
 -- ---- accesses
 -- An access by a valid entry has a machine address.

@@ -1,6 +1,6 @@
 -- Worked walks and replies, computed from the definitions.
-use Rattle.std.proofs.Common.{◌≡◌, ℕ, List, [], ◌∷◌, true, false, refl}
 use Rattle.std.specs.Prelude.{map}
+use Rattle.std.proofs.Common.{◌≡◌, ℕ, List, [], ◌∷◌, true, false, refl}
 use Rattle.storage_prot.specs.declared.want.Want.TheVariants.{Load, Store}
 use Rattle.storage_prot.specs.Protection.{permission, rows}
 use Rattle.power_addr.specs.Pages.{VirtualPage, virtual_page, tag_of}
@@ -10,15 +10,15 @@ use Rattle.frame_grants.specs.Grants.{machine_range}
 use Rattle.hpt_hash.specs.Hash.{group_of}
 use Rattle.hpt_hash.specs.Entries.{page_at}
 use Rattle.entry_model.specs.State.{State, empty_state}
-use Rattle.entry_model.specs.declared.operation.Op.TheVariants as ops
-use Rattle.entry_model.specs.declared.access_reply.Outcome.TheVariants as outcomes
 use Rattle.entry_model.specs.declared.receipt.Receipt.{Receipt}
 use Rattle.entry_model.specs.Reply.{has_base}
 use Rattle.entry_model.specs.Receipt.{receipt_of}
 use Rattle.entry_model.specs.Trial.{Call}
 use Rattle.hpt_walk.specs.Walk.{access_op, walk_calls}
-use Rattle.hpt_walk.specs.Accesses.{logical_of, outcome_of}
+use Rattle.hpt_walk.specs.Access.{logical_of, outcome_of}
 use Rattle.hpt_walk.specs.Translations.{translations}
+use Rattle.entry_model.specs.declared.operation.Op.TheVariants as ops
+use Rattle.entry_model.specs.declared.access_reply.Outcome.TheVariants as outcomes
 
 -- Page 5 of segment 1, in pages of 4 KB: its groups in the smallest table are 4 and 0x7FB.
 abbrev page : VirtualPage

@@ -1,18 +1,19 @@
 -- One step of the search of a group.
-use Rattle.std.proofs.Common.{◌≡◌, ℕ, suc, ◌+◌, ◌-◌, ◌<◌, ◌≤◌, List, [], ◌∷◌, ◌++◌, length, drop, true, false, arith, subst, sym, ap, ◌∙◌, refl, append_assoc, append-nil}
 use Rattle.std.specs.Prelude.{map}
+use Rattle.std.proofs.Common.{◌≡◌, ℕ, suc, ◌+◌, ◌-◌, ◌<◌, ◌≤◌, List, [], ◌∷◌, ◌++◌, length, drop, true, false, arith, subst, sym, ap, ◌∙◌, refl, append_assoc, append-nil}
 use Rattle.std.proofs.Math.Seq.{drop-append_seam}
+use Rattle.std.specs.List.{range_with_len}
 use Rattle.entry_model.specs.declared.operation.Op.{Op}
 use Rattle.entry_model.specs.declared.operation.Answer.{Answer}
 use Rattle.entry_model.specs.declared.operation.Answer.TheVariants.{NoMatch}
 use Rattle.entry_model.specs.declared.receipt.Receipt.{Receipt}
 use Rattle.entry_model.specs.Receipt.{IsReceiptOf, is_no_match}
-use Rattle.entry_model.specs.Trial.{Call, IsTrial, call, entries_from}
-use Rattle.hpt_walk.specs.Walk.{added}
+use Rattle.entry_model.specs.Trial.{Call, IsTrial, call}
+use Rattle.hpt_walk.specs.Walk.{receipts_added}
 
 -- The calls on n entries from one on.
 abbrev pub calls_from : Op → ℕ → ℕ → List Call
-calls_from op first n = map (call op) (entries_from first n)
+calls_from op first n = map (call op) (range_with_len first n)
 
 -- The rest of a group begins with this entry.
 calls_step : (op : Op) (first i : ℕ) → i < 8 → calls_from op (first + i) (8 - i) ≡ call op (first + i) ∷ calls_from op (first + (i + 1)) (8 - (i + 1))
@@ -36,13 +37,13 @@ not_no_match NoMatch h = absurd (h refl)
 not_no_match other h = refl
 
 -- ---- the receipts behind those of before
-pub added-none : (old : List Receipt) → added old old ≡ []
+pub added-none : (old : List Receipt) → receipts_added old old ≡ []
 added-none old = ap (drop (length old)) (sym (append-nil old)) ∙ drop-append_seam old []
 
-pub added-push : (old new : List Receipt) (r : Receipt) → new ≡ old ++ added old new → added old (new ++ r ∷ []) ≡ added old new ++ r ∷ []
+pub added-push : (old new : List Receipt) (r : Receipt) → new ≡ old ++ receipts_added old new → receipts_added old (new ++ r ∷ []) ≡ receipts_added old new ++ r ∷ []
 added-push old new r behind =
-    ap (λ z. drop (length old) (z ++ r ∷ [])) behind ∙ ap (drop (length old)) (append_assoc old (added old new) (r ∷ [])) ∙ drop-append_seam old (added old new ++ r ∷ [])
+    ap (λ z. drop (length old) (z ++ r ∷ [])) behind ∙ ap (drop (length old)) (append_assoc old (receipts_added old new) (r ∷ [])) ∙ drop-append_seam old (receipts_added old new ++ r ∷ [])
 
-pub behind-push : (old new : List Receipt) (r : Receipt) → new ≡ old ++ added old new → new ++ r ∷ [] ≡ old ++ added old (new ++ r ∷ [])
+pub behind-push : (old new : List Receipt) (r : Receipt) → new ≡ old ++ receipts_added old new → new ++ r ∷ [] ≡ old ++ receipts_added old (new ++ r ∷ [])
 behind-push old new r behind =
-    ap (λ z. z ++ r ∷ []) behind ∙ append_assoc old (added old new) (r ∷ []) ∙ ap (λ z. old ++ z) (sym (added-push old new r behind))
+    ap (λ z. z ++ r ∷ []) behind ∙ append_assoc old (receipts_added old new) (r ∷ []) ∙ ap (λ z. old ++ z) (sym (added-push old new r behind))

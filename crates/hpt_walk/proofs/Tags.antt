@@ -6,7 +6,7 @@ use Rattle.std.proofs.lemmas.Nat.Bits.{and_high, same_from_bits, bit_at_and, bit
 use Rattle.std.proofs.lemmas.Bool.{eqb-true, eqb-false}
 use Rattle.power_addr.specs.Pages.{VirtualPage, tag_of, segment_code_of, virtual_address}
 use Rattle.hpte_fields.specs.Fields.{tag_field, is_secondary, is_valid}
-use Rattle.entry_model.specs.Reply.{compared}
+use Rattle.entry_model.specs.Reply.{compared_bits}
 use Rattle.hpt_walk.specs.Walk.{h_bit}
 
 -- A mask of two parts.
@@ -18,7 +18,7 @@ pub tag_field-parts : (d : ℕ) → tag_field d ≡ d / 2 ^ 7 % 2 ^ 57 * 2 ^ 7
 tag_field-parts d = and_high d 57 7
 
 -- The tag, and below it H and V.
-pub compared-parts : (d : ℕ) → compared d ≡ d / 2 ^ 7 % 2 ^ 57 * 2 ^ 7 + d % 2 ^ 2
+pub compared-parts : (d : ℕ) → compared_bits d ≡ d / 2 ^ 7 % 2 ^ 57 * 2 ^ 7 + d % 2 ^ 2
 compared-parts d =
     let low : d % 2 ^ 2 < 2 ^ 7 = omega arith in
     and_or d 0xFFFFFFFFFFFFFF80 3
@@ -61,7 +61,7 @@ h_bit-le : (secondary : Bool) → h_bit secondary ≤ 2
 h_bit-le true = omega arith
 h_bit-le false = omega arith
 
-pub compared-has : (p : VirtualPage) (d : ℕ) (secondary : Bool) → compared d ≡ tag_of p + h_bit secondary + 1 → HasTag d (tag_of p) secondary
+pub compared-has : (p : VirtualPage) (d : ℕ) (secondary : Bool) → compared_bits d ≡ tag_of p + h_bit secondary + 1 → HasTag d (tag_of p) secondary
 compared-has p d secondary e =
     let high : ℕ = segment_code_of p.one_tb * 2 ^ 55 + virtual_address p / 2 ^ 16 / 2 ^ 7 % 2 ^ 55 in
     let parts = split_tag d high (h_bit secondary) (h_bit-le secondary) (sym (compared-parts d) ∙ e ∙ ap (λ n. n + h_bit secondary + 1) (tag_of-high p)) in
@@ -80,6 +80,6 @@ low_of d false s v =
     let clear : d / 2 ^ 1 % 2 ^ 1 * 2 ^ 1 ≡ 2 → ⊥ = λ e. eqb-false (bit_and d 2) 2 s (and_high d 1 1 ∙ e) in
     omega (arith, valid-is d v)
 
-pub has-compared : (p : VirtualPage) (d : ℕ) (secondary : Bool) → HasTag d (tag_of p) secondary → compared d ≡ tag_of p + h_bit secondary + 1
+pub has-compared : (p : VirtualPage) (d : ℕ) (secondary : Bool) → HasTag d (tag_of p) secondary → compared_bits d ≡ tag_of p + h_bit secondary + 1
 has-compared p d secondary h =
     compared-parts d ∙ ap (λ n. n + d % 2 ^ 2) (sym (h.tag ∙ tag_field-parts d)) ∙ ap (λ n. tag_of p + n) (low_of d secondary h.secondary h.valid) ∙ omega arith

@@ -1,6 +1,6 @@
 -- An access tells whether an entry is one of the page.
-use Rattle.std.proofs.Common.{◌≡◌, ℕ, ◌+◌, ◌/◌, ◌≤◌, Bool, true, false, Option, Some, None, ap, sym, ◌∙◌, refl, ◌⊎◌, inl, inr, arith}
 use Rattle.std.specs.Prelude.{IsTrue, IsSomeAnd, ◌==◌, ◌&&◌}
+use Rattle.std.proofs.Common.{◌≡◌, ℕ, ◌+◌, ◌/◌, ◌≤◌, Bool, true, false, Option, Some, None, ap, sym, ◌∙◌, refl, ◌⊎◌, inl, inr, arith}
 use Rattle.std.specs.Option.{option_map_or}
 use Rattle.std.proofs.lemmas.Bool.{cases_Bool, and_parts, eqb-true, eq-eqb}
 use Rattle.std.specs.Cmp.Derive.{both_true}
@@ -16,7 +16,7 @@ use Rattle.hpt_hash.proofs.PageLemmas.{segment_code-tag}
 use Rattle.entry_model.specs.State.{State}
 use Rattle.entry_model.specs.declared.operation.Answer.{Answer}
 use Rattle.entry_model.specs.declared.operation.Answer.TheVariants.{NoMatch}
-use Rattle.entry_model.specs.Reply.{compared, has_base, is_match, reply_of}
+use Rattle.entry_model.specs.Reply.{compared_bits, has_base, is_match, reply_of}
 use Rattle.entry_model.specs.Receipt.{is_no_match, is_decided}
 use Rattle.entry_model.proofs.OperationLaws.{decided_match}
 use Rattle.hpt_walk.specs.Walk.{access_op, h_bit}
@@ -44,8 +44,8 @@ size-has_base d₀ d₁ base h = base_sized (size_of d₀ d₁) base h
 -- ---- a match is a page
 pub match_page : (order entry : ℕ) (page : VirtualPage) (secondary : Bool) (s : State) → IsPage page → group_of page order secondary ≡ entry / 8 → IsEntryState s → is_match s (tag_of page + h_bit secondary + 1) page.shift ≡ true → IsPageOf order entry s.dword0 s.dword1 page
 match_page order entry page secondary s is group state same =
-    let parts = and_parts s.valid ((compared s.dword0 == tag_of page + h_bit secondary + 1) && has_base s.dword0 s.dword1 page.shift) same in
-    let words = and_parts (compared s.dword0 == tag_of page + h_bit secondary + 1) (has_base s.dword0 s.dword1 page.shift) parts.1 in
+    let parts = and_parts s.valid ((compared_bits s.dword0 == tag_of page + h_bit secondary + 1) && has_base s.dword0 s.dword1 page.shift) same in
+    let words = and_parts (compared_bits s.dword0 == tag_of page + h_bit secondary + 1) (has_base s.dword0 s.dword1 page.shift) parts.1 in
     let has : HasTag s.dword0 (tag_of page) secondary = compared-has page s.dword0 secondary (eqb-true _ _ words.0) in
     record {
       valid = has.valid;

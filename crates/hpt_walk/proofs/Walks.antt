@@ -1,17 +1,17 @@
 -- A walk from the searches of its two groups.
-use Rattle.std.proofs.Common.{◌≡◌, ℕ, ◌+◌, ◌-◌, ◌*◌, ◌^◌, ◌<◌, ◌≤◌, List, [], ◌∷◌, ◌++◌, length, Bool, true, false, Option, Some, None, arith, ap, sym, ◌∙◌, refl, subst, pow-add}
 use Rattle.std.specs.Prelude.{IfSome, IsNone, ◌↔◌, IsTrue}
-use Rattle.std.specs.List.{AllByRecursion}
+use Rattle.std.proofs.Common.{◌≡◌, ℕ, ◌+◌, ◌-◌, ◌*◌, ◌^◌, ◌<◌, ◌≤◌, List, [], ◌∷◌, ◌++◌, length, Bool, true, false, Option, Some, None, arith, ap, sym, ◌∙◌, refl, subst, pow-add}
+use Rattle.std.specs.List.{AllByRecursion, range_with_len}
 use Rattle.storage_prot.specs.declared.want.Want.{Want}
 use Rattle.power_addr.specs.Pages.{VirtualPage}
 use Rattle.hpt_hash.specs.Hash.{group_of, group_count}
 use Rattle.entry_model.specs.declared.operation.Op.{Op}
 use Rattle.entry_model.specs.declared.receipt.Receipt.{Receipt}
-use Rattle.entry_model.specs.Receipt.{is_no_match, is_decided}
-use Rattle.entry_model.specs.Lines.{ShowsLine}
-use Rattle.entry_model.specs.Trial.{Call, IsTrial, entries_from}
-use Rattle.hpt_walk.specs.Walk.{access_op, group_calls, walk_calls, found_of, AreAllNoMatch}
-use Rattle.hpt_walk.specs.Lines.{line_of, TranslatesItsPage}
+use Rattle.entry_model.specs.Receipt.{is_no_match, is_decided, found_of}
+use Rattle.entry_model.specs.CachedLines.{ShowsLine, line_of}
+use Rattle.entry_model.specs.Trial.{Call, IsTrial}
+use Rattle.hpt_walk.specs.Walk.{access_op, group_calls, walk_calls, AreAllNoMatch}
+use Rattle.hpt_walk.specs.Translations.{TranslatesItsPage}
 use Rattle.hpt_walk.proofs.Found.{trial_ends, trial_joined, each_of_none, none_of_each, trial_whole, found_has, found_shows, trial_ops, same_ops, both_calls}
 use Rattle.hpt_walk.proofs.Decided.{Decides, IsOfPage, receipt_decides, decided_off}
 
@@ -45,7 +45,7 @@ calls-length order page key no_execute want = refl
 ops_of_page : (order : ℕ) (page : VirtualPage) (key no_execute : Bool) (want : Want) → AllByRecursion (λ (c : Call). IsOfPage page key no_execute want c.op) (walk_calls order page key no_execute want)
 unfolding walk_calls
 ops_of_page order page key no_execute want =
-    both_calls (λ (c : Call). IsOfPage page key no_execute want c.op) (group_calls (access_op page key no_execute want false) (group_of page order false)) (group_calls (access_op page key no_execute want true) (group_of page order true)) (same_ops (IsOfPage page key no_execute want) (access_op page key no_execute want false) (entries_from (group_of page order false * 8) 8) (false, refl)) (same_ops (IsOfPage page key no_execute want) (access_op page key no_execute want true) (entries_from (group_of page order true * 8) 8) (true, refl))
+    both_calls (λ (c : Call). IsOfPage page key no_execute want c.op) (group_calls (access_op page key no_execute want false) (group_of page order false)) (group_calls (access_op page key no_execute want true) (group_of page order true)) (same_ops (IsOfPage page key no_execute want) (access_op page key no_execute want false) (range_with_len (group_of page order false * 8) 8) (false, refl)) (same_ops (IsOfPage page key no_execute want) (access_op page key no_execute want true) (range_with_len (group_of page order true * 8) 8) (true, refl))
 
 none_is : {T : Type 0} (o : Option T) → IsNone o → o ≡ None
 none_is None h = refl

@@ -13,13 +13,12 @@ use Rattle.entry_model.specs.declared.operation.Answer.TheVariants.{NoMatch}
 use Rattle.entry_model.specs.declared.operation.Op.{Op}
 use Rattle.entry_model.specs.declared.receipt.Receipt.{Receipt}
 use Rattle.entry_model.specs.Reply.{reply_of}
-use Rattle.entry_model.specs.Receipt.{is_no_match, is_decided}
-use Rattle.entry_model.specs.Lines.{IsAccessOf, IsCurrent}
+use Rattle.entry_model.specs.Receipt.{is_no_match, is_decided, found_of}
+use Rattle.entry_model.specs.CachedLines.{IsAccessOf, IsCurrent, line_of}
 use Rattle.entry_model.specs.Run.{IsRun}
 use Rattle.entry_model.specs.Trial.{IsTrial}
-use Rattle.hpt_walk.specs.Walk.{access_op, walk_calls, walk_entries, found_of}
-use Rattle.hpt_walk.specs.Lines.{line_of, TranslatesItsPage}
-use Rattle.hpt_walk.specs.Translations.{translations, is_paired}
+use Rattle.hpt_walk.specs.Walk.{access_op, walk_calls, walk_entries}
+use Rattle.hpt_walk.specs.Translations.{TranslatesItsPage, translations, is_paired}
 
 -- ---- an access and the page of an entry
 -- A state as entries have it: written in one way, with a doubleword 0 of 64 bits.

@@ -1,7 +1,4 @@
 pub mod Walk
-pub mod Lines
-pub mod Accesses
-pub mod CacheAfter
-pub mod Seats
+pub mod Access
 pub mod Translations
 pub mod Laws

@@ -1,10 +1,13 @@
 -- The translations of a table: the page of each entry that has one. No hash is searched.
-use Rattle.std.specs.Prelude.{◌==◌, ◌&&◌, Bool, ℕ, ◌+◌, List, [], ◌∷◌, Option, Some, None, if◌then◌else◌}
+use Rattle.hpte_fields.specs.Fields.{is_secondary}
+use Rattle.std.specs.Prelude.{◌==◌, ◌&&◌, Bool, ℕ, ◌+◌, List, [], ◌∷◌, Option, Some, None, if◌then◌else◌, IsTrue, ◌≡◌}
 use Rattle.std.specs.List.{list_any}
-use Rattle.power_addr.specs.Pages.{VirtualPage}
+use Rattle.power_addr.specs.Pages.{VirtualPage, same_page, tag_of}
 use Rattle.hpt_hash.specs.Entries.{page_at}
+use Rattle.hpt_walk.specs.Walk.{h_bit}
 use Rattle.entry_model.specs.State.{State}
-use Rattle.entry_model.specs.Cache.{same_page}
+use Rattle.entry_model.specs.declared.line.Line.{Line}
+use Rattle.entry_model.specs.Reply.{compared_bits, has_base}
 
 -- A page, and the index of an entry that translates it.
 pub record Translation : Type 0 where
@@ -32,3 +35,9 @@ translations order states = translations_from order 0 states
 -- The list pairs the page with this entry.
 abbrev pub is_paired : List Translation → VirtualPage → ℕ → Bool
 is_paired ts page entry = list_any (λ (t : Translation). same_page t.page page && (t.entry == entry)) ts
+
+-- ---- a cached line
+-- The line's doublewords translate its page: they have the page's tag and base size, with V, and H as it is.
+pub record TranslatesItsPage (line : Line) : Type 0 where
+  pub tag : tag_of line.page + h_bit (is_secondary line.dword0) + 1 ≡ compared_bits line.dword0
+  pub size : IsTrue (has_base line.dword0 line.dword1 line.page.shift)

@@ -1,7 +1,7 @@
 -- The search of a page's two groups for an entry that translates the page.
 -- Power ISA 2.07 Book III-S, hashed page table search: first the primary group, then the secondary one.
 use Rattle.std.specs.Prelude.{◌≡◌, ℕ, ◌+◌, ◌*◌, Bool, true, false, not, if◌then◌else◌, IsTrue, List, length, drop, ◌++◌, map, find, Option}
-use Rattle.std.specs.List.{AllByRecursion}
+use Rattle.std.specs.List.{AllByRecursion, range_with_len}
 use Rattle.storage_prot.specs.declared.want.Want.{Want}
 use Rattle.power_addr.specs.Pages.{VirtualPage, tag_of}
 use Rattle.hpt_hash.specs.Hash.{group_of}
@@ -9,7 +9,7 @@ use Rattle.entry_model.specs.declared.operation.Op.{Op}
 use Rattle.entry_model.specs.declared.operation.Op.TheVariants.{Access}
 use Rattle.entry_model.specs.declared.receipt.Receipt.{Receipt}
 use Rattle.entry_model.specs.Receipt.{is_no_match}
-use Rattle.entry_model.specs.Trial.{Call, call, entries_from}
+use Rattle.entry_model.specs.Trial.{Call, call}
 
 -- H, as it counts in doubleword 0.
 abbrev pub h_bit : Bool → ℕ
@@ -21,7 +21,7 @@ access_op page key no_execute want secondary = Access (tag_of page + h_bit secon
 
 -- The operation on the eight entries of a group, in slot order.
 abbrev pub group_calls : Op → ℕ → List Call
-group_calls op group = map (call op) (entries_from (group * 8) 8)
+group_calls op group = map (call op) (range_with_len (group * 8) 8)
 
 -- The walk order: the eight entries of the primary group with H clear, then the eight of the secondary group with H set.
 unfoldable pub walk_calls : ℕ → VirtualPage → Bool → Bool → Want → List Call
@@ -30,11 +30,7 @@ walk_calls order page key no_execute want =
 
 -- Their entries.
 unfoldable pub walk_entries : ℕ → VirtualPage → List ℕ
-walk_entries order page = entries_from (group_of page order false * 8) 8 ++ entries_from (group_of page order true * 8) 8
-
--- The receipt that was found: the first that doesn't say NoMatch. A walk ends with it.
-abbrev pub found_of : List Receipt → Option Receipt
-found_of rs = find (λ (r : Receipt). not (is_no_match r.answer)) rs
+walk_entries order page = range_with_len (group_of page order false * 8) 8 ++ range_with_len (group_of page order true * 8) 8
 
 -- All sixteen entries were tried, and each said NoMatch.
 pub record AreAllNoMatch (rs : List Receipt) : Type 0 where
@@ -42,5 +38,5 @@ pub record AreAllNoMatch (rs : List Receipt) : Type 0 where
   pub each : AllByRecursion (λ (r : Receipt). IsTrue (is_no_match r.answer)) rs
 
 -- The receipts behind those that were there before.
-abbrev pub added : List Receipt → List Receipt → List Receipt
-added old new = drop (length old) new
+abbrev pub receipts_added : List Receipt → List Receipt → List Receipt
+receipts_added old new = drop (length old) new

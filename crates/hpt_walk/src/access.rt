@@ -1,6 +1,6 @@
 ghost use Rattle.std.specs.Prelude.{◌≡◌};
-ghost use Rattle.hpt_walk.specs.Walk as table;
 ghost use Rattle.entry_model.specs.Receipt.{IsNormal};
+ghost use Rattle.hpt_walk.specs.Walk as table;
 
 use entry_model::Op;
 use power_addr::Page;

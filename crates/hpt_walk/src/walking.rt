@@ -1,9 +1,9 @@
 ghost use Rattle.std.specs.Prelude.{◌≡◌, ◌≤◌, ◌<◌, ◌-◌, ◌+◌, ◌*◌, ◌^◌, ◌++◌, ◌↔◌, length, IsNone, IfSome};
-ghost use Rattle.entry_model.specs.Receipt.{IsNormal, is_no_match};
+ghost use Rattle.entry_model.specs.Receipt.{IsNormal, is_no_match, found_of};
 ghost use Rattle.entry_model.specs.Trial.{IsTrial};
-ghost use Rattle.entry_model.specs.Lines.{ShowsLine};
-ghost use Rattle.hpt_walk.specs.Walk.{walk_calls, group_calls, found_of, added, AreAllNoMatch};
-ghost use Rattle.hpt_walk.specs.Lines.{line_of, TranslatesItsPage};
+ghost use Rattle.entry_model.specs.CachedLines.{ShowsLine, line_of};
+ghost use Rattle.hpt_walk.specs.Walk.{walk_calls, group_calls, receipts_added, AreAllNoMatch};
+ghost use Rattle.hpt_walk.specs.Translations.{TranslatesItsPage};
 
 use crate::access::access_op;
 use entry_model::{Answer, EntryStore, Op, Receipt, Receipts};
@@ -69,11 +69,11 @@ fn search<T: EntryStore>(
     requires small { group < 2 ^ 15 }
     requires normal { IsNormal op }
     requires room { length receipts.old ≤ 8 }
-    ensures behind { receipts.new ≡ receipts.old ++ added receipts.old receipts.new }
+    ensures behind { receipts.new ≡ receipts.old ++ receipts_added receipts.old receipts.new }
     ensures few { length receipts.new ≤ length receipts.old + 8 }
-    ensures made { T.made store.old store.new (added receipts.old receipts.new) }
-    ensures trial { IsTrial is_no_match (group_calls op group) (added receipts.old receipts.new) }
-    ensures found { result ≡ found_of (added receipts.old receipts.new) }
+    ensures made { T.made store.old store.new (receipts_added receipts.old receipts.new) }
+    ensures trial { IsTrial is_no_match (group_calls op group) (receipts_added receipts.old receipts.new) }
+    ensures found { result ≡ found_of (receipts_added receipts.old receipts.new) }
 {
     for i in 0..GROUP {
         let made = store.apply(group * GROUP + i, op);

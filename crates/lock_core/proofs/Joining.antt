@@ -1,9 +1,9 @@
 -- What the code of a join leaves of the list of actors.
-use Rattle.std.proofs.Common.{◌≡◌, ◌≢◌, ℕ, true, List, set, get_or, sym, ap, ◌∙◌, Some}
 use Rattle.std.specs.Prelude.{slice_get, slice_index_or}
+use Rattle.std.proofs.Common.{◌≡◌, ◌≢◌, ℕ, true, List, set, get_or, sym, ap, ◌∙◌, Some}
 use Rattle.std.proofs.lemmas.Option.{get_or_from_slice_get}
 use Rattle.lock_core.specs.Machine.{Actor, nobody}
-use Rattle.lock_core.specs.Steps.{joined}
+use Rattle.lock_core.specs.Steps.{joined_actor}
 use Rattle.lock_core.proofs.Lists.{set_else, set_again, set_twice, set_apart}
 use Rattle.lock_core.proofs.Whole.{live_there}
 
@@ -21,9 +21,9 @@ module _ (actors : List Actor) (i from : ℕ) (x y z : Actor) (live : (slice_ind
   second : y ≡ slice_index_or actors i nobody
   second = y_is ∙ get_or_from_slice_get (set actors from z) i _ y at_i
 
-  pub join_lists : (o j : Actor) → z ≡ nobody → o ≡ x → j ≡ joined y o → set (set actors from z) i j ≡ set (set actors i (joined (slice_index_or actors i nobody) (slice_index_or actors from nobody))) from nobody
+  pub join_lists : (o j : Actor) → z ≡ nobody → o ≡ x → j ≡ joined_actor y o → set (set actors from z) i j ≡ set (set actors i (joined_actor (slice_index_or actors i nobody) (slice_index_or actors from nobody))) from nobody
   join_lists o j z_is o_is j_is =
-      let j_is' : j ≡ joined (slice_index_or actors i nobody) (slice_index_or actors from nobody) = j_is ∙ (λ k. joined (second k) ((o_is ∙ first) k)) in
+      let j_is' : j ≡ joined_actor (slice_index_or actors i nobody) (slice_index_or actors from nobody) = j_is ∙ (λ k. joined_actor (second k) ((o_is ∙ first) k)) in
       (λ k. set (set actors from (z_is k)) i (j_is' k)) ∙ set_apart actors from i nobody _ apart
 
   pub join_undone : (o j : Actor) → o ≡ x → j ≡ y → set (set (set actors from z) i j) from o ≡ actors

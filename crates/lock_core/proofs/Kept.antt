@@ -5,7 +5,7 @@ use Rattle.entry_model.specs.State.{State}
 use Rattle.entry_model.specs.declared.line.Line.{Line}
 use Rattle.entry_model.specs.declared.receipt.Receipt.{Receipt}
 use Rattle.entry_model.specs.Receipt.{is_access}
-use Rattle.entry_model.specs.Lines.{Holds}
+use Rattle.entry_model.specs.CachedLines.{Holds}
 use Rattle.entry_model.specs.History.{IsLegal, Regrouped}
 use Rattle.entry_model.proofs.Follows.{Follows}
 use Rattle.lock_core.specs.declared.control.Control.{Control}

@@ -1,6 +1,6 @@
 -- Lists read by `slice_get`.
-use Rattle.std.proofs.Common.{◌≡◌, ◌≢◌, ℕ, zero, suc, ◌⊎◌, List, [], ◌∷◌, ◌++◌, map, replicate, set, Some, None, sym, refl, ap, ◌∙◌, inl, inr, ⊎_elim, arith}
 use Rattle.std.specs.Prelude.{slice_get, Option, true, is_some}
+use Rattle.std.proofs.Common.{◌≡◌, ◌≢◌, ℕ, zero, suc, ◌⊎◌, List, [], ◌∷◌, ◌++◌, map, replicate, set, Some, None, sym, refl, ap, ◌∙◌, inl, inr, ⊎_elim, arith}
 
 module _ {A : Type 0} where
   -- `Some` gives its value back, and isn't `None`.

@@ -1,21 +1,21 @@
 -- The steps of an access: looks, data loads and marks.
-use Rattle.std.proofs.Common.{◌≡◌, ◌⊎◌, ℕ, suc, bit_and, ◌<◌, ◌==◌, ◌&&◌, Bool, true, false, List, [], ◌∷◌, inl, inr, ⊎_elim, refl, sym, ap, ◌∙◌, subst, arith, Option, Some, None, find, length}
 use Rattle.std.specs.Prelude.{slice_get, if◌then◌else◌, option_map}
+use Rattle.std.proofs.Common.{◌≡◌, ◌⊎◌, ℕ, suc, bit_and, ◌<◌, ◌==◌, ◌&&◌, Bool, true, false, List, [], ◌∷◌, inl, inr, ⊎_elim, refl, sym, ap, ◌∙◌, subst, arith, Option, Some, None, find, length}
 use Rattle.std.proofs.lemmas.Bool.{and_parts, cases_Bool, cond_both, eqb-true}
 use Rattle.std.proofs.lemmas.Option.{slice_get-get_or, slice_get_within}
-use Rattle.entry_model.specs.State.{State, empty_state}
+use Rattle.std.specs.Option.{option_or}
+use Rattle.entry_model.specs.State.{State, empty_state, OnlyRaisesBits}
 use Rattle.entry_model.specs.declared.operation.Op.{Op}
 use Rattle.entry_model.specs.Receipt.{is_access}
-use Rattle.entry_model.specs.Lines.{Holds, IsCurrent}
+use Rattle.entry_model.specs.CachedLines.{Holds, IsCurrent}
 use Rattle.entry_model.specs.declared.receipt.Receipt.{Receipt}
-use Rattle.entry_model.proofs.Follows.{HasFurtherBits}
 use Rattle.lock_core.specs.declared.doing.Doing.{Doing}
 use Rattle.lock_core.specs.declared.entry.Entry.{Entry}
 use Rattle.lock_core.specs.declared.phase.Phase.TheVariants.{Idle, Looked}
 use Rattle.lock_core.specs.declared.sighting.Sighting.{Sighting}
 use Rattle.lock_core.specs.Words.{without_bits, state_of}
-use Rattle.lock_core.specs.Machine.{Actor, Machine, opening_at, is_at, words_in, words_at, or_else, seen_in, seen_words}
-use Rattle.lock_core.specs.Steps.{goes_on, begun, loaded}
+use Rattle.lock_core.specs.Machine.{Actor, Machine, opening_at, is_at, words_in, words_at, words_seen_in, words_seen}
+use Rattle.lock_core.specs.Steps.{result_without_receipt, new_doing, with_loaded}
 use Rattle.lock_core.proofs.Kept.{HasLock, IsOn, IsFresh, LookedOk, PhaseOk, as_line, Kept}
 use Rattle.lock_core.proofs.Moves.{Change}
 use Rattle.lock_core.proofs.Lists.{some_same, none_some}
@@ -30,7 +30,7 @@ found_at p (x ∷ xs) l h = at (cases_Bool (p x)) h (found_at p xs l) where
   at (inl here) h rest = let same : x ≡ l = some_same x l (rw here at h) in (0, ap (λ y. Some y) same, ap p (sym same) ∙ here)
   at (inr there) h rest = let f = rest (rw there at h) in (suc f.0, f.1, f.2)
 
-one_of : (o : Option Sighting) (start : Option (ℕ × ℕ)) (w : ℕ × ℕ) → or_else (option_map words_in o) start ≡ Some w → ((l : Sighting) × (o ≡ Some l) × (words_in l ≡ w)) ⊎ (start ≡ Some w)
+one_of : (o : Option Sighting) (start : Option (ℕ × ℕ)) (w : ℕ × ℕ) → option_or (option_map words_in o) start ≡ Some w → ((l : Sighting) × (o ≡ Some l) × (words_in l ≡ w)) ⊎ (start ≡ Some w)
 one_of None start w h = inr h
 one_of (Some l) start w h = inl (l, refl, some_same (words_in l) w h)
 
@@ -70,16 +70,16 @@ module _ (opening : List State) (m : Machine) (log : List Receipt) (k : Kept ope
       let from : slice_get opening e ≡ Some s = subst (λ l. slice_get l e ≡ Some s) k.opens (slice_get-get_or m.opening e (empty_state 0) within) in
       let stamp : x.published.stamp ≡ s.stamp = ap (λ (z : State). z.stamp) published ∙ sym is.1 in
       ⊎_elim {C = AreIts x w}
-      (λ (same : HasFurtherBits s x.published). subst (AreIts x) is.2 (words_of_published x s.dword0 s.dword1 published valid same.dword0 same.dword1))
+      (λ (same : OnlyRaisesBits s x.published). subst (AreIts x) is.2 (words_of_published x s.dword0 s.dword1 published valid same.dword0 same.dword1))
       (λ (more : s.stamp < x.published.stamp). absurd (omega arith)) (k.since e s x from at)
 
-  seen_are : (i e : ℕ) (a : Actor) (x : Entry) (w : ℕ × ℕ) → slice_get m.entries e ≡ Some x → slice_get m.actors i ≡ Some a → x.control.shut ≡ false → seen_words m a e x.control ≡ Some w → AreIts x w
-  unfolding seen_words seen_in
+  seen_are : (i e : ℕ) (a : Actor) (x : Entry) (w : ℕ × ℕ) → slice_get m.entries e ≡ Some x → slice_get m.actors i ≡ Some a → x.control.shut ≡ false → words_seen m a e x.control ≡ Some w → AreIts x w
+  unfolding words_seen words_seen_in
   seen_are i e a x w at me free = by (cases_Bool x.control.valid) where
-    by : (x.control.valid ≡ true) ⊎ (x.control.valid ≡ false) → (if x.control.valid then seen_in a.lines (opening_at m e) e x.control.stamp else None) ≡ Some w → AreIts x w
+    by : (x.control.valid ≡ true) ⊎ (x.control.valid ≡ false) → (if x.control.valid then words_seen_in a.lines (opening_at m e) e x.control.stamp else None) ≡ Some w → AreIts x w
     by (inr none) h = absurd (none_some w (rw none at h))
     by (inl valid) h =
-        let h' : seen_in a.lines (opening_at m e) e x.control.stamp ≡ Some w = rw valid at h in
+        let h' : words_seen_in a.lines (opening_at m e) e x.control.stamp ≡ Some w = rw valid at h in
         ⊎_elim {C = AreIts x w}
         (λ (q : (l : Sighting) × (find (is_at e x.control.stamp) a.lines ≡ Some l) × (words_in l ≡ w)).
         let f = found_at (is_at e x.control.stamp) a.lines q.0 q.1 in
@@ -89,11 +89,11 @@ module _ (opening : List State) (m : Machine) (log : List Receipt) (k : Kept ope
   -- ---- the steps
   module _ (i : ℕ) (a : Actor) (me : slice_get m.actors i ≡ Some a) (live : a.live ≡ true) where
     pub look_change : (e : ℕ) (x : Entry) (op : Op) → slice_get m.entries e ≡ Some x → a.phase ≡ Idle → is_access op ≡ true
-        → Change m e i x a (if x.control.shut then goes_on x Idle else goes_on x (Looked (begun e op x.control (seen_words m a e x.control))))
+        → Change m e i x a (if x.control.shut then result_without_receipt x Idle else result_without_receipt x (Looked (new_doing e op x.control (words_seen m a e x.control))))
     look_change e x op at idle access =
         let free : (e' : ℕ) → ¬ HasLock e' a.phase = λ e' h. subst (HasLock e') idle h in
-        let d : Doing = begun e op x.control (seen_words m a e x.control) in
-        cond_both x.control.shut (goes_on x Idle) (goes_on x (Looked d)) (Change m e i x a)
+        let d : Doing = new_doing e op x.control (words_seen m a e x.control) in
+        cond_both x.control.shut (result_without_receipt x Idle) (result_without_receipt x (Looked d)) (Change m e i x a)
         (λ _. only_phase opening m log k i a me live e x Idle at free (λ e' on. absurd on) (λ h. h) tt)
         (λ unshut. only_phase opening m log k i a me live e x (Looked d) at free (λ e' on. sym on) (λ h. h) (record {
           older = omega arith;
@@ -112,16 +112,16 @@ module _ (opening : List State) (m : Machine) (log : List Receipt) (k : Kept ope
       pub no_lock : (e' : ℕ) → ¬ HasLock e' a.phase
       no_lock e' h = subst (HasLock e') is h
 
-      pub idle_change : Change m d.entry i x a (goes_on x Idle)
+      pub idle_change : Change m d.entry i x a (result_without_receipt x Idle)
       idle_change = only_phase opening m log k i a me live d.entry x Idle at no_lock (λ e' on. absurd on) (λ h. h) tt
 
-      looked_loaded : (second : Bool) → LookedOk (loaded second x d) x
+      looked_loaded : (second : Bool) → LookedOk (with_loaded second x d) x
       looked_loaded true = let ok : LookedOk d x = looked_ok in
-          let fresh : IsFresh (loaded true x d) x → IsFresh d x = λ f. record { stamp = f.stamp; free = f.free } in
+          let fresh : IsFresh (with_loaded true x d) x → IsFresh d x = λ f. record { stamp = f.stamp; free = f.free } in
           record { older = ok.older; op = ok.op; free = ok.free; first = λ f. ok.first (fresh f); second = λ f n e. some_same x.dword1 n e; seen = λ f. ok.seen (fresh f); bits = λ f. ok.bits (fresh f) }
       looked_loaded false = let ok : LookedOk d x = looked_ok in
-          let fresh : IsFresh (loaded false x d) x → IsFresh d x = λ f. record { stamp = f.stamp; free = f.free } in
+          let fresh : IsFresh (with_loaded false x d) x → IsFresh d x = λ f. record { stamp = f.stamp; free = f.free } in
           record { older = ok.older; op = ok.op; free = ok.free; first = λ f n e. some_same x.dword0 n e; second = λ f. ok.second (fresh f); seen = λ f. ok.seen (fresh f); bits = λ f. ok.bits (fresh f) }
 
-      pub looked_load_change : (second : Bool) → Change m d.entry i x a (goes_on x (Looked (loaded second x d)))
-      looked_load_change second = only_phase opening m log k i a me live d.entry x (Looked (loaded second x d)) at no_lock (λ e' on. sym on ∙ loaded_entry second x d) (λ h. h) (looked_loaded second)
+      pub looked_load_change : (second : Bool) → Change m d.entry i x a (result_without_receipt x (Looked (with_loaded second x d)))
+      looked_load_change second = only_phase opening m log k i a me live d.entry x (Looked (with_loaded second x d)) at no_lock (λ e' on. sym on ∙ loaded_entry second x d) (λ h. h) (looked_loaded second)

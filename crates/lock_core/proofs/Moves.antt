@@ -1,11 +1,11 @@
 -- A step of an actor on an entry keeps what is kept.
-use Rattle.std.proofs.Common.{◌≡◌, ◌≢◌, ◌⊎◌, ℕ, zero, suc, Bool, true, false, List, [], ◌∷◌, ◌++◌, set, inl, inr, ⊎_elim, refl, sym, ap, ◌∙◌, subst, length-set, Option, Some, None, eq-eqb, ne_eqb, eqb, append-nil, append_assoc}
 use Rattle.std.specs.Prelude.{slice_get, if◌then◌else◌}
+use Rattle.std.proofs.Common.{◌≡◌, ◌≢◌, ◌⊎◌, ℕ, zero, suc, Bool, true, false, List, [], ◌∷◌, ◌++◌, set, inl, inr, ⊎_elim, refl, sym, ap, ◌∙◌, subst, length-set, Option, Some, None, eq-eqb, ne_eqb, eqb, append-nil, append_assoc}
 use Rattle.std.proofs.lemmas.Bool.{cases_Bool, false≢true}
 use Rattle.entry_model.specs.State.{State}
 use Rattle.entry_model.specs.declared.receipt.Receipt.{Receipt}
 use Rattle.entry_model.specs.Receipt.{after_of, is_decided}
-use Rattle.entry_model.specs.Lines.{Holds}
+use Rattle.entry_model.specs.CachedLines.{Holds}
 use Rattle.entry_model.specs.History.{IsLegal, Regrouped, twice}
 use Rattle.entry_model.proofs.Follows.{Follows, stays, follows_on, reply_follows}
 use Rattle.entry_model.proofs.OperationLaws.{decided_valid}
@@ -17,8 +17,8 @@ use Rattle.lock_core.specs.declared.entry.Entry.{Entry}
 use Rattle.lock_core.specs.declared.phase.Phase.{Phase}
 use Rattle.lock_core.specs.declared.phase.Phase.TheVariants.{Idle, Held, HeldShut, Looked}
 use Rattle.lock_core.specs.declared.sighting.Sighting.{Sighting}
-use Rattle.lock_core.specs.Machine.{Actor, Machine, nobody, sighting_of, shown_by}
-use Rattle.lock_core.specs.declared.turn.Turn.{Turn}
+use Rattle.lock_core.specs.Machine.{Actor, Machine, nobody, sighting_of, shown_sightings}
+use Rattle.lock_core.specs.declared.step_result.StepResult.{StepResult}
 use Rattle.lock_core.specs.Steps.{actor_after}
 use Rattle.lock_core.specs.Runs.{receipts_of}
 use Rattle.lock_core.proofs.Kept.{HasLock, IsOn, EntryOk, LookedOk, PhaseOk, as_line, on_entry, logged, Kept}
@@ -83,13 +83,13 @@ one_line l zero l' h = some_same l l' h
 one_line l (suc k) l' h = absurd (none_some l' h)
 
 -- A line that a receipt shows is its entry's in the state before, which was valid.
-shown_is : (r : Receipt) (k : ℕ) (l : Sighting) → slice_get (shown_by r) k ≡ Some l → (is_decided r.answer ≡ true) × (sighting_of r.entry r.before ≡ l)
+shown_is : (r : Receipt) (k : ℕ) (l : Sighting) → slice_get (shown_sightings r) k ≡ Some l → (is_decided r.answer ≡ true) × (sighting_of r.entry r.before ≡ l)
 shown_is r k l = at (cases_Bool (is_decided r.answer)) where
-  at : (is_decided r.answer ≡ true) ⊎ (is_decided r.answer ≡ false) → slice_get (shown_by r) k ≡ Some l → (is_decided r.answer ≡ true) × (sighting_of r.entry r.before ≡ l)
+  at : (is_decided r.answer ≡ true) ⊎ (is_decided r.answer ≡ false) → slice_get (shown_sightings r) k ≡ Some l → (is_decided r.answer ≡ true) × (sighting_of r.entry r.before ≡ l)
   at (inl yes') = λ h. (yes', one_line (sighting_of r.entry r.before) k l (rw yes' at h))
   at (inr no') = λ h. absurd (none_some l (rw no' at h))
 
-shown_holds : (r : Receipt) (k : ℕ) (l : Sighting) → slice_get (shown_by r) k ≡ Some l → (l.entry ≡ r.entry) × Holds (as_line l) (after_of r)
+shown_holds : (r : Receipt) (k : ℕ) (l : Sighting) → slice_get (shown_sightings r) k ≡ Some l → (l.entry ≡ r.entry) × Holds (as_line l) (after_of r)
 shown_holds r k l h =
     let s = shown_is r k l h in
     let valid : r.before.valid ≡ true = decided_valid r.before r.op (ap is_decided (sym r.lawful) ∙ s.0) in
@@ -101,7 +101,7 @@ pub after_lines : (a : Actor) (p : Phase) (made : Option Receipt) (e : ℕ) (s t
     → ((j : ℕ) × (slice_get a.lines j ≡ Some l)) ⊎ ((l.entry ≡ e) × Holds (as_line l) t)
 after_lines a p None e s t tells k l h = inl (k, h)
 after_lines a p (Some r) e s t tells k l h = ⊎_elim {C = ((j : ℕ) × (slice_get a.lines j ≡ Some l)) ⊎ ((l.entry ≡ e) × Holds (as_line l) t)} (λ q. inl q)
-    (λ (q : (j : ℕ) × (slice_get (shown_by r) j ≡ Some l)). let z = shown_holds r q.0 l q.1 in inr (z.0 ∙ tells.0, subst (Holds (as_line l)) tells.2 z.1)) (in_append a.lines (shown_by r) k l h)
+    (λ (q : (j : ℕ) × (slice_get (shown_sightings r) j ≡ Some l)). let z = shown_holds r q.0 l q.1 in inr (z.0 ∙ tells.0, subst (Holds (as_line l)) tells.2 z.1)) (in_append a.lines (shown_sightings r) k l h)
 
 -- ---- the receipts of all actors, where those of one change
 pub set_receipts : (as' : List Actor) (i : ℕ) (a b : Actor) (rs : List Receipt) → slice_get as' i ≡ Some a → Regrouped (a.receipts ++ rs) b.receipts → Regrouped (receipts_of as' ++ rs) (receipts_of (set as' i b))
@@ -124,8 +124,8 @@ after_receipts as' i a p None log h g = twice g (same_receipts as' i a (actor_af
 after_receipts as' i a p (Some r) log h g = twice (regrouped_behind (r ∷ []) g) (set_receipts as' i a (actor_after a p (Some r)) (r ∷ []) h (regrouped_self (a.receipts ++ r ∷ [])))
 
 -- ---- the frame
--- Actor i takes a step from the entry x on, which leaves the turn t.
-pub record Change (m : Machine) (e i : ℕ) (x : Entry) (a : Actor) (t : Turn) : Type 0 where
+-- Actor i takes a step from the entry x on, which leaves the result t.
+pub record Change (m : Machine) (e i : ℕ) (x : Entry) (a : Actor) (t : StepResult) : Type 0 where
   pub here : slice_get m.entries e ≡ Some x
   pub me : slice_get m.actors i ≡ Some a
   pub live : a.live ≡ true
@@ -142,7 +142,7 @@ pub record Change (m : Machine) (e i : ℕ) (x : Entry) (a : Actor) (t : Turn) :
 abbrev pub put_both : Machine → ℕ → Entry → ℕ → Actor → Machine
 put_both m e x i a = record { opening = m.opening; entries = set m.entries e x; actors = set m.actors i a }
 
-module _ (opening : List State) (m : Machine) (log : List Receipt) (e i : ℕ) (x : Entry) (a : Actor) (t : Turn) (k : Kept opening m log) (z : Change m e i x a t) where
+module _ (opening : List State) (m : Machine) (log : List Receipt) (e i : ℕ) (x : Entry) (a : Actor) (t : StepResult) (k : Kept opening m log) (z : Change m e i x a t) where
   abbrev y : Entry
   y = t.entry
 

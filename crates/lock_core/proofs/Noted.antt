@@ -1,6 +1,6 @@
 -- The state that an actor noted, and what the laws of replies say of it.
-use Rattle.std.proofs.Common.{◌≡◌, ℕ, ◌+◌, ◌||◌, not, Bool, true, false, if◌then◌else◌, Option, Some, None, ◌⊎◌, inl, inr, refl, sym, ap, ◌∙◌, subst, arith, bit_and, bit_xor}
 use Rattle.std.specs.Prelude.{is_some}
+use Rattle.std.proofs.Common.{◌≡◌, ℕ, ◌+◌, ◌||◌, not, Bool, true, false, if◌then◌else◌, Option, Some, None, ◌⊎◌, inl, inr, refl, sym, ap, ◌∙◌, subst, arith, bit_and, bit_xor, unwrap_or}
 use Rattle.std.specs.Int.Bits.{xor_zero_r}
 use Rattle.std.proofs.lemmas.Bool.{and_parts, cases_Bool, false≢true, eqb-true}
 use Rattle.std.proofs.lemmas.Nat.Bits.{same_from_bits, bit_at_and, bit_at_xor}
@@ -8,12 +8,13 @@ use Rattle.entry_model.specs.State.{State, IsCanonicalState}
 use Rattle.entry_model.specs.Reply.{reply_of}
 use Rattle.entry_model.specs.Receipt.{is_access}
 use Rattle.entry_model.specs.History.{state_eq}
-use Rattle.entry_model.proofs.Sorted.{bool_same, state_same, state_self}
+use Rattle.entry_model.proofs.Sorted.{state_same, state_self}
+use Rattle.basics.proofs.Bools.{bool_same}
 use Rattle.entry_model.proofs.OperationLaws.{other_rises, other_still, reply_canonical}
 use Rattle.lock_core.specs.declared.control.Control.{Control}
 use Rattle.lock_core.specs.declared.doing.Doing.{Doing}
-use Rattle.lock_core.specs.Words.{without_bits, state_of, known, known_of, known_or_nothing, noted_state, next_state, changes, is_noted}
-use Rattle.lock_core.specs.Steps.{noting}
+use Rattle.lock_core.specs.Words.{without_bits, state_of, known_words, known_of, noted_state, next_state, changes, is_noted}
+use Rattle.lock_core.specs.Steps.{with_noted}
 
 -- ---- tests
 pub not_is : (b : Bool) → not b ≡ true → b ≡ false
@@ -80,12 +81,12 @@ state_is s k a b can valid stamp bits words = λ i. record {
 
 -- ---- what an actor knows
 -- Words that agree with what was loaded or seen are those known.
-pub known_words : (f s : Option ℕ) (g : Option (ℕ × ℕ)) (a b : ℕ) → is_some (known_of f s g) ≡ true → ((n : ℕ) → f ≡ Some n → a ≡ n) → ((n : ℕ) → s ≡ Some n → b ≡ n) → ((w : ℕ × ℕ) → g ≡ Some w → (a ≡ w.0) × (without_bits b ≡ without_bits w.1)) → (a ≡ (known_or_nothing (known_of f s g)).0) × (without_bits b ≡ without_bits (known_or_nothing (known_of f s g)).1)
-known_words None None None a b h p q r = absurd (false≢true h)
-known_words None None (Some w) a b h p q r = r w refl
-known_words None (Some n) g a b h p q r = absurd (false≢true h)
-known_words (Some n) None g a b h p q r = absurd (false≢true h)
-known_words (Some n) (Some n') g a b h p q r = (p n refl, ap without_bits (q n' refl))
+pub known_words_of : (f s : Option ℕ) (g : Option (ℕ × ℕ)) (a b : ℕ) → is_some (known_of f s g) ≡ true → ((n : ℕ) → f ≡ Some n → a ≡ n) → ((n : ℕ) → s ≡ Some n → b ≡ n) → ((w : ℕ × ℕ) → g ≡ Some w → (a ≡ w.0) × (without_bits b ≡ without_bits w.1)) → (a ≡ (unwrap_or (known_of f s g) (0, 0)).0) × (without_bits b ≡ without_bits (unwrap_or (known_of f s g) (0, 0)).1)
+known_words_of None None None a b h p q r = absurd (false≢true h)
+known_words_of None None (Some w) a b h p q r = r w refl
+known_words_of None (Some n) g a b h p q r = absurd (false≢true h)
+known_words_of (Some n) None g a b h p q r = absurd (false≢true h)
+known_words_of (Some n) (Some n') g a b h p q r = (p n refl, ap without_bits (q n' refl))
 
 -- ---- whether the reply changes the entry
 pub still_is : (d : Doing) → changes d ≡ false → next_state d ≡ noted_state d
@@ -121,28 +122,28 @@ raised d other change = at (other_rises (noted_state d) d.op other) where
   at (inr up) = let e = noted_stamp d in omega arith
 
 -- By another control word of the same stamp it changes the entry as well, or as little: R and C don't count.
-still_alike : (d : Doing) (k : Control) → is_access d.op ≡ false → k.valid ≡ d.noted.valid → k.stamp ≡ d.noted.stamp → next_state d ≡ noted_state d → next_state (noting d k) ≡ noted_state (noting d k)
+still_alike : (d : Doing) (k : Control) → is_access d.op ≡ false → k.valid ≡ d.noted.valid → k.stamp ≡ d.noted.stamp → next_state d ≡ noted_state d → next_state (with_noted d k) ≡ noted_state (with_noted d k)
 unfolding next_state noted_state
 still_alike d k other valid stamp same =
     let s : State = noted_state d in
-    let t : State = noted_state (noting d k) in
+    let t : State = noted_state (with_noted d k) in
     let is : record s { referenced = t.referenced; changed = t.changed } ≡ t = λ i. record {
       valid = sym valid i;
-      dword0 = if sym valid i then (known_or_nothing (known d)).0 else 0;
-      dword1 = if sym valid i then without_bits (known_or_nothing (known d)).1 else 0;
+      dword0 = if sym valid i then (unwrap_or (known_words d) (0, 0)).0 else 0;
+      dword1 = if sym valid i then without_bits (unwrap_or (known_words d) (0, 0)).1 else 0;
       referenced = t.referenced;
       changed = t.changed;
       stamp = sym stamp i;
     } in
     subst (λ (z : State). (reply_of z d.op).1 ≡ z) is (other_still s t.referenced t.changed d.op other same)
 
-pub changes_alike : (d : Doing) (k : Control) → is_access d.op ≡ false → k.valid ≡ d.noted.valid → k.stamp ≡ d.noted.stamp → changes (noting d k) ≡ changes d
-changes_alike d k other valid stamp = at (cases_Bool (changes d)) (cases_Bool (changes (noting d k))) where
-  at : (changes d ≡ true) ⊎ (changes d ≡ false) → (changes (noting d k) ≡ true) ⊎ (changes (noting d k) ≡ false) → changes (noting d k) ≡ changes d
+pub changes_alike : (d : Doing) (k : Control) → is_access d.op ≡ false → k.valid ≡ d.noted.valid → k.stamp ≡ d.noted.stamp → changes (with_noted d k) ≡ changes d
+changes_alike d k other valid stamp = at (cases_Bool (changes d)) (cases_Bool (changes (with_noted d k))) where
+  at : (changes d ≡ true) ⊎ (changes d ≡ false) → (changes (with_noted d k) ≡ true) ⊎ (changes (with_noted d k) ≡ false) → changes (with_noted d k) ≡ changes d
   at (inl p) (inl q) = q ∙ sym p
   at (inr p) (inr q) = q ∙ sym p
-  at (inr p) (inl q) = still_if (noting d k) (still_alike d k other valid stamp (still_is d p)) ∙ sym p
-  at (inl p) (inr q) = q ∙ sym (still_if d (still_alike (noting d k) d.noted other (sym valid) (sym stamp) (still_is (noting d k) q)))
+  at (inr p) (inl q) = still_if (with_noted d k) (still_alike d k other valid stamp (still_is d p)) ∙ sym p
+  at (inl p) (inr q) = q ∙ sym (still_if d (still_alike (with_noted d k) d.noted other (sym valid) (sym stamp) (still_is (with_noted d k) q)))
 
 -- ---- the word that was noted
 pub noted_same : (k l : Control) → is_noted k l ≡ true → k ≡ l

@@ -1,6 +1,6 @@
 -- Splits and joins keep what is kept.
-use Rattle.std.proofs.Common.{◌≡◌, ◌≢◌, ◌⊎◌, ℕ, true, false, List, ◌++◌, set, inl, inr, ⊎_elim, refl, sym, ap, ◌∙◌, subst, Some}
 use Rattle.std.specs.Prelude.{slice_get}
+use Rattle.std.proofs.Common.{◌≡◌, ◌≢◌, ◌⊎◌, ℕ, true, false, List, ◌++◌, set, inl, inr, ⊎_elim, refl, sym, ap, ◌∙◌, subst, Some}
 use Rattle.std.proofs.lemmas.Bool.{false≢true}
 use Rattle.entry_model.specs.State.{State}
 use Rattle.entry_model.specs.declared.receipt.Receipt.{Receipt}
@@ -9,7 +9,7 @@ use Rattle.entry_model.proofs.Regroup.{regrouped_self, regrouped_back}
 use Rattle.lock_core.specs.declared.phase.Phase.TheVariants.{Idle}
 use Rattle.lock_core.specs.declared.sighting.Sighting.{Sighting}
 use Rattle.lock_core.specs.Machine.{Actor, Machine, nobody, newcomer}
-use Rattle.lock_core.specs.Steps.{joined}
+use Rattle.lock_core.specs.Steps.{joined_actor}
 use Rattle.lock_core.specs.Runs.{receipts_of}
 use Rattle.lock_core.proofs.Kept.{HasLock, IsOn, PhaseOk, Kept}
 use Rattle.lock_core.proofs.Moves.{same_receipts, set_receipts}
@@ -56,34 +56,34 @@ module _ (opening : List State) (m : Machine) (log : List Receipt) (k : Kept ope
       (λ j n d l is on. (⊎_elim {C = IsAnyones m.actors l} (λ (p : (j ≡ to) × (child ≡ d)). (i, n, a, me, subst (λ (z : Actor). slice_get z.lines n ≡ Some l) (sym p.1) on)) (λ (p : (j ≢ to) × (slice_get m.actors j ≡ Some d)). (j, n, d, p.1, on)) (at_set m.actors to j child d is)))
       (same_receipts m.actors to nobody child was refl)
 
-  joined_receipts : (i from : ℕ) (a b : Actor) → slice_get m.actors i ≡ Some a → slice_get m.actors from ≡ Some b → from ≢ i → Regrouped (receipts_of m.actors) (receipts_of (set (set m.actors i (joined a b)) from nobody))
+  joined_receipts : (i from : ℕ) (a b : Actor) → slice_get m.actors i ≡ Some a → slice_get m.actors from ≡ Some b → from ≢ i → Regrouped (receipts_of m.actors) (receipts_of (set (set m.actors i (joined_actor a b)) from nobody))
   joined_receipts i from a b me at other =
       let less : List Actor = set m.actors from nobody in
       let gone : slice_get less from ≡ Some nobody = set_found m.actors from b nobody at in
       let still : slice_get less i ≡ Some a = set_else m.actors from i nobody (λ e. other (sym e)) ∙ me in
       let back : set less from b ≡ m.actors = set_twice m.actors from nobody b ∙ set_again m.actors from b at in
       let before : Regrouped (receipts_of less ++ b.receipts) (receipts_of m.actors) = subst (λ l. Regrouped (receipts_of less ++ b.receipts) (receipts_of l)) back (set_receipts less from nobody b b.receipts gone (regrouped_self b.receipts)) in
-      let after : Regrouped (receipts_of less ++ b.receipts) (receipts_of (set less i (joined a b))) = set_receipts less i a (joined a b) b.receipts still (regrouped_self (a.receipts ++ b.receipts)) in
-      subst (λ l. Regrouped (receipts_of m.actors) (receipts_of l)) (set_apart m.actors from i nobody (joined a b) other) (twice (regrouped_back before) after)
+      let after : Regrouped (receipts_of less ++ b.receipts) (receipts_of (set less i (joined_actor a b))) = set_receipts less i a (joined_actor a b) b.receipts still (regrouped_self (a.receipts ++ b.receipts)) in
+      subst (λ l. Regrouped (receipts_of m.actors) (receipts_of l)) (set_apart m.actors from i nobody (joined_actor a b) other) (twice (regrouped_back before) after)
 
   pub join_kept : (i from : ℕ) (a b : Actor) → slice_get m.actors i ≡ Some a → a.live ≡ true → a.phase ≡ Idle → slice_get m.actors from ≡ Some b → from ≢ i → b.phase ≡ Idle
-      → Kept opening (with_actors m (set (set m.actors i (joined a b)) from nobody)) log
+      → Kept opening (with_actors m (set (set m.actors i (joined_actor a b)) from nobody)) log
   join_kept i from a b me live idle at other idle' =
-      let mid : List Actor = set m.actors i (joined a b) in
+      let mid : List Actor = set m.actors i (joined_actor a b) in
       idle_kept (set mid from nobody)
       (λ j d is. (⊎_elim {C = (d.phase ≡ Idle) ⊎ (slice_get m.actors j ≡ Some d)} (λ (p : (j ≡ from) × (nobody ≡ d)). inl (ap (λ (z : Actor). z.phase) (sym p.1)))
-      (λ (p : (j ≢ from) × (slice_get mid j ≡ Some d)). ⊎_elim {C = (d.phase ≡ Idle) ⊎ (slice_get m.actors j ≡ Some d)} (λ (q : (j ≡ i) × (joined a b ≡ d)). inl (ap (λ (z : Actor). z.phase) (sym q.1) ∙ idle)) (λ (q : (j ≢ i) × (slice_get m.actors j ≡ Some d)). inr q.1) (at_set m.actors i j (joined a b) d p.1)) (at_set mid from j nobody d is)))
+      (λ (p : (j ≢ from) × (slice_get mid j ≡ Some d)). ⊎_elim {C = (d.phase ≡ Idle) ⊎ (slice_get m.actors j ≡ Some d)} (λ (q : (j ≡ i) × (joined_actor a b ≡ d)). inl (ap (λ (z : Actor). z.phase) (sym q.1) ∙ idle)) (λ (q : (j ≢ i) × (slice_get m.actors j ≡ Some d)). inr q.1) (at_set m.actors i j (joined_actor a b) d p.1)) (at_set mid from j nobody d is)))
       (λ j e d is h. (
       let off : j ≢ from = λ s. subst (HasLock e) idle' (subst (λ (z : Actor). HasLock e z.phase) (same_at m.actors from d b (subst (λ n. slice_get m.actors n ≡ Some d) s is) at) h) in
       let off' : j ≢ i = λ s. subst (HasLock e) idle (subst (λ (z : Actor). HasLock e z.phase) (same_at m.actors i d a (subst (λ n. slice_get m.actors n ≡ Some d) s is) me) h) in
-      set_else mid from j nobody off ∙ set_else m.actors i j (joined a b) off' ∙ is))
+      set_else mid from j nobody off ∙ set_else m.actors i j (joined_actor a b) off' ∙ is))
       (λ j d is none. (⊎_elim {C = d ≡ nobody} (λ (p : (j ≡ from) × (nobody ≡ d)). sym p.1)
-      (λ (p : (j ≢ from) × (slice_get mid j ≡ Some d)). ⊎_elim {C = d ≡ nobody} (λ (q : (j ≡ i) × (joined a b ≡ d)). absurd (false≢true (sym none ∙ ap (λ (z : Actor). z.live) (sym q.1) ∙ live)))
-      (λ (q : (j ≢ i) × (slice_get m.actors j ≡ Some d)). k.quiet j d q.1 none) (at_set m.actors i j (joined a b) d p.1)) (at_set mid from j nobody d is)))
+      (λ (p : (j ≢ from) × (slice_get mid j ≡ Some d)). ⊎_elim {C = d ≡ nobody} (λ (q : (j ≡ i) × (joined_actor a b ≡ d)). absurd (false≢true (sym none ∙ ap (λ (z : Actor). z.live) (sym q.1) ∙ live)))
+      (λ (q : (j ≢ i) × (slice_get m.actors j ≡ Some d)). k.quiet j d q.1 none) (at_set m.actors i j (joined_actor a b) d p.1)) (at_set mid from j nobody d is)))
       (λ j n d l is on. (⊎_elim {C = IsAnyones m.actors l}
       (λ (p : (j ≡ from) × (nobody ≡ d)). absurd (none_some l (subst (λ (z : Actor). slice_get z.lines n ≡ Some l) (sym p.1) on)))
       (λ (p : (j ≢ from) × (slice_get mid j ≡ Some d)). ⊎_elim {C = IsAnyones m.actors l}
-      (λ (q : (j ≡ i) × (joined a b ≡ d)). ⊎_elim {C = IsAnyones m.actors l} (λ (t : (h : ℕ) × (slice_get a.lines h ≡ Some l)). (i, t.0, a, me, t.1)) (λ (t : (h : ℕ) × (slice_get b.lines h ≡ Some l)). (from, t.0, b, at, t.1))
+      (λ (q : (j ≡ i) × (joined_actor a b ≡ d)). ⊎_elim {C = IsAnyones m.actors l} (λ (t : (h : ℕ) × (slice_get a.lines h ≡ Some l)). (i, t.0, a, me, t.1)) (λ (t : (h : ℕ) × (slice_get b.lines h ≡ Some l)). (from, t.0, b, at, t.1))
       (in_append a.lines b.lines n l (subst (λ (z : Actor). slice_get z.lines n ≡ Some l) (sym q.1) on)))
-      (λ (q : (j ≢ i) × (slice_get m.actors j ≡ Some d)). (j, n, d, q.1, on)) (at_set m.actors i j (joined a b) d p.1)) (at_set mid from j nobody d is)))
+      (λ (q : (j ≢ i) × (slice_get m.actors j ≡ Some d)). (j, n, d, q.1, on)) (at_set m.actors i j (joined_actor a b) d p.1)) (at_set mid from j nobody d is)))
       (joined_receipts i from a b me at other)

@@ -1,6 +1,6 @@
 -- What a step does to the states that entries count with.
-use Rattle.std.proofs.Common.{◌≡◌, ◌⊎◌, inl, inr, ℕ, zero, suc, ◌<◌, Bool, true, false, List, [], ◌∷◌, map, length, set, refl, sym, ap, ◌∙◌, subst, Option, Some, None, MatchOption}
 use Rattle.std.specs.Prelude.{slice_get, if◌then◌else◌, All}
+use Rattle.std.proofs.Common.{◌≡◌, ◌⊎◌, inl, inr, ℕ, zero, suc, ◌<◌, Bool, true, false, List, [], ◌∷◌, map, length, set, refl, sym, ap, ◌∙◌, subst, Option, Some, None, MatchOption}
 use Rattle.std.proofs.lemmas.List.{map-set}
 use Rattle.std.proofs.lemmas.Bool.{cases_Bool}
 use Rattle.std.proofs.lemmas.Option.{slice_get_within, get_or_from_slice_get}
@@ -10,10 +10,10 @@ use Rattle.entry_model.specs.Run.{IsStep, state_at}
 use Rattle.lock_core.specs.declared.entry.Entry.{Entry}
 use Rattle.lock_core.specs.declared.step.Step.{Step}
 use Rattle.lock_core.specs.declared.step.Step.TheVariants.{Split, Join}
-use Rattle.lock_core.specs.Machine.{Machine, opened, actor_at, entry_at}
-use Rattle.lock_core.specs.Steps.{fits_entry, entry_of, turn_of, with_turn, may_act, fits_phase, allowed, made_by, stepped, moved}
+use Rattle.lock_core.specs.Machine.{Machine, opening_machine, actor_at, entry_at}
+use Rattle.lock_core.specs.Steps.{fits_entry, entry_of, step_result_of, with_result, may_act, fits_phase, is_allowed, made_by, after_allowed_step, after_step}
 use Rattle.lock_core.specs.Runs.{run}
-use Rattle.lock_core.specs.Promises.{IsFair, published}
+use Rattle.lock_core.specs.Laws.{IsFair, published_states}
 use Rattle.lock_core.proofs.Kept.{Kept}
 use Rattle.lock_core.proofs.Lists.{set_again}
 use Rattle.lock_core.proofs.Moves.{Tells}
@@ -45,28 +45,28 @@ told_by xs e x y (Some r) at tells =
     }
 
 module _ (opening : List State) (m : Machine) (log : List Receipt) (k : Kept opening m log) (i : ℕ) where
-  turn_told : (s : Step) → (actor_at m i).live ≡ true → fits_entry m i s ≡ true → IsTold (published m) (turn_of m i s).made (published (with_turn m (entry_of (actor_at m i).phase s) i (turn_of m i s)))
-  turn_told s live fit =
+  result_told : (s : Step) → (actor_at m i).live ≡ true → fits_entry m i s ≡ true → IsTold (published_states m) (step_result_of m i s).made (published_states (with_result m (entry_of (actor_at m i).phase s) i (step_result_of m i s)))
+  result_told s live fit =
       let e : ℕ = entry_of (actor_at m i).phase s in
-      let z = step_change opening m log k i s live fit in told_by m.entries e (entry_at m e) (turn_of m i s).entry (turn_of m i s).made z.here z.tells
+      let z = step_change opening m log k i s live fit in told_by m.entries e (entry_at m e) (step_result_of m i s).entry (step_result_of m i s).made z.here z.tells
 
-  turn_or_not : (s : Step) → (allowed m i s ≡ true → ((actor_at m i).live ≡ true) × (fits_entry m i s ≡ true))
-      → IsTold (published m) (if allowed m i s then (turn_of m i s).made else None) (published (if allowed m i s then with_turn m (entry_of (actor_at m i).phase s) i (turn_of m i s) else m))
-  turn_or_not s parts = by (cases_Bool (allowed m i s)) where
-    by : (allowed m i s ≡ true) ⊎ (allowed m i s ≡ false) → IsTold (published m) (if allowed m i s then (turn_of m i s).made else None) (published (if allowed m i s then with_turn m (entry_of (actor_at m i).phase s) i (turn_of m i s) else m))
-    by (inl may) = rw may (turn_told s (parts may).0 (parts may).1)
+  result_or_not : (s : Step) → (is_allowed m i s ≡ true → ((actor_at m i).live ≡ true) × (fits_entry m i s ≡ true))
+      → IsTold (published_states m) (if is_allowed m i s then (step_result_of m i s).made else None) (published_states (if is_allowed m i s then with_result m (entry_of (actor_at m i).phase s) i (step_result_of m i s) else m))
+  result_or_not s parts = by (cases_Bool (is_allowed m i s)) where
+    by : (is_allowed m i s ≡ true) ⊎ (is_allowed m i s ≡ false) → IsTold (published_states m) (if is_allowed m i s then (step_result_of m i s).made else None) (published_states (if is_allowed m i s then with_result m (entry_of (actor_at m i).phase s) i (step_result_of m i s) else m))
+    by (inl may) = rw may (result_told s (parts may).0 (parts may).1)
     by (inr not') = rw not' refl
 
-  same_entries : (m' : Machine) (b : Bool) → m'.entries ≡ m.entries → published (if b then m' else m) ≡ published m
+  same_entries : (m' : Machine) (b : Bool) → m'.entries ≡ m.entries → published_states (if b then m' else m) ≡ published_states m
   same_entries m' true same = ap states_of same
   same_entries m' false same = refl
 
-  pub step_told : (s : Step) → IsTold (published m) (made_by m i s) (published (moved m i s))
-  unfolding made_by moved stepped may_act fits_phase
-  step_told (Split to) = same_entries (stepped m i (Split to)) (allowed m i (Split to)) refl
-  step_told (Join from) = same_entries (stepped m i (Join from)) (allowed m i (Join from)) refl
-  step_told s = turn_or_not s (λ may. ((allowed_parts m i s may).0, (allowed_parts m i s may).2))
+  pub step_told : (s : Step) → IsTold (published_states m) (made_by m i s) (published_states (after_step m i s))
+  unfolding made_by after_step after_allowed_step may_act fits_phase
+  step_told (Split to) = same_entries (after_allowed_step m i (Split to)) (is_allowed m i (Split to)) refl
+  step_told (Join from) = same_entries (after_allowed_step m i (Join from)) (is_allowed m i (Join from)) refl
+  step_told s = result_or_not s (λ may. ((allowed_parts m i s may).0, (allowed_parts m i s may).2))
 
 pub run_told : (states : List State) (fair : All IsFair states) (n : ℕ) (older : List (ℕ × Step)) (i : ℕ) (s : Step)
-    → IsTold (published (run (opened states n) older)) (made_by (run (opened states n) older) i s) (published (moved (run (opened states n) older) i s))
-run_told states fair n older i s = let k = run_kept states fair n older in step_told states (run (opened states n) older) k.0 k.1 i s
+    → IsTold (published_states (run (opening_machine states n) older)) (made_by (run (opening_machine states n) older) i s) (published_states (after_step (run (opening_machine states n) older) i s))
+run_told states fair n older i s = let k = run_kept states fair n older in step_told states (run (opening_machine states n) older) k.0 k.1 i s

@@ -1,6 +1,6 @@
 -- The steps of a holder: lock, data loads, shut, data stores, settle and release.
-use Rattle.std.proofs.Common.{◌≡◌, ◌≢◌, ℕ, ◌+◌, ◌<◌, ◌^◌, ◌&&◌, not, Bool, true, false, List, inl, inr, refl, sym, ap, ◌∙◌, subst, arith, Some, None}
 use Rattle.std.specs.Prelude.{slice_get, if◌then◌else◌}
+use Rattle.std.proofs.Common.{◌≡◌, ◌≢◌, ℕ, ◌+◌, ◌<◌, ◌^◌, ◌&&◌, not, Bool, true, false, List, inl, inr, refl, sym, ap, ◌∙◌, subst, arith, Some, None}
 use Rattle.std.proofs.lemmas.Bool.{and_parts, cond_both, false≢true, eqb-true}
 use Rattle.entry_model.specs.State.{State}
 use Rattle.entry_model.specs.declared.operation.Op.{Op}
@@ -14,11 +14,11 @@ use Rattle.lock_core.specs.declared.phase.Phase.{Phase}
 use Rattle.lock_core.specs.declared.phase.Phase.TheVariants.{Idle, Held, HeldShut, Looked}
 use Rattle.lock_core.specs.Words.{without_bits, settled_word, is_read, noted_state, next_state, changes, receipt, is_stored}
 use Rattle.lock_core.specs.Machine.{Actor, Machine}
-use Rattle.lock_core.specs.Steps.{goes_on, ends, begun, noting, loaded, stored, locked_entry, shut_entry, settled_entry}
+use Rattle.lock_core.specs.Steps.{result_without_receipt, result_with_receipt, new_doing, with_noted, with_loaded, with_stored, locked_entry, shut_entry, settled_entry}
 use Rattle.lock_core.proofs.Kept.{HasLock, IsOn, EntryOk, HeldOk, ShutOk, IsFresh, HasMoreBits, LookedOk, PhaseOk, Kept}
 use Rattle.lock_core.proofs.Moves.{Change, lock_is_on, phase_stays}
 use Rattle.lock_core.proofs.Lists.{some_same, none_some}
-use Rattle.lock_core.proofs.Noted.{not_is, not_true, or_has, same_words, state_is, known_words, still_is, next_canonical, raised, changes_alike}
+use Rattle.lock_core.proofs.Noted.{not_is, not_true, or_has, same_words, state_is, known_words_of, still_is, next_canonical, raised, changes_alike}
 
 -- ---- what others have looked at
 -- The entry is shut: nobody reads its words.
@@ -66,25 +66,25 @@ holder_locked e (HeldShut d) x h ok = ok.locked
 holder_locked e (Looked d) x h ok = absurd h
 
 -- What it noted and loaded is the state that the entry counts with.
-noted_is : (d : Doing) (x : Entry) → EntryOk x → HeldOk d x → is_read d ≡ true → x.published ≡ noted_state (noting d x.control)
+noted_is : (d : Doing) (x : Entry) → EntryOk x → HeldOk d x → is_read d ≡ true → x.published ≡ noted_state (with_noted d x.control)
 unfolding noted_state
 noted_is d x entry ok read =
     entry.free ok.free
-    ∙ same_words x.control x.dword0 x.dword1 _ _ (λ v. known_words d.first d.second d.seen x.dword0 x.dword1 (or_has d.noted.valid _ read (ok.valid ∙ v)) ok.first ok.second (λ w e. absurd (none_some w (sym ok.seen ∙ e))))
+    ∙ same_words x.control x.dword0 x.dword1 _ _ (λ v. known_words_of d.first d.second d.seen x.dword0 x.dword1 (or_has d.noted.valid _ read (ok.valid ∙ v)) ok.first ok.second (λ w e. absurd (none_some w (sym ok.seen ∙ e))))
 
-pub loaded_entry : (second : Bool) (x : Entry) (d : Doing) → (loaded second x d).entry ≡ d.entry
+pub loaded_entry : (second : Bool) (x : Entry) (d : Doing) → (with_loaded second x d).entry ≡ d.entry
 loaded_entry true x d = refl
 loaded_entry false x d = refl
 
-held_loaded : (second : Bool) (x : Entry) (d : Doing) → HeldOk d x → HeldOk (loaded second x d) x
+held_loaded : (second : Bool) (x : Entry) (d : Doing) → HeldOk d x → HeldOk (with_loaded second x d) x
 held_loaded true x d ok = record { locked = ok.locked; free = ok.free; valid = ok.valid; stamp = ok.stamp; first = ok.first; second = λ n e. some_same x.dword1 n e; seen = ok.seen; op = ok.op }
 held_loaded false x d ok = record { locked = ok.locked; free = ok.free; valid = ok.valid; stamp = ok.stamp; first = λ n e. some_same x.dword0 n e; second = ok.second; seen = ok.seen; op = ok.op }
 
-stored_control : (second : Bool) (s : State) (x : Entry) → (stored second s x).control ≡ x.control
+stored_control : (second : Bool) (s : State) (x : Entry) → (with_stored second s x).control ≡ x.control
 stored_control true s x = refl
 stored_control false s x = refl
 
-stored_published : (second : Bool) (s : State) (x : Entry) → (stored second s x).published ≡ x.published
+stored_published : (second : Bool) (s : State) (x : Entry) → (with_stored second s x).published ≡ x.published
 stored_published true s x = refl
 stored_published false s x = refl
 
@@ -115,7 +115,7 @@ module _ (opening : List State) (m : Machine) (log : List Receipt) (k : Kept ope
   alone e mine j b other is theirs = other (k.one e j i b a is me theirs mine)
 
   -- The actor goes on, and the entry stays.
-  pub only_phase : (e : ℕ) (x : Entry) (p : Phase) → slice_get m.entries e ≡ Some x → ((e' : ℕ) → ¬ HasLock e' a.phase) → ((e' : ℕ) → IsOn e' p → e' ≡ e) → ¬ HasLock e p → PhaseOk p x → Change m e i x a (goes_on x p)
+  pub only_phase : (e : ℕ) (x : Entry) (p : Phase) → slice_get m.entries e ≡ Some x → ((e' : ℕ) → ¬ HasLock e' a.phase) → ((e' : ℕ) → IsOn e' p → e' ≡ e) → ¬ HasLock e p → PhaseOk p x → Change m e i x a (result_without_receipt x p)
   only_phase e x p at free mine none ok = record {
     here = at;
     me = me;
@@ -133,7 +133,7 @@ module _ (opening : List State) (m : Machine) (log : List Receipt) (k : Kept ope
   idle_free : a.phase ≡ Idle → (e' : ℕ) → ¬ HasLock e' a.phase
   idle_free idle e' h = subst (HasLock e') idle h
 
-  lock_free : (e : ℕ) (x : Entry) (op : Op) → slice_get m.entries e ≡ Some x → a.phase ≡ Idle → is_access op ≡ false → x.control.locked ≡ false → Change m e i x a (goes_on (locked_entry x true) (Held (begun e op x.control None)))
+  lock_free : (e : ℕ) (x : Entry) (op : Op) → slice_get m.entries e ≡ Some x → a.phase ≡ Idle → is_access op ≡ false → x.control.locked ≡ false → Change m e i x a (result_without_receipt (locked_entry x true) (Held (new_doing e op x.control None)))
   lock_free e x op at idle other unlocked =
       let ok : EntryOk x = k.entries e x at in
       let y : Entry = locked_entry x true in
@@ -152,8 +152,8 @@ module _ (opening : List State) (m : Machine) (log : List Receipt) (k : Kept ope
         tells = refl;
       }
 
-  pub lock_change : (e : ℕ) (x : Entry) (op : Op) → slice_get m.entries e ≡ Some x → a.phase ≡ Idle → is_access op ≡ false → Change m e i x a (if x.control.locked then goes_on x Idle else goes_on (locked_entry x true) (Held (begun e op x.control None)))
-  lock_change e x op at idle other = cond_both x.control.locked (goes_on x Idle) (goes_on (locked_entry x true) (Held (begun e op x.control None))) (Change m e i x a)
+  pub lock_change : (e : ℕ) (x : Entry) (op : Op) → slice_get m.entries e ≡ Some x → a.phase ≡ Idle → is_access op ≡ false → Change m e i x a (if x.control.locked then result_without_receipt x Idle else result_without_receipt (locked_entry x true) (Held (new_doing e op x.control None)))
+  lock_change e x op at idle other = cond_both x.control.locked (result_without_receipt x Idle) (result_without_receipt (locked_entry x true) (Held (new_doing e op x.control None))) (Change m e i x a)
       (λ _. only_phase e x Idle at (idle_free idle) (λ e' on. absurd on) (λ h. h) tt) (lock_free e x op at idle other)
 
   -- ---- the holder goes on
@@ -167,7 +167,7 @@ module _ (opening : List State) (m : Machine) (log : List Receipt) (k : Kept ope
     only_this : (e' : ℕ) → HasLock e' a.phase → e' ≡ d.entry
     only_this e' h = sym (subst (HasLock e') is h)
 
-    pub load_change : (second : Bool) → Change m d.entry i x a (goes_on x (Held (loaded second x d)))
+    pub load_change : (second : Bool) → Change m d.entry i x a (result_without_receipt x (Held (with_loaded second x d)))
     load_change second = record {
       here = at;
       me = me;
@@ -182,7 +182,7 @@ module _ (opening : List State) (m : Machine) (log : List Receipt) (k : Kept ope
       tells = refl;
     }
 
-    pub shut_change : (is_read d && changes d) ≡ true → Change m d.entry i x a (goes_on (shut_entry x) (HeldShut (noting d x.control)))
+    pub shut_change : (is_read d && changes d) ≡ true → Change m d.entry i x a (result_without_receipt (shut_entry x) (HeldShut (with_noted d x.control)))
     shut_change may =
         let y : Entry = shut_entry x in
         let parts = and_parts _ _ may in
@@ -200,10 +200,10 @@ module _ (opening : List State) (m : Machine) (log : List Receipt) (k : Kept ope
           tells = refl;
         }
 
-    pub release_change : (is_read d && not (changes d)) ≡ true → Change m d.entry i x a (ends (locked_entry x false) (receipt (noting d x.control)))
+    pub release_change : (is_read d && not (changes d)) ≡ true → Change m d.entry i x a (result_with_receipt (locked_entry x false) (receipt (with_noted d x.control)))
     release_change may =
         let y : Entry = locked_entry x false in
-        let d' : Doing = noting d x.control in
+        let d' : Doing = with_noted d x.control in
         let parts = and_parts _ _ may in
         let ok : HeldOk d x = held_ok in
         let published : x.published ≡ noted_state d' = noted_is d x (k.entries d.entry x at) ok parts.0 in
@@ -232,9 +232,9 @@ module _ (opening : List State) (m : Machine) (log : List Receipt) (k : Kept ope
     only_that : (e' : ℕ) → HasLock e' a.phase → e' ≡ d.entry
     only_that e' h = sym (subst (HasLock e') is h)
 
-    pub store_change : (second : Bool) → Change m d.entry i x a (goes_on (stored second (next_state d) x) (HeldShut d))
+    pub store_change : (second : Bool) → Change m d.entry i x a (result_without_receipt (with_stored second (next_state d) x) (HeldShut d))
     store_change second =
-        let y : Entry = stored second (next_state d) x in
+        let y : Entry = with_stored second (next_state d) x in
         let ok : ShutOk d x = shut_ok in
         let control : y.control ≡ x.control = stored_control second (next_state d) x in
         let locked : y.control.locked ≡ true = ap (λ (c : Control). c.locked) control ∙ ok.locked in
@@ -254,7 +254,7 @@ module _ (opening : List State) (m : Machine) (log : List Receipt) (k : Kept ope
           tells = published;
         }
 
-    pub settle_change : is_stored x (next_state d) ≡ true → Change m d.entry i x a (ends (settled_entry x (next_state d)) (receipt d))
+    pub settle_change : is_stored x (next_state d) ≡ true → Change m d.entry i x a (result_with_receipt (settled_entry x (next_state d)) (receipt d))
     settle_change may =
         let t : State = next_state d in
         let y : Entry = settled_entry x t in

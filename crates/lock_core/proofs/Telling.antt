@@ -1,29 +1,29 @@
 -- What the code of a step is told by the table, and what a step leaves of the number of entries and actors.
-use Rattle.std.proofs.Common.{◌≡◌, ◌≢◌, ℕ, ◌<◌, ◌==◌, true, length, length-set, refl, sym, ap, ◌∙◌, subst, Option, None, eq-eqb}
 use Rattle.std.specs.Prelude.{is_none, OnOk, OnErr, Ok, Err, if◌then◌else◌}
+use Rattle.std.proofs.Common.{◌≡◌, ◌≢◌, ℕ, ◌<◌, ◌==◌, true, length, length-set, refl, sym, ap, ◌∙◌, subst, Option, None, eq-eqb, false}
 use Rattle.std.specs.declared.result.Result.{Result}
 use Rattle.std.proofs.lemmas.Bool.{and_parts, cond_both, false≢true, ltb-true}
 use Rattle.lock_core.specs.declared.error.CoreError.{CoreError}
 use Rattle.lock_core.specs.declared.step.Step.{Step}
 use Rattle.lock_core.specs.declared.step.Step.TheVariants.{Split, Join}
 use Rattle.lock_core.specs.Machine.{Machine, actor_at}
-use Rattle.lock_core.specs.Steps.{fits_entry, entry_of, turn_of, with_turn, split_off, join_in, may_act, fits_phase, refusal, allowed, stepped, moved}
+use Rattle.lock_core.specs.Steps.{fits_entry, entry_of, step_result_of, with_result, split_off, join_in, may_act, fits_phase, refusal, is_allowed, after_allowed_step, after_step}
 use Rattle.lock_core.proofs.Noted.{not_is}
 use Rattle.lock_core.proofs.Whole.{allowed_parts}
 
 -- ---- which steps are allowed
-pub allowed_if : (m : Machine) (i : ℕ) (s : Step) → refusal m i s ≡ None → allowed m i s ≡ true
-unfolding allowed
+pub allowed_if : (m : Machine) (i : ℕ) (s : Step) → refusal m i s ≡ None → is_allowed m i s ≡ true
+unfolding is_allowed
 allowed_if m i s h = ap (λ (o : Option CoreError). is_none o) h
 
 pub record IsSplit (m : Machine) (i to : ℕ) : Type 0 where
   pub live : (actor_at m i).live ≡ true
   pub there : to < length m.actors
 
-pub split_parts : (m : Machine) (i to : ℕ) (s : Step) → s ≡ Split to → allowed m i s ≡ true → IsSplit m i to
+pub split_parts : (m : Machine) (i to : ℕ) (s : Step) → s ≡ Split to → is_allowed m i s ≡ true → IsSplit m i to
 unfolding may_act
 split_parts m i to s is may =
-    let parts = and_parts _ _ (allowed_parts m i (Split to) (subst (λ z. allowed m i z ≡ true) is may)).0 in
+    let parts = and_parts _ _ (allowed_parts m i (Split to) (subst (λ z. is_allowed m i z ≡ true) is may)).0 in
     record { live = parts.0; there = ltb-true to (length m.actors) (and_parts _ _ parts.1).0 }
 
 pub record IsJoin (m : Machine) (i from : ℕ) : Type 0 where
@@ -31,10 +31,10 @@ pub record IsJoin (m : Machine) (i from : ℕ) : Type 0 where
   pub other : (actor_at m from).live ≡ true
   pub apart : from ≢ i
 
-pub join_parts : (m : Machine) (i from : ℕ) (s : Step) → s ≡ Join from → allowed m i s ≡ true → IsJoin m i from
+pub join_parts : (m : Machine) (i from : ℕ) (s : Step) → s ≡ Join from → is_allowed m i s ≡ true → IsJoin m i from
 unfolding may_act
 join_parts m i from s is may =
-    let parts = and_parts _ _ (allowed_parts m i (Join from) (subst (λ z. allowed m i z ≡ true) is may)).0 in
+    let parts = and_parts _ _ (allowed_parts m i (Join from) (subst (λ z. is_allowed m i z ≡ true) is may)).0 in
     let other = and_parts _ _ parts.1 in
     record { live = parts.0; other = other.0; apart = λ e. false≢true (sym (not_is (from == i) other.1) ∙ eq-eqb from i e) }
 
@@ -42,40 +42,40 @@ join_parts m i from s is may =
 pub record IsTurn (m : Machine) (i : ℕ) (s : Step) : Type 0 where
   pub live : (actor_at m i).live ≡ true
   pub fitting : fits_entry m i s ≡ true
-  pub stepped_is : stepped m i s ≡ with_turn m (entry_of (actor_at m i).phase s) i (turn_of m i s)
+  pub stepped_is : after_allowed_step m i s ≡ with_result m (entry_of (actor_at m i).phase s) i (step_result_of m i s)
 
-pub turn_parts : (m : Machine) (i : ℕ) (s : Step) → ((to : ℕ) → s ≡ Split to → ⊥) → ((from : ℕ) → s ≡ Join from → ⊥) → allowed m i s ≡ true → IsTurn m i s
-unfolding may_act fits_phase stepped
-turn_parts m i (Split to) no_split no_join may = absurd (no_split to refl)
-turn_parts m i (Join from) no_split no_join may = absurd (no_join from refl)
-turn_parts m i s no_split no_join may = record { live = (allowed_parts m i s may).0; fitting = (allowed_parts m i s may).2; stepped_is = refl }
+pub result_parts : (m : Machine) (i : ℕ) (s : Step) → ((to : ℕ) → s ≡ Split to → ⊥) → ((from : ℕ) → s ≡ Join from → ⊥) → is_allowed m i s ≡ true → IsTurn m i s
+unfolding may_act fits_phase after_allowed_step
+result_parts m i (Split to) no_split no_join may = absurd (no_split to refl)
+result_parts m i (Join from) no_split no_join may = absurd (no_join from refl)
+result_parts m i s no_split no_join may = record { live = (allowed_parts m i s may).0; fitting = (allowed_parts m i s may).2; stepped_is = refl }
 
-pub stepped_split : (m : Machine) (i to : ℕ) (s : Step) → s ≡ Split to → split_off m i to ≡ stepped m i s
-unfolding stepped
-stepped_split m i to s is = ap (stepped m i) (sym is)
+pub stepped_split : (m : Machine) (i to : ℕ) (s : Step) → s ≡ Split to → split_off m i to ≡ after_allowed_step m i s
+unfolding after_allowed_step
+stepped_split m i to s is = ap (after_allowed_step m i) (sym is)
 
-pub stepped_join : (m : Machine) (i from : ℕ) (s : Step) → s ≡ Join from → join_in m i from ≡ stepped m i s
-unfolding stepped
-stepped_join m i from s is = ap (stepped m i) (sym is)
+pub stepped_join : (m : Machine) (i from : ℕ) (s : Step) → s ≡ Join from → join_in m i from ≡ after_allowed_step m i s
+unfolding after_allowed_step
+stepped_join m i from s is = ap (after_allowed_step m i) (sym is)
 
-pub moved_if : (m : Machine) (i : ℕ) (s : Step) → allowed m i s ≡ true → stepped m i s ≡ moved m i s
-unfolding moved
-moved_if m i s may = ap (λ b. if b then stepped m i s else m) (sym may)
+pub moved_if : (m : Machine) (i : ℕ) (s : Step) → is_allowed m i s ≡ true → after_allowed_step m i s ≡ after_step m i s
+unfolding after_step
+moved_if m i s may = ap (λ b. if b then after_allowed_step m i s else m) (sym may)
 
 -- ---- how many entries and actors there are
 abbrev SameSize : Machine → Machine → Type 0
 SameSize m m' = (length m'.entries ≡ length m.entries) × (length m'.actors ≡ length m.actors)
 
-stepped_size : (m : Machine) (i : ℕ) (s : Step) → SameSize m (stepped m i s)
-unfolding stepped
+stepped_size : (m : Machine) (i : ℕ) (s : Step) → SameSize m (after_allowed_step m i s)
+unfolding after_allowed_step
 stepped_size m i (Split to) = (refl, length-set m.actors to _)
 stepped_size m i (Join from) = (refl, length-set _ from _ ∙ length-set m.actors i _)
 stepped_size m i s = (length-set m.entries _ _, length-set m.actors i _)
 
-pub moved_size : (m : Machine) (i : ℕ) (s : Step) → SameSize m (moved m i s)
-unfolding moved
-moved_size m i s = cond_both (allowed m i s) (stepped m i s) m (SameSize m) (λ _. stepped_size m i s) (λ _. (refl, refl))
+pub moved_size : (m : Machine) (i : ℕ) (s : Step) → SameSize m (after_step m i s)
+unfolding after_step
+moved_size m i s = cond_both (is_allowed m i s) (after_allowed_step m i s) m (SameSize m) (λ _. stepped_size m i s) (λ _. (refl, refl))
 
-pub ended_size : (m m' : Machine) (i : ℕ) (s : Step) (r : Result (Unit {0}) CoreError) → OnOk r (m' ≡ moved m i s) → OnErr r (m' ≡ m) → SameSize m m'
+pub ended_size : (m m' : Machine) (i : ℕ) (s : Step) (r : Result (Unit {0}) CoreError) → OnOk r (m' ≡ after_step m i s) → OnErr r (m' ≡ m) → SameSize m m'
 ended_size m m' i s (Ok v) done none = subst (SameSize m) (sym done) (moved_size m i s)
 ended_size m m' i s (Err e) done none = subst (SameSize m) (sym none) (refl, refl)

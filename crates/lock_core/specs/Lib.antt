@@ -3,4 +3,4 @@ pub mod Machine
 pub mod Steps
 pub mod Runs
 pub mod ActorFronts
-pub mod Promises
+pub mod Laws

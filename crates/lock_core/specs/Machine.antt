@@ -1,5 +1,6 @@
 -- The machine: entries, and actors that take steps on them.
 use Rattle.std.specs.Prelude.{ℕ, ◌==◌, ◌&&◌, Bool, true, false, if◌then◌else◌, nat_lt, List, [], ◌∷◌, map, find, length, replicate, slice_index_or, slice_set, Option, Some, None, option_map}
+use Rattle.std.specs.Option.{option_or}
 use Rattle.entry_model.specs.State.{State, empty_state}
 use Rattle.entry_model.specs.declared.receipt.Receipt.{Receipt}
 use Rattle.entry_model.specs.Receipt.{is_decided}
@@ -8,7 +9,7 @@ use Rattle.lock_core.specs.declared.entry.Entry.{Entry}
 use Rattle.lock_core.specs.declared.phase.Phase.{Phase}
 use Rattle.lock_core.specs.declared.phase.Phase.TheVariants.{Idle}
 use Rattle.lock_core.specs.declared.sighting.Sighting.{Sighting}
-use Rattle.lock_core.specs.Words.{quiet_entry}
+use Rattle.lock_core.specs.Words.{unheld_entry}
 
 pub record Actor : Type 0 where
   pub live : Bool
@@ -32,8 +33,8 @@ abbrev pub newcomer : List Sighting → Actor
 newcomer lines = record { live = true; phase = Idle; receipts = []; lines = lines }
 
 -- Actor 0 is live and the others are not.
-unfoldable pub opened : List State → ℕ → Machine
-opened states actors = record { opening = states; entries = map quiet_entry states; actors = slice_set (replicate actors nobody) 0 (newcomer []) }
+unfoldable pub opening_machine : List State → ℕ → Machine
+opening_machine states actors = record { opening = states; entries = map unheld_entry states; actors = slice_set (replicate actors nobody) 0 (newcomer []) }
 
 -- ---- parts
 -- Beyond the last actor there is nobody.
@@ -41,7 +42,7 @@ abbrev pub actor_at : Machine → ℕ → Actor
 actor_at m i = slice_index_or m.actors i nobody
 
 abbrev pub entry_at : Machine → ℕ → Entry
-entry_at m e = slice_index_or m.entries e (quiet_entry (empty_state 0))
+entry_at m e = slice_index_or m.entries e (unheld_entry (empty_state 0))
 
 abbrev pub opening_at : Machine → ℕ → State
 opening_at m e = slice_index_or m.opening e (empty_state 0)
@@ -55,13 +56,8 @@ abbrev pub sighting_of : ℕ → State → Sighting
 sighting_of e s = record { entry = e; stamp = s.stamp; dword0 = s.dword0; dword1 = s.dword1 }
 
 -- The lines that a receipt shows: its entry's in the state before, where the answer used the translation.
-abbrev pub shown_by : Receipt → List Sighting
-shown_by r = if is_decided r.answer then sighting_of r.entry r.before ∷ [] else []
-
--- One line or none, as a list.
-abbrev pub option_list : Option Sighting → List Sighting
-option_list None = []
-option_list (Some line) = line ∷ []
+abbrev pub shown_sightings : Receipt → List Sighting
+shown_sightings r = if is_decided r.answer then sighting_of r.entry r.before ∷ [] else []
 
 abbrev pub is_at : ℕ → ℕ → Sighting → Bool
 is_at e stamp line = (line.entry == e) && (line.stamp == stamp)
@@ -73,14 +69,10 @@ words_in line = (line.dword0, line.dword1)
 abbrev pub words_at : State → ℕ → Option (ℕ × ℕ)
 words_at s stamp = if s.valid && (s.stamp == stamp) then Some (s.dword0, s.dword1) else None
 
-abbrev pub or_else : Option (ℕ × ℕ) → Option (ℕ × ℕ) → Option (ℕ × ℕ)
-or_else None other = other
-or_else (Some words) other = Some words
-
 -- The doublewords at this stamp of an entry with this opening state, as an actor with these lines has seen them: in a line of its list, or in the opening state.
-unfoldable pub seen_in : List Sighting → State → ℕ → ℕ → Option (ℕ × ℕ)
-seen_in lines start e stamp = or_else (option_map words_in (find (is_at e stamp) lines)) (words_at start stamp)
+unfoldable pub words_seen_in : List Sighting → State → ℕ → ℕ → Option (ℕ × ℕ)
+words_seen_in lines start e stamp = option_or (option_map words_in (find (is_at e stamp) lines)) (words_at start stamp)
 
 -- What an actor that finds a control word has seen of its entry at its stamp.
-unfoldable pub seen_words : Machine → Actor → ℕ → Control → Option (ℕ × ℕ)
-seen_words m a e k = if k.valid then seen_in a.lines (opening_at m e) e k.stamp else None
+unfoldable pub words_seen : Machine → Actor → ℕ → Control → Option (ℕ × ℕ)
+words_seen m a e k = if k.valid then words_seen_in a.lines (opening_at m e) e k.stamp else None

@@ -1,5 +1,6 @@
 -- The table of steps: in which phase each is allowed, and what it does.
 use Rattle.std.specs.Prelude.{ℕ, ◌==◌, ◌&&◌, Bool, true, false, not, if◌then◌else◌, nat_lt, List, [], ◌∷◌, ◌++◌, length, find, slice_set, Option, Some, None, option_map, is_none}
+use Rattle.basics.specs.Words.{first_refusal}
 use Rattle.entry_model.specs.State.{State}
 use Rattle.entry_model.specs.declared.operation.Op.{Op}
 use Rattle.entry_model.specs.declared.receipt.Receipt.{Receipt}
@@ -13,9 +14,9 @@ use Rattle.lock_core.specs.declared.phase.Phase.{Phase}
 use Rattle.lock_core.specs.declared.phase.Phase.TheVariants.{Idle, Held, HeldShut, Looked}
 use Rattle.lock_core.specs.declared.step.Step.{Step}
 use Rattle.lock_core.specs.declared.step.Step.TheVariants.{Lock, Look, LoadData, Shut, StoreData, Settle, Release, Mark, Split, Join}
-use Rattle.lock_core.specs.declared.turn.Turn.{Turn}
+use Rattle.lock_core.specs.declared.step_result.StepResult.{StepResult}
 use Rattle.lock_core.specs.Words.{next_state, is_read, changes, receipt, is_noted, is_still, same_access, is_stored, settled_word}
-use Rattle.lock_core.specs.Machine.{Actor, Machine, nobody, newcomer, actor_at, entry_at, in_table, seen_words, shown_by}
+use Rattle.lock_core.specs.Machine.{Actor, Machine, nobody, newcomer, actor_at, entry_at, in_table, words_seen, shown_sightings}
 
 -- ---- in which phase a step is allowed
 -- The entry that a step is on.
@@ -43,26 +44,26 @@ fits x phase step = false
 
 -- ---- what a step does
 -- On, without a receipt.
-abbrev pub goes_on : Entry → Phase → Turn
-goes_on x phase = record { entry = x; phase = phase; made = None }
+abbrev pub result_without_receipt : Entry → Phase → StepResult
+result_without_receipt x phase = record { entry = x; phase = phase; made = None }
 
 -- Idle, with a receipt.
-abbrev pub ends : Entry → Receipt → Turn
-ends x r = record { entry = x; phase = Idle; made = Some r }
+abbrev pub result_with_receipt : Entry → Receipt → StepResult
+result_with_receipt x r = record { entry = x; phase = Idle; made = Some r }
 
 -- An operation that an actor begins.
-abbrev pub begun : ℕ → Op → Control → Option (ℕ × ℕ) → Doing
-begun e op k seen = record { entry = e; op = op; noted = k; first = None; second = None; seen = seen }
+abbrev pub new_doing : ℕ → Op → Control → Option (ℕ × ℕ) → Doing
+new_doing e op k seen = record { entry = e; op = op; noted = k; first = None; second = None; seen = seen }
 
 -- The same operation by another control word.
-abbrev pub noting : Doing → Control → Doing
-noting d k = record d { noted = k }
+abbrev pub with_noted : Doing → Control → Doing
+with_noted d k = record d { noted = k }
 
-abbrev pub loaded : Bool → Entry → Doing → Doing
-loaded second x d = if second then record d { second = Some x.dword1 } else record d { first = Some x.dword0 }
+abbrev pub with_loaded : Bool → Entry → Doing → Doing
+with_loaded second x d = if second then record d { second = Some x.dword1 } else record d { first = Some x.dword0 }
 
-abbrev pub stored : Bool → State → Entry → Entry
-stored second s x = if second then record x { dword1 = s.dword1 } else record x { dword0 = s.dword0 }
+abbrev pub with_stored : Bool → State → Entry → Entry
+with_stored second s x = if second then record x { dword1 = s.dword1 } else record x { dword0 = s.dword0 }
 
 abbrev pub locked_entry : Entry → Bool → Entry
 locked_entry x locked = record x { control = record x.control { locked = locked } }
@@ -77,49 +78,49 @@ abbrev pub marked_entry : Entry → State → Entry
 marked_entry x s = record x { control = record x.control { referenced = s.referenced; changed = s.changed }; published = s }
 
 -- A second look decides where it finds the very word that was noted, and where the data words were seen and the entry is still at the noted stamp: the bits found are then those before.
-unfoldable pub second_look : Entry → Doing → Turn
-second_look x d = if is_noted x.control d.noted then ends x (receipt d) else (if is_still x.control d then ends x (receipt (noting d x.control)) else goes_on x Idle)
+unfoldable pub second_look : Entry → Doing → StepResult
+second_look x d = if is_noted x.control d.noted then result_with_receipt x (receipt d) else (if is_still x.control d then result_with_receipt x (receipt (with_noted d x.control)) else result_without_receipt x Idle)
 
 -- A step on an entry, of an actor that has seen these doublewords of it. A lock that is taken and an entry that is shut leave the actor idle.
-unfoldable pub turn : Option (ℕ × ℕ) → Entry → Phase → Step → Turn
-turn seen x Idle (Lock e op) = if x.control.locked then goes_on x Idle else goes_on (locked_entry x true) (Held (begun e op x.control None))
-turn seen x Idle (Look e op) = if x.control.shut then goes_on x Idle else goes_on x (Looked (begun e op x.control seen))
-turn seen x (Held d) (LoadData second) = goes_on x (Held (loaded second x d))
-turn seen x (Held d) Shut = goes_on (shut_entry x) (HeldShut (noting d x.control))
-turn seen x (Held d) Release = ends (locked_entry x false) (receipt (noting d x.control))
-turn seen x (HeldShut d) (StoreData second) = goes_on (stored second (next_state d) x) (HeldShut d)
-turn seen x (HeldShut d) Settle = ends (settled_entry x (next_state d)) (receipt d)
-turn seen x (Looked d) (LoadData second) = goes_on x (Looked (loaded second x d))
-turn seen x (Looked d) (Look e op) = second_look x d
-turn seen x (Looked d) Mark = if is_noted x.control d.noted then ends (marked_entry x (next_state d)) (receipt d) else goes_on x Idle
-turn seen x phase step = goes_on x phase
+unfoldable pub step_result : Option (ℕ × ℕ) → Entry → Phase → Step → StepResult
+step_result seen x Idle (Lock e op) = if x.control.locked then result_without_receipt x Idle else result_without_receipt (locked_entry x true) (Held (new_doing e op x.control None))
+step_result seen x Idle (Look e op) = if x.control.shut then result_without_receipt x Idle else result_without_receipt x (Looked (new_doing e op x.control seen))
+step_result seen x (Held d) (LoadData second) = result_without_receipt x (Held (with_loaded second x d))
+step_result seen x (Held d) Shut = result_without_receipt (shut_entry x) (HeldShut (with_noted d x.control))
+step_result seen x (Held d) Release = result_with_receipt (locked_entry x false) (receipt (with_noted d x.control))
+step_result seen x (HeldShut d) (StoreData second) = result_without_receipt (with_stored second (next_state d) x) (HeldShut d)
+step_result seen x (HeldShut d) Settle = result_with_receipt (settled_entry x (next_state d)) (receipt d)
+step_result seen x (Looked d) (LoadData second) = result_without_receipt x (Looked (with_loaded second x d))
+step_result seen x (Looked d) (Look e op) = second_look x d
+step_result seen x (Looked d) Mark = if is_noted x.control d.noted then result_with_receipt (marked_entry x (next_state d)) (receipt d) else result_without_receipt x Idle
+step_result seen x phase step = result_without_receipt x phase
 
 -- The actor after a step that leaves this phase and makes this receipt.
 abbrev pub actor_after : Actor → Phase → Option Receipt → Actor
 actor_after a phase None = record a { phase = phase }
-actor_after a phase (Some r) = record { live = a.live; phase = phase; receipts = a.receipts ++ r ∷ []; lines = a.lines ++ shown_by r }
+actor_after a phase (Some r) = record { live = a.live; phase = phase; receipts = a.receipts ++ r ∷ []; lines = a.lines ++ shown_sightings r }
 
 -- ---- on the machine
 -- What a step on an entry leaves.
-abbrev pub turn_of : Machine → ℕ → Step → Turn
-turn_of m i step =
+abbrev pub step_result_of : Machine → ℕ → Step → StepResult
+step_result_of m i step =
     let a : Actor = actor_at m i in
     let e : ℕ = entry_of a.phase step in
-    turn (seen_words m a e (entry_at m e).control) (entry_at m e) a.phase step
+    step_result (words_seen m a e (entry_at m e).control) (entry_at m e) a.phase step
 
-abbrev pub with_turn : Machine → ℕ → ℕ → Turn → Machine
-with_turn m e i t = record { opening = m.opening; entries = slice_set m.entries e t.entry; actors = slice_set m.actors i (actor_after (actor_at m i) t.phase t.made) }
+abbrev pub with_result : Machine → ℕ → ℕ → StepResult → Machine
+with_result m e i t = record { opening = m.opening; entries = slice_set m.entries e t.entry; actors = slice_set m.actors i (actor_after (actor_at m i) t.phase t.made) }
 
 -- A split makes a live actor that has seen what its parent has.
 abbrev pub split_off : Machine → ℕ → ℕ → Machine
 split_off m i to = record m { actors = slice_set m.actors to (newcomer (actor_at m i).lines) }
 
 -- A join brings the other's receipts and lines.
-abbrev pub joined : Actor → Actor → Actor
-joined a b = record { live = a.live; phase = a.phase; receipts = a.receipts ++ b.receipts; lines = a.lines ++ b.lines }
+abbrev pub joined_actor : Actor → Actor → Actor
+joined_actor a b = record { live = a.live; phase = a.phase; receipts = a.receipts ++ b.receipts; lines = a.lines ++ b.lines }
 
 abbrev pub join_in : Machine → ℕ → ℕ → Machine
-join_in m i from = record m { actors = slice_set (slice_set m.actors i (joined (actor_at m i) (actor_at m from))) from nobody }
+join_in m i from = record m { actors = slice_set (slice_set m.actors i (joined_actor (actor_at m i) (actor_at m from))) from nobody }
 
 -- ---- which steps are taken
 abbrev pub is_idle : Phase → Bool
@@ -155,23 +156,23 @@ refusals m i step = (not (may_act m i step), ActorFault) ∷ (not (names_entry m
 
 -- The first that is wrong, or none.
 unfoldable pub refusal : Machine → ℕ → Step → Option CoreError
-refusal m i step = option_map (λ (row : Bool × CoreError). row.1) (find (λ (row : Bool × CoreError). row.0) (refusals m i step))
+refusal m i step = first_refusal (refusals m i step)
 
-unfoldable pub allowed : Machine → ℕ → Step → Bool
-allowed m i step = is_none (refusal m i step)
+unfoldable pub is_allowed : Machine → ℕ → Step → Bool
+is_allowed m i step = is_none (refusal m i step)
 
 -- The receipt that a step makes, if it makes one.
 unfoldable pub made_by : Machine → ℕ → Step → Option Receipt
 made_by m i (Split to) = None
 made_by m i (Join from) = None
-made_by m i step = if allowed m i step then (turn_of m i step).made else None
+made_by m i step = if is_allowed m i step then (step_result_of m i step).made else None
 
 -- The machine after an allowed step.
-unfoldable pub stepped : Machine → ℕ → Step → Machine
-stepped m i (Split to) = split_off m i to
-stepped m i (Join from) = join_in m i from
-stepped m i step = with_turn m (entry_of (actor_at m i).phase step) i (turn_of m i step)
+unfoldable pub after_allowed_step : Machine → ℕ → Step → Machine
+after_allowed_step m i (Split to) = split_off m i to
+after_allowed_step m i (Join from) = join_in m i from
+after_allowed_step m i step = with_result m (entry_of (actor_at m i).phase step) i (step_result_of m i step)
 
 -- The machine after a step: a step that isn't allowed changes nothing.
-unfoldable pub moved : Machine → ℕ → Step → Machine
-moved m i step = if allowed m i step then stepped m i step else m
+unfoldable pub after_step : Machine → ℕ → Step → Machine
+after_step m i step = if is_allowed m i step then after_allowed_step m i step else m

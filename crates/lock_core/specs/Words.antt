@@ -1,12 +1,13 @@
 -- The words of an entry, the state that they stand for, and what an actor knows of them.
-use Rattle.std.specs.Prelude.{ℕ, ◌==◌, ◌&&◌, ◌||◌, not, Bool, true, false, if◌then◌else◌, bit_and, bit_xor, Option, Some, None, is_some}
+use Rattle.std.specs.Prelude.{ℕ, ◌==◌, ◌&&◌, ◌||◌, not, Bool, true, false, if◌then◌else◌, bit_and, bit_xor, Option, Some, None, is_some, unwrap_or}
 use Rattle.entry_model.specs.State.{State}
 use Rattle.entry_model.specs.declared.operation.Op.{Op}
 use Rattle.entry_model.specs.declared.operation.Op.TheVariants.{Access}
 use Rattle.entry_model.specs.declared.receipt.Receipt.{Receipt}
 use Rattle.entry_model.specs.Reply.{reply_of}
 use Rattle.entry_model.specs.Receipt.{receipt_of}
-use Rattle.entry_model.specs.History.{bool_eq, state_eq}
+use Rattle.basics.specs.Words.{bool_eq}
+use Rattle.entry_model.specs.History.{state_eq}
 use Rattle.storage_prot.specs.declared.want.Want.{Want}
 use Rattle.storage_prot.specs.declared.want.Want.TheVariants.{Load, Store, Fetch}
 use Rattle.lock_core.specs.declared.control.Control.{Control}
@@ -34,8 +35,8 @@ abbrev pub settled_word : State → Control
 settled_word s = record { locked = false; shut = false; valid = s.valid; referenced = s.referenced; changed = s.changed; stamp = s.stamp }
 
 -- An entry in a state, which nobody holds.
-abbrev pub quiet_entry : State → Entry
-quiet_entry s = record { control = settled_word s; dword0 = s.dword0; dword1 = s.dword1; published = s }
+abbrev pub unheld_entry : State → Entry
+unheld_entry s = record { control = settled_word s; dword0 = s.dword0; dword1 = s.dword1; published = s }
 
 -- ---- what an actor knows
 -- The data words that it loaded, or where it loaded none those that it has seen.
@@ -45,24 +46,20 @@ known_of None (Some second) seen = None
 known_of (Some first) None seen = None
 known_of (Some first) (Some second) seen = Some (first, second)
 
-abbrev pub known : Doing → Option (ℕ × ℕ)
-known d = known_of d.first d.second d.seen
+abbrev pub known_words : Doing → Option (ℕ × ℕ)
+known_words d = known_of d.first d.second d.seen
 
 -- It loaded neither.
-abbrev pub none_loaded : Doing → Bool
-none_loaded d = not (is_some d.first) && not (is_some d.second)
+abbrev pub has_loaded_none : Doing → Bool
+has_loaded_none d = not (is_some d.first) && not (is_some d.second)
 
 -- What it must know of the words, it knows.
 abbrev pub is_read : Doing → Bool
-is_read d = not d.noted.valid || is_some (known d)
-
-abbrev pub known_or_nothing : Option (ℕ × ℕ) → ℕ × ℕ
-known_or_nothing None = (0, 0)
-known_or_nothing (Some words) = words
+is_read d = not d.noted.valid || is_some (known_words d)
 
 -- The state before, by what it knows.
 unfoldable pub noted_state : Doing → State
-noted_state d = state_of d.noted (known_or_nothing (known d)).0 (known_or_nothing (known d)).1
+noted_state d = state_of d.noted (unwrap_or (known_words d) (0, 0)).0 (unwrap_or (known_words d) (0, 0)).1
 
 -- The state after, by what it knows.
 unfoldable pub next_state : Doing → State
@@ -83,7 +80,7 @@ is_noted k l =
 
 -- The data words were seen and not loaded, and the entry is still at the noted stamp.
 unfoldable pub is_still : Control → Doing → Bool
-is_still k d = none_loaded d && k.valid && not k.shut && (k.stamp == d.noted.stamp)
+is_still k d = has_loaded_none d && k.valid && not k.shut && (k.stamp == d.noted.stamp)
 
 abbrev pub want_eq : Want → Want → Bool
 want_eq Load Load = true

@@ -1,7 +1,7 @@
 ghost use Rattle.std.specs.Prelude.{◌≡◌, [], ◌∷◌, ◌++◌, IfOk, OnOk, OnErr, IsOkUnless};
-ghost use Rattle.lock_core.specs.Machine.{nobody as nobody_of, newcomer, shown_by, sighting_of};
-ghost use Rattle.lock_core.specs.Steps.{actor_after, joined};
-ghost use Rattle.lock_core.specs.Machine.{option_list};
+ghost use Rattle.std.specs.Option.{option_to_list};
+ghost use Rattle.lock_core.specs.Machine.{nobody as nobody_of, newcomer, shown_sightings, sighting_of};
+ghost use Rattle.lock_core.specs.Steps.{actor_after, joined_actor};
 
 use crate::error::CoreError;
 use crate::phase::Phase;
@@ -42,7 +42,7 @@ fn sighting(entry: u32, state: &EntryState) -> Sighting
 
 /// The line that a receipt shows: its entry's before, where the answer used the translation.
 fn shown(receipt: &Receipt) -> Option<Sighting>
-    ensures { shown_by receipt.now ≡ option_list result }
+    ensures { shown_sightings receipt.now ≡ option_to_list result }
 {
     match receipt.answer {
         Answer::At => Some(sighting(receipt.entry, &receipt.before)),
@@ -124,7 +124,7 @@ impl Actor {
 
     /// Appends a receipt and the line that it shows.
     fn record(&mut self, receipt: Receipt) -> Result<(), CoreError>
-        ensures ok { OnOk result (self.new ≡ record self.old { receipts = self.old.receipts ++ receipt ∷ []; lines = self.old.lines ++ shown_by receipt }) }
+        ensures ok { OnOk result (self.new ≡ record self.old { receipts = self.old.receipts ++ receipt ∷ []; lines = self.old.lines ++ shown_sightings receipt }) }
         ensures err { OnErr result (self.new ≡ self.old) }
         ensures memory { IsOkUnless result CoreError.Memory }
     {
@@ -140,7 +140,7 @@ impl Actor {
 
     /// Takes the receipts and the lines of another actor.
     pub fn join(&mut self, other: &Actor) -> Result<(), CoreError>
-        ensures ok { OnOk result (self.new ≡ joined self.old other.now) }
+        ensures ok { OnOk result (self.new ≡ joined_actor self.old other.now) }
         ensures err { OnErr result (self.new ≡ self.old) }
         ensures memory { IsOkUnless result CoreError.Memory }
     {

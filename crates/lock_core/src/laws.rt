@@ -1,7 +1,7 @@
 //! What holds over every list of steps of any actors. Each function does nothing, and its contract is
 //! the law.
 
-ghost use Rattle.lock_core.specs.Promises.{EveryHistoryIsLegal, EveryReceiptKeepsItsFront, EveryReceiptIsListed, SeenLinesHold, StatesAreInWords, StatesChangeByReceipts};
+ghost use Rattle.lock_core.specs.Laws.{EveryHistoryIsLegal, EveryReceiptKeepsItsFront, EveryReceiptIsListed, SeenLinesHold, StatesAreInWords, StatesChangeByReceipts};
 
 /// The state that an entry counts with is that of its words, unless it is shut.
 pub fn states_are_in_words()

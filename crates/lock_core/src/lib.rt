@@ -19,7 +19,7 @@ mod seeing;
 mod sighting;
 mod step;
 mod taking;
-mod turn;
+mod step_result;
 mod words;
 
 pub use actor::Actor;

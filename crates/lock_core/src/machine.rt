@@ -1,8 +1,8 @@
 ghost use Rattle.std.specs.Prelude.{◌≡◌, ◌≢◌, ◌<◌, ◌==◌, ◌||◌, [], length, map, replicate, slice_set, nat_lt, true, Err, IfOk, OnOk, OnErr, IsOkUnless, MatchBool, MatchOption};
-ghost use Rattle.lock_core.specs.Words.{quiet_entry as quiet_entry_of};
-ghost use Rattle.lock_core.specs.Machine.{opened, nobody, newcomer, actor_at, opening_at as opening_of, in_table as is_in_table, seen_words as seen_words_of};
-ghost use Rattle.lock_core.specs.Steps.{may_act as may_act_of, names_entry as names_entry_of, fits_entry as fits_entry_of, fits_phase as fits_phase_of, is_idle as is_idle_of, refusal as refusal_of, allowed, stepped, moved, entry_of as entry_by, turn_of, with_turn, split_off, join_in};
-ghost use Rattle.lock_core.specs.Promises.{published_at};
+ghost use Rattle.lock_core.specs.Words.{unheld_entry as quiet_entry_of};
+ghost use Rattle.lock_core.specs.Machine.{opening_machine, nobody, newcomer, actor_at, opening_at as opening_of, in_table as is_in_table, words_seen as seen_words_of};
+ghost use Rattle.lock_core.specs.Steps.{may_act as may_act_of, names_entry as names_entry_of, fits_entry as fits_entry_of, fits_phase as fits_phase_of, is_idle as is_idle_of, refusal as refusal_of, is_allowed, after_allowed_step, after_step, entry_of as entry_by, step_result_of, with_result, split_off, join_in};
+ghost use Rattle.lock_core.specs.Laws.{published_state};
 
 use crate::actor::Actor;
 use crate::control::Control;
@@ -12,7 +12,7 @@ use crate::phase::Phase;
 use crate::seeing::seen_in;
 use crate::sighting::Sighting;
 use crate::step::Step;
-use crate::taking::{entry_of, fits, take_turn};
+use crate::taking::{entry_of, fits, take_step};
 use crate::words::quiet_entry;
 use entry_model::{EntryState, Receipt};
 use std::alloc::{AllocError, Global};
@@ -84,7 +84,7 @@ impl Core {
     /// are not. `Actors` where there are none or more than 64.
     pub fn new(alloc: Global, states: &[EntryState], actors: u32) -> Result<Core, CoreError>
         ensures refused { MatchBool (actors == 0 || nat_lt 64 actors) (result ≡ Err CoreError.Actors) (IsOkUnless result CoreError.Memory) }
-        ensures ok { IfOk result (λ core. core ≡ opened states.now actors) }
+        ensures ok { IfOk result (λ core. core ≡ opening_machine states.now actors) }
         ensures entries { IfOk result (λ core. length core.entries ≡ length states.now) }
         ensures actors { IfOk result (λ core. length core.actors ≡ actors) }
     {
@@ -97,10 +97,10 @@ impl Core {
         }
     }
 
-    #[tactic(auto, unfolding(crate::specs::Machine::opened))]
+    #[tactic(auto, unfolding(crate::specs::Machine::opening_machine))]
     fn open(alloc: Global, states: &[EntryState], actors: u32) -> Result<Core, AllocError>
         requires { 0 < actors }
-        ensures ok { IfOk result (λ core. core ≡ opened states.now actors) }
+        ensures ok { IfOk result (λ core. core ≡ opening_machine states.now actors) }
         ensures entries { IfOk result (λ core. length core.entries ≡ length states.now) }
         ensures actors { IfOk result (λ core. length core.actors ≡ actors) }
     {
@@ -228,7 +228,7 @@ impl Core {
     }
 
     /// What an actor that finds a control word has seen of its entry at its stamp.
-    #[tactic(auto, unfolding(crate::specs::Machine::seen_words))]
+    #[tactic(auto, unfolding(crate::specs::Machine::words_seen))]
     fn seen_words(&self, actor: u32, entry: u32, found: &Control) -> Option<(u64, u64)>
         ensures { result ≡ seen_words_of self.now (actor_at self.now actor) entry found.now }
     {
@@ -247,7 +247,7 @@ impl Core {
     fn take_step(&mut self, actor: u32, step: &Step) -> Result<(), CoreError>
         requires live { (actor_at self.old actor).live ≡ true }
         requires fits { fits_entry_of self.old actor step.now ≡ true }
-        ensures ok { OnOk result (self.new ≡ with_turn self.old (entry_by (actor_at self.old actor).phase step.now) actor (turn_of self.old actor step.now)) }
+        ensures ok { OnOk result (self.new ≡ with_result self.old (entry_by (actor_at self.old actor).phase step.now) actor (step_result_of self.old actor step.now)) }
         ensures err { OnErr result (self.new ≡ self.old) }
         ensures memory { IsOkUnless result CoreError.Memory }
     {
@@ -255,9 +255,9 @@ impl Core {
         let e = entry_of(&phase, step);
         let entry = self.entries[e as usize];
         let seen = self.seen_words(actor, e, &entry.control);
-        let turn = take_turn(seen, &entry, &phase, step);
-        self.actors[actor as usize].go(turn.phase, turn.made)?;
-        self.entries[e as usize] = turn.entry;
+        let result = take_step(seen, &entry, &phase, step);
+        self.actors[actor as usize].go(result.phase, result.made)?;
+        self.entries[e as usize] = result.entry;
         Ok(())
     }
 
@@ -295,8 +295,8 @@ impl Core {
 
     /// Takes a step that is allowed.
     fn take(&mut self, alloc: Global, actor: u32, step: Step) -> Result<(), CoreError>
-        requires { allowed self.old actor step ≡ true }
-        ensures ok { OnOk result (self.new ≡ stepped self.old actor step) }
+        requires { is_allowed self.old actor step ≡ true }
+        ensures ok { OnOk result (self.new ≡ after_allowed_step self.old actor step) }
         ensures err { OnErr result (self.new ≡ self.old) }
         ensures memory { IsOkUnless result CoreError.Memory }
     {
@@ -311,7 +311,7 @@ impl Core {
     /// is not enough memory.
     pub fn step(&mut self, alloc: Global, actor: u32, step: Step) -> Result<(), CoreError>
         ensures refused { MatchOption (refusal_of self.old actor step) (IsOkUnless result CoreError.Memory) (λ e. result ≡ Err e) }
-        ensures ok { OnOk result (self.new ≡ moved self.old actor step) }
+        ensures ok { OnOk result (self.new ≡ after_step self.old actor step) }
         ensures err { OnErr result (self.new ≡ self.old) }
         ensures entries { length self.new.entries ≡ length self.old.entries }
         ensures actors { length self.new.actors ≡ length self.old.actors }
@@ -334,7 +334,7 @@ impl Core {
     /// The state of an entry. One that is shut answers its state from before the shut.
     pub fn state(&self, entry: u32) -> EntryState
         requires { entry < length self.now.entries }
-        ensures { result ≡ published_at self.now entry }
+        ensures { result ≡ published_state self.now entry }
     {
         self.entries[entry as usize].published
     }

@@ -1,5 +1,5 @@
 ghost use Rattle.std.specs.Prelude.{◌≡◌, find};
-ghost use Rattle.lock_core.specs.Machine.{seen_in as seen_in_of, words_at as words_at_of, is_at as is_at_of};
+ghost use Rattle.lock_core.specs.Machine.{words_seen_in as seen_in_of, words_at as words_at_of, is_at as is_at_of};
 
 use crate::sighting::Sighting;
 use entry_model::EntryState;
@@ -31,7 +31,7 @@ fn line_at(lines: &[Sighting], entry: u32, stamp: u32) -> Option<Sighting>
 
 /// The doublewords of an entry at a stamp, as who has these lines has seen them: in one of the lines,
 /// or in the entry's opening state.
-#[tactic(auto, unfolding(crate::specs::Machine::seen_in))]
+#[tactic(auto, unfolding(crate::specs::Machine::words_seen_in))]
 pub fn seen_in(lines: &[Sighting], start: &EntryState, entry: u32, stamp: u32) -> Option<(u64, u64)>
     ensures { result ≡ seen_in_of lines.now start.now entry stamp }
 {

@@ -1,6 +1,6 @@
 ghost use Rattle.std.specs.Prelude.{◌≡◌, true, false, None, if◌then◌else◌};
 ghost use Rattle.entry_model.specs.Receipt.{is_access as is_access_of};
-ghost use Rattle.lock_core.specs.Steps.{entry_of as entry_by, fits as fits_of, goes_on as going_on, ends as ending, loaded as loaded_of, stored as stored_of, second_look as second_look_of, turn as turn_by, begun as begun_by, noting as noting_of, shut_entry, locked_entry, settled_entry, marked_entry};
+ghost use Rattle.lock_core.specs.Steps.{entry_of as entry_by, fits as fits_of, result_without_receipt as going_on, result_with_receipt as ending, with_loaded as loaded_of, with_stored as stored_of, second_look as second_look_of, step_result as result_by, new_doing as begun_by, with_noted as noting_of, shut_entry, locked_entry, settled_entry, marked_entry};
 ghost use Rattle.lock_core.specs.Words.{receipt as receipt_of, next_state as next_of, is_noted as is_noted_of};
 ghost use Rattle.lock_core.specs.declared.phase.Phase.TheVariants.{Idle, Held, HeldShut, Looked};
 
@@ -9,7 +9,7 @@ use crate::doing::Doing;
 use crate::entry::Entry;
 use crate::phase::Phase;
 use crate::step::Step;
-use crate::turn::Turn;
+use crate::step_result::StepResult;
 use crate::words::{
     changes, is_noted, is_read, is_still, is_stored, next_state, receipt, same_access, settled_word,
 };
@@ -62,10 +62,10 @@ pub fn fits(entry: &Entry, phase: &Phase, step: &Step) -> bool
 }
 
 /// On, without a receipt.
-fn goes_on(entry: Entry, phase: Phase) -> Turn
+fn goes_on(entry: Entry, phase: Phase) -> StepResult
     ensures { result ≡ going_on entry phase }
 {
-    Turn {
+    StepResult {
         entry,
         phase,
         made: None,
@@ -73,10 +73,10 @@ fn goes_on(entry: Entry, phase: Phase) -> Turn
 }
 
 /// Idle, with a receipt.
-fn ends(entry: Entry, receipt: Receipt) -> Turn
+fn ends(entry: Entry, receipt: Receipt) -> StepResult
     ensures { result ≡ ending entry receipt }
 {
-    Turn {
+    StepResult {
         entry,
         phase: Phase::Idle,
         made: Some(receipt),
@@ -124,7 +124,7 @@ fn begun(entry: u32, op: Op, noted: Control, seen: Option<(u64, u64)>) -> Doing
 }
 
 /// The lock step: it takes the entry where nobody holds it.
-fn lock(entry: &Entry, e: u32, op: Op) -> Turn
+fn lock(entry: &Entry, e: u32, op: Op) -> StepResult
     ensures { result ≡ (if entry.now.control.locked then going_on entry.now Idle else going_on (locked_entry entry.now true) (Held (begun_by e op entry.now.control None))) }
 {
     if entry.control.locked {
@@ -136,7 +136,7 @@ fn lock(entry: &Entry, e: u32, op: Op) -> Turn
 }
 
 /// The first look: an entry that is shut is left.
-fn look(entry: &Entry, e: u32, op: Op, seen: Option<(u64, u64)>) -> Turn
+fn look(entry: &Entry, e: u32, op: Op, seen: Option<(u64, u64)>) -> StepResult
     ensures { result ≡ (if entry.now.control.shut then going_on entry.now Idle else going_on entry.now (Looked (begun_by e op entry.now.control seen))) }
 {
     if entry.control.shut {
@@ -155,7 +155,7 @@ fn noting(doing: Doing, found: Control) -> Doing
 }
 
 /// The shut step: the word found has the R and C that count.
-fn shut(entry: &Entry, doing: Doing) -> Turn
+fn shut(entry: &Entry, doing: Doing) -> StepResult
     ensures { result ≡ going_on (shut_entry entry.now) (HeldShut (noting_of doing entry.now.control)) }
 {
     let mut next = *entry;
@@ -164,7 +164,7 @@ fn shut(entry: &Entry, doing: Doing) -> Turn
 }
 
 /// The release step: the word found has the R and C before.
-fn release(entry: &Entry, doing: Doing) -> Turn
+fn release(entry: &Entry, doing: Doing) -> StepResult
     ensures { result ≡ ending (locked_entry entry.now false) (receipt_of (noting_of doing entry.now.control)) }
 {
     let mut next = *entry;
@@ -173,7 +173,7 @@ fn release(entry: &Entry, doing: Doing) -> Turn
 }
 
 /// The settle step.
-fn settle(entry: &Entry, doing: Doing) -> Turn
+fn settle(entry: &Entry, doing: Doing) -> StepResult
     ensures { result ≡ ending (settled_entry entry.now (next_of doing)) (receipt_of doing) }
 {
     let mut next = *entry;
@@ -185,7 +185,7 @@ fn settle(entry: &Entry, doing: Doing) -> Turn
 /// The second look: it decides on the very word that was noted, and where the words were seen also on
 /// one of the same stamp.
 #[tactic(auto, unfolding(crate::specs::Steps::second_look))]
-fn second_look(entry: &Entry, doing: Doing) -> Turn
+fn second_look(entry: &Entry, doing: Doing) -> StepResult
     ensures { result ≡ second_look_of entry.now doing }
 {
     if is_noted(&entry.control, &doing.noted) {
@@ -198,7 +198,7 @@ fn second_look(entry: &Entry, doing: Doing) -> Turn
 }
 
 /// The mark: it sets the bits where it finds the very word that was noted.
-fn mark(entry: &Entry, doing: Doing) -> Turn
+fn mark(entry: &Entry, doing: Doing) -> StepResult
     ensures { result ≡ (if is_noted_of entry.now.control doing.noted then ending (marked_entry entry.now (next_of doing)) (receipt_of doing) else going_on entry.now Idle) }
 {
     if !is_noted(&entry.control, &doing.noted) {
@@ -213,9 +213,9 @@ fn mark(entry: &Entry, doing: Doing) -> Turn
 }
 
 /// What a step on an entry leaves, of an actor that has seen these doublewords of it.
-#[tactic(auto, unfolding(crate::specs::Steps::turn))]
-pub fn take_turn(seen: Option<(u64, u64)>, entry: &Entry, phase: &Phase, step: &Step) -> Turn
-    ensures { result ≡ turn_by seen entry.now phase.now step.now }
+#[tactic(auto, unfolding(crate::specs::Steps::step_result))]
+pub fn take_step(seen: Option<(u64, u64)>, entry: &Entry, phase: &Phase, step: &Step) -> StepResult
+    ensures { result ≡ result_by seen entry.now phase.now step.now }
 {
     match (*phase, *step) {
         (Phase::Idle, Step::Lock { entry: e, op }) => lock(entry, e, op),

@@ -1,7 +1,8 @@
 ghost use Rattle.std.specs.Prelude.{◌≡◌};
-ghost use Rattle.lock_core.specs.Words as words;
 ghost use Rattle.lock_core.specs.Words.{same_access as same_access_of};
-ghost use Rattle.entry_model.specs.History.{bool_eq, state_eq};
+ghost use Rattle.basics.specs.Words.{bool_eq};
+ghost use Rattle.entry_model.specs.History.{state_eq};
+ghost use Rattle.lock_core.specs.Words as words;
 
 use crate::control::Control;
 use crate::doing::Doing;
@@ -52,7 +53,7 @@ pub fn settled_word(state: &EntryState) -> Control
 
 /// An entry in a state, which nobody holds.
 pub fn quiet_entry(state: &EntryState) -> Entry
-    ensures { result ≡ words.quiet_entry state.now }
+    ensures { result ≡ words.unheld_entry state.now }
 {
     Entry {
         control: settled_word(state),
@@ -64,7 +65,7 @@ pub fn quiet_entry(state: &EntryState) -> Entry
 
 /// The data words that were loaded, or where none was those that were seen.
 fn known(doing: &Doing) -> Option<(u64, u64)>
-    ensures { result ≡ words.known doing.now }
+    ensures { result ≡ words.known_words doing.now }
 {
     match (doing.first, doing.second) {
         (None, None) => doing.seen,

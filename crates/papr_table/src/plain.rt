@@ -14,9 +14,9 @@ pub struct PlainTable {
 
 impl Model for PlainTable {
     ghost use Rattle.std.specs.Prelude.{◌≡◌, ◌≤◌, ◌-◌, ◌^◌, vec_len};
-    ghost use Rattle.papr_table.specs.Table.{Plain};
+    ghost use Rattle.papr_table.specs.TableState.{TableState};
 
-    ghost Value = { Plain };
+    ghost Value = { TableState };
 
     ghost view = { λ t. record { states = t.states.items; order = t.order } };
 
@@ -54,7 +54,10 @@ impl PlainTable {
 
 impl EntryStore for PlainTable {
     ghost use Rattle.std.specs.Prelude.{refl};
-    ghost use Rattle.papr_table.specs.Table.{IsMade, IsSeen, IsGone, made_more_of_plain, seen_stays_of_plain, shown_is_seen_of_plain, gone_stays_of_plain, gone_is_past_of_plain};
+    ghost use Rattle.std.proofs.Common.{◌∙◌};
+    ghost use Rattle.entry_model.proofs.Runs.{run_more};
+    ghost use Rattle.entry_model.proofs.LineLaws.{run_holds, run_shows, run_leaves, run_past};
+    ghost use Rattle.papr_table.specs.TableState.{IsMade, IsSeen, IsGone};
 
     ghost made = { IsMade };
 
@@ -92,15 +95,15 @@ impl EntryStore for PlainTable {
 
     ghost made_none = { λ s. record { run = refl; order = refl } };
 
-    ghost made_more = { made_more_of_plain };
+    ghost made_more = { λ a b c xs ys h k. record { run = run_more a.states b.states c.states xs ys h.run k.run; order = k.order ∙ h.order } };
 
     ghost order_stays = { λ a b xs h. h.order };
 
-    ghost seen_stays = { seen_stays_of_plain };
+    ghost seen_stays = { λ a b xs line h seen. run_holds a.states b.states xs line h.run seen };
 
-    ghost shown_is_seen = { shown_is_seen_of_plain };
+    ghost shown_is_seen = { λ a b xs line h shows. run_shows a.states b.states xs line h.run shows };
 
-    ghost gone_stays = { gone_stays_of_plain };
+    ghost gone_stays = { λ a b xs line h gone. run_leaves a.states b.states xs line h.run gone };
 
-    ghost gone_is_past = { gone_is_past_of_plain };
+    ghost later_than_gone = { λ a b xs line h gone. run_past a.states b.states xs line h.run gone };
 }

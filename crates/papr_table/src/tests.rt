@@ -1,6 +1,6 @@
 ghost use Rattle.std.specs.Prelude.{◌≡◌, ◌<◌, ◌-◌, ◌^◌, IfOk, IfSome};
 ghost use Rattle.entry_model.specs.Receipt.{IsNormal};
-ghost use Rattle.entry_model.specs.Lines.{IsAccessOf, IsCurrent};
+ghost use Rattle.entry_model.specs.CachedLines.{IsAccessOf, IsCurrent};
 
 use super::*;
 use entry_model::{Answer, EntryState, EntryStore, Line, Op, Receipt, Test};

@@ -3,7 +3,7 @@ use Rattle.std.proofs.Common.{◌≡◌, ℕ, ◌^◌, ◌<◌, ◌≤◌, List,
 use Rattle.trace_io.specs.Outside.{Took, AtEnd}
 use Rattle.trace_read.specs.declared.why.Why.{Why}
 use Rattle.trace_read.specs.declared.why.Why.TheVariants.{Long}
-use Rattle.trace_read.specs.Trace.{Accepted}
+use Rattle.trace_read.specs.Trace.{AcceptedTrace}
 use Rattle.trace_read.specs.Grammar.{trace_of}
 use Rattle.papr_top.specs.declared.command.Command.TheVariants as commands
 use Rattle.papr_top.specs.declared.status.Status.{Status}
@@ -17,12 +17,12 @@ unfolding trace_of
 long_refused bytes h = rw (lt-ltb _ _ h) refl
 
 -- The text that was being written is that of the input.
-answered_text : (said : Result Accepted (ℕ × Why)) (status : Status) (text : List ℕ) → IsAnswered said status text → text ≡ output_of said
+answered_text : (said : Result AcceptedTrace (ℕ × Why)) (status : Status) (text : List ℕ) → IsAnswered said status text → text ≡ output_of said
 answered_text (Ok t) status text h = h.1
 answered_text (Err refusal) status text h = h.1
 
 -- The whole text was written.
-whole : (run : Run) (bytes text : List ℕ) (status : Status) (said : Result Accepted (ℕ × Why)) → Reads run bytes → trace_of bytes ≡ said → IsAnswered said status text → Writes run text → IsOutcome (Some commands.Run) run status
+whole : (run : Run) (bytes text : List ℕ) (status : Status) (said : Result AcceptedTrace (ℕ × Why)) → Reads run bytes → trace_of bytes ≡ said → IsAnswered said status text → Writes run text → IsOutcome (Some commands.Run) run status
 whole run bytes text status (Ok t) read is h put =
     let answers : Answers run = record { bytes = bytes; trace = t; read = read; accepted = is; assured = h.2; written = subst (Writes run) h.1 put } in
     subst (IsOutcome (Some commands.Run) run) (sym h.0) answers

@@ -4,13 +4,13 @@ use Rattle.std.specs.Fmt.{decimal}
 use Rattle.trace_io.specs.Outside.{Took, Put, AtEnd}
 use Rattle.trace_read.specs.declared.why.Why.{Why}
 use Rattle.trace_read.specs.Whys.{why_word}
-use Rattle.trace_read.specs.Trace.{Accepted}
+use Rattle.trace_read.specs.Trace.{AcceptedTrace}
 use Rattle.trace_read.specs.Grammar.{trace_of}
-use Rattle.trace_gen.specs.Generated.{generated}
-use Rattle.reply_text.specs.Worlds.{opening, shown_of}
-use Rattle.reply_text.specs.Serial.{serial, world_after}
-use Rattle.reply_text.specs.Good.{Good}
-use Rattle.reply_text.specs.Claims.{Assures}
+use Rattle.trace_gen.specs.Generated.{generated_trace}
+use Rattle.run_model.specs.RunState.{opening_run, shown_of}
+use Rattle.run_model.specs.SerialRun.{serial_replies, state_after_lines}
+use Rattle.run_model.specs.GoodRun.{IsGoodRun}
+use Rattle.run_model.specs.Assurances.{Assures}
 use Rattle.reply_text.specs.Text.{text_of}
 use Rattle.reply_text.specs.Summary.{summary_text}
 use Rattle.papr_top.specs.declared.command.Command.{Command}
@@ -26,23 +26,23 @@ abbrev pub usage_text : List ℕ
 usage_text = codes "papr: usage\n"
 
 -- The text of an input under `run`.
-abbrev pub output_of : Result Accepted (ℕ × Why) → List ℕ
-output_of (Ok t) = text_of t (serial t)
+abbrev pub output_of : Result AcceptedTrace (ℕ × Why) → List ℕ
+output_of (Ok t) = text_of t (serial_replies t)
 output_of (Err refusal) = refusal_text refusal.0 refusal.1
 
 -- The summary of the serial run of a trace, with the valid entries of the table at its end.
-unfoldable pub drill_text : Accepted → List ℕ
-drill_text t = summary_text (length t.lines) (serial t) (shown_of (world_after (opening t.config) t.lines).home).states
+unfoldable pub drill_text : AcceptedTrace → List ℕ
+drill_text t = summary_text (length t.lines) (serial_replies t) (shown_of (state_after_lines (opening_run t.config) t.lines).memory).states
 
 -- ---- answers
 -- A run that is good, and what it assures.
-pub record IsAssured (t : Accepted) : Type 0 where
-  pub good : Good t (serial t)
-  pub assures : Assures t (serial t)
+pub record IsAssured (t : AcceptedTrace) : Type 0 where
+  pub good : IsGoodRun t (serial_replies t)
+  pub assures : Assures t (serial_replies t)
 
 -- The status and the text of an input. The serial run of a trace is a good run.
-abbrev pub IsAnswered : Result Accepted (ℕ × Why) → Status → List ℕ → Type 0
-IsAnswered (Ok t) status text = (status ≡ Done) × (text ≡ text_of t (serial t)) × IsAssured t
+abbrev pub IsAnswered : Result AcceptedTrace (ℕ × Why) → Status → List ℕ → Type 0
+IsAnswered (Ok t) status text = (status ≡ Done) × (text ≡ text_of t (serial_replies t)) × IsAssured t
 IsAnswered (Err refusal) status text = (status ≡ Refused) × (text ≡ refusal_text refusal.0 refusal.1)
 
 -- ---- what a call leaves
@@ -65,17 +65,17 @@ abbrev pub Writes : Run → List ℕ → Type 0
 Writes run text = Put run.taken text run.taken_after
 
 -- A front of this text was written.
-abbrev pub WritesFront : Run → List ℕ → Type 0
-WritesFront run text = (front : List ℕ) × (rest : List ℕ) × (text ≡ front ++ rest) × Writes run front
+abbrev pub WritesPrefix : Run → List ℕ → Type 0
+WritesPrefix run text = (front : List ℕ) × (rest : List ℕ) × (text ≡ front ++ rest) × Writes run front
 
 -- The input is a trace, and the text of its serial run was written, which is a good run.
 pub record Answers (run : Run) : Type 0 where
   pub bytes : List ℕ
-  pub trace : Accepted
+  pub trace : AcceptedTrace
   pub read : Reads run bytes
   pub accepted : trace_of bytes ≡ Ok trace
   pub assured : IsAssured trace
-  pub written : Writes run (text_of trace (serial trace))
+  pub written : Writes run (text_of trace (serial_replies trace))
 
 -- The input is refused, and the line and the reason were written.
 pub record Refuses (run : Run) : Type 0 where
@@ -88,8 +88,8 @@ pub record Refuses (run : Run) : Type 0 where
 -- Nothing was read, and the summary of the generated trace's serial run was written.
 pub record Drills (seed lines : ℕ) (run : Run) : Type 0 where
   pub nothing_read : ReadsNothing run
-  pub good : Good (generated seed lines) (serial (generated seed lines))
-  pub written : Writes run (drill_text (generated seed lines))
+  pub good : IsGoodRun (generated_trace seed lines) (serial_replies (generated_trace seed lines))
+  pub written : Writes run (drill_text (generated_trace seed lines))
 
 -- ---- by the words
 -- What was written whole.
@@ -110,9 +110,9 @@ UnderRun other fact = ⊥
 
 -- The sink failed behind a front of the text.
 abbrev pub Stops : Option Command → Run → Type 0
-Stops None run = ReadsNothing run × WritesFront run usage_text
-Stops (Some commands.Run) run = (bytes : List ℕ) × Reads run bytes × WritesFront run (output_of (trace_of bytes))
-Stops (Some (commands.Drill seed lines)) run = ReadsNothing run × WritesFront run (drill_text (generated seed lines))
+Stops None run = ReadsNothing run × WritesPrefix run usage_text
+Stops (Some commands.Run) run = (bytes : List ℕ) × Reads run bytes × WritesPrefix run (output_of (trace_of bytes))
+Stops (Some (commands.Drill seed lines)) run = ReadsNothing run × WritesPrefix run (drill_text (generated_trace seed lines))
 
 abbrev pub IsListed : Option Command → Type 0
 IsListed None = ⊥
@@ -129,8 +129,8 @@ IsOutcome command run Memory = IsListed command × Writes run []
 
 -- ---- drills
 -- How a drill ends: the summary was written whole, or the sink failed behind a front of it, or memory ran out.
-abbrev pub EndsDrill : Accepted → Option (List ℕ) → Option (List ℕ) → Status → Type 0
-EndsDrill t taken taken_after Done = Good t (serial t) × Put taken (drill_text t) taken_after
+abbrev pub EndsDrill : AcceptedTrace → Option (List ℕ) → Option (List ℕ) → Status → Type 0
+EndsDrill t taken taken_after Done = IsGoodRun t (serial_replies t) × Put taken (drill_text t) taken_after
 EndsDrill t taken taken_after WriteFault = (front : List ℕ) × (rest : List ℕ) × (drill_text t ≡ front ++ rest) × Put taken front taken_after
 EndsDrill t taken taken_after Memory = Put taken [] taken_after
 EndsDrill t taken taken_after other = ⊥

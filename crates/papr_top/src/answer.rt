@@ -1,8 +1,8 @@
 ghost use Rattle.std.specs.Prelude.{◌≡◌, ◌≤◌, IfOk, string_bytes};
 ghost use Rattle.trace_read.specs.Grammar.{trace_of};
-ghost use Rattle.trace_gen.specs.Generated.{generated};
-ghost use Rattle.reply_text.specs.Serial.{serial};
-ghost use Rattle.reply_text.specs.Good.{Good};
+ghost use Rattle.trace_gen.specs.Generated.{generated_trace};
+ghost use Rattle.run_model.specs.SerialRun.{serial_replies};
+ghost use Rattle.run_model.specs.GoodRun.{IsGoodRun};
 ghost use Rattle.papr_top.specs.Top.{refusal_text, drill_text, IsAnswered};
 
 use crate::status::Status;
@@ -38,8 +38,8 @@ pub fn answer(alloc: Global, bytes: &[u8]) -> Result<(Status, String), AllocErro
 #[tactic(auto, unfolding(crate::specs::Top::drill_text))]
 pub fn summary(alloc: Global, seed: u64, lines: u32) -> Result<String, AllocError>
     requires { lines ≤ 100000 }
-    ensures text { IfOk result (λ s. string_bytes s ≡ drill_text (generated seed lines)) }
-    ensures good { IfOk result (λ _. Good (generated seed lines) (serial (generated seed lines))) }
+    ensures text { IfOk result (λ s. string_bytes s ≡ drill_text (generated_trace seed lines)) }
+    ensures good { IfOk result (λ _. IsGoodRun (generated_trace seed lines) (serial_replies (generated_trace seed lines))) }
 {
     let trace = generate(alloc, seed, lines)?;
     let ran = run_with_table(alloc, &trace)?;

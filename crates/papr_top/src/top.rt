@@ -2,7 +2,7 @@ ghost use Rattle.std.specs.Prelude.{◌≡◌, ◌≤◌, ◌⊎◌, None, Some}
 ghost use Rattle.trace_io.specs.Outside.{Rose};
 ghost use Rattle.papr_top.specs.Commands as words_of;
 ghost use Rattle.papr_top.specs.Top.{IsOutcome, EndsDrill};
-ghost use Rattle.trace_gen.specs.Generated.{generated};
+ghost use Rattle.trace_gen.specs.Generated.{generated_trace};
 ghost use Rattle.papr_top.specs.Finish.{Finishes};
 
 use crate::answer::{answer, refusal, summary};
@@ -51,7 +51,7 @@ fn run<S: Source, K: Sink>(alloc: Global, source: &mut S, sink: &mut K) -> Statu
 /// `drill`: writes the summary of a generated trace.
 fn drill<K: Sink>(alloc: Global, seed: u64, lines: u32, sink: &mut K) -> Status
     requires { lines ≤ 100000 }
-    ensures end { EndsDrill (generated seed lines) (K.taken sink.old) (K.taken sink.new) result }
+    ensures end { EndsDrill (generated_trace seed lines) (K.taken sink.old) (K.taken sink.new) result }
     ensures write_fault { result ≡ Status.WriteFault → Rose (K.faults sink.old) (K.faults sink.new) }
     ensures sink_faults { K.faults sink.old ≤ K.faults sink.new }
 {

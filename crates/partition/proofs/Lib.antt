@@ -4,3 +4,4 @@ pub mod Opening
 mod Carrying
 mod Committing
 mod Rows
+pub mod Pairing

@@ -1,6 +1,6 @@
 -- The opening table has a place in the pool of an accepted configuration.
-use Rattle.std.proofs.Common.{◌≡◌, ℕ, ◌+◌, ◌-◌, ◌*◌, ◌%◌, ◌^◌, ◌≤◌, true, false, List, length, replicate, Contains, Option, Some, None, Result, Ok, Err, IfOk, IfSome, MatchOption, refl, sym, ap, ◌∙◌, subst, arith}
 use Rattle.std.specs.Prelude.{unwrap_or}
+use Rattle.std.proofs.Common.{◌≡◌, ℕ, ◌+◌, ◌-◌, ◌*◌, ◌%◌, ◌^◌, ◌≤◌, true, false, List, length, replicate, Contains, Option, Some, None, Result, Ok, Err, IfOk, IfSome, MatchOption, refl, sym, ap, ◌∙◌, subst, arith}
 use Rattle.std.specs.Option.{IsSome}
 use Rattle.std.specs.Result.{IsOkUnless}
 use Rattle.std.proofs.lemmas.Nat.{pow_pos}
@@ -8,19 +8,19 @@ use Rattle.std.proofs.Math.Pow.{pow_mono}
 use Rattle.std.proofs.Math.Nat.{mod-eq_of_lt}
 use Rattle.std.proofs.lemmas.List.{length-replicate}
 use Rattle.std.proofs.lemmas.Bool.Decides.{nat_tests}
-use Rattle.frame_grants.specs.Grants as grants
-use Rattle.hpt_pool.specs.Pool.{Pooled, IsPool, IsSound, IsLowest, FitsNowhere, block_at, fits, lowest_place, no_blocks, pool_refusal, refusals, with_block}
+use Rattle.hpt_pool.specs.Pool.{PoolState, IsPool, IsSound, IsLowest, FitsNowhere, block_at, fits, lowest_place, no_blocks, pool_refusal, refusals, with_block}
 use Rattle.hpt_pool.specs.declared.error.PoolError.{PoolError}
 use Rattle.hpt_pool.specs.declared.error.PoolError.TheVariants.{Memory}
 use Rattle.hpt_pool.proofs.Lowest.{multiple_placed, fits_is}
 use Rattle.hpt_pool.proofs.Kept.{with_contains}
-use Rattle.frame_grants.specs.Grants.{Granted}
-use Rattle.trace_read.specs.Config.{Configured}
+use Rattle.frame_grants.specs.Grants.{GrantedMemory}
+use Rattle.trace_read.specs.Configuration.{Configuration}
 use Rattle.entry_model.specs.State.{State, empty_state}
 use Rattle.hpt_resize.specs.Rehash.{entry_count}
-use Rattle.hpt_resize.specs.Home.{empty_states, opening_home}
-use Rattle.partition.specs.Partition.{Parted, IsPartition, opened}
-use Rattle.partition.proofs.Resizing.{parted, home_or}
+use Rattle.hpt_resize.specs.TableMemory.{empty_states, opening_memory}
+use Rattle.partition.specs.PartitionState.{PartitionState, IsPartition, opening_partition}
+use Rattle.partition.proofs.Resizing.{partition, memory_or}
+use Rattle.frame_grants.specs.Grants as grants
 
 -- The pool that the grants stand beside can be one.
 pub can_be : (base order : ℕ) → grants.IsPool base order → pool_refusal base order ≡ None
@@ -42,27 +42,27 @@ fits_first base order table pool large small =
     subst (λ n. fits (no_blocks base order) table n ≡ true) first
     (fits_is (no_blocks base order) table (base + 0 * 2 ^ table) (multiple_placed (no_blocks base order) table 0 (pool_of base order pool) large small some))
 
-pub has_place : (pool : Pooled) (base order table : ℕ) (o : Option ℕ) → pool ≡ no_blocks base order → grants.IsPool base order → 18 ≤ table → table ≤ order → MatchOption o (FitsNowhere pool table) (IsLowest pool table) → IsSome o
+pub has_place : (pool : PoolState) (base order table : ℕ) (o : Option ℕ) → pool ≡ no_blocks base order → grants.IsPool base order → 18 ≤ table → table ≤ order → MatchOption o (FitsNowhere pool table) (IsLowest pool table) → IsSome o
 has_place pool base order table (Some place) is sound large small lowest = refl
 has_place pool base order table None is sound large small nowhere =
-    let fit : fits pool table base ≡ true = subst (λ (p : Pooled). fits p table base ≡ true) (sym is) (fits_first base order table sound large small) in
+    let fit : fits pool table base ≡ true = subst (λ (p : PoolState). fits p table base ≡ true) (sym is) (fits_first base order table sound large small) in
     let fails : fits pool table base ≡ false = nowhere base in
     absurd (cc)
 
 -- What refuses such a pool is want of memory.
-pub memory_alone : (refusal : Option PoolError) (result : Result Pooled PoolError) (e : PoolError) → refusal ≡ None → result ≡ Err e → MatchOption refusal (IsOkUnless result Memory) (λ other. result ≡ Err other) → e ≡ Memory
+pub memory_alone : (refusal : Option PoolError) (result : Result PoolState PoolError) (e : PoolError) → refusal ≡ None → result ≡ Err e → MatchOption refusal (IsOkUnless result Memory) (λ other. result ≡ Err other) → e ≡ Memory
 memory_alone None (Ok pool) e none is told = cc
 memory_alone None (Err other) e none is told = let same : other ≡ e = cc in sym same ∙ told
 memory_alone (Some refusal) result e none is told = absurd (cc)
 
 -- The grants are sound, and stand beside the configured pool.
-pub sound_pool : (copied granted : Granted) (base order : ℕ) → grants.IsSound copied → copied ≡ granted → granted.pool_base ≡ base → granted.pool_order ≡ order → grants.IsPool base order
+pub sound_pool : (copied granted : GrantedMemory) (base order : ℕ) → grants.IsSound copied → copied ≡ granted → granted.pool_base ≡ base → granted.pool_order ≡ order → grants.IsPool base order
 sound_pool copied granted base order sound same base_is order_is =
-    let first : copied.pool_base ≡ base = ap (λ (g : Granted). g.pool_base) same ∙ base_is in
-    let second : copied.pool_order ≡ order = ap (λ (g : Granted). g.pool_order) same ∙ order_is in
+    let first : copied.pool_base ≡ base = ap (λ (g : GrantedMemory). g.pool_base) same ∙ base_is in
+    let second : copied.pool_order ≡ order = ap (λ (g : GrantedMemory). g.pool_order) same ∙ order_is in
     subst (λ n. grants.IsPool n order) first (subst (λ n. grants.IsPool copied.pool_base n) second sound.pool)
 
-pub beside : (pool : Pooled) (granted : Granted) (base order : ℕ) → pool ≡ no_blocks base order → granted.pool_base ≡ base → granted.pool_order ≡ order → pool ≡ no_blocks granted.pool_base granted.pool_order
+pub beside : (pool : PoolState) (granted : GrantedMemory) (base order : ℕ) → pool ≡ no_blocks base order → granted.pool_base ≡ base → granted.pool_order ≡ order → pool ≡ no_blocks granted.pool_base granted.pool_order
 beside pool granted base order is first second = cc
 
 -- ---- the states
@@ -74,24 +74,24 @@ all_empty states order n one small is count empty =
     is ∙ ap (λ m. replicate m one) (count ∙ fits) ∙ ap (replicate (2 ^ (order - 4))) empty
 
 -- ---- the partition
-pub record IsOpened (config : Configured) (new : Pooled) (place : ℕ) (states : List State) (granted : Granted) : Type 0 where
-  pub kept : IsPartition (parted config.limit new None (record { order = config.order; place = place; number = 0; states = states }) granted)
-  pub is : parted config.limit new None (record { order = config.order; place = place; number = 0; states = states }) granted ≡ opened config
+pub record IsOpened (config : Configuration) (new : PoolState) (place : ℕ) (states : List State) (granted : GrantedMemory) : Type 0 where
+  pub kept : IsPartition (partition config.limit new None (record { order = config.order; place = place; number = 0; states = states }) granted)
+  pub is : partition config.limit new None (record { order = config.order; place = place; number = 0; states = states }) granted ≡ opening_partition config
 
-opened_is : (config : Configured) (new : Pooled) (place : ℕ) (states : List State) (granted : Granted) → new ≡ with_block (no_blocks config.granted.pool_base config.granted.pool_order) (block_at place config.order) → lowest_place (no_blocks config.granted.pool_base config.granted.pool_order) config.order ≡ Some place → states ≡ empty_states config.order → granted ≡ config.granted → parted config.limit new None (record { order = config.order; place = place; number = 0; states = states }) granted ≡ opened config
-unfolding opened opening_home
+opened_is : (config : Configuration) (new : PoolState) (place : ℕ) (states : List State) (granted : GrantedMemory) → new ≡ with_block (no_blocks config.granted.pool_base config.granted.pool_order) (block_at place config.order) → lowest_place (no_blocks config.granted.pool_base config.granted.pool_order) config.order ≡ Some place → states ≡ empty_states config.order → granted ≡ config.granted → partition config.limit new None (record { order = config.order; place = place; number = 0; states = states }) granted ≡ opening_partition config
+unfolding opening_partition opening_memory
 opened_is config new place states granted now lowest empty same =
     let at : unwrap_or (lowest_place (no_blocks config.granted.pool_base config.granted.pool_order) config.order) 0 ≡ place = ap (λ (o : Option ℕ). unwrap_or o 0) lowest in
     rw (now, empty, same, at) refl
 
-pub is_opened : (config : Configured) (pool new : Pooled) (o : Option ℕ) (place : ℕ) (states : List State) (granted : Granted) → 18 ≤ config.order → config.order ≤ config.limit → config.limit ≤ 22 → granted ≡ config.granted → pool ≡ no_blocks config.granted.pool_base config.granted.pool_order → o ≡ lowest_place pool config.order → o ≡ Some place → IfSome o (λ p. new ≡ with_block pool (block_at p config.order)) → IsSound new → states ≡ empty_states config.order → IsOpened config new place states granted
+pub is_opened : (config : Configuration) (pool new : PoolState) (o : Option ℕ) (place : ℕ) (states : List State) (granted : GrantedMemory) → 18 ≤ config.order → config.order ≤ config.limit → config.limit ≤ 22 → granted ≡ config.granted → pool ≡ no_blocks config.granted.pool_base config.granted.pool_order → o ≡ lowest_place pool config.order → o ≡ Some place → IfSome o (λ p. new ≡ with_block pool (block_at p config.order)) → IsSound new → states ≡ empty_states config.order → IsOpened config new place states granted
 unfolding empty_states
 is_opened config pool new None place states granted low within high same is first found made sound empty = absurd (cc)
 is_opened config pool new (Some other) place states granted low within high same is first found made sound empty =
     let at : other ≡ place = cc in
-    let open_pool : Pooled = no_blocks config.granted.pool_base config.granted.pool_order in
-    let now : new ≡ with_block open_pool (block_at place config.order) = made ∙ ap (λ n. with_block pool (block_at n config.order)) at ∙ ap (λ (p : Pooled). with_block p (block_at place config.order)) is in
-    let lowest : lowest_place open_pool config.order ≡ Some place = ap (λ (p : Pooled). lowest_place p config.order) (sym is) ∙ sym first ∙ found in
+    let open_pool : PoolState = no_blocks config.granted.pool_base config.granted.pool_order in
+    let now : new ≡ with_block open_pool (block_at place config.order) = made ∙ ap (λ n. with_block pool (block_at n config.order)) at ∙ ap (λ (p : PoolState). with_block p (block_at place config.order)) is in
+    let lowest : lowest_place open_pool config.order ≡ Some place = ap (λ (p : PoolState). lowest_place p config.order) (sym is) ∙ sym first ∙ found in
     let long : length states ≡ entry_count config.order = ap length empty ∙ length-replicate (entry_count config.order) (empty_state 0) in
     record {
       kept = record {
@@ -100,12 +100,12 @@ is_opened config pool new (Some other) place states granted low within high same
         order_low = low;
         order_high = omega arith;
         pool = sound;
-        base = ap (λ (p : Pooled). p.base) now ∙ ap (λ (g : Granted). g.pool_base) (sym same);
-        size = ap (λ (p : Pooled). p.order) now ∙ ap (λ (g : Granted). g.pool_order) (sym same);
+        base = ap (λ (p : PoolState). p.base) now ∙ ap (λ (g : GrantedMemory). g.pool_base) (sym same);
+        size = ap (λ (p : PoolState). p.order) now ∙ ap (λ (g : GrantedMemory). g.pool_order) (sym same);
         held = tt;
-        taken = subst (λ (p : Pooled). Contains p.taken (block_at place config.order)) (sym now) (with_contains open_pool.taken (block_at place config.order));
+        taken = subst (λ (p : PoolState). Contains p.taken (block_at place config.order)) (sym now) (with_contains open_pool.taken (block_at place config.order));
         elsewhere = tt;
-        in_or_out = home_or (length states) (entry_count config.order) long;
+        in_or_out = memory_or (length states) (entry_count config.order) long;
       };
       is = opened_is config new place states granted now lowest empty same;
     }
@@ -115,10 +115,10 @@ pub if_ok : {T E : Type 0} (P Q : T → Type 0) (r : Result T E) → ((x : T) �
 if_ok P Q (Ok x) step is = step x is
 if_ok P Q (Err e) step is = is
 
-pub opened_order : (config : Configured) (partition : Parted) → partition ≡ opened config → partition.home.table.order ≡ config.order
-unfolding opened opening_home
-opened_order config partition is = ap (λ (p : Parted). p.home.table.order) is
+pub opened_order : (config : Configuration) (partition : PartitionState) → partition ≡ opening_partition config → partition.memory.table.order ≡ config.order
+unfolding opening_partition opening_memory
+opened_order config partition is = ap (λ (p : PartitionState). p.memory.table.order) is
 
-pub opened_number : (config : Configured) (partition : Parted) → partition ≡ opened config → partition.home.table.number ≡ 0
-unfolding opened opening_home
-opened_number config partition is = ap (λ (p : Parted). p.home.table.number) is
+pub opened_number : (config : Configuration) (partition : PartitionState) → partition ≡ opening_partition config → partition.memory.table.number ≡ 0
+unfolding opening_partition opening_memory
+opened_number config partition is = ap (λ (p : PartitionState). p.memory.table.number) is

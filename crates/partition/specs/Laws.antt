@@ -1,5 +1,5 @@
 -- What is proved of the resize calls: a committed resize keeps each bolted page's translation.
-use Rattle.std.specs.Prelude.{◌≡◌, ℕ, ◌/◌, ◌%◌, ◌<◌, ◌↔◌, IsTrue, length}
+use Rattle.std.specs.Prelude.{◌≡◌, ◌≤◌, ℕ, ◌/◌, ◌%◌, ◌<◌, ◌↔◌, IsTrue, length}
 use Rattle.std.specs.List.{AllByRecursion}
 use Rattle.power_addr.specs.Pages.{VirtualPage}
 use Rattle.hpte_fields.specs.Fields.{is_bolted, is_secondary}
@@ -8,9 +8,10 @@ use Rattle.entry_model.specs.Run.{state_at}
 use Rattle.hpt_walk.specs.Laws.{IsEntryState}
 use Rattle.hpt_walk.specs.Translations.{translations, is_paired}
 use Rattle.papr_codes.specs.declared.codes.Rc.TheVariants.{Success}
-use Rattle.hpt_resize.specs.Rehash.{restamped}
+use Rattle.hpt_resize.specs.Rehash.{entry_count, at_stamp_0}
+use Rattle.hpt_resize.specs.Translations.{KeepsTranslations}
 use Rattle.hpt_resize.specs.Resize.{Table}
-use Rattle.hpt_resize.specs.Home.{Home, commit_at_home}
+use Rattle.hpt_resize.specs.TableMemory.{TableMemory, commit_result}
 
 -- The table pairs the page with this entry.
 abbrev pub Translates : Table → VirtualPage → ℕ → Type 0
@@ -26,12 +27,22 @@ pub record IsSource (table : Table) (order : ℕ) (page : VirtualPage) (target :
   pub slot : entry % 8 ≡ target % 8
 
 -- The new table pairs a page with an entry exactly where one of the old table's bolted entries of the page goes there, and that entry has its doublewords, R and C.
-pub record KeepsTranslations (old new : Table) : Type 0 where
+pub record PairsCarriedPages (old new : Table) : Type 0 where
   pub pairs : (page : VirtualPage) (target : ℕ) → target < length new.states → Translates new page target ↔ IsSource old new.order page target
-  pub kept : (page : VirtualPage) (target : ℕ) (source : IsSource old new.order page target) → state_at new.states target ≡ restamped (state_at old.states source.entry)
+  pub kept : (page : VirtualPage) (target : ℕ) (source : IsSource old new.order page target) → state_at new.states target ≡ at_stamp_0 (state_at old.states source.entry)
   pub in_table : (page : VirtualPage) (target : ℕ) → IsSource old new.order page target → target < length new.states
 
 -- So does each commit that succeeds, on entries as tables have them.
-abbrev pub CommitKeepsTranslations : Type 0
-CommitKeepsTranslations =
-    (home : Home) (flags shift : ℕ) → AllByRecursion IsEntryState home.table.states → (commit_at_home home flags shift).0 ≡ Success → KeepsTranslations home.table (commit_at_home home flags shift).1.table
+abbrev pub CommitPairsCarriedPages : Type 0
+CommitPairsCarriedPages =
+    (memory : TableMemory) (flags shift : ℕ) → AllByRecursion IsEntryState memory.table.states → (commit_result memory flags shift).0 ≡ Success → PairsCarriedPages memory.table (commit_result memory flags shift).1.table
+
+-- ---- two ways to say what is kept
+-- A new table that keeps each bolted page's translation pairs the carried pages.
+abbrev pub KeptTranslationsArePaired : Type 0
+KeptTranslationsArePaired =
+    (old new : Table)
+    → 18 ≤ new.order
+    → length new.states ≡ entry_count new.order
+    → KeepsTranslations old new
+    → PairsCarriedPages old new

@@ -3,10 +3,10 @@
 #![tactic(auto)]
 
 mod laws;
-mod parted;
+mod partition_state;
 
-pub use laws::commit_keeps_translations;
-pub use parted::Partition;
+pub use laws::{commit_keeps_translations, kept_translations_are_paired};
+pub use partition_state::Partition;
 
 #[cfg(test)]
 mod tests;

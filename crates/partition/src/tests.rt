@@ -1,5 +1,5 @@
 ghost use Rattle.std.specs.Prelude.{◌≡◌, ◌≤◌, ◌%◌, ◌^◌, bit_and, IfOk};
-ghost use Rattle.partition.specs.Partition.{IsAtHome};
+ghost use Rattle.partition.specs.PartitionState.{HasStates};
 
 use crate::Partition;
 use entry_model::EntryState;
@@ -16,9 +16,9 @@ fn smallest(alloc: Global, limit: u8, pool_order: u8) -> Result<Partition, Alloc
     requires pool_low { 19 ≤ pool_order }
     requires pool_high { pool_order ≤ 34 }
     requires pool_aligned { 0x1000000000 % 2 ^ pool_order ≡ 0 }
-    ensures home { IfOk result IsAtHome }
-    ensures order { IfOk result (λ partition. partition.home.table.order ≡ 18) }
-    ensures first { IfOk result (λ partition. partition.home.table.number ≡ 0) }
+    ensures memory { IfOk result HasStates }
+    ensures order { IfOk result (λ partition. partition.memory.table.order ≡ 18) }
+    ensures first { IfOk result (λ partition. partition.memory.table.number ≡ 0) }
 {
     let config = Config {
         order: 18,

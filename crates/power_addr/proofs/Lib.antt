@@ -1,3 +1,4 @@
 pub mod Ranges
 pub mod Tags
 pub mod Rows
+pub mod SamePages

@@ -1,6 +1,6 @@
 -- What the ranges of a page's parts say: the seven kinds of page, and that an address has 78 bits.
-use Rattle.std.proofs.Common.{◌≡◌, ℕ, ◌+◌, ◌-◌, ◌*◌, ◌/◌, ◌%◌, ◌^◌, ◌<◌, Bool, true, false, arith, sym, refl, subst, inl, inr, ◌⊎◌, nat_lt, Some, None}
 use Rattle.std.specs.Prelude.{IsTrue, ◌==◌, ◌||◌, ◌&&◌}
+use Rattle.std.proofs.Common.{◌≡◌, ℕ, ◌+◌, ◌-◌, ◌*◌, ◌/◌, ◌%◌, ◌^◌, ◌<◌, Bool, true, false, arith, sym, refl, subst, inl, inr, ◌⊎◌, nat_lt, Some, None}
 use Rattle.std.proofs.lemmas.Bool.{or_cases, eqb-true, false≢true, ltb-true, lt-ltb, cases_Bool}
 use Rattle.power_addr.specs.Pages.{VirtualPage, IsPage, is_page, is_vsid, offset_bits, vsid_bits, is_base_shift, virtual_address, page_at_address, page_of_address}
 

@@ -2,6 +2,7 @@
 -- Power ISA 2.07 Book III-S, storage addressing: a virtual address has 78 bits, the segment's number (VSID) and then the offset in the segment.
 use Rattle.std.specs.Prelude.{ℕ, ◌+◌, ◌-◌, ◌*◌, ◌/◌, ◌%◌, ◌^◌, ◌<◌, ◌==◌, ◌&&◌, nat_lt, Bool, true, false, if◌then◌else◌, IsTrue, List, [], ◌∷◌, Option, Some, None, bit_and}
 use Rattle.std.specs.List.{list_any}
+use Rattle.basics.specs.Words.{bool_eq}
 
 -- A page: whether its segment is one of 1 TB (else one of 256 MB), the segment's number, the binary logarithm of the page's size, and the number of pages before it in the segment.
 pub record VirtualPage : Type 0 where
@@ -73,3 +74,9 @@ segment_code_of true = 1
 -- The tag of the page's entries, as in doubleword 0: B in the top two bits, and the abbreviated virtual page number, which holds the address bits from weight 2 ^ 23 up.
 unfoldable pub tag_of : VirtualPage → ℕ
 tag_of p = segment_code_of p.one_tb * 2 ^ 62 + bit_and (virtual_address p / 2 ^ 16) 0x3FFFFFFFFFFFFF80
+
+-- ---- comparing
+-- The two pages have the same parts.
+unfoldable pub same_page : VirtualPage → VirtualPage → Bool
+same_page p q =
+    bool_eq p.one_tb q.one_tb && (p.vsid == q.vsid) && (p.shift == q.shift) && (p.index == q.index)

@@ -1,16 +1,14 @@
 -- The texts of made replies: each form of a line once.
-use Rattle.std.proofs.Common.{◌≡◌, ℕ, List, [], ◌∷◌, true, false, Some, None, refl}
 use Rattle.std.specs.Prelude.{codes, map}
+use Rattle.std.proofs.Common.{◌≡◌, ℕ, List, [], ◌∷◌, true, false, Some, None, refl}
 use Rattle.std.specs.List.{flat_map}
 use Rattle.std.specs.Fmt.{digits}
 use Rattle.papr_codes.specs.Hcalls.{hcall_of, row_of}
 use Rattle.papr_codes.specs.ReturnCodes.{rc_code}
-use Rattle.papr_codes.specs.declared.codes.Rc.TheVariants as rc
 use Rattle.storage_prot.specs.declared.want.Want.TheVariants.{Load, Store, Fetch}
 use Rattle.storage_prot.specs.Protection.{permission, rows}
 use Rattle.entry_model.specs.State.{State, empty_state}
 use Rattle.entry_model.specs.declared.operation.Op.{Op}
-use Rattle.entry_model.specs.declared.operation.Op.TheVariants as ops
 use Rattle.entry_model.specs.declared.operation.Test.{Test}
 use Rattle.entry_model.specs.declared.access_reply.By.TheVariants.{Hit, Walk}
 use Rattle.entry_model.specs.declared.access_reply.Outcome.TheVariants.{At, Denied, NoPage, NoSegment, Ungranted}
@@ -18,10 +16,12 @@ use Rattle.entry_model.specs.Receipt.{receipt_of}
 use Rattle.entry_model.specs.Reply.{has_base}
 use Rattle.trace_read.specs.declared.trace.TraceLine.{TraceLine}
 use Rattle.trace_read.specs.declared.trace.Act.TheVariants.{Call, Access, SlbMte, SlbClear, Dump}
-use Rattle.reply_text.specs.declared.reply.Reply.{Reply}
-use Rattle.reply_text.specs.declared.reply.Reply.TheVariants as replies
+use Rattle.trace_reply.specs.declared.reply.Reply.{Reply}
 use Rattle.reply_text.specs.Summary.{summary_text, row_text, entries_text}
 use Rattle.reply_text.specs.Text.{text_from, receipts_text, head_text, code_text, entry_text, dump_head, table_text}
+use Rattle.papr_codes.specs.declared.codes.Rc.TheVariants as rc
+use Rattle.entry_model.specs.declared.operation.Op.TheVariants as ops
+use Rattle.trace_reply.specs.declared.reply.Reply.TheVariants as replies
 
 -- An entry of the page of VSID 1 and index 1, read-only, with C and without R.
 used : State

@@ -2,7 +2,7 @@
 use Rattle.std.proofs.Common.{◌≡◌, ℕ, ◌+◌, ◌<◌, List, ◌∷◌, ◌++◌, length, get_or, drop, ap, sym, ◌∙◌, append_assoc}
 use Rattle.std.proofs.lemmas.List.{drop_more}
 use Rattle.trace_read.specs.declared.trace.TraceLine.{TraceLine}
-use Rattle.reply_text.specs.declared.reply.Reply.{Reply}
+use Rattle.trace_reply.specs.declared.reply.Reply.{Reply}
 use Rattle.reply_text.specs.Text.{reply_text, text_from}
 
 -- The line of text at an index, and those after it.

@@ -1,15 +1,2 @@
-pub mod Room
-pub mod Turns
-pub mod Seats
-pub mod Calls
-pub mod Worlds
-pub mod Serial
-pub mod Histories
-pub mod Sections
-pub mod Good
-pub mod Standing
-pub mod Promise
-pub mod Workers
-pub mod Claims
 pub mod Text
 pub mod Summary

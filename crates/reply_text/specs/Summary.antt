@@ -3,16 +3,16 @@ use Rattle.std.specs.Prelude.{ℕ, ◌++◌, Bool, true, false, List, [], ◌∷
 use Rattle.std.specs.List.{flat_map}
 use Rattle.std.specs.Fmt.{decimal}
 use Rattle.papr_codes.specs.declared.codes.Rc.{Rc}
-use Rattle.papr_codes.specs.declared.codes.Rc.TheVariants as rc
 use Rattle.entry_model.specs.State.{State}
 use Rattle.entry_model.specs.declared.access_reply.Outcome.{Outcome}
-use Rattle.entry_model.specs.declared.access_reply.Outcome.TheVariants as outcomes
 use Rattle.entry_model.specs.declared.access_reply.By.{By}
-use Rattle.entry_model.specs.declared.access_reply.By.TheVariants as ways
 use Rattle.reply_text.specs.declared.counted.Counted.{Counted}
+use Rattle.trace_reply.specs.declared.reply.Reply.{Reply}
+use Rattle.papr_codes.specs.declared.codes.Rc.TheVariants as rc
+use Rattle.entry_model.specs.declared.access_reply.Outcome.TheVariants as outcomes
+use Rattle.entry_model.specs.declared.access_reply.By.TheVariants as ways
 use Rattle.reply_text.specs.declared.counted.Counted.TheVariants as counts
-use Rattle.reply_text.specs.declared.reply.Reply.{Reply}
-use Rattle.reply_text.specs.declared.reply.Reply.TheVariants as replies
+use Rattle.trace_reply.specs.declared.reply.Reply.TheVariants as replies
 
 -- ---- what is counted
 -- The word of each row.

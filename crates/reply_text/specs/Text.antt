@@ -5,25 +5,25 @@ use Rattle.std.specs.Fmt.{decimal, digits, signed_decimal}
 use Rattle.papr_codes.specs.Hcalls.{hcall_of, hcall_name}
 use Rattle.papr_codes.specs.ReturnCodes.{rc_code}
 use Rattle.storage_prot.specs.declared.want.Want.{Want}
-use Rattle.storage_prot.specs.declared.want.Want.TheVariants as wants
 use Rattle.entry_model.specs.State.{State}
 use Rattle.entry_model.specs.declared.operation.Answer.{Answer}
 use Rattle.entry_model.specs.declared.operation.Answer.TheVariants.{Entered, Taken, Removed, Protected, Was, Words, NotFound, NoMatch, Denied, At, Worn}
 use Rattle.entry_model.specs.declared.access_reply.AccessReply.{AccessReply}
 use Rattle.entry_model.specs.declared.access_reply.Outcome.{Outcome}
-use Rattle.entry_model.specs.declared.access_reply.Outcome.TheVariants as outcomes
 use Rattle.entry_model.specs.declared.access_reply.By.{By}
-use Rattle.entry_model.specs.declared.access_reply.By.TheVariants as ways
 use Rattle.entry_model.specs.declared.receipt.Receipt.{Receipt}
 use Rattle.entry_model.specs.declared.hreply.HReply.{HReply}
 use Rattle.entry_model.specs.Reply.{words_of}
 use Rattle.trace_read.specs.declared.trace.TraceLine.{TraceLine}
 use Rattle.trace_read.specs.declared.trace.Act.{Act}
+use Rattle.trace_read.specs.Trace.{AcceptedTrace}
+use Rattle.trace_reply.specs.declared.shown.Shown.{Shown}
+use Rattle.trace_reply.specs.declared.reply.Reply.{Reply}
+use Rattle.storage_prot.specs.declared.want.Want.TheVariants as wants
+use Rattle.entry_model.specs.declared.access_reply.Outcome.TheVariants as outcomes
+use Rattle.entry_model.specs.declared.access_reply.By.TheVariants as ways
 use Rattle.trace_read.specs.declared.trace.Act.TheVariants as acts
-use Rattle.trace_read.specs.Trace.{Accepted}
-use Rattle.reply_text.specs.declared.shown.Shown.{Shown}
-use Rattle.reply_text.specs.declared.reply.Reply.{Reply}
-use Rattle.reply_text.specs.declared.reply.Reply.TheVariants as replies
+use Rattle.trace_reply.specs.declared.reply.Reply.TheVariants as replies
 
 -- `0x` and lower-case hexadecimal digits without leading zeros.
 abbrev pub hex : ℕ → List ℕ
@@ -133,5 +133,5 @@ text_from [] rs = []
 text_from (l ∷ ls) [] = []
 text_from (l ∷ ls) (r ∷ rs) = reply_text l r ++ text_from ls rs
 
-abbrev pub text_of : Accepted → List Reply → List ℕ
+abbrev pub text_of : AcceptedTrace → List Reply → List ℕ
 text_of t rs = text_from t.lines rs

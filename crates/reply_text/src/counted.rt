@@ -1,9 +1,9 @@
 ghost use Rattle.std.specs.Prelude.{◌≡◌};
 ghost use Rattle.reply_text.specs.Summary.{all_counted, counted_word, counts_code, counts_end, is_counted};
 
-use crate::reply::Reply;
 use entry_model::{By, Outcome};
 use papr_codes::Rc;
+use trace_reply::Reply;
 
 /// What the summary of a run counts of the replies, in its order.
 #[derive(Clone, Copy, PartialEq, Eq, Debug)]

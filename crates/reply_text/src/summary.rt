@@ -3,13 +3,11 @@ ghost use Rattle.std.specs.List.{flat_map};
 ghost use Rattle.reply_text.specs.Summary.{is_counted, row_text, all_counted, counted_text, has_change, entries_text, summary_text};
 
 use crate::counted::Counted;
-use crate::replies::Replies;
-use crate::reply::Reply;
-use crate::shown::Shown;
 use entry_model::EntryState;
 use std::alloc::{AllocError, Global};
 use std::fmt::Write;
 use trace_read::Trace;
+use trace_reply::{Replies, Reply, Shown};
 
 #[tactic(auto, unfolding(crate::specs::Summary::row_text))]
 fn put_row(out: &mut String, word: &str, number: usize) -> Result<(), AllocError>

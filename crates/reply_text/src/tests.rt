@@ -1,9 +1,10 @@
-use crate::{Replies, Reply, Shown, ShownStates, put_reply, summary_of, text_of};
+use crate::{put_reply, summary_of, text_of};
 use entry_model::{EntryState, HReply};
 use papr_codes::Rc;
 use std::alloc::Global;
 use std::test::Fail;
 use trace_read::{Act, Trace, TraceError, TraceLine, parse};
+use trace_reply::{Replies, Reply, Shown, ShownStates};
 
 /// Two lines, each of which needs no entry.
 const LINES: &str = "begin

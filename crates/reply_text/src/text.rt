@@ -4,15 +4,13 @@ ghost use Rattle.papr_codes.specs.ReturnCodes.{rc_code};
 ghost use Rattle.reply_text.specs.Text.{want_word, name_of, head_text, word_text, code_text, hcall_text, outcome_text, way_text, access_text, verdict_text, entry_text, dump_head, table_text, dump_text, reply_text, text_from, receipts_text};
 
 use crate::receipts::put_receipts;
-use crate::replies::Replies;
-use crate::reply::Reply;
-use crate::shown::Shown;
 use entry_model::{AccessReply, By, EntryState, HReply, Outcome};
 use papr_codes::{Hcall, Rc};
 use std::alloc::{AllocError, Global};
 use std::fmt::Write;
 use storage_prot::Want;
 use trace_read::{Act, Trace, TraceLine};
+use trace_reply::{Replies, Reply, Shown};
 
 fn want_name(want: Want) -> &'static str
     ensures { result.now ≡ want_word want }

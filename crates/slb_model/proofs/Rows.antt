@@ -1,11 +1,11 @@
 -- Worked values, which the checker computes.
 use Rattle.std.proofs.Common.{◌≡◌, ℕ, Bool, true, false, List, Option, Some, None, refl}
 use Rattle.power_addr.specs.Pages.{VirtualPage}
-use Rattle.slb_model.specs.declared.error.BadSlb.TheVariants as bad
 use Rattle.slb_model.specs.declared.slot.Slot.{Slot}
 use Rattle.slb_model.specs.Slots.{slot_of_words}
 use Rattle.slb_model.specs.Refusals.{tests_of_words, mte_refusal}
 use Rattle.slb_model.specs.Buffer.{no_slots, slots_after, segment_of}
+use Rattle.slb_model.specs.declared.error.BadSlb.TheVariants as bad
 
 -- ---- what is refused, and in which order
 fine : mte_refusal 0x8000000 0x1000 ≡ None

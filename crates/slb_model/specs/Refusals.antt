@@ -1,12 +1,9 @@
 -- What may be wrong with the words of an slbmte.
-use Rattle.std.specs.Prelude.{ℕ, Bool, not, if◌then◌else◌, nat_lt, List, [], ◌∷◌, find, Option, option_map}
+use Rattle.std.specs.Prelude.{ℕ, Bool, not, if◌then◌else◌, nat_lt, List, [], ◌∷◌, Option}
+use Rattle.basics.specs.Words.{first_refusal}
 use Rattle.slb_model.specs.declared.error.BadSlb.{BadSlb}
-use Rattle.slb_model.specs.declared.error.BadSlb.TheVariants as bad
 use Rattle.slb_model.specs.Slots.{slot_number, is_valid, segment_code, has_base_page}
-
--- Of these tests the first that holds says what is wrong.
-abbrev pub first_wrong : List (Bool × BadSlb) → Option BadSlb
-first_wrong tests = option_map (λ (test : Bool × BadSlb). test.1) (find (λ (test : Bool × BadSlb). test.0) tests)
+use Rattle.slb_model.specs.declared.error.BadSlb.TheVariants as bad
 
 -- B is above 1, or no base page size of such a segment is encoded.
 unfoldable pub tests_of_words : ℕ → List (Bool × BadSlb)
@@ -14,4 +11,4 @@ tests_of_words rs = (nat_lt 1 (segment_code rs), bad.SegmentSize) ∷ (not (has_
 
 -- First that there is no such slot. Without V nothing else is tried.
 unfoldable pub mte_refusal : ℕ → ℕ → Option BadSlb
-mte_refusal rb rs = first_wrong ((nat_lt 31 (slot_number rb), bad.Slot) ∷ (if is_valid rb then tests_of_words rs else []))
+mte_refusal rb rs = first_refusal ((nat_lt 31 (slot_number rb), bad.Slot) ∷ (if is_valid rb then tests_of_words rs else []))

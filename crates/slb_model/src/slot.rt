@@ -1,7 +1,8 @@
 ghost use Rattle.std.specs.Prelude.{◌≡◌, true, IsTrue, IsSome, IfOk, IfSome, MatchResult, OnOk, Some, None};
 ghost use Rattle.power_addr.specs.Pages.{is_base_shift};
 ghost use Rattle.slb_model.specs.Slots.{IsSlot, covers, segment_by, slot_of_words, base_shift_of};
-ghost use Rattle.slb_model.specs.Refusals.{first_wrong, tests_of_words};
+ghost use Rattle.basics.specs.Words.{first_refusal};
+ghost use Rattle.slb_model.specs.Refusals.{tests_of_words};
 
 use crate::error::BadSlb;
 use crate::segment::Segment;
@@ -39,7 +40,7 @@ impl Slot {
     pub fn of_words(rb: u64, rs: u64) -> Result<Slot, BadSlb>
         ensures slot { IfOk result (λ slot. slot_of_words rb rs ≡ Some slot) }
         ensures in_range { IfOk result IsSlot }
-        ensures told { MatchResult result (λ _. first_wrong (tests_of_words rs) ≡ None) (λ e. first_wrong (tests_of_words rs) ≡ Some e) }
+        ensures told { MatchResult result (λ _. first_refusal (tests_of_words rs) ≡ None) (λ e. first_refusal (tests_of_words rs) ≡ Some e) }
     {
         let one_tb = match rs >> 62 {
             0 => false,

@@ -2,10 +2,11 @@
 use Rattle.std.proofs.Common.{◌≡◌, ◌<◌, ◌≤◌, List, [], ◌∷◌, ◌++◌, Bool, true, false, not, Some, None, ◌⊎◌, inl, inr, refl, subst, length, filter, remove, arith, length-append}
 use Rattle.std.specs.List.Retain.{RetainsInTurn}
 use Rattle.std.proofs.lemmas.Bool.{cases_Bool, cond_both}
-use Rattle.power_addr.specs.Pages.{VirtualPage}
+use Rattle.power_addr.specs.Pages.{VirtualPage, same_page}
 use Rattle.entry_model.specs.declared.line.Line.{Line}
-use Rattle.entry_model.specs.Cache.{same_page, is_of, line_of_page, without_page}
-use Rattle.entry_model.proofs.CachedPages.{page_same, page_self, all_filter, all_append}
+use Rattle.tlb_model.specs.Cache.{is_of, line_of_page, without_page}
+use Rattle.tlb_model.proofs.CachedPages.{all_filter, all_append}
+use Rattle.power_addr.proofs.SamePages.{page_same, page_self}
 use Rattle.tlb_model.specs.Sets.{AreApart, IsLineSet}
 
 -- ---- the test of equal pages takes either order

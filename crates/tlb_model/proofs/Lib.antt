@@ -1,3 +1,4 @@
 pub mod Apart
 pub mod Placed
+pub mod CachedPages
 mod Rows

@@ -4,8 +4,8 @@ use Rattle.std.proofs.Math.ListN.{length-set}
 use Rattle.std.proofs.lemmas.List.{get_or_default}
 use Rattle.power_addr.specs.Pages.{VirtualPage}
 use Rattle.entry_model.specs.declared.line.Line.{Line}
-use Rattle.entry_model.specs.Cache.{is_of, set_of, set_number, empty_cache, without_page, put_last}
-use Rattle.entry_model.proofs.CachedPages.{all_filter, all_put_last}
+use Rattle.tlb_model.specs.Cache.{is_of, set_of, set_number, empty_cache, without_page, put_last}
+use Rattle.tlb_model.proofs.CachedPages.{all_filter, all_put_last}
 use Rattle.tlb_model.specs.Sets.{IsCache, IsForSet, with_set}
 
 -- ---- no lines

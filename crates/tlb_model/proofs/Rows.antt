@@ -1,8 +1,8 @@
 -- Worked values, which the checker computes.
 use Rattle.std.proofs.Common.{◌≡◌, ℕ, true, false, List, [], ◌∷◌, Some, None, refl, length}
-use Rattle.power_addr.specs.Pages.{VirtualPage, virtual_page}
+use Rattle.power_addr.specs.Pages.{VirtualPage, virtual_page, same_page}
 use Rattle.entry_model.specs.declared.line.Line.{Line}
-use Rattle.entry_model.specs.Cache.{same_page, cached, empty_cache, set_number, without_page, put_last}
+use Rattle.tlb_model.specs.Cache.{cached_line, empty_cache, set_number, without_page, put_last}
 use Rattle.tlb_model.specs.Sets.{with_set}
 
 -- Pages of 4 KB in the segment 1 of 256 MB.
@@ -56,15 +56,15 @@ one_goes = refl
 one_line : List (List Line)
 one_line = with_set (small_page 0x25) (line_by 0x25 2 ∷ []) empty_cache
 
-found : cached one_line (small_page 0x25) ≡ Some (line_by 0x25 2)
-unfolding cached same_page empty_cache one_line
+found : cached_line one_line (small_page 0x25) ≡ Some (line_by 0x25 2)
+unfolding cached_line same_page empty_cache one_line
 found = refl
 
-not_of_the_page : cached one_line (small_page 0x5) ≡ None
-unfolding cached same_page empty_cache one_line
+not_of_the_page : cached_line one_line (small_page 0x5) ≡ None
+unfolding cached_line same_page empty_cache one_line
 not_of_the_page = refl
 
 -- The last of the 32 sets is there.
-last_set : cached (with_set (small_page 31) (line_by 31 1 ∷ []) empty_cache) (small_page 31) ≡ Some (line_by 31 1)
-unfolding cached same_page empty_cache
+last_set : cached_line (with_set (small_page 31) (line_by 31 1 ∷ []) empty_cache) (small_page 31) ≡ Some (line_by 31 1)
+unfolding cached_line same_page empty_cache
 last_set = refl

@@ -1,1 +1,4 @@
+pub mod Cache
 pub mod Sets
+pub mod CacheAfter
+pub mod Processor

@@ -2,7 +2,7 @@
 use Rattle.std.specs.Prelude.{◌≡◌, ℕ, ◌≤◌, List, [], ◌∷◌, length, false, slice_index_or, slice_set}
 use Rattle.power_addr.specs.Pages.{VirtualPage}
 use Rattle.entry_model.specs.declared.line.Line.{Line}
-use Rattle.entry_model.specs.Cache.{is_of, set_number, AllInSet}
+use Rattle.tlb_model.specs.Cache.{is_of, set_number, AllInSet}
 
 -- ---- what holds at all times
 -- No page has two lines.

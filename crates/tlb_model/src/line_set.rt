@@ -1,6 +1,6 @@
 ghost use Rattle.std.specs.Prelude.{◌≡◌, [], None};
-ghost use Rattle.entry_model.specs.Cache.{line_of_page, without_page, put_last};
-ghost use Rattle.entry_model.specs.Cache as cache;
+ghost use Rattle.tlb_model.specs.Cache.{line_of_page, without_page, put_last};
+ghost use Rattle.power_addr.specs.Pages as pages;
 
 use arrayvec::ArrayVec;
 use entry_model::Line;
@@ -63,9 +63,9 @@ impl LineSet {
     }
 }
 
-#[tactic(auto, unfolding(entry_model::specs::Cache::same_page))]
+#[tactic(auto, unfolding(power_addr::specs::Pages::same_page))]
 fn same_page(left: &Page, right: &Page) -> bool
-    ensures { result ≡ cache.same_page left.now right.now }
+    ensures { result ≡ pages.same_page left.now right.now }
 {
     left.one_tb() == right.one_tb()
         && left.vsid() == right.vsid()

@@ -1,7 +1,7 @@
 ghost use Rattle.std.specs.Prelude.{◌≡◌, None};
-ghost use Rattle.entry_model.specs.Cache.{cached, empty_cache, set_of, without_page, put_last};
+ghost use Rattle.tlb_model.specs.Cache.{cached_line, empty_cache, set_of, without_page, put_last};
 ghost use Rattle.tlb_model.specs.Sets.{with_set};
-ghost use Rattle.entry_model.specs.Cache as sets;
+ghost use Rattle.tlb_model.specs.Cache as sets;
 
 use crate::line_set::LineSet;
 use entry_model::Line;
@@ -38,9 +38,9 @@ impl Tlb {
     }
 
     /// The line of the page; `None` exactly where it has none.
-    #[tactic(auto, unfolding(entry_model::specs::Cache::cached))]
+    #[tactic(auto, unfolding(crate::specs::Cache::cached_line))]
     pub fn find(&self, page: &Page) -> Option<Line>
-        ensures { result ≡ cached self.now page.now }
+        ensures { result ≡ cached_line self.now page.now }
     {
         self.sets[set_number(page)].find(page)
     }
@@ -48,7 +48,7 @@ impl Tlb {
     /// Puts a line of a page that has none last in its set. Where the set has four lines, the one
     /// that was filled first goes.
     pub fn fill(&mut self, line: Line)
-        requires { cached self.old line.page ≡ None }
+        requires { cached_line self.old line.page ≡ None }
         ensures { self.new ≡ with_set line.page (put_last line (set_of self.old line.page)) self.old }
     {
         let number = set_number(&line.page);

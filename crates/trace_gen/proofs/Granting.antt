@@ -1,30 +1,30 @@
 -- The grant of each generated trace is accepted.
 use Rattle.std.proofs.Common.{◌≡◌, Some, None, Result, Ok, Err, OnOk, MatchResult, refl, ap, ◌∙◌, arith}
 use Rattle.std.specs.Result.{IsOk}
-use Rattle.frame_grants.specs.Grants.{Granted, no_grants, add_refusal, refusals, with_grant}
+use Rattle.frame_grants.specs.Grants.{GrantedMemory, no_grants, add_refusal, refusals, with_grant}
 use Rattle.frame_grants.specs.declared.error.GrantError.{GrantError}
-use Rattle.trace_read.specs.Config.{Configured, IsConfigured}
+use Rattle.trace_read.specs.Configuration.{Configuration, IsConfigured}
 use Rattle.trace_gen.specs.Generated.{whole_ram, generated_config}
 
 not_refused : add_refusal (no_grants 0x1000000000 24) whole_ram ≡ None
 unfolding add_refusal refusals
 not_refused = refl
 
-pub accepted : {T : Type 0} (r : Result T GrantError) (old : Granted) → old ≡ no_grants 0x1000000000 24 → MatchResult r (λ x. add_refusal old whole_ram ≡ None) (λ e. add_refusal old whole_ram ≡ Some e) → IsOk r
+pub accepted : {T : Type 0} (r : Result T GrantError) (old : GrantedMemory) → old ≡ no_grants 0x1000000000 24 → MatchResult r (λ x. add_refusal old whole_ram ≡ None) (λ e. add_refusal old whole_ram ≡ Some e) → IsOk r
 accepted (Ok x) old is told = refl
 accepted (Err e) old is told =
-    let none : add_refusal old whole_ram ≡ None = ap (λ (g : Granted). add_refusal g whole_ram) is ∙ not_refused in
+    let none : add_refusal old whole_ram ≡ None = ap (λ (g : GrantedMemory). add_refusal g whole_ram) is ∙ not_refused in
     absurd (cc)
 
-pub granted_is : {T : Type 0} (r : Result T GrantError) (old new : Granted) → old ≡ no_grants 0x1000000000 24 → IsOk r → OnOk r (new ≡ with_grant old whole_ram) → new ≡ generated_config.granted
+pub granted_is : {T : Type 0} (r : Result T GrantError) (old new : GrantedMemory) → old ≡ no_grants 0x1000000000 24 → IsOk r → OnOk r (new ≡ with_grant old whole_ram) → new ≡ generated_config.granted
 unfolding generated_config with_grant
-granted_is (Ok x) old new is ok made = made ∙ ap (λ (g : Granted). with_grant g whole_ram) is
+granted_is (Ok x) old new is ok made = made ∙ ap (λ (g : GrantedMemory). with_grant g whole_ram) is
 granted_is (Err e) old new is ok made = absurd (cc)
 
-abbrev pub config_with : Granted → Configured
+abbrev pub config_with : GrantedMemory → Configuration
 config_with granted = record { order = 18; limit = 22; cpus = 4; granted = granted }
 
-pub configured : (granted : Granted) → granted ≡ generated_config.granted → IsConfigured 18 22 4 0x1000000000 24 granted
+pub configured : (granted : GrantedMemory) → granted ≡ generated_config.granted → IsConfigured 18 22 4 0x1000000000 24 granted
 unfolding generated_config
 configured granted is = record {
   at_least = omega arith;
@@ -32,11 +32,11 @@ configured granted is = record {
   at_most = omega arith;
   some = omega arith;
   few = omega arith;
-  base = ap (λ (g : Granted). g.pool_base) is;
-  size = ap (λ (g : Granted). g.pool_order) is;
+  base = ap (λ (g : GrantedMemory). g.pool_base) is;
+  size = ap (λ (g : GrantedMemory). g.pool_order) is;
   room = omega arith;
 }
 
-pub config_is : (granted : Granted) → granted ≡ generated_config.granted → config_with granted ≡ generated_config
+pub config_is : (granted : GrantedMemory) → granted ≡ generated_config.granted → config_with granted ≡ generated_config
 unfolding generated_config
 config_is granted is = ap config_with is

@@ -9,12 +9,12 @@ use Rattle.storage_prot.specs.declared.want.Want.TheVariants.{Load, Store}
 use Rattle.papr_codes.specs.declared.calls.Hcall.{Hcall}
 use Rattle.papr_codes.specs.declared.calls.Hcall.TheVariants.{Enter, Remove, Protect, ClearMod, ClearRef, Read}
 use Rattle.papr_codes.specs.Hcalls.{hcall_number, hcall_of, is_named, row_of}
-use Rattle.trace_read.specs.Config.{Configured}
-use Rattle.trace_read.specs.Trace.{Accepted, IsTrace, IsSpelt, is_quiet, is_dump, is_resize}
+use Rattle.trace_read.specs.Configuration.{Configuration}
+use Rattle.trace_read.specs.Trace.{AcceptedTrace, IsTrace, IsSpelt, is_quiet, is_dump, is_resize}
 use Rattle.trace_read.specs.declared.trace.Act.{Act}
 use Rattle.trace_read.specs.declared.trace.Act.TheVariants as acts
 use Rattle.trace_read.specs.declared.trace.TraceLine.{TraceLine}
-use Rattle.trace_gen.specs.Generated.{acts_of_word, act_of, entry_of, frame_of, generated_config, group_start, page_of, named_call, segment_line, kind_of, segment_lines, lines_from, words_of_seed, generated}
+use Rattle.trace_gen.specs.Generated.{acts_of_word, act_of, entry_of, frame_of, generated_config, group_start, page_of, named_call, segment_line, kind_of, segment_lines, lines_from, words_of_seed, generated_trace}
 
 -- ---- lists
 all_at : {X : Type 0} (P : X → Type 0) (xs : List X) (i : ℕ) (d : X) → AllByRecursion P xs → i < length xs → P (get_or xs i d)
@@ -133,14 +133,14 @@ pub lines_are : (none first all : List TraceLine) (seed lines : ℕ) → none �
 lines_are none first all seed lines empty segments words =
     words ∙ ap (λ (xs : List TraceLine). xs ++ lines_from 5 (words_of_seed seed lines)) (segments ∙ ap (λ (xs : List TraceLine). xs ++ segment_lines) empty)
 
-pub kept_trace : (config : Configured) (all : List TraceLine) (seed lines : ℕ) → lines ≤ 100000 → config ≡ generated_config → all ≡ segment_lines ++ lines_from 5 (words_of_seed seed lines) → IsTrace config.cpus all
+pub kept_trace : (config : Configuration) (all : List TraceLine) (seed lines : ℕ) → lines ≤ 100000 → config ≡ generated_config → all ≡ segment_lines ++ lines_from 5 (words_of_seed seed lines) → IsTrace config.cpus all
 unfolding generated_config
 kept_trace config all seed lines few same is =
-    subst (λ n. IsTrace n all) (sym (ap (λ (c : Configured). c.cpus) same)) (subst (IsTrace 4) (sym is) (is_trace seed lines few))
+    subst (λ n. IsTrace n all) (sym (ap (λ (c : Configuration). c.cpus) same)) (subst (IsTrace 4) (sym is) (is_trace seed lines few))
 
-abbrev pub trace_with : Configured → List TraceLine → Accepted
+abbrev pub trace_with : Configuration → List TraceLine → AcceptedTrace
 trace_with config lines = record { config = config; lines = lines }
 
-pub trace_is : (config : Configured) (all : List TraceLine) (seed lines : ℕ) → config ≡ generated_config → all ≡ segment_lines ++ lines_from 5 (words_of_seed seed lines) → trace_with config all ≡ generated seed lines
-unfolding generated
-trace_is config all seed lines same is = ap (λ (c : Configured). trace_with c all) same ∙ ap (trace_with generated_config) is
+pub trace_is : (config : Configuration) (all : List TraceLine) (seed lines : ℕ) → config ≡ generated_config → all ≡ segment_lines ++ lines_from 5 (words_of_seed seed lines) → trace_with config all ≡ generated_trace seed lines
+unfolding generated_trace
+trace_is config all seed lines same is = ap (λ (c : Configuration). trace_with c all) same ∙ ap (trace_with generated_config) is

@@ -10,8 +10,8 @@ use Rattle.frame_grants.specs.declared.grant.Kind.TheVariants.{Ram}
 use Rattle.papr_codes.specs.declared.calls.Hcall.{Hcall}
 use Rattle.papr_codes.specs.declared.calls.Hcall.TheVariants.{Enter, Remove, Protect, ClearMod, ClearRef, Read}
 use Rattle.papr_codes.specs.Hcalls.{hcall_number}
-use Rattle.trace_read.specs.Config.{Configured}
-use Rattle.trace_read.specs.Trace.{Accepted}
+use Rattle.trace_read.specs.Configuration.{Configuration}
+use Rattle.trace_read.specs.Trace.{AcceptedTrace}
 use Rattle.trace_read.specs.declared.trace.Act.{Act}
 use Rattle.trace_read.specs.declared.trace.Act.TheVariants as acts
 use Rattle.trace_read.specs.declared.trace.TraceLine.{TraceLine}
@@ -22,7 +22,7 @@ abbrev pub whole_ram : Grant
 whole_ram = record { logical = 0; machine = 0x2000000000; length = 0x40000000; kind = Ram }
 
 -- Four processors, a table of the lowest order, and a pool of 16 MB.
-unfoldable pub generated_config : Configured
+unfoldable pub generated_config : Configuration
 generated_config = record {
   order = 18;
   limit = 22;
@@ -95,5 +95,5 @@ lines_from number words = map (λ (x : ℕ × ℕ). line_of x.0 x.1) (enumerate_
 unfoldable pub words_of_seed : ℕ → ℕ → List ℕ
 words_of_seed seed count = first_words plus_plus count (of_seed (splitmix_seed 32 seed))
 
-unfoldable pub generated : ℕ → ℕ → Accepted
-generated seed lines = record { config = generated_config; lines = segment_lines ++ lines_from 5 (words_of_seed seed lines) }
+unfoldable pub generated_trace : ℕ → ℕ → AcceptedTrace
+generated_trace seed lines = record { config = generated_config; lines = segment_lines ++ lines_from 5 (words_of_seed seed lines) }

@@ -1,5 +1,5 @@
 ghost use Rattle.std.specs.Prelude.{◌≡◌, ◌≤◌, ◌++◌, IfOk, OnOk};
-ghost use Rattle.trace_gen.specs.Generated.{generated, generated_config, segment_lines, lines_from, words_of_seed};
+ghost use Rattle.trace_gen.specs.Generated.{generated_trace, generated_config, segment_lines, lines_from, words_of_seed};
 
 use crate::line::{line, segment};
 use frame_grants::{Grant, Grants, Kind};
@@ -16,7 +16,7 @@ const PROCESSORS: u32 = 4;
 /// The only error is want of memory.
 pub fn generate(alloc: Global, seed: u64, lines: u32) -> Result<Trace, AllocError>
     requires { lines ≤ 100000 }
-    ensures { IfOk result (λ trace. trace ≡ generated seed lines) }
+    ensures { IfOk result (λ trace. trace ≡ generated_trace seed lines) }
 {
     let mut list = TraceLines::new(alloc);
     push_segments(&mut list)?;

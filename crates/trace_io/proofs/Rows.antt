@@ -1,6 +1,6 @@
 -- Worked values of the definitions, which the checker computes.
 use Rattle.std.proofs.Common.{◌≡◌, ◌^◌, ◌-◌, refl, lit<, true, false, [], ◌∷◌, Some, None, inl, inr}
-use Rattle.trace_io.specs.Outside.{Took, Put, AtEnd, Rose, counted, TookPast, PutFront}
+use Rattle.trace_io.specs.Outside.{Took, Put, AtEnd, Rose, counted, TookPast, PutPrefix}
 use Rattle.trace_io.specs.Memory.{fails_next, new_source, read_count, after_read, new_sink, told, write_count, after_write}
 
 -- ---- the words of the outside
@@ -29,7 +29,7 @@ counts_stop = refl
 one_past_the_limit : TookPast 1 (Some (7 ∷ 8 ∷ 9 ∷ [])) (Some (9 ∷ []))
 one_past_the_limit = (7 ∷ 8 ∷ [], lit< tt, refl, refl)
 
-front_of_a_text : PutFront (1 ∷ 2 ∷ 3 ∷ []) (Some []) (Some (1 ∷ []))
+front_of_a_text : PutPrefix (1 ∷ 2 ∷ 3 ∷ []) (Some []) (Some (1 ∷ []))
 front_of_a_text = (1 ∷ [], 2 ∷ 3 ∷ [], refl, refl, lit< tt)
 
 -- ---- the source in memory

@@ -37,8 +37,8 @@ abbrev pub TookPast : ℕ → Option (List ℕ) → Option (List ℕ) → Type 0
 TookPast limit old new = (bytes : List ℕ) × (limit < length bytes) × Took old bytes new × (length bytes ≡ limit + 1)
 
 -- A front of the text was put, and not the whole.
-abbrev pub PutFront : List ℕ → Option (List ℕ) → Option (List ℕ) → Type 0
-PutFront text old new = (front : List ℕ) × (rest : List ℕ) × (text ≡ front ++ rest) × Put old front new × (0 < length rest)
+abbrev pub PutPrefix : List ℕ → Option (List ℕ) → Option (List ℕ) → Type 0
+PutPrefix text old new = (front : List ℕ) × (rest : List ℕ) × (text ≡ front ++ rest) × Put old front new × (0 < length rest)
 
 -- ---- laws
 pub took_more : (a b c : Option (List ℕ)) (xs ys : List ℕ) → Took a xs b → Took b ys c → Took a (xs ++ ys) c

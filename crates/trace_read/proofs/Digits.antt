@@ -1,6 +1,5 @@
 -- Bounds of a number that is read digit by digit.
-use Rattle.std.proofs.Common.{ℕ, ◌+◌, ◌*◌, ◌^◌, ◌<◌, ◌≤◌, arith, ◌≡◌, add-one}
-use Rattle.std.proofs.Common.{List, [], ◌∷◌, Bool, length}
+use Rattle.std.proofs.Common.{ℕ, ◌+◌, ◌*◌, ◌^◌, ◌<◌, ◌≤◌, arith, ◌≡◌, add-one, List, [], ◌∷◌, Bool, length}
 use Rattle.std.specs.List.{slice_split, position_or_len}
 use Rattle.std.proofs.lemmas.List.Splits.{slice_split_none}
 use Rattle.std.proofs.lemmas.List.Sums.{fails_before_first}

@@ -10,44 +10,44 @@ use Rattle.trace_read.specs.declared.trace.TraceLine.{TraceLine}
 use Rattle.trace_read.specs.declared.why.Why.{Why}
 use Rattle.trace_read.specs.declared.why.Why.TheVariants as whys
 use Rattle.trace_read.specs.Acts.{run_act, dump_act}
-use Rattle.trace_read.specs.Config.{Configured}
+use Rattle.trace_read.specs.Configuration.{Configuration}
 use Rattle.trace_read.specs.Counts.{may_add}
 use Rattle.trace_read.specs.Forms.{form_of}
-use Rattle.trace_read.specs.Lines.{raw_lines, without_cr, is_printable, words_of, is_remark}
+use Rattle.trace_read.specs.TextLines.{raw_lines, without_cr, is_printable, words_of, is_remark}
 use Rattle.trace_read.specs.Places.{is_running, is_first, comes_at}
 use Rattle.trace_read.specs.Settings.{default_settings, with_order, with_limit, with_cpus, with_pool, with_granted, with_begin}
-use Rattle.trace_read.specs.Trace.{Accepted, IsTrace}
+use Rattle.trace_read.specs.Trace.{AcceptedTrace, IsTrace}
 use Rattle.trace_read.specs.Whys.{◌>>=◌, guard}
 
 -- The lines so far: how many were read, what may come next, and what they have given.
 pub record Reading : Type 0 where
   pub taken : ℕ
   pub stage : Stage
-  pub config : Configured
+  pub config : Configuration
   pub lines : List TraceLine
 
 -- Before the first line.
-abbrev pub start : Reading
-start = record { taken = 0; stage = stages.Order; config = default_settings; lines = [] }
+abbrev pub opening_reading : Reading
+opening_reading = record { taken = 0; stage = stages.Order; config = default_settings; lines = [] }
 
 -- ---- one line
 -- After a configuration line, what may come next.
-abbrev pub set_to : Reading → Stage → Result Configured Why → Result Reading Why
+abbrev pub set_to : Reading → Stage → Result Configuration Why → Result Reading Why
 set_to r stage said = do
   config ← said
   Ok (record r { stage = stage; config = config })
 
 -- One more run line, of this processor.
-abbrev pub adding : Reading → ℕ → Act → Result Reading Why
-adding r cpu act = do
+abbrev pub with_run_line : Reading → ℕ → Act → Result Reading Why
+with_run_line r cpu act = do
   room ← may_add r.lines act
   Ok (record r { lines = r.lines ++ record { number = r.taken; cpu = cpu; act = act } ∷ [] })
 
 -- After a run line or a dump.
-unfoldable pub with_line : Reading → Result (ℕ × Act) Why → Result Reading Why
-with_line r said = do
+unfoldable pub after_act : Reading → Result (ℕ × Act) Why → Result Reading Why
+after_act r said = do
   x ← said
-  adding r x.0 x.1
+  with_run_line r x.0 x.1
 
 unfoldable pub after_form : Form → Reading → List (List ℕ) → Result Reading Why
 after_form forms.Order r ws = set_to r stages.Limit (with_order r.config ws)
@@ -56,8 +56,8 @@ after_form forms.Cpus r ws = set_to r stages.Pool (with_cpus r.config ws)
 after_form forms.Pool r ws = set_to r stages.Grants (with_pool r.config ws)
 after_form (forms.Grant kind) r ws = set_to r stages.Grants (with_granted r.config kind ws)
 after_form forms.Begin r ws = set_to r stages.Lines (with_begin r.config ws)
-after_form (forms.Run verb) r ws = with_line r (run_act r.config.cpus verb ws)
-after_form forms.Dump r ws = with_line r (dump_act ws)
+after_form (forms.Run verb) r ws = after_act r (run_act r.config.cpus verb ws)
+after_form forms.Dump r ws = after_act r (dump_act ws)
 
 -- The words of a line that is no remark: of a form, and in its place.
 unfoldable pub after_words : Reading → List (List ℕ) → Result Reading Why
@@ -79,22 +79,22 @@ after_line r line = do
 
 -- ---- all lines
 -- A refusal is told with the number of its line.
-abbrev pub go_on : ℕ → Result Reading Why → (Reading → Result Accepted (ℕ × Why)) → Result Accepted (ℕ × Why)
+abbrev pub go_on : ℕ → Result Reading Why → (Reading → Result AcceptedTrace (ℕ × Why)) → Result AcceptedTrace (ℕ × Why)
 go_on n (Ok r) f = f r
 go_on n (Err why) f = Err (n, why)
 
 -- At the end of the input `begin` has to have come.
-abbrev pub ended : Reading → Result Accepted (ℕ × Why)
-ended r = if is_running r.stage then Ok (record { config = r.config; lines = r.lines }) else Err (r.taken + 1, whys.Begin)
+abbrev pub trace_at_end : Reading → Result AcceptedTrace (ℕ × Why)
+trace_at_end r = if is_running r.stage then Ok (record { config = r.config; lines = r.lines }) else Err (r.taken + 1, whys.Begin)
 
 -- The trace after these lines, or the first line that is refused.
-unfoldable pub after_lines : Reading → List (List ℕ) → Result Accepted (ℕ × Why)
-after_lines r [] = ended r
+unfoldable pub after_lines : Reading → List (List ℕ) → Result AcceptedTrace (ℕ × Why)
+after_lines r [] = trace_at_end r
 after_lines r (l ∷ ls) = go_on (r.taken + 1) (after_line r l) (λ s. after_lines s ls)
 
 -- The accepted trace, or the first refused line and the reason. More than 2 ^ 24 bytes are refused as line 0.
-unfoldable pub trace_of : List ℕ → Result Accepted (ℕ × Why)
-trace_of bytes = if nat_lt (2 ^ 24) (length bytes) then Err (0, whys.Long) else after_lines start (raw_lines bytes)
+unfoldable pub trace_of : List ℕ → Result AcceptedTrace (ℕ × Why)
+trace_of bytes = if nat_lt (2 ^ 24) (length bytes) then Err (0, whys.Long) else after_lines opening_reading (raw_lines bytes)
 
 -- ---- what holds of a reading at all times
 -- Before the first line the limit is the highest. Run lines come behind `begin` alone, where the pool has room for the table; they are a trace's, and no more than the lines that were read.

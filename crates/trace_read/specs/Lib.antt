@@ -1,6 +1,6 @@
-pub mod Config
+pub mod Configuration
 pub mod Trace
-pub mod Lines
+pub mod TextLines
 pub mod Rest
 pub mod Numbers
 pub mod Whys

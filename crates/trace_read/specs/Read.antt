@@ -6,7 +6,7 @@ use Rattle.trace_read.specs.declared.stop.Stop.{Stop}
 use Rattle.trace_read.specs.declared.stop.Stop.TheVariants as stops
 use Rattle.trace_read.specs.declared.why.Why.{Why}
 use Rattle.trace_read.specs.Grammar.{Reading}
-use Rattle.trace_read.specs.Trace.{Accepted}
+use Rattle.trace_read.specs.Trace.{AcceptedTrace}
 
 -- The reading after a line is as the line says, or the line is refused, or memory ran out.
 abbrev pub ReadsTo : Result Reading Why → Result (Unit {0}) Stop → Reading → Type 0
@@ -20,7 +20,7 @@ error_of line (stops.Refused why) = errors.Line line why
 error_of line stops.Memory = errors.Memory
 
 -- What was parsed is the trace, or the refusal, unless memory ran out.
-abbrev pub IsParsed : Result Accepted TraceError → Result Accepted (ℕ × Why) → Type 0
+abbrev pub IsParsed : Result AcceptedTrace TraceError → Result AcceptedTrace (ℕ × Why) → Type 0
 IsParsed (Ok t) said = said ≡ Ok t
 IsParsed (Err errors.Memory) said = Unit {0}
 IsParsed (Err (errors.Line line why)) said = said ≡ Err (line, why)

@@ -2,7 +2,7 @@
 use Rattle.std.specs.Prelude.{ℕ, ◌+◌, List, [], length, Option, Some, None}
 use Rattle.std.specs.List.{slice_split}
 use Rattle.std.specs.Borrow.{Bor}
-use Rattle.trace_read.specs.Lines.{is_lf}
+use Rattle.trace_read.specs.TextLines.{is_lf}
 
 -- The lines in the rest.
 abbrev pub parts_left : Option (Bor (List ℕ)) → List (List ℕ)

@@ -3,20 +3,20 @@ use Rattle.std.specs.Prelude.{◌≡◌, ◌≤◌, ℕ, ◌==◌, ◌&&◌, Lis
 use Rattle.frame_grants.specs.declared.error.GrantError.{GrantError}
 use Rattle.frame_grants.specs.declared.grant.Grant.{Grant}
 use Rattle.frame_grants.specs.declared.grant.Kind.{Kind}
-use Rattle.frame_grants.specs.Grants.{Granted, no_grants, add_refusal, with_grant}
+use Rattle.frame_grants.specs.Grants.{GrantedMemory, no_grants, add_refusal, with_grant}
 use Rattle.hpt_pool.specs.Pool.{pool_refusal}
 use Rattle.trace_read.specs.declared.why.Why.{Why}
 use Rattle.trace_read.specs.declared.why.Why.TheVariants.{Count, Range, Small}
 use Rattle.trace_read.specs.Acts.{number_at}
-use Rattle.trace_read.specs.Config.{Configured}
+use Rattle.trace_read.specs.Configuration.{Configuration}
 use Rattle.trace_read.specs.Whys.{◌>>=◌, guard, why_of_grant}
 
 -- A table of 2 ^ 18 bytes that may grow to 2 ^ 22, one processor, and no grant beside a pool of 2 ^ 24 bytes.
-abbrev pub default_settings : Configured
+abbrev pub default_settings : Configuration
 default_settings = record { order = 18; limit = 22; cpus = 1; granted = no_grants 0x1000000000 24 }
 
 -- ---- one line each
-unfoldable pub with_order : Configured → List (List ℕ) → Result Configured Why
+unfoldable pub with_order : Configuration → List (List ℕ) → Result Configuration Why
 with_order c ws = do
   counted ← guard (length ws == 2) Count
   order ← number_at ws 1
@@ -24,14 +24,14 @@ with_order c ws = do
   Ok (record c { order = order })
 
 -- The limit is not below the order that stands by now.
-unfoldable pub with_limit : Configured → List (List ℕ) → Result Configured Why
+unfoldable pub with_limit : Configuration → List (List ℕ) → Result Configuration Why
 with_limit c ws = do
   counted ← guard (length ws == 2) Count
   limit ← number_at ws 1
   within ← guard (nat_le c.order limit && nat_le limit 22) Range
   Ok (record c { limit = limit })
 
-unfoldable pub with_cpus : Configured → List (List ℕ) → Result Configured Why
+unfoldable pub with_cpus : Configuration → List (List ℕ) → Result Configuration Why
 with_cpus c ws = do
   counted ← guard (length ws == 2) Count
   cpus ← number_at ws 1
@@ -39,7 +39,7 @@ with_cpus c ws = do
   Ok (record c { cpus = cpus })
 
 -- The grants are still to come.
-unfoldable pub with_pool : Configured → List (List ℕ) → Result Configured Why
+unfoldable pub with_pool : Configuration → List (List ℕ) → Result Configuration Why
 with_pool c ws = do
   counted ← guard (length ws == 3) Count
   base ← number_at ws 1
@@ -48,21 +48,21 @@ with_pool c ws = do
   Ok (record c { granted = no_grants base order })
 
 -- A grant, unless it is refused.
-abbrev pub granting : Configured → Grant → Option GrantError → Result Configured Why
-granting c grant (Some error) = Err (why_of_grant error)
-granting c grant None = Ok (record c { granted = with_grant c.granted grant })
+abbrev pub with_checked_grant : Configuration → Grant → Option GrantError → Result Configuration Why
+with_checked_grant c grant (Some error) = Err (why_of_grant error)
+with_checked_grant c grant None = Ok (record c { granted = with_grant c.granted grant })
 
-unfoldable pub with_granted : Configured → Kind → List (List ℕ) → Result Configured Why
+unfoldable pub with_granted : Configuration → Kind → List (List ℕ) → Result Configuration Why
 with_granted c kind ws = do
   counted ← guard (length ws == 4) Count
   logical ← number_at ws 1
   machine ← number_at ws 2
   size ← number_at ws 3
   let grant : Grant = record { logical = logical; machine = machine; length = size; kind = kind }
-  granting c grant (add_refusal c.granted grant)
+  with_checked_grant c grant (add_refusal c.granted grant)
 
 -- At `begin` the pool has room for the opening table.
-unfoldable pub with_begin : Configured → List (List ℕ) → Result Configured Why
+unfoldable pub with_begin : Configuration → List (List ℕ) → Result Configuration Why
 with_begin c ws = do
   counted ← guard (length ws == 1) Count
   room ← guard (nat_le c.order c.granted.pool_order) Small
@@ -70,7 +70,7 @@ with_begin c ws = do
 
 -- ---- what holds of the settings at all times
 -- As of a configuration, but that the pool may still be too small.
-pub record AreSettings (order limit cpus pool_base pool_order : ℕ) (granted : Granted) : Type 0 where
+pub record AreSettings (order limit cpus pool_base pool_order : ℕ) (granted : GrantedMemory) : Type 0 where
   pub at_least : 18 ≤ order
   pub within : order ≤ limit
   pub at_most : limit ≤ 22
@@ -80,6 +80,6 @@ pub record AreSettings (order limit cpus pool_base pool_order : ℕ) (granted : 
   pub size : granted.pool_order ≡ pool_order
 
 -- The settings after a line are as it says, or it is refused and they stay.
-abbrev pub SetsTo : Result Configured Why → Result (Unit {0}) Why → Configured → Configured → Type 0
+abbrev pub SetsTo : Result Configuration Why → Result (Unit {0}) Why → Configuration → Configuration → Type 0
 SetsTo said (Ok done) old new = said ≡ Ok new
 SetsTo said (Err why) old new = (said ≡ Err why) × (new ≡ old)

@@ -7,10 +7,12 @@ use Rattle.papr_codes.specs.Hcalls.{hcall_of, is_named}
 use Rattle.trace_read.specs.declared.trace.Act.{Act}
 use Rattle.trace_read.specs.declared.trace.Act.TheVariants as acts
 use Rattle.trace_read.specs.declared.trace.TraceLine.{TraceLine}
-use Rattle.trace_read.specs.Config.{Configured}
+use Rattle.frame_grants.specs.Grants.{IsSound}
+use Rattle.trace_read.specs.Configuration.{Configuration, IsConfigured}
 
-pub record Accepted : Type 0 where
-  pub config : Configured
+-- A trace as its reader sees it: the configuration, and the run lines.
+pub record AcceptedTrace : Type 0 where
+  pub config : Configuration
   pub lines : List TraceLine
 
 -- ---- quiet lines
@@ -43,3 +45,12 @@ pub record IsTrace (cpus : ℕ) (lines : List TraceLine) : Type 0 where
   pub few : length lines ≤ 2 ^ 17
   pub few_quiet : count_by (λ (l : TraceLine). is_quiet l.act) lines ≤ 256
   pub few_dumps : count_by (λ (l : TraceLine). is_dump l.act) lines ≤ 16
+
+-- What each accepted trace has: the configuration lines were accepted, the grants stand beside the pool, and the run lines keep the limits.
+pub record IsAccepted (t : AcceptedTrace) : Type 0 where
+  pub configured :
+    IsConfigured
+      t.config.order t.config.limit t.config.cpus
+      t.config.granted.pool_base t.config.granted.pool_order t.config.granted
+  pub sound : IsSound t.config.granted
+  pub lines : IsTrace t.config.cpus t.lines

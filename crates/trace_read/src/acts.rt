@@ -1,6 +1,6 @@
 ghost use Rattle.std.specs.Prelude.{◌≡◌, ◌≤◌, ◌<◌, [], IfOk, slice_index_or};
 ghost use Rattle.trace_read.specs.Forms.{IsNamedVerb, IsNamedForm};
-ghost use Rattle.trace_read.specs.Lines.{texts};
+ghost use Rattle.trace_read.specs.TextLines.{texts};
 ghost use Rattle.trace_read.specs.Acts.{number_at, arguments_from, mode_at, act_by, run_act, dump_act};
 ghost use Rattle.trace_read.specs.Trace.{IsSpelt};
 

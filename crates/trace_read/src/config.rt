@@ -19,9 +19,9 @@ pub struct Config {
 }
 
 impl Model for Config {
-    ghost use Rattle.trace_read.specs.Config.{Configured, IsConfigured};
+    ghost use Rattle.trace_read.specs.Configuration.{Configuration, IsConfigured};
 
-    ghost Value = { Configured };
+    ghost Value = { Configuration };
 
     ghost view = { λ c. record { order = c.order; limit = c.limit; cpus = c.cpus; granted = c.grants } };
 

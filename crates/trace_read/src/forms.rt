@@ -1,6 +1,6 @@
 ghost use Rattle.std.specs.Prelude.{◌≡◌, IfSome, IfOk};
 ghost use Rattle.std.specs.Str.{bytes_eq};
-ghost use Rattle.trace_read.specs.Lines.{texts};
+ghost use Rattle.trace_read.specs.TextLines.{texts};
 ghost use Rattle.trace_read.specs.Forms.{begins_with_digit, form_named, run_form, form_of, IsNamedForm};
 
 use crate::verbs::{Verb, named_verb};

@@ -1,6 +1,6 @@
 ghost use Rattle.std.specs.Prelude.{◌≡◌, ◌<◌, ◌≤◌, ◌∷◌, length, map, IfOk};
 ghost use Rattle.std.specs.List.{slice_split, list_all, position_or_len};
-ghost use Rattle.trace_read.specs.Lines.{is_lf, is_printable, raw_lines, without_cr, words_of, is_remark, texts};
+ghost use Rattle.trace_read.specs.TextLines.{is_lf, is_printable, raw_lines, without_cr, words_of, is_remark, texts};
 ghost use Rattle.trace_read.specs.Rest.{parts_left, rest_size};
 
 use std::alloc::{AllocError, Global};

@@ -1,8 +1,8 @@
 ghost use Rattle.std.specs.Prelude.{◌≡◌, ◌<◌, ◌≤◌, ◌^◌, true, false, length};
 ghost use Rattle.trace_read.specs.Acts.{run_act, dump_act};
 ghost use Rattle.trace_read.specs.Forms.{IsNamedForm};
-ghost use Rattle.trace_read.specs.Grammar.{start, after_line, after_text, after_words, after_form, set_to, with_line, adding};
-ghost use Rattle.trace_read.specs.Lines.{texts};
+ghost use Rattle.trace_read.specs.Grammar.{opening_reading, after_line, after_text, after_words, after_form, set_to, after_act, with_run_line};
+ghost use Rattle.trace_read.specs.TextLines.{texts};
 ghost use Rattle.trace_read.specs.Places.{is_first, is_running, comes_at};
 ghost use Rattle.trace_read.specs.Read.{ReadsTo};
 ghost use Rattle.trace_read.specs.Settings.{with_order, with_limit, with_cpus, with_pool, with_granted, with_begin};
@@ -48,7 +48,7 @@ impl Model for Reader {
 impl Reader {
     /// Before the first line.
     pub fn new(alloc: Global) -> Self
-        ensures { result ≡ start }
+        ensures { result ≡ opening_reading }
     {
         Reader {
             taken: 0,
@@ -195,22 +195,22 @@ impl Reader {
         Ok(())
     }
 
-    #[tactic(auto, unfolding(crate::specs::Grammar::with_line))]
+    #[tactic(auto, unfolding(crate::specs::Grammar::after_act))]
     fn take_run(&mut self, verb: Option<Verb>, words: &[&[u8]]) -> Result<(), Stop>
         requires few { length self.old.lines < self.old.taken }
         requires place { is_running self.old.stage ≡ true }
         requires named { IsNamedForm (Form.Run verb) }
-        ensures { ReadsTo (with_line self.old (run_act self.old.config.cpus verb (texts words.now))) result self.new }
+        ensures { ReadsTo (after_act self.old (run_act self.old.config.cpus verb (texts words.now))) result self.new }
     {
         let (cpu, act) = run_act(self.settings.cpus(), verb, words)?;
         self.add(cpu, act)
     }
 
-    #[tactic(auto, unfolding(crate::specs::Grammar::with_line))]
+    #[tactic(auto, unfolding(crate::specs::Grammar::after_act))]
     fn take_dump(&mut self, words: &[&[u8]]) -> Result<(), Stop>
         requires few { length self.old.lines < self.old.taken }
         requires place { is_running self.old.stage ≡ true }
-        ensures { ReadsTo (with_line self.old (dump_act (texts words.now))) result self.new }
+        ensures { ReadsTo (after_act self.old (dump_act (texts words.now))) result self.new }
     {
         let (cpu, act) = dump_act(words)?;
         prove!(cpu < self.settings.cpus());
@@ -223,7 +223,7 @@ impl Reader {
         requires place { is_running self.old.stage ≡ true }
         requires cpu { cpu < self.old.config.cpus }
         requires spelt { IsSpelt act }
-        ensures { ReadsTo (adding self.old cpu act) result self.new }
+        ensures { ReadsTo (with_run_line self.old cpu act) result self.new }
     {
         self.lines.check(&act)?;
         self.lines.push(TraceLine {

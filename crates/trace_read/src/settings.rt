@@ -1,7 +1,7 @@
 ghost use Rattle.std.specs.Prelude.{◌≡◌, ◌≤◌, ◌^◌, true, is_none, OnOk};
 ghost use Rattle.frame_grants.specs.Grants.{IsPool};
 ghost use Rattle.hpt_pool.specs.Pool.{pool_refusal};
-ghost use Rattle.trace_read.specs.Lines.{texts};
+ghost use Rattle.trace_read.specs.TextLines.{texts};
 ghost use Rattle.trace_read.specs.Settings.{default_settings, with_order, with_limit, with_cpus, with_pool, with_granted, with_begin, SetsTo};
 
 use crate::acts::number_at;
@@ -31,10 +31,10 @@ pub struct Settings {
 }
 
 impl Model for Settings {
-    ghost use Rattle.trace_read.specs.Config.{Configured};
+    ghost use Rattle.trace_read.specs.Configuration.{Configuration};
     ghost use Rattle.trace_read.specs.Settings.{AreSettings};
 
-    ghost Value = { Configured };
+    ghost Value = { Configuration };
 
     ghost view = { λ s. record { order = s.order; limit = s.limit; cpus = s.cpus; granted = s.grants } };
 

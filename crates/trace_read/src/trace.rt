@@ -117,9 +117,9 @@ pub struct Trace {
 }
 
 impl Model for Trace {
-    ghost use Rattle.trace_read.specs.Trace.{Accepted, IsTrace};
+    ghost use Rattle.trace_read.specs.Trace.{AcceptedTrace, IsTrace};
 
-    ghost Value = { Accepted };
+    ghost Value = { AcceptedTrace };
 
     ghost view = { λ t. record { config = t.config; lines = t.lines } };
 

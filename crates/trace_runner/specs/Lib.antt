@@ -1,2 +1,2 @@
-pub mod Lines
-pub mod Machines
+pub mod ActedLine
+pub mod MachineState

@@ -1,8 +1,8 @@
 ghost use Rattle.std.specs.Prelude.{◌≡◌, ◌<◌, ◌≤◌, ◌+◌, ◌-◌, ◌^◌, length, map, true, false, replicate, IfOk, OnOk, vec_len};
-ghost use Rattle.hpt_walk.specs.Seats.{empty_seat};
+ghost use Rattle.tlb_model.specs.Processor.{new_processor};
 ghost use Rattle.trace_read.specs.Trace.{is_quiet};
-ghost use Rattle.reply_text.specs.Worlds.{opening, quiet_of, resize_of, shown_of, without_cache, is_success};
-ghost use Rattle.reply_text.specs.Serial.{line_reply};
+ghost use Rattle.run_model.specs.RunState.{opening_run, run_quiet_line, run_resize, shown_of, without_cache, is_success};
+ghost use Rattle.run_model.specs.SerialRun.{run_line};
 
 use crate::act::run_act;
 use crate::dump::shown_table;
@@ -10,7 +10,7 @@ use entry_model::HReply;
 use papr_codes::{Hcall, Rc};
 use papr_table::PlainTable;
 use partition::Partition;
-use reply_text::{Reply, Shown};
+use trace_reply::{Reply, Shown};
 use std::alloc::{AllocError, Global};
 use std::marker::Model;
 use trace_read::{Act, Config, TraceLine};
@@ -24,19 +24,19 @@ pub struct Machine {
 }
 
 impl Model for Machine {
-    ghost use Rattle.reply_text.specs.Worlds.{World};
-    ghost use Rattle.trace_runner.specs.Machines.{world_of, IsMachine};
+    ghost use Rattle.run_model.specs.RunState.{RunState};
+    ghost use Rattle.trace_runner.specs.MachineState.{run_state_of, IsMachine};
 
-    ghost Value = { World };
+    ghost Value = { RunState };
 
-    ghost view = { λ m. world_of m.partition m.cpus.items };
+    ghost view = { λ m. run_state_of m.partition m.cpus.items };
 
     ghost invariant = { λ m. IsMachine m.partition m.cpus.items };
 }
 
 /// So many processors, with no segment and nothing cached.
 fn empty_cpus(alloc: Global, count: u32) -> Result<Vec<Cpu>, AllocError>
-    ensures { IfOk result (λ cpus. cpus.items ≡ replicate count empty_seat) }
+    ensures { IfOk result (λ cpus. cpus.items ≡ replicate count new_processor) }
 {
     let mut cpus = Vec::with_capacity(alloc, count as usize)?;
     for _ in 0..count {
@@ -62,9 +62,9 @@ fn clear_caches(cpus: &mut Vec<Cpu>)
 
 impl Machine {
     /// The machine of a configuration, before the first line.
-    #[tactic(auto, unfolding(reply_text::specs::Worlds::opening))]
+    #[tactic(auto, unfolding(run_model::specs::RunState::opening_run))]
     pub fn open(alloc: Global, config: &Config) -> Result<Machine, AllocError>
-        ensures { IfOk result (λ machine. machine ≡ opening config.now) }
+        ensures { IfOk result (λ machine. machine ≡ opening_run config.now) }
     {
         let partition = Partition::open(alloc, config)?;
         let cpus = empty_cpus(alloc, config.cpus)?;
@@ -73,18 +73,18 @@ impl Machine {
 
     /// Runs a line. Its reply takes the place of what is in `reply`, so that one place can serve for
     /// many lines.
-    #[tactic(auto, unfolding(reply_text::specs::Serial::line_reply))]
+    #[tactic(auto, unfolding(run_model::specs::SerialRun::run_line))]
     pub fn line(
         &mut self,
         alloc: Global,
         line: &TraceLine,
         reply: &mut Reply,
     ) -> Result<(), AllocError>
-        requires cpu { line.now.cpu < length self.old.seats }
-        requires number { self.old.home.table.number < 2 ^ 32 - 1 }
-        ensures reply { OnOk result ((reply.new, self.new) ≡ line_reply self.old line.now) }
-        ensures number { OnOk result (self.new.home.table.number ≤ self.old.home.table.number + 1) }
-        ensures cpus { OnOk result (length self.new.seats ≡ length self.old.seats) }
+        requires cpu { line.now.cpu < length self.old.processors }
+        requires number { self.old.memory.table.number < 2 ^ 32 - 1 }
+        ensures reply { OnOk result ((reply.new, self.new) ≡ run_line self.old line.now) }
+        ensures number { OnOk result (self.new.memory.table.number ≤ self.old.memory.table.number + 1) }
+        ensures cpus { OnOk result (length self.new.processors ≡ length self.old.processors) }
     {
         if line.act.is_quiet() {
             self.quiet(alloc, &line.act, reply)
@@ -96,19 +96,19 @@ impl Machine {
 
     /// The table, as a dump shows it.
     pub fn shown(&self, alloc: Global) -> Result<Shown, AllocError>
-        ensures { IfOk result (λ shown. shown ≡ shown_of self.now.home) }
+        ensures { IfOk result (λ shown. shown ≡ shown_of self.now.memory) }
     {
         shown_table(alloc, &self.partition)
     }
 
     // A line that isn't quiet, by its processor.
-    #[tactic(auto, unfolding(reply_text::specs::Serial::line_reply))]
+    #[tactic(auto, unfolding(run_model::specs::SerialRun::run_line))]
     fn run(&mut self, line: &TraceLine, reply: &mut Reply)
         requires not_quiet { is_quiet line.now.act ≡ false }
-        requires cpu { line.now.cpu < length self.old.seats }
-        ensures reply { (reply.new, self.new) ≡ line_reply self.old line.now }
-        ensures number { self.new.home.table.number ≡ self.old.home.table.number }
-        ensures cpus { length self.new.seats ≡ length self.old.seats }
+        requires cpu { line.now.cpu < length self.old.processors }
+        ensures reply { (reply.new, self.new) ≡ run_line self.old line.now }
+        ensures number { self.new.memory.table.number ≡ self.old.memory.table.number }
+        ensures cpus { length self.new.processors ≡ length self.old.processors }
     {
         let order = self.partition.order();
         let mut table = PlainTable::open(self.partition.take_states(), order);
@@ -119,13 +119,13 @@ impl Machine {
 
     // A quiet line. These are rare, so other lines make no room for what this holds.
     #[inline(never)]
-    #[tactic(auto, unfolding(reply_text::specs::Worlds::quiet_of, trace_read::specs::Trace::is_quiet))]
+    #[tactic(auto, unfolding(run_model::specs::RunState::run_quiet_line, trace_read::specs::Trace::is_quiet))]
     fn quiet(&mut self, alloc: Global, act: &Act, reply: &mut Reply) -> Result<(), AllocError>
         requires quiet { is_quiet act.now ≡ true }
-        requires number { self.old.home.table.number < 2 ^ 32 - 1 }
-        ensures reply { OnOk result ((reply.new, self.new) ≡ quiet_of self.old act.now) }
-        ensures number { OnOk result (self.new.home.table.number ≤ self.old.home.table.number + 1) }
-        ensures cpus { OnOk result (length self.new.seats ≡ length self.old.seats) }
+        requires number { self.old.memory.table.number < 2 ^ 32 - 1 }
+        ensures reply { OnOk result ((reply.new, self.new) ≡ run_quiet_line self.old act.now) }
+        ensures number { OnOk result (self.new.memory.table.number ≤ self.old.memory.table.number + 1) }
+        ensures cpus { OnOk result (length self.new.processors ≡ length self.old.processors) }
     {
         match *act {
             Act::Call { number, args, .. } => {
@@ -137,12 +137,12 @@ impl Machine {
     }
 
     // One of the two resize calls. A committed resize clears each processor's cache.
-    #[tactic(auto, unfolding(reply_text::specs::Worlds::resize_of))]
+    #[tactic(auto, unfolding(run_model::specs::RunState::run_resize))]
     fn resize(&mut self, alloc: Global, hcall: Hcall, args: &[u64; 8]) -> Result<HReply, AllocError>
-        requires number { self.old.home.table.number < 2 ^ 32 - 1 }
-        ensures reply { IfOk result (λ reply. (Reply.Hcall reply, self.new) ≡ resize_of self.old hcall args.now) }
-        ensures number { OnOk result (self.new.home.table.number ≤ self.old.home.table.number + 1) }
-        ensures cpus { OnOk result (length self.new.seats ≡ length self.old.seats) }
+        requires number { self.old.memory.table.number < 2 ^ 32 - 1 }
+        ensures reply { IfOk result (λ reply. (Reply.Hcall reply, self.new) ≡ run_resize self.old hcall args.now) }
+        ensures number { OnOk result (self.new.memory.table.number ≤ self.old.memory.table.number + 1) }
+        ensures cpus { OnOk result (length self.new.processors ≡ length self.old.processors) }
     {
         match hcall {
             Hcall::Prepare => self.partition.prepare(alloc, args[0], args[1]),

@@ -1,11 +1,11 @@
 ghost use Rattle.std.specs.Prelude.{◌≡◌, ◌<◌, length, IfOk};
 ghost use Rattle.std.specs.List.{AllByRecursion};
 ghost use Rattle.trace_read.specs.declared.trace.TraceLine.{TraceLine};
-ghost use Rattle.reply_text.specs.Worlds.{opening};
-ghost use Rattle.reply_text.specs.Serial.{serial};
-ghost use Rattle.reply_text.specs.Promise.{IsAccepted};
-ghost use Rattle.reply_text.specs.Good.{Good};
-ghost use Rattle.reply_text.specs.Claims.{Assures};
+ghost use Rattle.run_model.specs.RunState.{opening_run};
+ghost use Rattle.run_model.specs.SerialRun.{serial_replies};
+ghost use Rattle.trace_read.specs.Trace.{IsAccepted};
+ghost use Rattle.run_model.specs.GoodRun.{IsGoodRun};
+ghost use Rattle.run_model.specs.Assurances.{Assures};
 
 use crate::machine::Machine;
 use std::alloc::{AllocError, Global};
@@ -22,11 +22,11 @@ fn keeps_limits(trace: &Trace)
 
 /// The machine of a trace, before its first line. The serial run of each trace is a good run.
 pub fn opened(alloc: Global, trace: &Trace) -> Result<Machine, AllocError>
-    ensures world { IfOk result (λ machine. machine ≡ opening trace.now.config) }
-    ensures cpus { IfOk result (λ machine. AllByRecursion (λ (l : TraceLine). l.cpu < length machine.seats) trace.now.lines) }
-    ensures number { IfOk result (λ machine. machine.home.table.number ≡ 0) }
-    ensures good { Good trace.now (serial trace.now) }
-    ensures assured { Assures trace.now (serial trace.now) }
+    ensures run_state { IfOk result (λ machine. machine ≡ opening_run trace.now.config) }
+    ensures cpus { IfOk result (λ machine. AllByRecursion (λ (l : TraceLine). l.cpu < length machine.processors) trace.now.lines) }
+    ensures number { IfOk result (λ machine. machine.memory.table.number ≡ 0) }
+    ensures good { IsGoodRun trace.now (serial_replies trace.now) }
+    ensures assured { Assures trace.now (serial_replies trace.now) }
 {
     keeps_limits(trace);
     let machine = Machine::open(alloc, &trace.config)?;

@@ -1,6 +1,7 @@
 use crate::{Ran, run_serial, run_to_text, run_with_table};
 use entry_model::EntryState;
-use reply_text::{Reply, text_of};
+use trace_reply::Reply;
+use reply_text::text_of;
 use std::alloc::Global;
 use std::fmt::Write;
 use std::test::Fail;

@@ -1,6 +1,6 @@
 -- An access by a cached line: its one receipt makes a reply by Hit.
-use Rattle.std.proofs.Common.{◌≡◌, ◌+◌, Bool, true, false, not, List, [], ◌∷◌, Option, Some, refl, sym, ap, ◌∙◌}
 use Rattle.std.specs.Prelude.{MatchBool}
+use Rattle.std.proofs.Common.{◌≡◌, ◌+◌, Bool, true, false, not, List, [], ◌∷◌, Option, Some, refl, sym, ap, ◌∙◌}
 use Rattle.storage_prot.specs.declared.want.Want.{Want}
 use Rattle.power_addr.specs.Pages.{VirtualPage, tag_of}
 use Rattle.hpte_fields.specs.Fields.{is_secondary}
@@ -11,13 +11,14 @@ use Rattle.entry_model.specs.declared.operation.Answer.TheVariants.{At, Denied}
 use Rattle.entry_model.specs.declared.receipt.Receipt.{Receipt}
 use Rattle.entry_model.specs.declared.access_reply.By.{By}
 use Rattle.entry_model.specs.declared.access_reply.Outcome.{Outcome}
-use Rattle.entry_model.specs.Receipt.{IsReceiptOf, is_no_match, is_decided}
+use Rattle.entry_model.specs.Receipt.{IsReceiptOf, is_no_match, is_decided, found_of}
 use Rattle.entry_model.specs.Reply.{has_base, reply_of}
-use Rattle.entry_model.specs.Lines.{IsCurrent, IsAccessOf}
+use Rattle.entry_model.specs.CachedLines.{IsCurrent, IsAccessOf}
 use Rattle.entry_model.proofs.LineLaws.{known_is_decided}
-use Rattle.hpt_walk.specs.Walk.{access_op, found_of, h_bit}
-use Rattle.hpt_walk.specs.Lines.{TranslatesItsPage}
-use Rattle.hpt_walk.specs.Accesses.{Setting, Reach, IsHit, key_for, outcome_by, outcome_of}
+use Rattle.hpt_walk.specs.Walk.{access_op, h_bit}
+use Rattle.hpt_walk.specs.Translations.{TranslatesItsPage}
+use Rattle.hpt_walk.specs.Access.{AccessContext, IsHit, key_for, outcome_by, outcome_of}
+use Rattle.hpt_walk.specs.declared.request.Request.{Request}
 
 -- The access of a line's own page, with H as the line has it, is one that the line's words match.
 pub is_access_of : (line : Line) (page : VirtualPage) (key no_execute : Bool) (want : Want) → line.page ≡ page → TranslatesItsPage line → IsAccessOf line (access_op page key no_execute want (is_secondary line.dword0))
@@ -33,7 +34,7 @@ at_end : (goes : Bool) → MatchBool goes (Unit {0}) (let none : List Receipt = 
 at_end true = tt
 at_end false = refl
 
-pub hit_is : (set : Setting) (seg : Segment) (a : Reach) (line : Line) (r : Receipt) (outcome : Outcome) (by : Option By)
+pub hit_is : (set : AccessContext) (seg : Segment) (a : Request) (line : Line) (r : Receipt) (outcome : Outcome) (by : Option By)
     → IsReceiptOf line.entry (access_op seg.page (key_for seg a.user) seg.no_execute a.want (is_secondary line.dword0)) r
     → line.page ≡ seg.page → TranslatesItsPage line → IsCurrent line r.before
     → outcome ≡ outcome_by set.grants a.ea (Some r)

@@ -8,12 +8,11 @@ use Rattle.entry_model.specs.declared.access_reply.AccessReply.{AccessReply}
 use Rattle.entry_model.specs.declared.access_reply.By.TheVariants.{Walk}
 use Rattle.entry_model.specs.declared.access_reply.Outcome.{Outcome}
 use Rattle.entry_model.specs.declared.access_reply.Outcome.TheVariants.{At}
-use Rattle.entry_model.specs.Cache.{is_of, line_of_page, set_of, set_number, cached, without_page, put_last, AllCached}
-use Rattle.entry_model.proofs.CachedPages.{none_without, all_filter, all_put_last, all_in_set_of, all_written}
+use Rattle.tlb_model.specs.Cache.{is_of, line_of_page, set_of, set_number, cached_line, without_page, put_last, AllCached}
+use Rattle.tlb_model.proofs.CachedPages.{none_without, all_filter, all_put_last, all_in_set_of, all_written}
 use Rattle.tlb_model.specs.Sets.{with_set}
-use Rattle.hpt_walk.specs.Walk.{found_of}
-use Rattle.hpt_walk.specs.CacheAfter.{refilled, after_walk, cache_after}
-use Rattle.vcpu.specs.Requests.{kept_line, with_kept}
+use Rattle.entry_model.specs.Receipt.{found_of}
+use Rattle.tlb_model.specs.CacheAfter.{set_with, after_walk, cache_after, kept_line, with_kept}
 
 -- The cache without the page's line.
 abbrev pub dropped : VirtualPage → List (List Line) → List (List Line)
@@ -31,8 +30,8 @@ write_twice f (s ∷ ss) zero lines = refl
 write_twice f (s ∷ ss) (suc number) lines = ap (λ rest. s ∷ rest) (write_twice f ss number lines)
 
 -- ---- the line is taken out
-pub none_left : (page : VirtualPage) (cache : List (List Line)) → cached (dropped page cache) page ≡ None
-unfolding cached
+pub none_left : (page : VirtualPage) (cache : List (List Line)) → cached_line (dropped page cache) page ≡ None
+unfolding cached_line
 none_left page cache = read_same (λ lines. line_of_page page lines ≡ None) cache (set_number page) (without_page page (set_of cache page)) (none_without page (set_of cache page)) refl
 
 pub all_dropped : (P : Line → Type 0) (page : VirtualPage) (cache : List (List Line)) → AllCached P cache → AllCached P (dropped page cache)
@@ -43,7 +42,7 @@ pub kept_is_of : (page : VirtualPage) (outcome : Outcome) (found : Option Receip
 kept_is_of page (At address) (Some r) = refl
 kept_is_of page outcome found = tt
 
-pub kept_fits : (page : VirtualPage) (cache : List (List Line)) (kept : Option Line) → IfSome kept (λ line. line.page ≡ page) → IfSome kept (λ line. cached (dropped page cache) line.page ≡ None)
+pub kept_fits : (page : VirtualPage) (cache : List (List Line)) (kept : Option Line) → IfSome kept (λ line. line.page ≡ page) → IfSome kept (λ line. cached_line (dropped page cache) line.page ≡ None)
 kept_fits page cache None of = tt
 kept_fits page cache (Some line) of = rw of (none_left page cache)
 
@@ -51,11 +50,11 @@ pub all_kept : (P : Line → Type 0) (kept : Option Line) (cache : List (List Li
 all_kept P None cache all fact = all
 all_kept P (Some line) cache all fact = all_written P cache (set_number line.page) (put_last line (set_of cache line.page)) all (all_put_last P (set_of cache line.page) line (all_in_set_of P cache line.page all) fact)
 
-refilled_is : (page : VirtualPage) (outcome : Outcome) (found : Option Receipt) (lines : List Line) (cache : List (List Line)) → with_kept (kept_line page outcome found) (with_set page lines cache) ≡ with_set page (refilled page outcome found lines) cache
-refilled_is page (At address) (Some r) lines cache = write_twice (put_last _) cache (set_number page) lines
-refilled_is page outcome found lines cache = refl
+put_is : (page : VirtualPage) (outcome : Outcome) (found : Option Receipt) (lines : List Line) (cache : List (List Line)) → with_kept (kept_line page outcome found) (with_set page lines cache) ≡ with_set page (set_with (kept_line page outcome found) lines) cache
+put_is page (At address) (Some r) lines cache = write_twice (put_last _) cache (set_number page) lines
+put_is page outcome found lines cache = refl
 
 -- ---- the cache after a walk
 pub walked_cache : (cache : List (List Line)) (seg : Segment) (r : AccessReply) (kept : Option Line) → r.by ≡ Some Walk → kept ≡ kept_line seg.page r.outcome (found_of r.receipts) → with_kept kept (dropped seg.page cache) ≡ cache_after cache (Some seg) r.by r
 unfolding after_walk
-walked_cache cache seg r kept way is = rw (way, is) (refilled_is seg.page r.outcome (found_of r.receipts) (without_page seg.page (set_of cache seg.page)) cache)
+walked_cache cache seg r kept way is = rw (way, is) (put_is seg.page r.outcome (found_of r.receipts) (without_page seg.page (set_of cache seg.page)) cache)

@@ -1,12 +1,11 @@
 -- Worked values, which the checker computes.
 use Rattle.std.proofs.Common.{◌≡◌, ℕ, true, false, refl}
-use Rattle.power_addr.specs.Pages.{virtual_page}
+use Rattle.power_addr.specs.Pages.{virtual_page, tag_of}
 use Rattle.entry_model.specs.State.{State}
 use Rattle.entry_model.specs.declared.operation.Op.TheVariants.{Access}
 use Rattle.storage_prot.specs.declared.want.Want.TheVariants.{Load}
-use Rattle.hpt_walk.specs.Accesses.{logical_of}
+use Rattle.hpt_walk.specs.Access.{logical_of}
 use Rattle.hpt_walk.specs.Walk.{access_op}
-use Rattle.power_addr.specs.Pages.{tag_of}
 
 state_of : ℕ → ℕ → State
 state_of dword0 dword1 = record { valid = true; dword0 = dword0; dword1 = dword1; referenced = false; changed = false; stamp = 1 }

@@ -1,13 +1,13 @@
 ghost use Rattle.std.specs.Prelude.{◌≡◌, [], Some, IfSome, IfNone};
 ghost use Rattle.entry_model.specs.declared.access_reply.By.TheVariants.{Hit};
-ghost use Rattle.hpt_walk.specs.Lines.{TranslatesItsPage};
-ghost use Rattle.hpt_walk.specs.Accesses.{IsHit, IsByWay};
-ghost use Rattle.vcpu.specs.Requests.{setting_of, reach_of};
+ghost use Rattle.hpt_walk.specs.Translations.{TranslatesItsPage};
+ghost use Rattle.hpt_walk.specs.Access.{IsHit, IsByWay, access_context};
 
 use crate::landing::outcome_at;
-use crate::request::{Request, operation};
+use crate::asking::operation;
 use entry_model::{AccessReply, By, EntryStore, Line, Receipts};
 use frame_grants::Grants;
+use hpt_walk::Request;
 use hpte_fields::secondary;
 use slb_model::Segment;
 
@@ -23,11 +23,11 @@ pub fn by_cache<T: EntryStore>(
     requires seen { IfSome cached.now (T.seen store.old) }
     requires translates { IfSome cached.now TranslatesItsPage }
     requires page { IfSome cached.now (λ line. line.page ≡ segment.now.page) }
-    ensures reply { IfSome result (λ r. IsByWay (setting_of (T.table_order store.old) grants.now.grants) segment.now (reach_of request.now) cached.now r.by r) }
+    ensures reply { IfSome result (λ r. IsByWay (access_context (T.table_order store.old) grants.now.grants) segment.now request.now cached.now r.by r) }
     ensures by { IfSome result (λ r. r.by ≡ Some Hit) }
     ensures made { IfSome result (λ r. T.made store.old store.new r.receipts) }
     ensures nothing { IfNone result (T.made store.old store.new []) }
-    ensures left { IfNone result (IfSome cached.now (T.gone store.new)) }
+    ensures is_gone { IfNone result (IfSome cached.now (T.gone store.new)) }
 {
     match cached {
         None => None,
@@ -45,11 +45,11 @@ fn by_line<T: EntryStore>(
     requires seen { T.seen store.old line.now }
     requires translates { TranslatesItsPage line.now }
     requires page { line.now.page ≡ segment.now.page }
-    ensures hit { IfSome result (λ r. IsHit (setting_of (T.table_order store.old) grants.now.grants) segment.now (reach_of request.now) line.now r) }
+    ensures hit { IfSome result (λ r. IsHit (access_context (T.table_order store.old) grants.now.grants) segment.now request.now line.now r) }
     ensures by { IfSome result (λ r. r.by ≡ Some Hit) }
     ensures made { IfSome result (λ r. T.made store.old store.new r.receipts) }
     ensures nothing { IfNone result (T.made store.old store.new []) }
-    ensures left { IfNone result (T.gone store.new line.now) }
+    ensures is_gone { IfNone result (T.gone store.new line.now) }
 {
     let op = operation(segment, request, secondary(line.dword0));
     match store.apply_known(line, op) {

@@ -1,16 +1,15 @@
 ghost use Rattle.std.specs.Prelude.{◌≡◌, Some, IfSome};
 ghost use Rattle.entry_model.specs.declared.access_reply.By.TheVariants.{Walk};
-ghost use Rattle.hpt_walk.specs.Lines.{TranslatesItsPage, line_of};
-ghost use Rattle.hpt_walk.specs.Walk.{found_of};
-ghost use Rattle.hpt_walk.specs.Accesses.{IsWalk};
-ghost use Rattle.vcpu.specs.Requests as lines;
-ghost use Rattle.vcpu.specs.Requests.{setting_of, reach_of};
+ghost use Rattle.hpt_walk.specs.Translations.{TranslatesItsPage};
+ghost use Rattle.entry_model.specs.Receipt.{found_of};
+ghost use Rattle.hpt_walk.specs.Access.{IsWalk, access_context};
+ghost use Rattle.tlb_model.specs.CacheAfter as cache;
 
 use crate::landing::outcome;
-use crate::request::{Request, key};
+use crate::asking::key;
 use entry_model::{AccessReply, By, EntryStore, Line, Outcome, Receipt};
 use frame_grants::Grants;
-use hpt_walk::walk;
+use hpt_walk::{Request, walk};
 use power_addr::Page;
 use slb_model::Segment;
 
@@ -22,17 +21,17 @@ pub struct Walked {
 }
 
 /// The access by a walk of the page's two groups.
-#[tactic(auto, unfolding(hpt_walk::specs::Accesses::outcome_of))]
+#[tactic(auto, unfolding(hpt_walk::specs::Access::outcome_of))]
 pub fn by_walk<T: EntryStore>(
     store: &mut T,
     grants: &Grants,
     segment: &Segment,
     request: &Request,
 ) -> Walked
-    ensures walk { IsWalk (setting_of (T.table_order store.old) grants.now.grants) segment.now (reach_of request.now) result.reply }
+    ensures walk { IsWalk (access_context (T.table_order store.old) grants.now.grants) segment.now request.now result.reply }
     ensures by { result.reply.by ≡ Some Walk }
     ensures made { T.made store.old store.new result.reply.receipts }
-    ensures line { result.line ≡ lines.kept_line segment.now.page result.reply.outcome (found_of result.reply.receipts) }
+    ensures line { result.line ≡ cache.kept_line segment.now.page result.reply.outcome (found_of result.reply.receipts) }
     ensures seen { IfSome result.line (T.seen store.new) }
     ensures translates { IfSome result.line TranslatesItsPage }
 {
@@ -52,7 +51,7 @@ pub fn by_walk<T: EntryStore>(
 
 /// The line of the entry found, where the walk ended at a machine address.
 fn kept_line(page: &Page, outcome: Outcome, found: &Option<Receipt>) -> Option<Line>
-    ensures { result ≡ lines.kept_line page.now outcome found.now }
+    ensures { result ≡ cache.kept_line page.now outcome found.now }
 {
     match (outcome, found) {
         (Outcome::At(_), Some(receipt)) => Some(Line {

@@ -1,16 +1,15 @@
 ghost use Rattle.std.specs.Prelude.{◌≡◌, Some, None, IfSome, MatchResult, OnOk, OnErr};
 ghost use Rattle.slb_model.specs.Buffer.{no_slots, slots_after, segment_of};
 ghost use Rattle.slb_model.specs.Refusals.{mte_refusal};
-ghost use Rattle.entry_model.specs.Cache.{AllCached, empty_cache};
-ghost use Rattle.entry_model.specs.Lines.{AllPast};
-ghost use Rattle.hpt_walk.specs.Accesses.{IsBySegment};
-ghost use Rattle.hpt_walk.specs.CacheAfter.{cache_after, past_line};
-ghost use Rattle.vcpu.specs.Requests.{setting_of, reach};
+ghost use Rattle.tlb_model.specs.Cache.{AllCached, cached_line, empty_cache};
+ghost use Rattle.entry_model.specs.CachedLines.{AllLater};
+ghost use Rattle.hpt_walk.specs.Access.{IsAccessReply, access_context, request};
+ghost use Rattle.tlb_model.specs.CacheAfter.{cache_after, gone_line};
 
 use crate::passing::in_segment;
-use crate::request::Request;
 use entry_model::{AccessReply, EntryStore, Outcome, Receipts};
 use frame_grants::Grants;
+use hpt_walk::Request;
 use slb_model::{BadSlb, Slb};
 use std::marker::Model;
 use storage_prot::Want;
@@ -24,11 +23,11 @@ pub struct Cpu {
 }
 
 impl Model for Cpu {
-    ghost use Rattle.hpt_walk.specs.Seats.{Seat};
-    ghost use Rattle.entry_model.specs.Cache.{AllCached};
-    ghost use Rattle.hpt_walk.specs.Lines.{TranslatesItsPage};
+    ghost use Rattle.tlb_model.specs.Processor.{Processor};
+    ghost use Rattle.tlb_model.specs.Cache.{AllCached};
+    ghost use Rattle.hpt_walk.specs.Translations.{TranslatesItsPage};
 
-    ghost Value = { Seat };
+    ghost Value = { Processor };
 
     ghost view = { λ cpu. record { slots = cpu.slb; cache = cpu.tlb } };
 
@@ -88,14 +87,14 @@ impl Cpu {
     ) -> AccessReply
         requires seen { AllCached (T.seen store.old) self.old.cache }
         ensures made { T.made store.old store.new result.receipts }
-        ensures reply { IsBySegment (setting_of (T.table_order store.old) grants.now.grants) self.old.cache (reach want ea user) (segment_of self.old.slots ea) result }
+        ensures reply { IsAccessReply (access_context (T.table_order store.old) grants.now.grants) (cached_line self.old.cache) (request want ea user) (segment_of self.old.slots ea) result }
         ensures slots { self.new.slots ≡ self.old.slots }
         ensures cache { self.new.cache ≡ cache_after self.old.cache (segment_of self.old.slots ea) result.by result }
         ensures seen { AllCached (T.seen store.new) self.new.cache }
 
         // Where it was by Walk, the line of the page that was cached had left its stamp.
-        ensures past { IfSome (past_line self.old.cache (segment_of self.old.slots ea) result) (λ line. AllPast line result.receipts) }
-        ensures gone { IfSome (past_line self.old.cache (segment_of self.old.slots ea) result) (T.gone store.new) }
+        ensures later { IfSome (gone_line self.old.cache (segment_of self.old.slots ea) result) (λ line. AllLater line result.receipts) }
+        ensures gone { IfSome (gone_line self.old.cache (segment_of self.old.slots ea) result) (T.gone store.new) }
     {
         match self.slb.segment(ea) {
             None => AccessReply {

@@ -1,7 +1,7 @@
 ghost use Rattle.std.specs.Prelude.{◌≡◌, ◌≤◌, ◌<◌, ◌^◌, ◌%◌, Some};
 ghost use Rattle.frame_grants.specs.Grants.{machine_range};
-ghost use Rattle.hpt_walk.specs.Accesses as access;
-ghost use Rattle.hpt_walk.specs.Accesses.{lands};
+ghost use Rattle.hpt_walk.specs.Access.{landing_at};
+ghost use Rattle.hpt_walk.specs.Access as access;
 
 use entry_model::{Answer, EntryState, Outcome, Receipt};
 use frame_grants::Grants;
@@ -33,7 +33,7 @@ pub fn outcome_at(grants: &Grants, ea: u64, receipt: &Receipt) -> Outcome
 
 /// At the machine address of the logical address, where it has one.
 fn landing(grants: &Grants, logical: u64) -> Outcome
-    ensures { result ≡ lands (machine_range grants.now.grants logical 1) logical }
+    ensures { result ≡ landing_at (machine_range grants.now.grants logical 1) logical }
 {
     match grants.machine_of(logical, 1) {
         None => Outcome::Ungranted(logical),

@@ -6,12 +6,12 @@
 //! the access or denies it.
 #![tactic(auto)]
 
+mod asking;
 mod by_cache;
 mod by_walk;
 mod cpu;
 mod landing;
 mod passing;
-mod request;
 
 pub use cpu::Cpu;
 

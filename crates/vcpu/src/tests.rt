@@ -1,5 +1,5 @@
 ghost use Rattle.std.specs.Prelude.{◌≡◌, ◌<◌, ◌-◌, ◌^◌, IfOk};
-ghost use Rattle.entry_model.specs.Cache.{AllCached, empty_cache};
+ghost use Rattle.tlb_model.specs.Cache.{AllCached, empty_cache};
 ghost use Rattle.entry_model.specs.Receipt.{IsNormal};
 
 use super::*;

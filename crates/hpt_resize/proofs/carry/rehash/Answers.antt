@@ -2,7 +2,7 @@ use Rattle.std.proofs.Common.{◌≡◌, ℕ, ◌+◌, ◌<◌, length, get_or, 
 use Rattle.std.proofs.lemmas.List.{get_or_read}
 use Rattle.entry_model.specs.State.{State, empty_state}
 use Rattle.entry_model.specs.Run.{state_at}
-use Rattle.hpt_resize.specs.Rehash.{IsPlacedBelow, target_of, target_at, restamped}
+use Rattle.hpt_resize.specs.Rehash.{IsPlacedBelow, target_of, target_at, at_stamp_0}
 use Rattle.hpt_resize.proofs.Placed.{placed_none, placed_skip, placed_more, taken_target, collision_is, no_collision, all_placed, never_collides}
 use Rattle.hpt_resize.proofs.carry.rehash.Goals as goal
 use Rattle.hpt_resize.proofs.carry.rehash.Goals.{in-Some+else-index, in_default}
@@ -49,7 +49,7 @@ loop-index-preserved c =
           let goes = read_target c.args.order_from c.args.order_to c.loop-index.index c.args.states.now c.index-states-index.result (Some w.in-Some.target) c.target_index.result c.loop-index-test.true c.index-states-index.is c.target_index.ensures.value w.in-Some.is in
           let free = read_valid c.loop-index.into.items w.in-Some.target w.index.result.now w.behind-into.inside.valid below w.index.ensures (ap (λ (s : State). s.valid) w.behind-into.view_is) ∙ w.if-index.false in
           let read = get_or_read c.args.states.now c.loop-index.index w.index-states-index-in-Some.result c.loop-index-test.true w.index-states-index-in-Some.is (empty_state 0) in
-          let new : w.fresh.result ≡ restamped (state_at c.args.states.now c.loop-index.index) = w.fresh.ensures ∙ ap restamped read in
+          let new : w.fresh.result ≡ at_stamp_0 (state_at c.args.states.now c.loop-index.index) = w.fresh.ensures ∙ ap at_stamp_0 read in
           subst (λ (items : List State). IsPlacedBelow c.args.order_from c.args.order_to c.args.states.now items (c.loop-index.index + 1))
           (ap (set c.loop-index.into.items w.in-Some.target) (sym new) ∙ sym (ap items_of w.into-is))
           (placed_more c.args.order_from c.args.order_to c.args.states.now c.loop-index.into.items c.loop-index.index w.in-Some.target c.loop-index.invariant goes below free)

@@ -1,9 +1,9 @@
 use Rattle.std.proofs.Common.{◌≡◌, List, Some, true, false, ap, sym, ◌∙◌, subst}
 use Rattle.entry_model.specs.declared.receipt.Receipt.{Receipt}
-use Rattle.entry_model.specs.Receipt.{is_no_match}
+use Rattle.entry_model.specs.Receipt.{is_no_match, found_of}
 use Rattle.entry_model.specs.Trial.{IsTrial}
 use Rattle.hpt_hash.specs.Hash.{group_of}
-use Rattle.hpt_walk.specs.Walk.{group_calls, walk_calls, found_of, added}
+use Rattle.hpt_walk.specs.Walk.{group_calls, walk_calls, receipts_added}
 use Rattle.hpt_walk.proofs.Found.{found_joined}
 use Rattle.hpt_walk.proofs.Walks.{group_in_table, walk_ends, walk_joined, walk_none, walk_shown, walk_translates}
 use Rattle.hpt_walk.proofs.walking.walk.Goals as goal
@@ -43,7 +43,7 @@ returns-clause-made g c =
     let first : List Receipt = c.search.new.receipts in
     let all : List Receipt = c.search-found.new.receipts in
     let made : g.T.EntryStore.made c.args.store.now c.search.new.store first = rw c.new-receipts.ensures at c.search.ensures.made in
-    subst (g.T.EntryStore.made c.args.store.now c.search-found.new.store) (sym c.search-found.ensures.behind) (g.met.T.EntryStore.made_more _ _ _ first (added first all) made c.search-found.ensures.made)
+    subst (g.T.EntryStore.made c.args.store.now c.search-found.new.store) (sym c.search-found.ensures.behind) (g.met.T.EntryStore.made_more _ _ _ first (receipts_added first all) made c.search-found.ensures.made)
 
 pub returns-clause-trial : goal.returns-clause-trial
 returns-clause-trial g c =
@@ -55,14 +55,14 @@ returns-clause-trial g c =
     let found : c.search.result ≡ found_of first = rw c.new-receipts.ensures at c.search.ensures.found in
     let primary : c.groups-primary.result.0 ≡ group_of page order false = c.groups-primary.ensures.primary ∙ ap (λ o. group_of page o false) c.order.ensures.value in
     let secondary : c.groups-primary.result.1 ≡ group_of page order true = c.groups-primary.ensures.secondary ∙ ap (λ o. group_of page o true) c.order.ensures.value in
-    subst (IsTrial is_no_match (walk_calls order page c.args.key c.args.no_execute c.args.want)) (sym c.search-found.ensures.behind) (walk_joined order page c.args.key c.args.no_execute c.args.want c.access_op-op.result c.access_op-op-2.result c.groups-primary.result.0 c.groups-primary.result.1 first (added first all) c.access_op-op.ensures.op primary c.access_op-op-2.ensures.op secondary trial (sym found ∙ c.in_default.is) c.search-found.ensures.trial)
+    subst (IsTrial is_no_match (walk_calls order page c.args.key c.args.no_execute c.args.want)) (sym c.search-found.ensures.behind) (walk_joined order page c.args.key c.args.no_execute c.args.want c.access_op-op.result c.access_op-op-2.result c.groups-primary.result.0 c.groups-primary.result.1 first (receipts_added first all) c.access_op-op.ensures.op primary c.access_op-op-2.ensures.op secondary trial (sym found ∙ c.in_default.is) c.search-found.ensures.trial)
 
 pub returns-clause-found : goal.returns-clause-found
 returns-clause-found g c =
     let first : List Receipt = c.search.new.receipts in
     let all : List Receipt = c.search-found.new.receipts in
     let found : c.search.result ≡ found_of first = rw c.new-receipts.ensures at c.search.ensures.found in
-    c.search-found.ensures.found ∙ sym (ap found_of c.search-found.ensures.behind ∙ found_joined first (added first all) (sym found ∙ c.in_default.is))
+    c.search-found.ensures.found ∙ sym (ap found_of c.search-found.ensures.behind ∙ found_joined first (receipts_added first all) (sym found ∙ c.in_default.is))
 
 pub returns-clause-none : goal.returns-clause-none
 returns-clause-none g c =

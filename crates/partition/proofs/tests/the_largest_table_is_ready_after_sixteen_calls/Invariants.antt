@@ -1,6 +1,6 @@
 use Rattle.std.proofs.Common.{◌≡◌}
-use Rattle.partition.specs.Partition.{IsAtHome}
+use Rattle.partition.specs.PartitionState.{HasStates}
 use Rattle.partition.proofs.tests.the_largest_table_is_ready_after_sixteen_calls.Given as goal
 
 abbrev pub invariant-loop-call : goal.invariant-loop-call
-invariant-loop-call g l = IsAtHome l.partition × (l.partition.home.table.number ≡ 0)
+invariant-loop-call g l = HasStates l.partition × (l.partition.memory.table.number ≡ 0)

@@ -1,6 +1,6 @@
 use Rattle.std.proofs.Common.{sym, arith, eq-eqb, length}
 use Rattle.std.proofs.lemmas.List.Sums.{position_or_len_is}
-use Rattle.trace_read.specs.Lines.{is_lf}
+use Rattle.trace_read.specs.TextLines.{is_lf}
 use Rattle.trace_read.proofs.lines.line_end.Goals as goal
 
 pub returns-then-c-eq10 : goal.returns-then-c-eq10

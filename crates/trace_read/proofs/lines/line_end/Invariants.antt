@@ -1,5 +1,5 @@
 use Rattle.std.proofs.Common.{◌≡◌, ℕ, ◌<◌, get_or, false}
-use Rattle.trace_read.specs.Lines.{is_lf}
+use Rattle.trace_read.specs.TextLines.{is_lf}
 use Rattle.trace_read.proofs.lines.line_end.Given as goal
 
 abbrev pub invariant-loop-i : goal.invariant-loop-i

@@ -2,7 +2,7 @@ use Rattle.std.proofs.Common.{◌≡◌, ◌+◌, ◌-◌, ℕ, List, take, drop
 use Rattle.std.proofs.lemmas.List.{take_all}
 use Rattle.std.specs.List.{position_or_len}
 use Rattle.std.proofs.lemmas.List.Splits.{slice_split_first}
-use Rattle.trace_read.specs.Lines.{is_lf}
+use Rattle.trace_read.specs.TextLines.{is_lf}
 use Rattle.trace_read.proofs.Digits.{slice_split_whole}
 use Rattle.trace_read.proofs.lines.split_line.Goals as goal
 

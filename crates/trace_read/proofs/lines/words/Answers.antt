@@ -2,7 +2,7 @@ use Rattle.std.proofs.Common.{◌≡◌, ◌∙◌, ◌++◌, ap, length, eqb, n
 use Rattle.std.proofs.lemmas.Iterator.Consumers.{YieldsList-at, YieldsList-from_filter}
 use Rattle.std.proofs.lemmas.Iterator.Splits.{YieldsList-from_slice_split}
 use Rattle.std.proofs.lemmas.Iterator.{items_from_drains}
-use Rattle.trace_read.specs.Lines.{is_blank, texts}
+use Rattle.trace_read.specs.TextLines.{is_blank, texts}
 use Rattle.trace_read.proofs.lines.words.Goals as goal
 
 pub returns : goal.returns

@@ -1,8 +1,8 @@
 use Rattle.std.proofs.Common.{◌≡◌, [], Option, None, Some, refl, IfNone, ◌∙◌, ap}
-use Rattle.hpt_walk.specs.Lines.{TranslatesItsPage}
-use Rattle.hpt_walk.specs.Walk.{found_of}
-use Rattle.entry_model.proofs.CachedPages.{all_cached, cached_is_of, all_cached_weaker}
-use Rattle.vcpu.specs.Requests.{with_kept}
+use Rattle.hpt_walk.specs.Translations.{TranslatesItsPage}
+use Rattle.entry_model.specs.Receipt.{found_of}
+use Rattle.tlb_model.proofs.CachedPages.{all_cached, cached_is_of, all_cached_weaker}
+use Rattle.tlb_model.specs.CacheAfter.{with_kept}
 use Rattle.vcpu.proofs.Refills.{dropped, all_dropped, all_kept, kept_is_of, kept_fits, walked_cache}
 use Rattle.vcpu.proofs.passing.in_segment.Given.{Over}
 use Rattle.vcpu.proofs.passing.in_segment.Goals as goal

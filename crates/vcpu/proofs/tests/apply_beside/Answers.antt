@@ -1,5 +1,5 @@
 use Rattle.std.proofs.Common.{[], ◌∷◌}
-use Rattle.entry_model.proofs.CachedPages.{all_cached_weaker}
+use Rattle.tlb_model.proofs.CachedPages.{all_cached_weaker}
 use Rattle.vcpu.proofs.tests.apply_beside.Goals as goal
 
 pub returns : goal.returns

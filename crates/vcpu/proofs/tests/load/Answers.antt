@@ -1,4 +1,4 @@
-use Rattle.entry_model.proofs.CachedPages.{all_empty}
+use Rattle.tlb_model.proofs.CachedPages.{all_empty}
 use Rattle.vcpu.proofs.tests.load.Goals as goal
 
 pub access-requires : goal.access-requires

@@ -1,6 +1,6 @@
 use Rattle.std.proofs.Common.{◌≡◌, ◌<◌, ◌≤◌, ap, lit<, length, None, count_by, arith}
 use Rattle.std.proofs.lemmas.List.Sums.{count_by-le-length}
-use Rattle.frame_grants.specs.Grants.{Granted, starts_below, add_refusal}
+use Rattle.frame_grants.specs.Grants.{GrantedMemory, starts_below, add_refusal}
 use Rattle.frame_grants.proofs.Accepting.{room_left, IsInserted, made_sound, made_is}
 use Rattle.frame_grants.proofs.grants.Grants.add.Goals as goal
 
@@ -8,14 +8,14 @@ use Rattle.frame_grants.proofs.grants.Grants.add.Goals as goal
 pub insert-requires : goal.insert-requires
 insert-requires c =
     let fine : add_refusal c.args.self.now c.args.grant ≡ None = c.in_ok-check.ensures in
-    let same : length c.self.inside.items.items ≡ length c.args.self.now.grants = ap (λ (g : Granted). length g.grants) c.self.view_is in
+    let same : length c.self.inside.items.items ≡ length c.args.self.now.grants = ap (λ (g : GrantedMemory). length g.grants) c.self.view_is in
     let room : length c.args.self.now.grants < 64 = room_left c.args.self.now c.args.grant fine in
     let in_list : count_by (starts_below c.args.grant) c.args.self.now.grants ≤ length c.args.self.now.grants = count_by-le-length (starts_below c.args.grant) c.args.self.now.grants in
     let counted : c.place_of-place.result ≡ count_by (starts_below c.args.grant) c.args.self.now.grants = c.place_of-place.ensures in
     let below : length c.self.inside.items.items < 64 = omega arith in
     (lit< tt, (omega arith, below))
 
-abbrev before : goal.After-insert → Granted
+abbrev before : goal.After-insert → GrantedMemory
 before c = record { pool_base = c.self.inside.pool_base; pool_order = c.self.inside.pool_order; grants = c.self.inside.items.items }
 
 made : (c : goal.After-insert) → IsInserted (before c) c.args.self.now c.args.grant c.place_of-place.result c.insert.new.self.items

@@ -1,6 +1,6 @@
 use Rattle.std.proofs.Common.{sym, ap, ◌∙◌, subst, not, arith}
 use Rattle.std.specs.List.{list_any}
-use Rattle.hpt_pool.specs.Pool.{Pooled, block_at, overlap, IsPlaced}
+use Rattle.hpt_pool.specs.Pool.{PoolState, block_at, overlap, IsPlaced}
 use Rattle.hpt_pool.specs.Marks.{marked_pool}
 use Rattle.hpt_pool.proofs.Leaves.{order_most}
 use Rattle.hpt_pool.proofs.Placing.{located, is_free_is}
@@ -21,4 +21,4 @@ returns c =
     let block = block_at c.args.place c.args.order in
     let here = located c.self.inside.base c.self.inside.order c.self.inside.marks.items c.args.self.now (block_at c.args.place c.args.order) c.leaf_of.result c.leaves_of.result c.self.view_is c.self.invariant c.requires c.leaf_of.ensures c.leaves_of.ensures in
     is_free_is c.are_free.result c.self.inside.base c.self.inside.order c.self.inside.marks.items (block_at c.args.place c.args.order) c.leaf_of.result c.leaves_of.result c.self.invariant here (rw c.deref.ensures.value at c.are_free.ensures)
-    ∙ ap (λ (p : Pooled). not (list_any (overlap (block_at c.args.place c.args.order)) p.taken)) c.self.view_is
+    ∙ ap (λ (p : PoolState). not (list_any (overlap (block_at c.args.place c.args.order)) p.taken)) c.self.view_is

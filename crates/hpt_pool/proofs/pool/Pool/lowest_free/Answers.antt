@@ -1,11 +1,11 @@
 use Rattle.std.proofs.Common.{◌≡◌, ℕ, ◌+◌, ◌-◌, ◌*◌, ◌^◌, ◌<◌, true, Some, sym, ap, ◌∙◌, subst, arith, below_more}
-use Rattle.hpt_pool.specs.Pool.{Pooled, fits, IsLowest, FitsNowhere}
+use Rattle.hpt_pool.specs.Pool.{PoolState, fits, IsLowest, FitsNowhere}
 use Rattle.hpt_pool.specs.Marks.{marked_pool}
 use Rattle.hpt_pool.proofs.Lowest.{IsTried, pool_of, tried, tried_placed, tried_top, tried_fits, too_large, lowest_none, lowest_some, is_lowest, fits_nowhere}
 use Rattle.hpt_pool.proofs.pool.Pool.lowest_free.Goals as goal
 
-nowhere_large : (seen now : Pooled) (order : ℕ) → seen ≡ now → seen.order < order → FitsNowhere now order
-nowhere_large seen now order same large = let order_is : seen.order ≡ now.order = ap (λ (p : Pooled). p.order) same in too_large now order (omega arith)
+nowhere_large : (seen now : PoolState) (order : ℕ) → seen ≡ now → seen.order < order → FitsNowhere now order
+nowhere_large seen now order same large = let order_is : seen.order ≡ now.order = ap (λ (p : PoolState). p.order) same in too_large now order (omega arith)
 
 pub returns-then-order-self-clause-place : goal.returns-then-order-self-clause-place
 returns-then-order-self-clause-place c = sym (lowest_none c.args.self.now c.args.order (nowhere_large _ c.args.self.now c.args.order c.self.view_is c.if-order-self.true))
@@ -53,7 +53,7 @@ loop-n-preserved c =
 -- ---- after the loop
 nowhere : (c : goal.After-loop-n) → FitsNowhere c.args.self.now c.args.order
 nowhere c =
-    let order_is : c.self.inside.order ≡ c.args.self.now.order = ap (λ (p : Pooled). p.order) c.self.view_is in
+    let order_is : c.self.inside.order ≡ c.args.self.now.order = ap (λ (p : PoolState). p.order) c.self.view_is in
     let count_is : c.size_of-n-end.result ≡ 2 ^ (c.args.self.now.order - c.args.order) = c.size_of-n-end.ensures ∙ ap (λ m. 2 ^ (m - c.args.order)) order_is in
     fits_nowhere c.args.self.now c.args.order (pool_of _ c.args.self.now c.self.view_is c.self.invariant.sound) (omega arith) (λ k below. c.loop-n.invariant k (omega arith))
 

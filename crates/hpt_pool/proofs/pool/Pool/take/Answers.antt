@@ -2,7 +2,7 @@ use Rattle.std.proofs.Common.{◌≡◌, List, sym, ap, ◌∙◌, subst, arith}
 use Rattle.std.proofs.lemmas.List.{with_items_is}
 use Rattle.std.specs.Vec.{with_items}
 use Rattle.hpt_pool.specs.declared.mark.Mark.{Mark}
-use Rattle.hpt_pool.specs.Pool.{Pooled, block_at, with_block, IsSound}
+use Rattle.hpt_pool.specs.Pool.{PoolState, block_at, with_block, IsSound}
 use Rattle.hpt_pool.specs.Marks.{marked_pool, IsMarked}
 use Rattle.hpt_pool.proofs.Leaves.{IsInLeaves}
 use Rattle.hpt_pool.proofs.Placing.{FitsIn, fits_in, located, taking, marked_with, pool_with, IsTaken}
@@ -43,7 +43,7 @@ pub returns-clause-taken : goal.returns-clause-taken
 returns-clause-taken c =
     ap (λ (marks : List Mark). marked_pool c.self.inside.base c.self.inside.order marks) (items_are c)
     ∙ pool_with c.self.inside.base c.self.inside.order c.self.inside.marks.items (after c) (block_at c.in_ok-lowest.lowest c.args.order) c.leaf_of-first.result c.leaves_of.result (made c)
-    ∙ ap (λ (p : Pooled). with_block p (block_at c.in_ok-lowest.lowest c.args.order)) c.self.view_is
+    ∙ ap (λ (p : PoolState). with_block p (block_at c.in_ok-lowest.lowest c.args.order)) c.self.view_is
 
 pub returns-clause-sound : goal.returns-clause-sound
 returns-clause-sound c = subst (λ (marks : List Mark). IsSound (marked_pool c.self.inside.base c.self.inside.order marks)) (sym (items_are c)) (marked c).sound

@@ -1,6 +1,6 @@
 use Rattle.std.proofs.Common.{◌∙◌, sym}
 use Rattle.std.proofs.lemmas.Result.{on_ok_weaker}
-use Rattle.lock_core.proofs.Telling.{split_parts, join_parts, turn_parts, stepped_split, stepped_join}
+use Rattle.lock_core.proofs.Telling.{split_parts, join_parts, result_parts, stepped_split, stepped_join}
 use Rattle.lock_core.proofs.machine.Core.take.Goals as goal
 
 pub split-requires-clause-live : goal.split-requires-clause-live
@@ -19,7 +19,7 @@ pub join-requires-clause-apart : goal.join-requires-clause-apart
 join-requires-clause-apart c = (join_parts c.args.self.now _ _ c.args.step c.in-Join.is c.requires).apart
 
 pub take_step-requires : goal.take_step-requires
-take_step-requires c = let parts = turn_parts c.args.self.now c.args.actor c.args.step c.in_default.not-Split c.in_default.not-Join c.requires in record { live = parts.live; fits = parts.fitting }
+take_step-requires c = let parts = result_parts c.args.self.now c.args.actor c.args.step c.in_default.not-Split c.in_default.not-Join c.requires in record { live = parts.live; fits = parts.fitting }
 
 pub returns-in-Split-clause-ok : goal.returns-in-Split-clause-ok
 returns-in-Split-clause-ok c = on_ok_weaker c.split.result (λ e. e ∙ stepped_split c.args.self.now c.args.actor c.in-Split.to c.args.step c.in-Split.is) c.split.ensures.ok
@@ -29,7 +29,7 @@ returns-in-Join-clause-ok c = on_ok_weaker c.join.result (λ e. e ∙ stepped_jo
 
 pub returns-in_default : goal.returns-in_default
 returns-in_default c =
-    let parts = turn_parts c.args.self.now c.args.actor c.args.step c.in_default.not-Split c.in_default.not-Join c.requires in record {
+    let parts = result_parts c.args.self.now c.args.actor c.args.step c.in_default.not-Split c.in_default.not-Join c.requires in record {
       ok = on_ok_weaker c.take_step.result (λ e. e ∙ sym parts.stepped_is) c.take_step.ensures.ok;
       err = c.take_step.ensures.err;
       memory = c.take_step.ensures.memory;

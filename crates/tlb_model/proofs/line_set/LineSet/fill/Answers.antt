@@ -1,6 +1,6 @@
 use Rattle.std.proofs.Common.{◌≡◌, None, arith}
 use Rattle.std.proofs.lemmas.Bool.Decides.{nat_tests}
-use Rattle.entry_model.specs.Cache.{line_of_page}
+use Rattle.tlb_model.specs.Cache.{line_of_page}
 use Rattle.tlb_model.proofs.Apart.{more_sound, pushed_sound}
 use Rattle.tlb_model.proofs.line_set.LineSet.fill.Goals.{then-is_full, else-is_full}
 use Rattle.tlb_model.proofs.line_set.LineSet.fill.Goals as goal

@@ -1,5 +1,5 @@
 use Rattle.std.proofs.Common.{◌≡◌, ◌∙◌, ap, subst, sym}
-use Rattle.entry_model.specs.Cache.{set_of, set_number, without_page}
+use Rattle.tlb_model.specs.Cache.{set_of, set_number, without_page}
 use Rattle.tlb_model.specs.Sets.{IsForSet}
 use Rattle.tlb_model.proofs.Placed.{written_sound, without_for, read_set}
 use Rattle.tlb_model.proofs.tlb.Tlb.drop_line.Goals as goal

@@ -1,11 +1,11 @@
 use Rattle.std.proofs.Common.{◌≡◌, ◌∙◌, ap, subst, sym}
-use Rattle.entry_model.specs.Cache.{cached, set_of, set_number, put_last}
+use Rattle.tlb_model.specs.Cache.{cached_line, set_of, set_number, put_last}
 use Rattle.tlb_model.specs.Sets.{IsForSet}
 use Rattle.tlb_model.proofs.Placed.{written_sound, filled_for, read_set}
 use Rattle.tlb_model.proofs.tlb.Tlb.fill.Goals as goal
 
 pub fill-requires : goal.fill-requires
-unfolding cached
+unfolding cached_line
 fill-requires c =
     rw (read_set c.self.inside.sets c.args.line.page c.set_number-number.result c.index-self-number.result c.self.invariant c.set_number-number.ensures, c.self.view_is) c.requires
 

@@ -1,5 +1,5 @@
-use Rattle.hpt_walk.specs.Lines.{TranslatesItsPage}
-use Rattle.entry_model.proofs.CachedPages.{all_empty}
+use Rattle.hpt_walk.specs.Translations.{TranslatesItsPage}
+use Rattle.tlb_model.proofs.CachedPages.{all_empty}
 use Rattle.vcpu.proofs.cpu.Cpu.clear_cache.Goals as goal
 
 pub invariant_of-self : goal.invariant_of-self

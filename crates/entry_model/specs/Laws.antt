@@ -1,0 +1,71 @@
+-- The laws of replies, of histories and of fronts. Whoever changes the words of an entry one at a time rests on these, and on nothing else of the table of operations.
+use Rattle.std.specs.Prelude.{ℕ, ◌==◌, List, filter, ◌≡◌, ◌+◌, ◌*◌, ◌≤◌, max, [], ◌∷◌, ◌++◌, length, map, slice_set, slice_index_or, ◌⊎◌, ◌<◌, ◌^◌, Bool, true, false}
+use Rattle.entry_model.specs.CachedLines.{AllLater}
+use Rattle.entry_model.specs.History.{IsLegal, history, Regrouped}
+use Rattle.entry_model.specs.Receipt.{is_access, is_decided, is_at}
+use Rattle.entry_model.specs.Reply.{reply_of}
+use Rattle.entry_model.specs.State.{State, IsCanonicalState, OnlyRaisesBits, with_these_bits}
+use Rattle.entry_model.specs.declared.line.Line.{Line}
+use Rattle.entry_model.specs.declared.operation.Op.{Op}
+use Rattle.entry_model.specs.declared.receipt.Receipt.{Receipt}
+use Rattle.entry_model.specs.Fronts.{KeepsFronts, AreBelow, IsGone}
+
+-- ---- accesses
+-- An access leaves valid, both doublewords and the stamp, and lowers no bit.
+abbrev pub AccessesOnlyRaiseBits : Type 0
+AccessesOnlyRaiseBits = (s : State) (op : Op) → is_access op ≡ true → OnlyRaisesBits s (reply_of s op).1
+
+-- One that isn't At changes nothing.
+abbrev pub OnlyAtTouches : Type 0
+OnlyAtTouches = (s : State) (op : Op) → is_access op ≡ true → is_at (reply_of s op).0 ≡ false → (reply_of s op).1 ≡ s
+
+-- One that finds no valid entry changes nothing.
+abbrev pub EmptyStaysEmpty : Type 0
+EmptyStaysEmpty = (s : State) (op : Op) → is_access op ≡ true → s.valid ≡ false → (reply_of s op).1 ≡ s
+
+-- One that changes nothing changes nothing, with the same answer, where further bits are set.
+abbrev pub StillAccessesStayStill : Type 0
+StillAccessesStayStill =
+    (s t : State) (op : Op) → is_access op ≡ true → OnlyRaisesBits s t → (reply_of s op).1 ≡ s → ((reply_of t op).1 ≡ t) × ((reply_of t op).0 ≡ (reply_of s op).0)
+
+-- ---- the other operations
+-- Each leaves the state as it is, or raises the stamp by one.
+abbrev pub OthersRaiseStamps : Type 0
+OthersRaiseStamps = (s : State) (op : Op) → is_access op ≡ false → ((reply_of s op).1 ≡ s) ⊎ ((reply_of s op).1.stamp ≡ s.stamp + 1)
+
+-- Whether it leaves the state doesn't depend on R and C.
+abbrev pub OthersIgnoreBits : Type 0
+OthersIgnoreBits =
+    (s : State) (referenced changed : Bool) (op : Op) → is_access op ≡ false → (reply_of s op).1 ≡ s → (reply_of (with_these_bits s referenced changed) op).1 ≡ with_these_bits s referenced changed
+
+-- ---- all operations
+-- At and Denied come only on a valid state.
+abbrev pub DecidedIsValid : Type 0
+DecidedIsValid = (s : State) (op : Op) → is_decided (reply_of s op).0 ≡ true → s.valid ≡ true
+
+-- A canonical state stays canonical: R and C stand apart, and an entry that isn't valid has nothing.
+abbrev pub RepliesStayCanonical : Type 0
+RepliesStayCanonical = (s : State) (op : Op) → IsCanonicalState s → IsCanonicalState (reply_of s op).1
+
+-- Stamps stay below 2 ^ 32.
+abbrev pub StampsStayLow : Type 0
+StampsStayLow = (s : State) (op : Op) → s.stamp < 2 ^ 32 → (reply_of s op).1.stamp < 2 ^ 32
+
+-- ---- histories
+-- Receipts of an entry that were made one after the other are a legal history, in whatever order all receipts are listed.
+abbrev pub LoggedHistoriesAreLegal : Type 0
+LoggedHistoriesAreLegal =
+    (e : ℕ) (a b : State) (log listed : List Receipt) → IsLegal a (filter (λ r. r.entry == e) log) b → Regrouped log listed → IsLegal a (history e listed) b
+
+-- ---- fronts
+-- Two lists of receipts that keep fronts, one behind the other, are one.
+abbrev pub FrontsCompose : Type 0
+FrontsCompose = (fronts mid later : List ℕ) (xs ys : List Receipt) → KeepsFronts fronts xs mid → KeepsFronts mid ys later → KeepsFronts fronts (xs ++ ys) later
+
+-- No front falls.
+abbrev pub FrontsNeverFall : Type 0
+FrontsNeverFall = (fronts later : List ℕ) (rs : List Receipt) → KeepsFronts fronts rs later → AreBelow fronts later
+
+-- Receipts of an entry that had left a line's stamp come after the line.
+abbrev pub ReceiptsOfGoneLinesAreLater : Type 0
+ReceiptsOfGoneLinesAreLater = (fronts later : List ℕ) (rs : List Receipt) (line : Line) → KeepsFronts fronts rs later → IsGone fronts line → AllLater line rs

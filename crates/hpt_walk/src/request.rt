@@ -1,0 +1,11 @@
+use storage_prot::Want;
+
+/// What an access asks.
+#[derive(Clone, Copy, PartialEq, Eq, Debug)]
+pub struct Request {
+    pub want: Want,
+    /// The effective address.
+    pub ea: u64,
+    /// Whether the processor is in problem state.
+    pub user: bool,
+}

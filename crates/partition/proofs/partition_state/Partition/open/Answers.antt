@@ -1,0 +1,36 @@
+use Rattle.std.proofs.Common.{ap, sym, ◌∙◌, subst, refl, Option, arith}
+use Rattle.hpt_resize.specs.Pending.{PendingTable}
+use Rattle.trace_read.specs.Configuration.{Configuration}
+use Rattle.partition.specs.PartitionState.{IsPartition, opening_partition}
+use Rattle.partition.proofs.Resizing.{partition}
+use Rattle.partition.proofs.Opening.{IsOpened, is_opened, can_be, has_place, memory_alone, sound_pool, beside, all_empty}
+use Rattle.partition.proofs.partition_state.Partition.open.Goals as goal
+
+pub only_memory-requires : goal.only_memory-requires
+only_memory-requires c =
+    let pool = sound_pool c.copy-grants.result c.config.inside.grants c.config.inside.pool_base c.config.inside.pool_order c.copy-grants.ensures.sound c.copy-grants.ensures.value c.config.invariant.base c.config.invariant.size in
+    memory_alone _ _ _ (can_be c.config.inside.pool_base c.config.inside.pool_order pool) c.in-Err.is c.new.ensures.refused
+
+pub unwrap-place-requires : goal.unwrap-place-requires
+unwrap-place-requires c =
+    let pool = sound_pool c.copy-grants.result c.config.inside.grants c.config.inside.pool_base c.config.inside.pool_order c.copy-grants.ensures.sound c.copy-grants.ensures.value c.config.invariant.base c.config.invariant.size in
+    has_place c.in-Ok.pool c.config.inside.pool_base c.config.inside.pool_order c.config.inside.order c.take.result c.in-Ok.ensures.ok pool c.config.invariant.at_least c.config.invariant.room c.take.ensures.lowest
+
+abbrev config : goal.After-none → Configuration
+config c = record { order = c.config.inside.order; limit = c.config.inside.limit; cpus = c.config.inside.cpus; granted = c.config.inside.grants }
+
+made : (c : goal.After-none) → IsOpened (config c) c.take.new.self c.unwrap-place.result c.in_ok-states.states.items c.copy-grants.result
+made c =
+    let small = c.config.invariant.at_most in
+    is_opened (config c) c.in-Ok.pool c.take.new.self c.take.result c.unwrap-place.result c.in_ok-states.states.items c.copy-grants.result c.config.invariant.at_least c.config.invariant.within small c.copy-grants.ensures.value (beside c.in-Ok.pool c.config.inside.grants c.config.inside.pool_base c.config.inside.pool_order c.in-Ok.ensures.ok c.config.invariant.base c.config.invariant.size) c.take.ensures.place c.unwrap-place.ensures c.take.ensures.taken c.take.ensures.sound
+    (all_empty c.in_ok-states.states.items c.config.inside.order _ c.empty.result (omega (arith, c.config.invariant.within, c.config.invariant.at_most)) (c.in_ok-states.ensures.items_if_clones_equal (λ y h. h)) refl c.empty.ensures)
+
+pub invariant_of-result : goal.invariant_of-result
+invariant_of-result c =
+    subst (λ (o : Option PendingTable). IsPartition (partition c.config.inside.limit c.take.new.self o (record { order = c.config.inside.order; place = c.unwrap-place.result; number = 0; states = c.in_ok-states.states.items }) c.copy-grants.result)) (sym c.none.ensures) (made c).kept
+
+pub returns-clause-ok : goal.returns-clause-ok
+returns-clause-ok c =
+    ap (λ (o : Option PendingTable). partition c.config.inside.limit c.take.new.self o (record { order = c.config.inside.order; place = c.unwrap-place.result; number = 0; states = c.in_ok-states.states.items }) c.copy-grants.result) c.none.ensures
+    ∙ (made c).is
+    ∙ ap opening_partition c.config.view_is

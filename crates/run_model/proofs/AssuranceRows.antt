@@ -1,0 +1,137 @@
+-- Worked values of the claims, which the checker computes.
+use Rattle.std.proofs.Common.{◌≡◌, ℕ, List, [], ◌∷◌, Bool, true, false, Some, None, refl}
+use Rattle.power_addr.specs.Pages.{tag_of}
+use Rattle.papr_codes.specs.Hcalls.{row_of, hcall_of}
+use Rattle.papr_codes.specs.declared.codes.Rc.TheVariants.{Success, Busy}
+use Rattle.storage_prot.specs.declared.want.Want.TheVariants.{Load, Store}
+use Rattle.storage_prot.specs.Protection.{permission, rows}
+use Rattle.hpt_hash.specs.Hash.{group_of}
+use Rattle.hpt_hash.specs.Entries.{page_at}
+use Rattle.entry_model.specs.State.{State}
+use Rattle.entry_model.specs.declared.operation.Op.{Op}
+use Rattle.entry_model.specs.declared.operation.Op.TheVariants.{Remove, Read, ClearRef, ClearMod, Access}
+use Rattle.entry_model.specs.declared.receipt.Receipt.{Receipt}
+use Rattle.entry_model.specs.Receipt.{receipt_of}
+use Rattle.entry_model.specs.Reply.{has_base}
+use Rattle.hpt_resize.specs.Rehash.{carried_page, target_of}
+use Rattle.run_model.specs.RunState.{reply_of_code}
+use Rattle.run_model.specs.Histories.{closing_states}
+use Rattle.run_model.specs.Sections.{Section, section_end}
+use Rattle.run_model.specs.ShownStores.{clears, stores, ShowsChange, StoresAreShown, carried_to, StaysShown}
+use Rattle.run_model.specs.CommittedResizes.{commits_by}
+use Rattle.trace_read.specs.declared.trace.Act.TheVariants as acts
+
+-- A bolted entry of the page of VSID 0x801 and index 1, at index 0 of a table of 2 ^ 18 bytes.
+entry : Bool → State
+entry changed = record { valid = true; dword0 = 0x801011; dword1 = 0x3012; referenced = true; changed = changed; stamp = 3 }
+
+made : Bool → Op → Receipt
+made changed op = receipt_of 0 (entry changed) op
+
+-- A store to that page with protection bits 2.
+store : Op
+store = Access 0x801001 12 false false Store
+
+-- ---- stores
+stores_by_a_store : stores (made false store) ≡ true
+unfolding made entry store has_base permission rows
+stores_by_a_store = refl
+
+no_store_by_a_load : stores (made false (Access 0x801001 12 false false Load)) ≡ false
+unfolding made entry
+no_store_by_a_load = refl
+
+-- Another page's store is no match.
+no_store_elsewhere : stores (made false (Access 0x801081 12 false false Store)) ≡ false
+unfolding made entry has_base
+no_store_elsewhere = refl
+
+removed_clears : clears (made true (Remove (record { avpn = None; andcond = None }))) ≡ true
+unfolding made entry
+removed_clears = refl
+
+-- A removal whose test fails leaves the entry.
+failed_removal : clears (made true (Remove (record { avpn = Some 0x801080; andcond = None }))) ≡ false
+unfolding made entry
+failed_removal = refl
+
+clear_ref_keeps : clears (made true ClearRef) ≡ false
+unfolding made entry
+clear_ref_keeps = refl
+
+-- ---- shown
+-- Behind the receipt that clears it nothing is asked.
+until_cleared : ShowsChange (made true Read ∷ made true ClearMod ∷ []) (entry false) ⊥
+unfolding made entry
+until_cleared = (refl, (refl, tt))
+
+to_the_end : ShowsChange (made true Read ∷ []) (entry true) (Unit {0})
+unfolding made entry
+to_the_end = (refl, (refl, tt))
+
+-- A receipt in which C is gone.
+gone_between : ShowsChange (made false Read ∷ []) (entry true) (Unit {0}) → ⊥
+unfolding made entry
+gone_between h = let no : false ≡ true = h.0 in cc
+
+gone_at_the_end : StoresAreShown (made false store ∷ []) (entry false) (Unit {0}) → ⊥
+unfolding made entry store has_base permission rows
+gone_at_the_end h = let no : false ≡ true = h.0.0 in cc
+
+-- A load asks nothing.
+nothing_asked : StoresAreShown (made false Read ∷ []) (entry false) ⊥
+unfolding made entry
+nothing_asked = (tt, tt)
+
+-- ---- from section to section
+-- A section without lines on a table of this order and number.
+section : ℕ → ℕ → List State → Section
+section order number states = record {
+  before = record {
+    grants = [];
+    memory = record {
+      limit = 22;
+      pool = record { base = 0x1000000000; order = 20; taken = [] };
+      pending = None;
+      table = record { order = order; place = 0x1000000000; number = number; states = states };
+    };
+    processors = [];
+  };
+  replied_lines = [];
+  quiet = None;
+}
+
+in_the_same_table : carried_to (section 18 0 (entry true ∷ [])) (section 18 0 (entry true ∷ [])) 0 ≡ Some 0
+unfolding section
+in_the_same_table = refl
+
+-- The hash of the page is 0x800: group 0 of 0x800, and 0x800 of 0x1000.
+in_a_larger_table : carried_to (section 18 0 (entry true ∷ [])) (section 19 1 []) 0 ≡ Some 0x4000
+unfolding section entry section_end closing_states target_of carried_page page_at group_of tag_of
+in_a_larger_table = refl
+
+not_bolted : carried_to (section 18 0 (record (entry true) { dword0 = 0x801001 } ∷ [])) (section 19 1 []) 0 ≡ None
+unfolding section entry section_end closing_states target_of carried_page
+not_bolted = refl
+
+-- A table without the entry would lose the store; where the entry was not carried nothing is asked.
+lost_by_a_resize : StaysShown (section 18 0 (entry true ∷ [])) 0 (section 19 1 [] ∷ []) → ⊥
+unfolding section entry section_end closing_states target_of carried_page page_at group_of tag_of
+lost_by_a_resize h = let no : false ≡ true = h.0 in cc
+
+dropped_by_a_resize : StaysShown (section 18 0 (record (entry true) { dword0 = 0x801001 } ∷ [])) 0 (section 19 1 [] ∷ [])
+unfolding section entry section_end closing_states target_of carried_page
+dropped_by_a_resize = tt
+
+-- ---- commits
+committed : commits_by (acts.Call 0x370 (0 ∷ 19 ∷ []) false) (reply_of_code Success) ≡ true
+unfolding hcall_of row_of
+committed = refl
+
+refused : commits_by (acts.Call 0x370 (0 ∷ 19 ∷ []) false) (reply_of_code Busy) ≡ false
+unfolding hcall_of row_of
+refused = refl
+
+prepared : commits_by (acts.Call 0x36C (0 ∷ 19 ∷ []) false) (reply_of_code Success) ≡ false
+unfolding hcall_of row_of
+prepared = refl

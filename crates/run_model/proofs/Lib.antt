@@ -1,0 +1,26 @@
+pub mod Each
+pub mod LinesByProcessor
+pub mod Undisturbed
+pub mod SectionGood
+pub mod OneReply
+pub mod CachesHold
+pub mod SerialReplies
+pub mod Memories
+pub mod SerialUndisturbed
+pub mod SerialGood
+pub mod ParallelGood
+pub mod SerialParallel
+pub mod OneProcessor
+pub mod Resized
+pub mod SectionChain
+pub mod Stores
+pub mod StoresKept
+pub mod LowStamps
+pub mod SafeReplies
+pub mod LowStampRuns
+pub mod AllSafe
+pub mod SmallPartition
+mod AssuranceRows
+mod HistoryRows
+mod SectionRows
+mod ParallelRows

@@ -1,0 +1,167 @@
+-- What each reply enters, how far it raises stamps, and that it is safe where its receipts were made on low_stamp states.
+use Rattle.power_addr.specs.Pages.{VirtualPage}
+use Rattle.std.specs.Prelude.{IfSome}
+use Rattle.std.proofs.Common.{◌≡◌, ℕ, ◌*◌, ◌≤◌, ◌^◌, List, [], ◌∷◌, true, false, ap, sym, ◌∙◌, refl, subst, ◌⊎◌, inl, inr, arith, Option, Some, None}
+use Rattle.std.specs.List.{AllByRecursion, range_with_len}
+use Rattle.std.specs.Option.{option_map_or}
+use Rattle.std.proofs.lemmas.Bool.{cases_Bool}
+use Rattle.papr_codes.specs.declared.calls.Hcall.{Hcall}
+use Rattle.papr_codes.specs.Hcalls.{hcall_of}
+use Rattle.page_sizes.specs.declared.size.PageSize.{PageSize}
+use Rattle.page_sizes.specs.Sizes.{size_of}
+use Rattle.hpte_fields.specs.Fields.{frame_of, wimg_of}
+use Rattle.frame_grants.specs.declared.grant.Grant.{Grant}
+use Rattle.frame_grants.specs.declared.grant.Kind.{Kind}
+use Rattle.frame_grants.specs.Grants.{GrantedMemory, AreApart, machine_range}
+use Rattle.frame_grants.proofs.Landing.{lands_off_pool}
+use Rattle.hpt_hash.specs.Hash.{group_of}
+use Rattle.entry_model.specs.State.{State}
+use Rattle.entry_model.specs.declared.operation.Op.{Op}
+use Rattle.entry_model.specs.declared.line.Line.{Line}
+use Rattle.entry_model.specs.declared.access_reply.AccessReply.{AccessReply}
+use Rattle.entry_model.specs.declared.access_reply.By.{By}
+use Rattle.entry_model.specs.declared.access_reply.By.TheVariants.{Hit, Walk}
+use Rattle.entry_model.specs.declared.access_reply.Outcome.{Outcome}
+use Rattle.entry_model.specs.declared.hreply.HReply.{HReply}
+use Rattle.entry_model.specs.declared.receipt.Receipt.{Receipt}
+use Rattle.entry_model.specs.Receipt.{is_at, is_no_match, found_of}
+use Rattle.tlb_model.specs.Cache.{cached_line}
+use Rattle.entry_model.specs.Trial.{Call, IsTrial, IsReplyOf, call}
+use Rattle.entry_model.proofs.Heights.{weight, calls_cost, trial_weight, at_valid, cost_append}
+use Rattle.entry_model.proofs.PlanBounds.{EntersOnly, IsTame, IsTameReply, answered_tame, tame_reply, trial_ops, each_call, entries_cost}
+use Rattle.h_enter.specs.Checks.{suits_grants, suits_size, suits_kind}
+use Rattle.h_enter.proofs.Suited.{IsSuited, h_enter_tame}
+use Rattle.h_update.proofs.Tame.{h_remove_tame, h_protect_tame, h_read_tame, h_clear_ref_tame, h_clear_mod_tame, h_bulk_remove_tame}
+use Rattle.slb_model.specs.declared.segment.Segment.{Segment}
+use Rattle.slb_model.specs.Buffer.{segment_of}
+use Rattle.hpt_walk.specs.Walk.{access_op, group_calls, walk_calls}
+use Rattle.hpt_walk.specs.Access.{AccessContext, key_for, logical_of, landing_at, outcome_by, outcome_of, hit_calls, IsByWay, IsAccessReply, request}
+use Rattle.hpt_walk.specs.declared.request.Request.{Request}
+use Rattle.tlb_model.specs.Processor.{Processor}
+use Rattle.hpt_walk.proofs.Found.{found-on, found-off}
+use Rattle.hpt_walk.proofs.Granted.{IsGrantedPage, IsGrantedWords, access_lands}
+use Rattle.trace_read.specs.declared.trace.Act.{Act}
+use Rattle.trace_reply.specs.declared.reply.Reply.{Reply}
+use Rattle.trace_reply.specs.Replies.{IsOfKind, receipts_in}
+use Rattle.run_model.specs.LineReplies.{hcall_plan, IsCallReply, IsReplyToAccess}
+use Rattle.run_model.specs.Landings.{IsLanding, Lands, IsSafe}
+use Rattle.run_model.proofs.Each.{each_map, each_append}
+use Rattle.run_model.proofs.LowStamps.{IsLowStamp, top, EnterGranted, FromLowStamp, none_worn}
+use Rattle.papr_codes.specs.declared.calls.Hcall.TheVariants as calls
+use Rattle.papr_codes.specs.declared.codes.Rc.TheVariants as rc
+use Rattle.entry_model.specs.declared.operation.Op.TheVariants as ops
+use Rattle.trace_read.specs.declared.trace.Act.TheVariants as acts
+use Rattle.trace_reply.specs.declared.reply.Reply.TheVariants as replies
+
+-- ---- words that H_ENTER accepts have a granted page
+size_granted : (grants : List Grant) (dword1 actual : ℕ) (x : Option (ℕ × Kind)) → machine_range grants (frame_of dword1 actual) (2 ^ actual) ≡ x → option_map_or (λ (y : ℕ × Kind). suits_kind (wimg_of dword1) y.1) x false ≡ true → IsGrantedPage grants (frame_of dword1 actual) actual
+size_granted grants dword1 actual None e h = absurd (cc)
+size_granted grants dword1 actual (Some x) e h = (x, e)
+
+words_granted : (grants : List Grant) (dword1 : ℕ) (size : Option PageSize) → option_map_or (suits_size grants dword1) size false ≡ true → IsGrantedPage grants (frame_of dword1 (option_map_or (λ (s : PageSize). s.actual) size 12)) (option_map_or (λ (s : PageSize). s.actual) size 12)
+words_granted grants dword1 None h = absurd (cc)
+words_granted grants dword1 (Some size) h = size_granted grants dword1 size.actual (machine_range grants (frame_of dword1 size.actual) (2 ^ size.actual)) refl h
+
+suited_granted : (grants : List Grant) (dword0 dword1 : ℕ) → IsSuited grants dword0 dword1 → IsGrantedWords grants dword0 dword1
+unfolding suits_grants
+suited_granted grants dword0 dword1 h = words_granted grants dword1 (size_of dword0 dword1) h
+
+enters_granted : (grants : List Grant) (op : Op) → EntersOnly (IsSuited grants) op → EntersOnly (IsGrantedWords grants) op
+enters_granted grants (ops.Enter dword0 dword1) h = suited_granted grants dword0 dword1 h
+enters_granted grants other h = tt
+
+-- ---- hypervisor calls
+hcall_tame : (set : AccessContext) (h : Hcall) (args : List ℕ) → IsTame (IsSuited set.grants) (hcall_plan set h args)
+unfolding hcall_plan
+hcall_tame set calls.Enter args = h_enter_tame set.order set.grants _ _ _ _
+hcall_tame set calls.Remove args = h_remove_tame (IsSuited set.grants) set.order _ _ _
+hcall_tame set calls.Protect args = h_protect_tame (IsSuited set.grants) set.order _ _ _
+hcall_tame set calls.Read args = h_read_tame (IsSuited set.grants) set.order _ _
+hcall_tame set calls.ClearRef args = h_clear_ref_tame (IsSuited set.grants) set.order _
+hcall_tame set calls.ClearMod args = h_clear_mod_tame (IsSuited set.grants) set.order _
+hcall_tame set calls.BulkRemove args = h_bulk_remove_tame (IsSuited set.grants) set.order args
+hcall_tame set other args = answered_tame (IsSuited set.grants) rc.Function (λ e. cc)
+
+-- ---- lines
+-- What is entered has a granted page, few stamps are raised, and the reply is safe where the states before were low_stamp.
+pub record IsTameLine (granted : GrantedMemory) (reply : Reply) : Type 0 where
+  pub enters : EnterGranted granted.grants (receipts_in reply)
+  pub few : weight (receipts_in reply) ≤ 32
+  pub safe : FromLowStamp granted.grants top (receipts_in reply) → IsSafe granted reply
+
+call_line : (granted : GrantedMemory) (set : AccessContext) (h : Hcall) (args : List ℕ) (reply : HReply) → set.grants ≡ granted.grants → IsReplyOf (hcall_plan set h args) reply → IsTameLine granted (replies.Hcall reply)
+call_line granted set h args reply same is =
+    let tame : IsTameReply (IsSuited granted.grants) reply = subst (λ g. IsTameReply (IsSuited g) reply) same (tame_reply (IsSuited set.grants) (hcall_plan set h args) reply (hcall_tame set h args) is) in
+    record {
+      enters = each_map (λ (r : Receipt). EntersOnly (IsSuited granted.grants) r.op) (λ (r : Receipt). EntersOnly (IsGrantedWords granted.grants) r.op) reply.receipts (λ r. enters_granted granted.grants r.op) tame.enters;
+      few = tame.few;
+      safe = λ low_stamp. tame.code (none_worn granted.grants reply.receipts low_stamp);
+    }
+
+-- ---- where an access lands
+landing : (granted : GrantedMemory) (ea : ℕ) (s : State) → AreApart granted → IsLowStamp granted.grants top s → s.valid ≡ true → Lands granted (landing_at (machine_range granted.grants (logical_of ea s) 1) (logical_of ea s))
+landing granted ea s apart low_stamp valid =
+    let (x, found) = access_lands granted.grants ea s low_stamp.granted valid in
+    let at : IsLanding granted x.0 = record { logical = logical_of ea s; kind = x.1; in_grant = found; off_pool = λ inside. lands_off_pool granted (logical_of ea s) x apart found inside.from_base inside.to_end } in
+    rw found at
+
+found_lands : (granted : GrantedMemory) (ea : ℕ) (found : Option Receipt) → AreApart granted → IfSome found (λ r. IsLowStamp granted.grants top r.before) → Lands granted (outcome_by granted.grants ea found)
+found_lands granted ea None apart low_stamp = tt
+found_lands granted ea (Some r) apart low_stamp = at (cases_Bool (is_at r.answer)) where
+  at : (is_at r.answer ≡ true) ⊎ (is_at r.answer ≡ false) → Lands granted (outcome_by granted.grants ea (Some r))
+  at (inl on) = rw on (landing granted ea r.before apart low_stamp (at_valid r.before r.op (ap is_at (sym r.lawful) ∙ on)))
+  at (inr off) = rw off tt
+
+each_found : (P : Receipt → Type 0) (rs : List Receipt) → AllByRecursion P rs → IfSome (found_of rs) P
+each_found P [] h = tt
+each_found P (r ∷ rs) h = at (cases_Bool (is_no_match r.answer)) (each_found P rs h.1) where
+  at : (is_no_match r.answer ≡ true) ⊎ (is_no_match r.answer ≡ false) → IfSome (found_of rs) P → IfSome (found_of (r ∷ rs)) P
+  at (inl on) rest = rw (found-on r rs on) rest
+  at (inr off) rest = rw (found-off r rs off) h.0
+
+outcome_lands : (granted : GrantedMemory) (ea : ℕ) (o : Outcome) (rs : List Receipt) → AreApart granted → o ≡ outcome_of granted.grants ea rs → FromLowStamp granted.grants top rs → Lands granted o
+unfolding outcome_of
+outcome_lands granted ea o rs apart e low_stamp = subst (Lands granted) (sym e) (found_lands granted ea (found_of rs) apart (each_found (λ (r : Receipt). IsLowStamp granted.grants top r.before) rs low_stamp))
+
+-- ---- accesses
+access_line : (granted : GrantedMemory) (set : AccessContext) (ea : ℕ) (r : AccessReply) (cs : List Call) → AreApart granted → set.grants ≡ granted.grants → AllByRecursion (λ (c : Call). EntersOnly (IsGrantedWords granted.grants) c.op) cs → calls_cost cs ≤ 32 → IsTrial is_no_match cs r.receipts → r.outcome ≡ outcome_of set.grants ea r.receipts → IsTameLine granted (replies.Access r)
+access_line granted set ea r cs apart same enters low trial outcome = record {
+  enters = trial_ops (EntersOnly (IsGrantedWords granted.grants)) is_no_match cs r.receipts enters trial;
+  few = omega (arith, trial_weight is_no_match cs r.receipts trial);
+  safe = outcome_lands granted ea r.outcome r.receipts apart (subst (λ g. r.outcome ≡ outcome_of g ea r.receipts) same outcome);
+}
+
+walk_cost : (order : ℕ) (seg : Segment) (a : Request) → calls_cost (walk_calls order seg.page (key_for seg a.user) seg.no_execute a.want) ≤ 32
+unfolding walk_calls
+walk_cost order seg a =
+    let first = access_op seg.page (key_for seg a.user) seg.no_execute a.want false in
+    let second = access_op seg.page (key_for seg a.user) seg.no_execute a.want true in
+    omega (arith, cost_append (group_calls first (group_of seg.page order false)) (group_calls second (group_of seg.page order true)), entries_cost first (group_of seg.page order false * 8) 8, entries_cost second (group_of seg.page order true * 8) 8)
+
+walk_enters : (W : ℕ → ℕ → Type 0) (order : ℕ) (seg : Segment) (a : Request) → AllByRecursion (λ (c : Call). EntersOnly W c.op) (walk_calls order seg.page (key_for seg a.user) seg.no_execute a.want)
+unfolding walk_calls
+walk_enters W order seg a =
+    let first = access_op seg.page (key_for seg a.user) seg.no_execute a.want false in
+    let second = access_op seg.page (key_for seg a.user) seg.no_execute a.want true in
+    each_append (λ (c : Call). EntersOnly W c.op) (group_calls first (group_of seg.page order false)) (group_calls second (group_of seg.page order true)) (each_call (EntersOnly W) first (range_with_len (group_of seg.page order false * 8) 8) tt) (each_call (EntersOnly W) second (range_with_len (group_of seg.page order true * 8) 8) tt)
+
+way_line : (granted : GrantedMemory) (set : AccessContext) (seg : Segment) (a : Request) (c : Option Line) (by : Option By) (r : AccessReply) → AreApart granted → set.grants ≡ granted.grants → IsByWay set seg a c by r → IsTameLine granted (replies.Access r)
+way_line granted set seg a (Some line) (Some Hit) r apart same h = access_line granted set a.ea r (hit_calls seg a line) apart same (tt, tt) (omega arith) h.trial h.outcome
+way_line granted set seg a (Some line) (Some Walk) r apart same h = access_line granted set a.ea r (walk_calls set.order seg.page (key_for seg a.user) seg.no_execute a.want) apart same (walk_enters (IsGrantedWords granted.grants) set.order seg a) (walk_cost set.order seg a) h.trial h.outcome
+way_line granted set seg a None (Some Walk) r apart same h = access_line granted set a.ea r (walk_calls set.order seg.page (key_for seg a.user) seg.no_execute a.want) apart same (walk_enters (IsGrantedWords granted.grants) set.order seg a) (walk_cost set.order seg a) h.trial h.outcome
+way_line granted set seg a None (Some Hit) r apart same h = absurd h
+way_line granted set seg a None None r apart same h = absurd h
+way_line granted set seg a (Some line) None r apart same h = absurd h
+
+segment_line : (granted : GrantedMemory) (set : AccessContext) (cached : VirtualPage → Option Line) (a : Request) (s : Option Segment) (r : AccessReply) → AreApart granted → set.grants ≡ granted.grants → IsAccessReply set cached a s r → IsTameLine granted (replies.Access r)
+segment_line granted set cached a None r apart same h = subst (λ (x : AccessReply). IsTameLine granted (replies.Access x)) (sym h) (record { enters = tt; few = omega arith; safe = λ low_stamp. tt })
+segment_line granted set cached a (Some seg) r apart same h = way_line granted set seg a (cached seg.page) r.by r apart same h
+
+-- ---- each line
+pub line_tame : (granted : GrantedMemory) (set : AccessContext) (processor : Processor) (act : Act) (reply : Reply) → AreApart granted → set.grants ≡ granted.grants → IsOfKind act reply → IsCallReply set act reply → IsReplyToAccess set processor act reply → IsTameLine granted reply
+line_tame granted set processor (acts.Call number args spelt) (replies.Hcall h) apart same kind call acc = call_line granted set (hcall_of number) args h same call
+line_tame granted set processor (acts.Access want ea user) (replies.Access r) apart same kind call acc = segment_line granted set (cached_line processor.cache) (request want ea user) (segment_of processor.slots ea) r apart same acc
+line_tame granted set processor (acts.SlbMte rb rs) (replies.Segment accepted) apart same kind call acc = record { enters = tt; few = omega arith; safe = λ low_stamp. tt }
+line_tame granted set processor acts.SlbClear (replies.Segment accepted) apart same kind call acc = record { enters = tt; few = omega arith; safe = λ low_stamp. tt }
+line_tame granted set processor acts.Dump (replies.Dump shown) apart same kind call acc = record { enters = tt; few = omega arith; safe = λ low_stamp. tt }
+line_tame granted set processor act reply apart same kind call acc = absurd kind

@@ -1,0 +1,217 @@
+-- A section that runs with nobody else at the table is good.
+use Rattle.std.specs.Prelude.{IfSome, if◌then◌else◌, ◌==◌, max}
+use Rattle.std.proofs.Common.{◌≡◌, ℕ, suc, ◌<◌, ◌≤◌, ◌+◌, ◌*◌, List, [], ◌∷◌, ◌++◌, Bool, true, false, ap, sym, ◌∙◌, refl, subst, ◌⊎◌, inl, inr, map, length, arith, Option, Some, None, cond, eqb, append_assoc}
+use Rattle.std.specs.List.{AllByRecursion}
+use Rattle.std.proofs.lemmas.Bool.{cond_both, cases_Bool, eqb-true}
+use Rattle.std.proofs.lemmas.List.{length-map}
+use Rattle.entry_model.specs.State.{State}
+use Rattle.entry_model.specs.declared.line.Line.{Line}
+use Rattle.entry_model.specs.declared.receipt.Receipt.{Receipt}
+use Rattle.entry_model.specs.Receipt.{after_of}
+use Rattle.entry_model.specs.Run.{state_at, IsRun, IsStep}
+use Rattle.entry_model.proofs.Runs.{run_more, run-length}
+use Rattle.entry_model.specs.History.{IsLegal, history, last_after, bits, pair_of, Regrouped, nothing, kept, swapped, twice}
+use Rattle.entry_model.proofs.Follows.{Follows, same_or_more}
+use Rattle.entry_model.proofs.RunFollows.{run_follows}
+use Rattle.entry_model.proofs.LineLaws.{run_leaves}
+use Rattle.entry_model.proofs.Regroup.{history_regrouped}
+use Rattle.entry_model.proofs.RunHistory.{run_history, own_state, other_state}
+use Rattle.hpt_walk.specs.Access.{AccessContext}
+use Rattle.tlb_model.specs.Processor.{Processor}
+use Rattle.papr_codes.specs.Hcalls.{hcall_of}
+use Rattle.papr_codes.specs.declared.calls.Hcall.{Hcall}
+use Rattle.trace_read.specs.declared.trace.Act.{Act}
+use Rattle.trace_reply.specs.Replies.{RepliedLine, receipts_in}
+use Rattle.run_model.specs.Processors.{processor_at, processor_after, processors_after, gone_line_of}
+use Rattle.run_model.specs.LineReplies.{IsCallReply}
+use Rattle.run_model.specs.RunState.{RunState, context_of, states_of, without_cache, run_resize, run_quiet_line}
+use Rattle.hpt_resize.specs.TableMemory.{with_states}
+use Rattle.run_model.specs.Histories.{lines_of_processor, receipts_by, closing_from, closing_states, Event, made, InOrder, gone_events, events_by}
+use Rattle.entry_model.specs.Fronts.{pair_beyond}
+use Rattle.run_model.specs.Sections.{Section, receipts_made, section_end, processors_after_lines, sections_from}
+use Rattle.run_model.specs.GoodRun.{AreLegal, AreInOrder, EachLineOfProcessor, CallsAreReplied, IsAccessLine, AccessesAreReplied, QuietIsReplied}
+use Rattle.run_model.proofs.Undisturbed.{AreUndisturbed, Stands, state_behind, processors_on}
+use Rattle.run_model.proofs.LinesByProcessor.{Cpus, InFileOrder, own_yes, own_no, processor_own, processor_other, processors_size, cpus_after, own_lines, own_processors, file_listed}
+use Rattle.papr_codes.specs.declared.calls.Hcall.TheVariants as calls
+use Rattle.trace_read.specs.declared.trace.Act.TheVariants as acts
+
+-- ---- the receipts of all lines
+pub replied_lines_run : (set : AccessContext) (processors : List Processor) (a b : List State) (ts : List RepliedLine) → AreUndisturbed set processors a ts b → IsRun a (receipts_by ts) b
+replied_lines_run set processors a b [] h = h
+replied_lines_run set processors a b (t ∷ ts) h = run_more a h.0 b (receipts_in t.reply) (receipts_by ts) h.1.run (replied_lines_run set (processors_after processors t) h.0 b ts h.2)
+
+pub within_run : (a b : List State) (rs : List Receipt) → IsRun a rs b → AllByRecursion (λ (r : Receipt). r.entry < length a) rs
+within_run a b [] h = tt
+within_run a b (r ∷ rs) h = (h.1.in_table, subst (λ n. AllByRecursion (λ (r : Receipt). r.entry < n) rs) (run-length a h.0 (r ∷ []) (h.0, h.1, refl)) (within_run h.0 b rs h.2))
+
+pub each_regrouped : (P : Receipt → Type 0) {xs ys : List Receipt} → Regrouped xs ys → AllByRecursion P xs → AllByRecursion P ys
+each_regrouped P nothing h = h
+each_regrouped P (kept m r) h = (h.0, each_regrouped P r h.1)
+each_regrouped P (swapped m n xs) h = (h.1.0, (h.0, h.1.1))
+each_regrouped P (twice r s) h = each_regrouped P s (each_regrouped P r h)
+
+-- ---- closing states
+pub last_is : (s t : State) (ms : List Receipt) → IsLegal s ms t → t ≡ last_after s ms
+last_is s t [] h = h
+last_is s t (m ∷ ms) h = last_is (after_of m) t ms h.1
+
+closing_from_is : (n : ℕ) (a b : List State) (ms : List Receipt) → length b ≡ length a → ((e : ℕ) → e < length a → IsLegal (state_at a e) (history (n + e) ms) (state_at b e)) → closing_from n a ms ≡ b
+closing_from_is n [] [] ms l h = refl
+closing_from_is n [] (t ∷ b) ms l h = absurd (omega arith)
+closing_from_is n (s ∷ a) [] ms l h = absurd (omega arith)
+closing_from_is n (s ∷ a) (t ∷ b) ms l h =
+    let zeroth : n + 0 ≡ n = omega arith in
+    let first : t ≡ last_after s (history n ms) = last_is s t (history n ms) (subst (λ k. IsLegal s (history k ms) t) zeroth (h 0 (omega arith))) in
+    let rest : closing_from (suc n) a ms ≡ b = closing_from_is (suc n) a b ms (omega arith) (λ e within. subst (λ k. IsLegal (state_at a e) (history k ms) (state_at b e)) (let q : n + suc e ≡ suc n + e = omega arith in q) (h (suc e) (omega arith))) in
+    λ i. sym first i ∷ rest i
+
+pub closing_is : (a b : List State) (ms : List Receipt) → length b ≡ length a → ((e : ℕ) → e < length a → IsLegal (state_at a e) (history e ms) (state_at b e)) → closing_states a ms ≡ b
+unfolding closing_states
+closing_is a b ms l h = closing_from_is 0 a b ms l (λ e within. subst (λ k. IsLegal (state_at a e) (history k ms) (state_at b e)) (let q : e ≡ 0 + e = omega arith in q) (h e within))
+
+-- ---- fronts
+pub follows_pair : (s t : State) → Follows s t → pair_of s ≤ pair_of t
+unfolding pair_of
+follows_pair s t (inl touches) = at (same_or_more s t touches) where
+  at : (t ≡ s) ⊎ (bits s < bits t) → s.stamp * 4 + bits s ≤ t.stamp * 4 + bits t
+  at (inl same) = subst (λ x. s.stamp * 4 + bits s ≤ x.stamp * 4 + bits x) (sym same) (omega arith)
+  at (inr more) = omega (arith, touches.stamp)
+follows_pair s t (inr higher) = at s.referenced s.changed where
+  at : (r c : Bool) → s.stamp * 4 + (cond r 1 0 + cond c 1 0) ≤ t.stamp * 4 + bits t
+  at true true = omega arith
+  at true false = omega arith
+  at false true = omega arith
+  at false false = omega arith
+
+pub stamp_pair : (n : ℕ) (s : State) → n < s.stamp → (n + 1) * 4 ≤ pair_of s
+unfolding pair_of
+stamp_pair n s h = omega arith
+
+-- one receipt on a list of states, before further events
+step_in_order : (e p : ℕ) (a mid : List State) (r : Receipt) (evs : List Event) → IsStep a r mid → p ≤ pair_of (state_at a e) → ((q : ℕ) → q ≤ pair_of (state_at mid e) → InOrder e q evs) → InOrder e p (made r ∷ evs)
+step_in_order e p a mid r evs step low rest = at (cases_Bool (r.entry == e)) where
+  at : (r.entry == e ≡ true) ⊎ (r.entry == e ≡ false) → InOrder e p (made r ∷ evs)
+  at (inl own) =
+      let states = own_state a mid r e step (eqb-true r.entry e own) in
+      let before : p ≤ pair_of r.before = subst (λ s. p ≤ pair_of s) (sym states.0) low in
+      let after : InOrder e (pair_of (after_of r)) evs = rest (pair_of (after_of r)) (subst (λ s. pair_of (after_of r) ≤ pair_of s) (sym states.1) (omega arith)) in
+      rw own (before, after)
+  at (inr other) = rw other (rest p (subst (λ s. p ≤ pair_of s) (sym (other_state a mid r e step other)) low))
+
+-- the events of receipts on a list of states, before further events
+run_in_order : (e p : ℕ) (a b : List State) (rs : List Receipt) (evs : List Event) → IsRun a rs b → p ≤ pair_of (state_at a e) → ((q : ℕ) → q ≤ pair_of (state_at b e) → InOrder e q evs) → InOrder e p (map (λ (r : Receipt). made r) rs ++ evs)
+run_in_order e p a b [] evs run low rest = rest p (subst (λ s. p ≤ pair_of (state_at s e)) (sym run) low)
+run_in_order e p a b (r ∷ rs) evs run low rest = step_in_order e p a run.0 r (map (λ (r : Receipt). made r) rs ++ evs) run.1 low (λ q k. run_in_order e q run.0 b rs evs run.2 k rest)
+
+-- a raise by a line whose entry has left its stamp
+left_in_order : (e p : ℕ) (a : List State) (line : Option Line) (evs : List Event) → IfSome line (λ l. l.stamp < (state_at a l.entry).stamp) → p ≤ pair_of (state_at a e) → ((q : ℕ) → q ≤ pair_of (state_at a e) → InOrder e q evs) → InOrder e p (gone_events line ++ evs)
+left_in_order e p a None evs gone low rest = rest p low
+left_in_order e p a (Some line) evs gone low rest = rest (if line.entry == e then max p (pair_beyond line) else p) (cond_both (line.entry == e) (max p (pair_beyond line)) p (λ n. n ≤ pair_of (state_at a e)) (λ own. raised own) (λ other. low)) where
+  higher : (s : State) → line.stamp < s.stamp → pair_beyond line ≤ pair_of s
+  higher s h = stamp_pair line.stamp s h
+
+  raised : line.entry == e ≡ true → max p (pair_beyond line) ≤ pair_of (state_at a e)
+  raised own =
+      let here : line.stamp < (state_at a e).stamp = subst (λ k. line.stamp < (state_at a k).stamp) (eqb-true line.entry e own) gone in
+      let high : pair_beyond line ≤ pair_of (state_at a e) = higher (state_at a e) here in
+      omega arith
+
+pub replied_lines_in_order : (set : AccessContext) (cpu e p : ℕ) (processors : List Processor) (a b : List State) (ts : List RepliedLine) → Cpus (length processors) ts → AreUndisturbed set processors a ts b → p ≤ pair_of (state_at a e) → InOrder e p (events_by (processor_at processors cpu) (lines_of_processor cpu ts))
+replied_lines_in_order set cpu e p processors a b [] within h low = tt
+replied_lines_in_order set cpu e p processors a b (t ∷ ts) within h low = at (cases_Bool (eqb t.line.cpu cpu)) (λ q k. replied_lines_in_order set cpu e q (processors_after processors t) h.0 b ts (cpus_after processors t ts within.1) h.2 k) where
+  later : List Event
+  later = events_by (processor_at (processors_after processors t) cpu) (lines_of_processor cpu ts)
+
+  at : (eqb t.line.cpu cpu ≡ true) ⊎ (eqb t.line.cpu cpu ≡ false) → ((q : ℕ) → q ≤ pair_of (state_at h.0 e) → InOrder e q later) → InOrder e p (events_by (processor_at processors cpu) (lines_of_processor cpu (t ∷ ts)))
+  at (inl own) rest =
+      let same : t.line.cpu ≡ cpu = eqb-true t.line.cpu cpu own in
+      let line = gone_line_of (processor_at processors t.line.cpu) t.line.act t.reply in
+      let mine : InOrder e p (gone_events line ++ (map (λ (r : Receipt). made r) (receipts_in t.reply) ++ later)) = left_in_order e p a line (map (λ (r : Receipt). made r) (receipts_in t.reply) ++ later) h.1.gone low (λ q k. run_in_order e q a h.0 (receipts_in t.reply) later h.1.run k rest) in
+      let processor : processor_at (processors_after processors t) cpu ≡ processor_after (processor_at processors t.line.cpu) t.line.act t.reply = ap (processor_at (processors_after processors t)) (sym same) ∙ processor_own processors t within.0 in
+      let whole : events_by (processor_at processors t.line.cpu) (t ∷ lines_of_processor cpu ts) ≡ gone_events line ++ (map (λ (r : Receipt). made r) (receipts_in t.reply) ++ later) = append_assoc (gone_events line) (map (λ (r : Receipt). made r) (receipts_in t.reply)) (events_by (processor_after (processor_at processors t.line.cpu) t.line.act t.reply) (lines_of_processor cpu ts)) ∙ ap (λ s. gone_events line ++ (map (λ (r : Receipt). made r) (receipts_in t.reply) ++ events_by s (lines_of_processor cpu ts))) (sym processor) in
+      let all : events_by (processor_at processors cpu) (lines_of_processor cpu (t ∷ ts)) ≡ gone_events line ++ (map (λ (r : Receipt). made r) (receipts_in t.reply) ++ later) = ap (events_by (processor_at processors cpu)) (own_yes cpu t ts same) ∙ ap (λ k. events_by (processor_at processors k) (t ∷ lines_of_processor cpu ts)) (sym same) ∙ whole in
+      subst (InOrder e p) (sym all) mine
+  at (inr other) rest =
+      let all : events_by (processor_at processors cpu) (lines_of_processor cpu (t ∷ ts)) ≡ later = ap (events_by (processor_at processors cpu)) (own_no cpu t ts other) ∙ ap (λ s. events_by s (lines_of_processor cpu ts)) (sym (processor_other processors t cpu other)) in
+      subst (InOrder e p) (sym all) (rest p (omega (arith, follows_pair (state_at a e) (state_at h.0 e) (run_follows a h.0 (receipts_in t.reply) e h.1.run))))
+
+-- ---- each line
+pub replied_lines_calls : (set : AccessContext) (processors : List Processor) (a b : List State) (ts : List RepliedLine) → AreUndisturbed set processors a ts b → InFileOrder (λ processor t. IsCallReply set t.line.act t.reply) processors ts
+replied_lines_calls set processors a b [] h = tt
+replied_lines_calls set processors a b (t ∷ ts) h = (h.1.call, replied_lines_calls set (processors_after processors t) h.0 b ts h.2)
+
+gone_on : (a b : List State) (rs : List Receipt) (line : Option Line) → IsRun a rs b → IfSome line (λ l. l.stamp < (state_at a l.entry).stamp) → IfSome line (λ l. l.stamp < (state_at b l.entry).stamp)
+gone_on a b rs None run h = tt
+gone_on a b rs (Some line) run h = run_leaves a b rs line run h
+
+pub replied_lines_reaches : (set : AccessContext) (processors : List Processor) (a b : List State) (ts : List RepliedLine) → AreUndisturbed set processors a ts b → InFileOrder (IsAccessLine set b) processors ts
+replied_lines_reaches set processors a b [] h = tt
+replied_lines_reaches set processors a b (t ∷ ts) h = (record { reply = h.1.access; gone = gone_on a b (receipts_by (t ∷ ts)) (gone_line_of (processor_at processors t.line.cpu) t.line.act t.reply) (replied_lines_run set processors a b (t ∷ ts) h) h.1.gone }, replied_lines_reaches set (processors_after processors t) h.0 b ts h.2)
+
+-- ---- a section
+abbrev pub IsGoodSection : Section → Type 0
+IsGoodSection s = AreLegal s × AreInOrder s × CallsAreReplied s × AccessesAreReplied s × QuietIsReplied s
+
+pub section_legal : (w : RunState) (ts : List RepliedLine) (b : List State) → Cpus (length w.processors) ts → AreUndisturbed (context_of w) w.processors (states_of w) ts b → (e : ℕ) → IsLegal (state_at (states_of w) e) (history e (receipts_made w ts)) (state_at b e)
+section_legal w ts b within h e = history_regrouped e _ _ (receipts_by ts) (receipts_made w ts) (file_listed (length w.processors) ts within) (run_history e (states_of w) b (receipts_by ts) (replied_lines_run (context_of w) w.processors (states_of w) b ts h))
+
+pub closed_is : (w : RunState) (ts : List RepliedLine) (b : List State) → Cpus (length w.processors) ts → AreUndisturbed (context_of w) w.processors (states_of w) ts b → section_end w ts ≡ state_behind w ts b
+unfolding section_end
+closed_is w ts b within h =
+    let run : IsRun (states_of w) (receipts_by ts) b = replied_lines_run (context_of w) w.processors (states_of w) b ts h in
+    let states : closing_states (states_of w) (receipts_made w ts) ≡ b = closing_is (states_of w) b (receipts_made w ts) (run-length (states_of w) b (receipts_by ts) run) (λ e k. section_legal w ts b within h e) in
+    let processors : processors_after_lines 0 w.processors ts ≡ processors_on w.processors ts = own_processors w.processors ts within in
+    λ i. record w { memory = with_states w.memory (states i); processors = processors i }
+
+pub section_good : (w : RunState) (ts : List RepliedLine) (quiet : Option RepliedLine) (b : List State) → Cpus (length w.processors) ts → AreUndisturbed (context_of w) w.processors (states_of w) ts b → IfSome quiet (λ q. q.reply ≡ (run_quiet_line (state_behind w ts b) q.line.act).0) → IsGoodSection (record { before = w; replied_lines = ts; quiet = quiet })
+section_good w ts quiet b within h q =
+    let run : IsRun (states_of w) (receipts_by ts) b = replied_lines_run (context_of w) w.processors (states_of w) b ts h in
+    let e : state_behind w ts b ≡ section_end w ts = sym (closed_is w ts b within h) in (
+      record { in_table = each_regrouped (λ (r : Receipt). r.entry < length (states_of w)) (file_listed (length w.processors) ts within) (within_run (states_of w) b (receipts_by ts) run); legal = λ k low. subst (λ (v : RunState). IsLegal (state_at (states_of w) k) (history k (receipts_made w ts)) (state_at (states_of v) k)) e (section_legal w ts b within h k) },
+      λ cpu k. replied_lines_in_order (context_of w) cpu k (pair_of (state_at (states_of w) k)) w.processors (states_of w) b ts within h (omega arith),
+      λ cpu. own_lines (λ processor t. IsCallReply (context_of w) t.line.act t.reply) w.processors ts cpu within (replied_lines_calls (context_of w) w.processors (states_of w) b ts h),
+      λ cpu. subst (λ (v : RunState). EachLineOfProcessor (IsAccessLine (context_of w) (states_of v)) (processor_at w.processors cpu) (lines_of_processor cpu ts)) e (own_lines (IsAccessLine (context_of w) b) w.processors ts cpu within (replied_lines_reaches (context_of w) w.processors (states_of w) b ts h)),
+      subst (λ v. IfSome quiet (λ q. q.reply ≡ (run_quiet_line v q.line.act).0)) e q,
+    )
+
+-- ---- all sections
+pub processors_on_size : (processors : List Processor) (ts : List RepliedLine) → length (processors_on processors ts) ≡ length processors
+processors_on_size processors [] = refl
+processors_on_size processors (t ∷ ts) = processors_on_size (processors_after processors t) ts ∙ processors_size processors t
+
+committed_size : (w : RunState) (b : Bool) → length (if b then map without_cache w.processors else w.processors) ≡ length w.processors
+committed_size w true = length-map w.processors without_cache
+committed_size w false = refl
+
+resize_size : (w : RunState) (call : Hcall) (args : List ℕ) → length (run_resize w call args).1.processors ≡ length w.processors
+unfolding run_resize
+resize_size w calls.Prepare args = refl
+resize_size w calls.Commit args = committed_size w _
+resize_size w calls.Enter args = refl
+resize_size w calls.Remove args = refl
+resize_size w calls.Read args = refl
+resize_size w calls.ClearMod args = refl
+resize_size w calls.ClearRef args = refl
+resize_size w calls.Protect args = refl
+resize_size w calls.BulkRemove args = refl
+resize_size w (calls.Other number) args = refl
+
+pub quiet_size : (w : RunState) (act : Act) → length (run_quiet_line w act).1.processors ≡ length w.processors
+unfolding run_quiet_line
+quiet_size w (acts.Call number args spelt) = resize_size w (hcall_of number) args
+quiet_size w (acts.Access want ea user) = refl
+quiet_size w (acts.SlbMte rb rs) = refl
+quiet_size w acts.SlbClear = refl
+quiet_size w acts.Dump = refl
+
+-- each line of each section has one of n processors
+abbrev pub AllCpus : ℕ → List RepliedLine → List (RepliedLine × List RepliedLine) → Type 0
+AllCpus n ts qs = Cpus n ts × AllByRecursion (λ (q : RepliedLine × List RepliedLine). Cpus n q.1) qs
+
+pub sections_good : (n : ℕ) (w : RunState) (ts : List RepliedLine) (qs : List (RepliedLine × List RepliedLine)) → length w.processors ≡ n → AllCpus n ts qs → Stands w ts qs → AllByRecursion IsGoodSection (sections_from w ts qs)
+sections_good n w ts [] size cpus h = (section_good w ts None h.0 (subst (λ k. Cpus k ts) (sym size) cpus.0) h.1 tt, tt)
+sections_good n w ts (q ∷ qs) size cpus h =
+    let within : Cpus (length w.processors) ts = subst (λ k. Cpus k ts) (sym size) cpus.0 in
+    let v = (run_quiet_line (state_behind w ts h.0) q.0.line.act).1 in
+    let size' : length v.processors ≡ n = quiet_size (state_behind w ts h.0) q.0.line.act ∙ processors_on_size w.processors ts ∙ size in
+    (section_good w ts (Some q.0) h.0 within h.1 h.2, subst (λ v. AllByRecursion IsGoodSection (sections_from (run_quiet_line v q.0.line.act).1 q.1 qs)) (sym (closed_is w ts h.0 within h.1)) (sections_good n v q.1 qs size' (cpus.1.0, cpus.1.1) h.3))

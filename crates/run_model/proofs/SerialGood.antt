@@ -1,0 +1,126 @@
+-- The serial run is a good run.
+use Rattle.std.specs.Prelude.{Bool, replicate}
+use Rattle.std.proofs.Common.{◌≡◌, ℕ, zero, suc, ◌<◌, List, [], ◌∷◌, true, false, ◌⊎◌, inl, inr, length, Option, Some, None}
+use Rattle.std.specs.List.{AllByRecursion}
+use Rattle.std.proofs.lemmas.Bool.{cases_Bool}
+use Rattle.std.proofs.lemmas.List.{length-replicate}
+use Rattle.papr_codes.specs.declared.calls.Hcall.{Hcall}
+use Rattle.papr_codes.specs.Hcalls.{hcall_of}
+use Rattle.entry_model.specs.State.{State}
+use Rattle.entry_model.specs.declared.line.Line.{Line}
+use Rattle.tlb_model.specs.Cache.{cached_line}
+use Rattle.slb_model.specs.declared.segment.Segment.{Segment}
+use Rattle.slb_model.specs.Buffer.{segment_of}
+use Rattle.hpt_walk.specs.Access.{AccessContext, request}
+use Rattle.hpt_walk.specs.declared.request.Request.{Request}
+use Rattle.tlb_model.specs.Processor.{Processor, new_processor}
+use Rattle.trace_read.specs.declared.trace.Act.{Act}
+use Rattle.trace_read.specs.declared.trace.TraceLine.{TraceLine}
+use Rattle.trace_read.specs.Trace.{AcceptedTrace, is_quiet, IsAccepted}
+use Rattle.trace_reply.specs.declared.reply.Reply.{Reply}
+use Rattle.trace_reply.specs.Replies.{RepliedLine, IsOfKind, AreReplies, lines_with_replies}
+use Rattle.run_model.specs.Processors.{processor_at}
+use Rattle.run_model.specs.RunState.{RunState, context_of, states_of, opening_run, run_resize, run_quiet_line}
+use Rattle.run_model.specs.SerialRun.{current_line, result_by_line, result_by_segment, line_result, run_line, replies_from, serial_replies}
+use Rattle.run_model.specs.Sections.{cut, cut_before, sections_of}
+use Rattle.run_model.specs.GoodRun.{AreLegal, AreInOrder, CallsAreReplied, AccessesAreReplied, QuietIsReplied, IsGoodRun}
+use Rattle.run_model.proofs.Each.{each_map}
+use Rattle.run_model.proofs.Memories.{opening_stands}
+use Rattle.run_model.proofs.CachesHold.{ProcessorFresh, empty_fresh}
+use Rattle.run_model.proofs.SerialUndisturbed.{SoundRunState, serial_stands}
+use Rattle.run_model.proofs.SectionGood.{IsGoodSection, AllCpus, sections_good}
+use Rattle.papr_codes.specs.declared.calls.Hcall.TheVariants as calls
+use Rattle.trace_read.specs.declared.trace.Act.TheVariants as acts
+
+-- ---- kinds
+line_kind : (set : AccessContext) (states : List State) (seg : Segment) (a : Request) (c : Option Line) → IsOfKind (acts.Access a.want a.ea a.user) (result_by_line set states seg a c).0
+line_kind set states seg a None = tt
+line_kind set states seg a (Some line) = tt
+
+segment_kind : (set : AccessContext) (processor : Processor) (states : List State) (a : Request) (s : Option Segment) → IsOfKind (acts.Access a.want a.ea a.user) (result_by_segment set processor states a s).0
+segment_kind set processor states a None = tt
+segment_kind set processor states a (Some seg) = line_kind set states seg a (current_line states (cached_line processor.cache seg.page))
+
+on_kind : (set : AccessContext) (processor : Processor) (states : List State) (act : Act) → is_quiet act ≡ false → IsOfKind act (line_result set processor states act).0
+unfolding line_result is_quiet
+on_kind set processor states (acts.Call number args spelt) q = tt
+on_kind set processor states (acts.Access want ea user) q = segment_kind set processor states (request want ea user) (segment_of processor.slots ea)
+on_kind set processor states (acts.SlbMte rb rs) q = tt
+on_kind set processor states acts.SlbClear q = tt
+on_kind set processor states acts.Dump q = cc
+
+resize_kind : (w : RunState) (call : Hcall) (number : ℕ) (args : List ℕ) (spelt : Bool) → IsOfKind (acts.Call number args spelt) (run_resize w call args).0
+unfolding run_resize
+resize_kind w calls.Prepare number args spelt = tt
+resize_kind w calls.Commit number args spelt = tt
+resize_kind w calls.Enter number args spelt = tt
+resize_kind w calls.Remove number args spelt = tt
+resize_kind w calls.Read number args spelt = tt
+resize_kind w calls.ClearMod number args spelt = tt
+resize_kind w calls.ClearRef number args spelt = tt
+resize_kind w calls.Protect number args spelt = tt
+resize_kind w calls.BulkRemove number args spelt = tt
+resize_kind w (calls.Other other) number args spelt = tt
+
+quiet_kind : (w : RunState) (act : Act) → is_quiet act ≡ true → IsOfKind act (run_quiet_line w act).0
+unfolding run_quiet_line is_quiet
+quiet_kind w (acts.Call number args spelt) q = resize_kind w (hcall_of number) number args spelt
+quiet_kind w acts.Dump q = tt
+quiet_kind w (acts.Access want ea user) q = cc
+quiet_kind w (acts.SlbMte rb rs) q = cc
+quiet_kind w acts.SlbClear q = cc
+
+one_kind : (w : RunState) (l : TraceLine) → IsOfKind l.act (run_line w l).0
+unfolding run_line
+one_kind w l = at (cases_Bool (is_quiet l.act)) where
+  at : (is_quiet l.act ≡ true) ⊎ (is_quiet l.act ≡ false) → IsOfKind l.act (run_line w l).0
+  at (inl q) = rw q (quiet_kind w l.act q)
+  at (inr q) = rw q (on_kind (context_of w) (processor_at w.processors l.cpu) (states_of w) l.act q)
+
+serial_kinds : (w : RunState) (ls : List TraceLine) → AreReplies ls (replies_from w ls)
+serial_kinds w [] = tt
+serial_kinds w (l ∷ ls) = (one_kind w l, serial_kinds (run_line w l).1 ls)
+
+-- ---- the beginning
+each_replicate : (states : List State) (n : ℕ) → AllByRecursion (ProcessorFresh states) (replicate n new_processor)
+each_replicate states zero = tt
+each_replicate states (suc n) = (empty_fresh states, each_replicate states n)
+
+pub opening_sound : (t : AcceptedTrace) → IsAccepted t → SoundRunState (opening_run t.config)
+unfolding opening_run
+opening_sound t is =
+    let c = t.config in
+    let memory = opening_stands c.limit c.order c.granted.pool_base c.granted.pool_order is.configured.at_most is.configured.at_least in
+    record { lines = record { size = memory.size; low = memory.low; fresh = each_replicate _ c.cpus }; memory = memory }
+
+pub opening_processors : (t : AcceptedTrace) → length (opening_run t.config).processors ≡ t.config.cpus
+unfolding opening_run
+opening_processors t = length-replicate t.config.cpus new_processor
+
+-- ---- the parts
+pub good_of : (t : AcceptedTrace) (rs : List Reply) → AreReplies t.lines rs → AllByRecursion IsGoodSection (sections_of t rs) → IsGoodRun t rs
+good_of t rs kinds all = record {
+  kinds = kinds;
+  legal = each_map IsGoodSection AreLegal (sections_of t rs) (λ s h. h.0) all;
+  in_order = each_map IsGoodSection AreInOrder (sections_of t rs) (λ s h. h.1) all;
+  calls = each_map IsGoodSection CallsAreReplied (sections_of t rs) (λ s h. h.2) all;
+  accesses = each_map IsGoodSection AccessesAreReplied (sections_of t rs) (λ s h. h.3) all;
+  quiets = each_map IsGoodSection QuietIsReplied (sections_of t rs) (λ s h. h.4) all;
+}
+
+-- ---- processors
+front_cpus : (n : ℕ) (t : RepliedLine) (x : List RepliedLine × List (RepliedLine × List RepliedLine)) → t.line.cpu < n → AllCpus n x.0 x.1 → AllCpus n (cut_before t x).0 (cut_before t x).1
+front_cpus n t x h k = at (cases_Bool (is_quiet t.line.act)) where
+  at : (is_quiet t.line.act ≡ true) ⊎ (is_quiet t.line.act ≡ false) → AllCpus n (cut_before t x).0 (cut_before t x).1
+  at (inl q) = rw q (tt, (k.0, k.1))
+  at (inr q) = rw q ((h, k.0), k.1)
+
+pub cut_cpus : (n : ℕ) (ls : List TraceLine) (rs : List Reply) → AllByRecursion (λ (l : TraceLine). l.cpu < n) ls → AllCpus n (cut (lines_with_replies ls rs)).0 (cut (lines_with_replies ls rs)).1
+cut_cpus n [] rs h = (tt, tt)
+cut_cpus n (l ∷ ls) [] h = (tt, tt)
+cut_cpus n (l ∷ ls) (r ∷ rs) h = front_cpus n (record { line = l; reply = r }) (cut (lines_with_replies ls rs)) h.0 (cut_cpus n ls rs h.1)
+
+pub serial_good : (t : AcceptedTrace) → IsAccepted t → IsGoodRun t (serial_replies t)
+serial_good t is =
+    let c = cut (lines_with_replies t.lines (serial_replies t)) in
+    good_of t (serial_replies t) (serial_kinds (opening_run t.config) t.lines) (sections_good t.config.cpus (opening_run t.config) c.0 c.1 (opening_processors t) (cut_cpus t.config.cpus t.lines (serial_replies t) is.lines.on_cpus) (serial_stands (opening_run t.config) t.lines (opening_sound t is)))

@@ -1,0 +1,5 @@
+use Rattle.run_model.proofs.OneProcessor.{one_good_run}
+use Rattle.run_model.proofs.laws.one_good_run.Goals as goal
+
+pub returns : goal.returns
+returns c = one_good_run

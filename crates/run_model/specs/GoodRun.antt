@@ -1,0 +1,110 @@
+-- The good run: replies that place each call on an entry once in that entry's legal history, and never before what its processor had seen.
+use Rattle.std.specs.Prelude.{◌≡◌, ℕ, ◌<◌, List, [], ◌∷◌, length, IfSome}
+use Rattle.std.specs.List.{AllByRecursion}
+use Rattle.entry_model.specs.State.{State}
+use Rattle.entry_model.specs.declared.receipt.Receipt.{Receipt}
+use Rattle.entry_model.specs.History.{IsLegal, history, pair_of}
+use Rattle.entry_model.specs.Run.{state_at}
+use Rattle.hpt_walk.specs.Access.{AccessContext}
+use Rattle.tlb_model.specs.Processor.{Processor}
+use Rattle.trace_read.specs.Trace.{AcceptedTrace}
+use Rattle.trace_reply.specs.declared.reply.Reply.{Reply}
+use Rattle.trace_reply.specs.Replies.{RepliedLine, AreReplies}
+use Rattle.run_model.specs.Processors.{processor_at, processor_after, gone_line_of}
+use Rattle.run_model.specs.LineReplies.{IsCallReply, IsReplyToAccess}
+use Rattle.run_model.specs.RunState.{context_of, states_of, run_quiet_line}
+use Rattle.run_model.specs.Histories.{lines_of_processor, InOrder, events_by}
+use Rattle.run_model.specs.Sections.{Section, receipts_made, section_end, sections_of}
+
+-- ---- lines
+-- A fact of each of one processor's lines, and of the processor before it.
+abbrev pub EachLineOfProcessor :
+    (Processor → RepliedLine → Type 0) → Processor → List RepliedLine → Type 0
+EachLineOfProcessor P p [] = Unit {0}
+EachLineOfProcessor P p (t ∷ ts) =
+    P p t × EachLineOfProcessor P (processor_after p t.line.act t.reply) ts
+
+-- A fact of each line of each processor in a section.
+abbrev pub EachLine : (Processor → RepliedLine → Type 0) → Section → Type 0
+EachLine P s =
+    (cpu : ℕ)
+    → EachLineOfProcessor
+      P
+      (processor_at s.before.processors cpu)
+      (lines_of_processor cpu s.replied_lines)
+
+-- ---- a section
+-- The receipts that were made in a section.
+abbrev pub section_receipts : Section → List Receipt
+section_receipts s = receipts_made s.before s.replied_lines
+
+-- The states that it opens on.
+abbrev pub opening_states : Section → List State
+opening_states s = states_of s.before
+
+-- Each receipt is of an entry of the table, and each entry's history is legal, from the state that it opens on to the one that it closes on.
+pub record AreLegal (s : Section) : Type 0 where
+  pub in_table :
+    AllByRecursion (λ (r : Receipt). r.entry < length (opening_states s)) (section_receipts s)
+  pub legal :
+    (entry : ℕ)
+    → entry < length (opening_states s)
+    → IsLegal
+      (state_at (opening_states s) entry)
+      (history entry (section_receipts s))
+      (state_at (states_of (section_end s.before s.replied_lines)) entry)
+
+-- On each entry each processor's receipts keep its front, which begins at the state that the entry opens on.
+abbrev pub AreInOrder : Section → Type 0
+AreInOrder s =
+    (cpu entry : ℕ)
+    → InOrder
+      entry
+      (pair_of (state_at (opening_states s) entry))
+      (events_by
+        (processor_at s.before.processors cpu)
+        (lines_of_processor cpu s.replied_lines))
+
+-- Each hypervisor call, slbmte and slbclear has the reply of its receipts.
+abbrev pub CallsAreReplied : Section → Type 0
+CallsAreReplied s = EachLine (λ p t. IsCallReply (context_of s.before) t.line.act t.reply) s
+
+-- The reply of an access; a walk in place of a cached line comes only where the line's entry left its stamp.
+pub record IsAccessLine
+  (context : AccessContext)
+  (states : List State)
+  (processor : Processor)
+  (t : RepliedLine)
+  : Type 0
+  where
+  pub reply : IsReplyToAccess context processor t.line.act t.reply
+  pub gone :
+    IfSome
+      (gone_line_of processor t.line.act t.reply)
+      (λ line. line.stamp < (state_at states line.entry).stamp)
+
+-- Each access has the reply of its receipts.
+abbrev pub AccessesAreReplied : Section → Type 0
+AccessesAreReplied s =
+    EachLine
+      (IsAccessLine
+        (context_of s.before)
+        (states_of (section_end s.before s.replied_lines)))
+      s
+
+-- The quiet line behind the section has the reply that the closing states give.
+abbrev pub QuietIsReplied : Section → Type 0
+QuietIsReplied s =
+    IfSome
+      s.quiet
+      (λ q. q.reply ≡ (run_quiet_line (section_end s.before s.replied_lines) q.line.act).0)
+
+-- ---- a run
+-- The replies are of the lines' kinds, and each section is as above.
+pub record IsGoodRun (t : AcceptedTrace) (rs : List Reply) : Type 0 where
+  pub kinds : AreReplies t.lines rs
+  pub legal : AllByRecursion AreLegal (sections_of t rs)
+  pub in_order : AllByRecursion AreInOrder (sections_of t rs)
+  pub calls : AllByRecursion CallsAreReplied (sections_of t rs)
+  pub accesses : AllByRecursion AccessesAreReplied (sections_of t rs)
+  pub quiets : AllByRecursion QuietIsReplied (sections_of t rs)

@@ -1,0 +1,78 @@
+-- The laws of runs: the serial run is a good one, and what follows of a run from its being good.
+use Rattle.std.specs.Prelude.{◌≡◌, ◌≢◌, ℕ, ◌+◌, ◌^◌, ◌<◌, ◌≤◌, ◌==◌, Bool, true, false, not, List, [], ◌∷◌, length, Option, Some, None, MatchBool, MatchOption, if◌then◌else◌}
+use Rattle.std.specs.List.{AllByRecursion}
+use Rattle.papr_codes.specs.declared.codes.Rc.TheVariants.{Hardware}
+use Rattle.entry_model.specs.declared.access_reply.Outcome.TheVariants.{At, Ungranted}
+use Rattle.trace_read.specs.declared.trace.TraceLine.{TraceLine}
+use Rattle.trace_read.specs.Trace.{AcceptedTrace, is_quiet, IsAccepted}
+use Rattle.trace_reply.specs.declared.reply.Reply.{Reply}
+use Rattle.trace_reply.specs.Replies.{AreReplies}
+use Rattle.run_model.specs.Sections.{sections_of}
+use Rattle.run_model.specs.SerialRun.{serial_replies}
+use Rattle.run_model.specs.GoodRun.{IsGoodRun}
+use Rattle.run_model.specs.ShownStores.{NoStoreIsLostIn}
+use Rattle.run_model.specs.CommittedResizes.{ResizesKeepTranslations}
+use Rattle.run_model.specs.Landings.{IsSafe}
+use Rattle.run_model.specs.ParallelRun.{IsParallel}
+use Rattle.papr_codes.specs.declared.calls.Hcall.TheVariants as calls
+use Rattle.entry_model.specs.declared.operation.Answer.TheVariants as answers
+use Rattle.entry_model.specs.declared.operation.Op.TheVariants as ops
+use Rattle.trace_read.specs.declared.trace.Act.TheVariants as acts
+use Rattle.trace_reply.specs.declared.reply.Reply.TheVariants as replies
+
+-- ---- which runs are good
+-- The serial run of each accepted trace is a good run.
+abbrev pub SerialIsGood : Type 0
+SerialIsGood = (t : AcceptedTrace) → IsAccepted t → IsGoodRun t (serial_replies t)
+
+-- Each run in which the processors work on their own is a good one.
+abbrev pub ParallelIsGood : Type 0
+ParallelIsGood =
+    (t : AcceptedTrace) (rs : List Reply)
+    → AreReplies t.lines rs
+    → IsParallel t rs
+    → IsGoodRun t rs
+
+-- The serial run of an accepted trace is such a run: a processor that nobody disturbs keeps all that is promised.
+abbrev pub SerialIsParallel : Type 0
+SerialIsParallel = (t : AcceptedTrace) → IsAccepted t → IsParallel t (serial_replies t)
+
+-- ---- one processor
+-- All run lines but quiet ones have this processor.
+abbrev pub HasOneProcessor : ℕ → List TraceLine → Type 0
+HasOneProcessor cpu lines =
+    AllByRecursion (λ (l : TraceLine). is_quiet l.act ≡ false → l.cpu ≡ cpu) lines
+
+-- A trace of one processor has one good run, the serial one.
+abbrev pub SerialIsTheOneGoodRun : Type 0
+SerialIsTheOneGoodRun =
+    (t : AcceptedTrace) (cpu : ℕ) (rs : List Reply)
+    → IsAccepted t
+    → HasOneProcessor cpu t.lines
+    → IsGoodRun t rs
+    → rs ≡ serial_replies t
+
+-- ---- what good runs assure
+-- In a good run every store that succeeds shows in a change bit until a reply reports or clears it.
+abbrev pub NoStoreIsLost : Type 0
+NoStoreIsLost =
+    (t : AcceptedTrace) (rs : List Reply)
+    → IsAccepted t
+    → IsGoodRun t rs
+    → NoStoreIsLostIn (sections_of t rs)
+
+-- In a good run a committed resize keeps each bolted page's translation, and no other line changes the table between two sections.
+abbrev pub ResizesKeepBoltedPages : Type 0
+ResizesKeepBoltedPages =
+    (t : AcceptedTrace) (rs : List Reply)
+    → IsAccepted t
+    → IsGoodRun t rs
+    → ResizesKeepTranslations (sections_of t rs)
+
+-- In a good run each access that is allowed lands in a grant, and in no table; Ungranted and H_HARDWARE never come.
+abbrev pub AccessesLandInGrants : Type 0
+AccessesLandInGrants =
+    (t : AcceptedTrace) (rs : List Reply)
+    → IsAccepted t
+    → IsGoodRun t rs
+    → AllByRecursion (IsSafe t.config.granted) rs

@@ -1,0 +1,13 @@
+pub mod RunState
+pub mod Processors
+pub mod LineReplies
+pub mod SerialRun
+pub mod Histories
+pub mod Sections
+pub mod GoodRun
+pub mod ParallelRun
+pub mod ShownStores
+pub mod CommittedResizes
+pub mod Landings
+pub mod Assurances
+pub mod Laws

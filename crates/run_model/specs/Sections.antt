@@ -1,0 +1,75 @@
+-- The sections of a run: the quiet lines cut it, and each section opens on what the quiet line before it left.
+use Rattle.std.specs.Prelude.{ℕ, suc, List, [], ◌∷◌, Option, Some, None, length, if◌then◌else◌}
+use Rattle.entry_model.specs.declared.receipt.Receipt.{Receipt}
+use Rattle.tlb_model.specs.Processor.{Processor}
+use Rattle.trace_read.specs.Trace.{AcceptedTrace, is_quiet}
+use Rattle.trace_reply.specs.declared.reply.Reply.{Reply}
+use Rattle.trace_reply.specs.Replies.{RepliedLine, lines_with_replies}
+use Rattle.run_model.specs.Processors.{processor_after}
+use Rattle.run_model.specs.RunState.{RunState, states_of, opening_run, run_quiet_line}
+use Rattle.hpt_resize.specs.TableMemory.{with_states}
+use Rattle.run_model.specs.Histories.{lines_of_processor, receipts_from_processor, closing_states}
+use Rattle.entry_model.specs.State.{State}
+
+-- ---- the processors at the end of a section
+-- One processor after its lines.
+abbrev pub processor_after_lines : Processor → List RepliedLine → Processor
+processor_after_lines p [] = p
+processor_after_lines p (t ∷ ts) =
+    processor_after_lines (processor_after p t.line.act t.reply) ts
+
+-- All processors from one on.
+abbrev pub processors_after_lines :
+    ℕ → List Processor → List RepliedLine → List Processor
+processors_after_lines cpu [] ts = []
+processors_after_lines cpu (p ∷ ps) ts =
+    processor_after_lines p (lines_of_processor cpu ts) ∷ processors_after_lines (suc cpu) ps ts
+
+-- ---- the end of a section
+-- The receipts of all processors, one processor after the other.
+abbrev pub receipts_made : RunState → List RepliedLine → List Receipt
+receipts_made w ts = receipts_from_processor (length w.processors) 0 ts
+
+-- What the run carries behind a section that closes on these states: each processor is as after its own lines.
+abbrev pub section_end_on : RunState → List RepliedLine → List State → RunState
+section_end_on w ts states = record w {
+  memory = with_states w.memory states;
+  processors = processors_after_lines 0 w.processors ts;
+}
+
+-- The same with the states that the receipts close on.
+unfoldable pub section_end : RunState → List RepliedLine → RunState
+section_end w ts = section_end_on w ts (closing_states (states_of w) (receipts_made w ts))
+
+-- ---- sections
+-- What the run carries before it, its lines, and the quiet line that ends it, if there is one.
+pub record Section : Type 0 where
+  pub before : RunState
+  pub replied_lines : List RepliedLine
+  pub quiet : Option RepliedLine
+
+-- A quiet line, and the lines behind it up to the next one.
+abbrev pub QuietPart : Type 0
+QuietPart = RepliedLine × List RepliedLine
+
+-- A line before those that were cut already.
+abbrev pub cut_before :
+    RepliedLine → List RepliedLine × List QuietPart → List RepliedLine × List QuietPart
+cut_before t x = if is_quiet t.line.act then ([], (t, x.0) ∷ x.1) else (t ∷ x.0, x.1)
+
+-- The lines before the first quiet line; and each quiet line with the lines behind it.
+abbrev pub cut : List RepliedLine → List RepliedLine × List QuietPart
+cut [] = ([], [])
+cut (t ∷ ts) = cut_before t (cut ts)
+
+-- The sections from here on, of these lines and these quiet parts.
+abbrev pub sections_from : RunState → List RepliedLine → List QuietPart → List Section
+sections_from w ts [] = record { before = w; replied_lines = ts; quiet = None } ∷ []
+sections_from w ts (q ∷ qs) =
+    record { before = w; replied_lines = ts; quiet = Some q.0 }
+    ∷ sections_from (run_quiet_line (section_end w ts) q.0.line.act).1 q.1 qs
+
+-- The sections of a run with these replies.
+abbrev pub sections_of : AcceptedTrace → List Reply → List Section
+sections_of t rs =
+    let c = cut (lines_with_replies t.lines rs) in sections_from (opening_run t.config) c.0 c.1

@@ -1,0 +1,100 @@
+-- No store is lost: a store that succeeds shows in a change bit until a reply reports or clears it.
+use Rattle.std.specs.Prelude.{◌≡◌, ◌≢◌, ℕ, ◌+◌, ◌^◌, ◌<◌, ◌≤◌, ◌==◌, Bool, true, false, not, List, [], ◌∷◌, length, Option, Some, None, MatchBool, MatchOption, if◌then◌else◌}
+use Rattle.std.specs.List.{AllByRecursion}
+use Rattle.papr_codes.specs.declared.codes.Rc.TheVariants.{Hardware}
+use Rattle.entry_model.specs.State.{State}
+use Rattle.entry_model.specs.declared.access_reply.Outcome.TheVariants.{At, Ungranted}
+use Rattle.entry_model.specs.declared.operation.Answer.{Answer}
+use Rattle.entry_model.specs.declared.operation.Op.{Op}
+use Rattle.entry_model.specs.declared.receipt.Receipt.{Receipt}
+use Rattle.entry_model.specs.Receipt.{is_at}
+use Rattle.entry_model.specs.Reply.{is_store}
+use Rattle.entry_model.specs.History.{history}
+use Rattle.entry_model.specs.Run.{state_at}
+use Rattle.hpt_resize.specs.Rehash.{target_at}
+use Rattle.run_model.specs.RunState.{states_of}
+use Rattle.run_model.specs.Sections.{Section, receipts_made, section_end}
+use Rattle.papr_codes.specs.declared.calls.Hcall.TheVariants as calls
+use Rattle.entry_model.specs.declared.operation.Answer.TheVariants as answers
+use Rattle.entry_model.specs.declared.operation.Op.TheVariants as ops
+use Rattle.trace_read.specs.declared.trace.Act.TheVariants as acts
+use Rattle.trace_reply.specs.declared.reply.Reply.TheVariants as replies
+
+-- ---- receipts
+-- A receipt that clears C: a removal, or H_CLEAR_MOD's.
+abbrev pub clears_by : Op → Answer → Bool
+clears_by (ops.Remove test) answers.Removed = true
+clears_by ops.ClearMod answers.Was = true
+clears_by op answer = false
+
+-- The receipt clears C, and its reply shows C as it was.
+abbrev pub clears : Receipt → Bool
+clears r = clears_by r.op r.answer
+
+-- A store that was allowed.
+abbrev pub stores_by : Op → Answer → Bool
+stores_by (ops.Access tag base key no_execute want) answer =
+    if is_store want then is_at answer else false
+stores_by op answer = false
+
+-- The receipt is one of a store that was allowed.
+abbrev pub stores : Receipt → Bool
+stores r = stores_by r.op r.answer
+
+-- ---- one entry
+-- C is set in each state before, up to and with that of the first receipt that clears it; where none does it is set in the last state, and stays shown.
+abbrev pub ShowsChange : List Receipt → State → Type 0 → Type 0
+ShowsChange [] last after = (last.changed ≡ true) × after
+ShowsChange (r ∷ rs) last after =
+    (r.before.changed ≡ true) × MatchBool (clears r) (Unit {0}) (ShowsChange rs last after)
+
+-- The history of an entry in a section.
+abbrev pub history_in : Section → ℕ → List Receipt
+history_in s entry = history entry (receipts_made s.before s.replied_lines)
+
+-- The state that the entry closes on.
+abbrev pub closing_state : Section → ℕ → State
+closing_state s entry = state_at (states_of (section_end s.before s.replied_lines)) entry
+
+-- ---- from section to section
+-- The section has the table of the one before.
+abbrev pub has_table_of : Section → Section → Bool
+has_table_of old new = new.before.memory.table.number == old.before.memory.table.number
+
+-- Where an entry of the one section stands in the next: in the same table at its index, in a new one where the resize carried it, if it did.
+abbrev pub carried_to : Section → Section → ℕ → Option ℕ
+carried_to old new entry =
+    if has_table_of old new
+    then Some entry
+    else target_at
+      old.before.memory.table.order
+      new.before.memory.table.order
+      (states_of (section_end old.before old.replied_lines))
+      entry
+
+-- C of this entry is set when these sections begin, and is shown from there on: through each section, and then at the place to which a committed resize carried the entry. One that a resize drops is dropped by that call's reply.
+abbrev pub StaysShown : Section → ℕ → List Section → Type 0
+StaysShown s entry [] = Unit {0}
+StaysShown s entry (next ∷ rest) =
+    MatchOption
+      (carried_to s next entry)
+      (Unit {0})
+      (λ target. ShowsChange
+        (history_in next target)
+        (closing_state next target)
+        (StaysShown next target rest))
+
+-- Each store in a history is shown from its place on.
+abbrev pub StoresAreShown : List Receipt → State → Type 0 → Type 0
+StoresAreShown [] last after = Unit {0}
+StoresAreShown (r ∷ rs) last after =
+    MatchBool (stores r) (ShowsChange rs last after) (Unit {0}) × StoresAreShown rs last after
+
+-- Each store in each entry's history is shown, in each section.
+abbrev pub NoStoreIsLostIn : List Section → Type 0
+NoStoreIsLostIn [] = Unit {0}
+NoStoreIsLostIn (s ∷ rest) =
+    ((entry : ℕ)
+      → entry < length (states_of s.before)
+      → StoresAreShown (history_in s entry) (closing_state s entry) (StaysShown s entry rest))
+    × NoStoreIsLostIn rest

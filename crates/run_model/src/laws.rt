@@ -1,0 +1,39 @@
+//! Laws of the runs of a trace. Each function does nothing, and its contract is the law.
+
+ghost use Rattle.run_model.specs.Laws.{SerialIsGood, ParallelIsGood, SerialIsParallel, SerialIsTheOneGoodRun, NoStoreIsLost, ResizesKeepBoltedPages, AccessesLandInGrants};
+
+/// The serial run of a trace is a good run.
+pub fn serial_is_good()
+    ensures { SerialIsGood }
+{}
+
+/// A run in which each processor works on its own, on a table that gives each entry one legal history,
+/// is a good run.
+pub fn parallel_is_good()
+    ensures { ParallelIsGood }
+{}
+
+/// The serial run of a trace is one in which each processor works on its own.
+pub fn serial_is_parallel()
+    ensures { SerialIsParallel }
+{}
+
+/// A trace of one processor has one good run, the serial one.
+pub fn one_good_run()
+    ensures { SerialIsTheOneGoodRun }
+{}
+
+/// In a good run every store that succeeds shows in a change bit until a reply reports or clears it.
+pub fn no_store_is_lost()
+    ensures { NoStoreIsLost }
+{}
+
+/// In a good run a committed resize keeps each bolted page's translation.
+pub fn resizes_keep_bolted_pages()
+    ensures { ResizesKeepBoltedPages }
+{}
+
+/// In a good run each access that is allowed lands in a grant and in no table, and no entry is worn.
+pub fn accesses_land_in_grants()
+    ensures { AccessesLandInGrants }
+{}

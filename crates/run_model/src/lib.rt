@@ -1,0 +1,13 @@
+//! What a run of a trace is: what a partition and its processors carry from line to line, the serial
+//! run, the sections between quiet lines, the good runs, and what follows of a run from its being good.
+//!
+//! The calls are those of LoPAR on the page frame table, and the accesses those of the Power ISA
+//! (Book III, hashed page table translation). There is no code here: `laws` has the theorems.
+#![tactic(auto)]
+
+mod laws;
+
+pub use laws::{
+    accesses_land_in_grants, no_store_is_lost, one_good_run, parallel_is_good,
+    resizes_keep_bolted_pages, serial_is_good, serial_is_parallel,
+};

@@ -1,0 +1,14 @@
+//! The reply to a line of a trace, and lists of replies in the order of their lines.
+//!
+//! A hypervisor call is answered as LoPAR says, by a return code and the words of registers 4 to 11;
+//! an access by the machine address that it reaches, or by the cause for which it doesn't. Both carry
+//! the receipts of their operations on entries.
+#![tactic(auto)]
+
+mod replies;
+mod reply;
+mod shown;
+
+pub use replies::Replies;
+pub use reply::Reply;
+pub use shown::{Shown, ShownStates};

@@ -1,0 +1,30 @@
+ghost use Rattle.std.specs.Prelude.{◌≡◌};
+ghost use Rattle.entry_model.specs.Receipt.{IsNormal};
+ghost use Rattle.hpt_walk.specs.Access.{key_for};
+ghost use Rattle.hpt_walk.specs.Walk as table;
+
+use entry_model::Op;
+use hpt_walk::{Request, access_op};
+use slb_model::Segment;
+
+/// The segment's key: Kp in problem state, else Ks.
+pub fn key(segment: &Segment, user: bool) -> bool
+    ensures { result ≡ key_for segment.now user }
+{
+    if user { segment.kp } else { segment.ks }
+}
+
+/// The access as an operation on an entry of the page, which stands in the page's secondary group
+/// where `secondary` says so.
+pub fn operation(segment: &Segment, request: &Request, secondary: bool) -> Op
+    ensures op { result ≡ table.access_op segment.now.page (key_for segment.now request.now.user) segment.now.no_execute request.now.want secondary }
+    ensures normal { IsNormal result }
+{
+    access_op(
+        &segment.page,
+        key(segment, request.user),
+        segment.no_execute,
+        request.want,
+        secondary,
+    )
+}

@@ -5,11 +5,11 @@ use Rattle.trace_read.specs.Trace.{AcceptedTrace}
 use Rattle.trace_gen.specs.Generated.{generated_trace}
 use Rattle.run_model.specs.SerialRun.{serial_replies}
 use Rattle.run_model.specs.GoodRun.{IsGoodRun}
-use Rattle.papr_top.specs.declared.command.Command.TheVariants as commands
 use Rattle.papr_top.specs.declared.status.Status.{Status}
 use Rattle.papr_top.specs.declared.status.Status.TheVariants.{Done, Usage, Refused, ReadFault, WriteFault, Memory}
-use Rattle.papr_top.specs.Top.{Run, IsOutcome, EndsDrill, drill_text, usage_text}
+use Rattle.papr_top.specs.Top.{IsOutcome, EndsDrill, drill_text, usage_text}
 use Rattle.papr_top.specs.Finish.{Finishes}
+use Rattle.papr_top.specs.declared.command.Command.TheVariants as commands
 
 -- The summary was being written.
 pub finished : (t : AcceptedTrace) (taken taken_after : Option (List ℕ)) (faults faults_after : ℕ) (text : List ℕ) (result : Status) → IsGoodRun t (serial_replies t) → text ≡ drill_text t → Finishes Done text taken taken_after faults faults_after result → EndsDrill t taken taken_after result

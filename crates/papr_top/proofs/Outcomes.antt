@@ -5,11 +5,11 @@ use Rattle.trace_read.specs.declared.why.Why.{Why}
 use Rattle.trace_read.specs.declared.why.Why.TheVariants.{Long}
 use Rattle.trace_read.specs.Trace.{AcceptedTrace}
 use Rattle.trace_read.specs.Grammar.{trace_of}
-use Rattle.papr_top.specs.declared.command.Command.TheVariants as commands
 use Rattle.papr_top.specs.declared.status.Status.{Status}
 use Rattle.papr_top.specs.declared.status.Status.TheVariants.{Refused}
 use Rattle.papr_top.specs.Top.{Run, Reads, Writes, IsAnswered, IsOutcome, Answers, Refuses, Stops, refusal_text, output_of}
 use Rattle.papr_top.specs.Finish.{Finishes}
+use Rattle.papr_top.specs.declared.command.Command.TheVariants as commands
 
 -- An input past the limit is refused as line 0.
 pub long_refused : (bytes : List ℕ) → 2 ^ 24 < length bytes → trace_of bytes ≡ Err (0, Long)

@@ -14,9 +14,9 @@ use Rattle.run_model.specs.Assurances.{Assures}
 use Rattle.reply_text.specs.Text.{text_of}
 use Rattle.reply_text.specs.Summary.{summary_text}
 use Rattle.papr_top.specs.declared.command.Command.{Command}
-use Rattle.papr_top.specs.declared.command.Command.TheVariants as commands
 use Rattle.papr_top.specs.declared.status.Status.{Status}
 use Rattle.papr_top.specs.declared.status.Status.TheVariants.{Done, Usage, Refused, ReadFault, WriteFault, Memory}
+use Rattle.papr_top.specs.declared.command.Command.TheVariants as commands
 
 -- ---- texts
 abbrev pub refusal_text : ℕ → Why → List ℕ

@@ -1,6 +1,6 @@
 ghost use Rattle.std.specs.Prelude.{◌≡◌, ◌≤◌, IfSome};
-ghost use Rattle.papr_top.specs.Commands as words;
 ghost use Rattle.papr_top.specs.Commands.{drill_of, IsInRange};
+ghost use Rattle.papr_top.specs.Commands as words;
 
 use trace_read::number;
 

@@ -1,9 +1,9 @@
 ghost use Rattle.std.specs.Prelude.{◌≡◌, ◌≤◌, ◌⊎◌, None, Some};
 ghost use Rattle.trace_io.specs.Outside.{Rose};
-ghost use Rattle.papr_top.specs.Commands as words_of;
 ghost use Rattle.papr_top.specs.Top.{IsOutcome, EndsDrill};
 ghost use Rattle.trace_gen.specs.Generated.{generated_trace};
 ghost use Rattle.papr_top.specs.Finish.{Finishes};
+ghost use Rattle.papr_top.specs.Commands as words_of;
 
 use crate::answer::{answer, refusal, summary};
 use crate::command::{Command, command_of};

@@ -1,6 +1,6 @@
 -- Generated lines are lines of an accepted trace.
-use Rattle.std.proofs.Common.{◌≡◌, ℕ, zero, suc, ◌+◌, ◌*◌, ◌<◌, ◌≤◌, Bool, false, List, [], ◌∷◌, ◌++◌, length, count_by, get_or, refl, sym, ap, ◌∙◌, subst, arith}
 use Rattle.std.specs.Prelude.{IsTrue}
+use Rattle.std.proofs.Common.{◌≡◌, ℕ, zero, suc, ◌+◌, ◌*◌, ◌<◌, ◌≤◌, Bool, false, List, [], ◌∷◌, ◌++◌, length, count_by, get_or, refl, sym, ap, ◌∙◌, subst, arith}
 use Rattle.std.specs.List.{AllByRecursion}
 use Rattle.std.proofs.lemmas.List.{length-append}
 use Rattle.rand_core.specs.Steps.{first_words}
@@ -12,9 +12,9 @@ use Rattle.papr_codes.specs.Hcalls.{hcall_number, hcall_of, is_named, row_of}
 use Rattle.trace_read.specs.Configuration.{Configuration}
 use Rattle.trace_read.specs.Trace.{AcceptedTrace, IsTrace, IsSpelt, is_quiet, is_dump, is_resize}
 use Rattle.trace_read.specs.declared.trace.Act.{Act}
-use Rattle.trace_read.specs.declared.trace.Act.TheVariants as acts
 use Rattle.trace_read.specs.declared.trace.TraceLine.{TraceLine}
 use Rattle.trace_gen.specs.Generated.{acts_of_word, act_of, entry_of, frame_of, generated_config, group_start, page_of, named_call, segment_line, kind_of, segment_lines, lines_from, words_of_seed, generated_trace}
+use Rattle.trace_read.specs.declared.trace.Act.TheVariants as acts
 
 -- ---- lists
 all_at : {X : Type 0} (P : X → Type 0) (xs : List X) (i : ℕ) (d : X) → AllByRecursion P xs → i < length xs → P (get_or xs i d)

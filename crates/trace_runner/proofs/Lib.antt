@@ -3,3 +3,7 @@ pub mod Holding
 pub mod Resizing
 pub mod RunSteps
 pub mod Assured
+mod RunRows
+mod CallRows
+mod QuietRows
+mod WholeRows

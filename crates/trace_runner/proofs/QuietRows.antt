@@ -1,6 +1,6 @@
 -- The quiet lines of worked traces: the two resize calls, and dumps.
-use Rattle.std.proofs.Common.{◌≡◌, ℕ, List, [], ◌∷◌, ◌++◌, true, false, Some, None, refl}
 use Rattle.std.specs.Prelude.{codes, replicate, map, slice_set}
+use Rattle.std.proofs.Common.{◌≡◌, ℕ, List, [], ◌∷◌, ◌++◌, true, false, Some, None, refl}
 use Rattle.std.specs.Fmt.{digits}
 use Rattle.frame_grants.specs.Grants.{machine_range}
 use Rattle.power_addr.specs.Pages.{virtual_page, tag_of, same_page}

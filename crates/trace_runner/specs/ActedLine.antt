@@ -1,6 +1,5 @@
 -- A line that isn't quiet, on states that nobody else changes.
 use Rattle.std.specs.Prelude.{◌≡◌, ℕ, List}
-use Rattle.frame_grants.specs.Grants.{GrantedMemory}
 use Rattle.entry_model.specs.State.{State}
 use Rattle.entry_model.specs.Run.{IsRun}
 use Rattle.hpt_walk.specs.Access.{AccessContext}
@@ -10,10 +9,15 @@ use Rattle.trace_reply.specs.declared.reply.Reply.{Reply}
 use Rattle.trace_reply.specs.Replies.{receipts_in}
 use Rattle.run_model.specs.SerialRun.{line_result}
 
-abbrev pub context_on : ℕ → GrantedMemory → AccessContext
-context_on order granted = record { order = order; grants = granted.grants }
-
 -- The reply and the states after it are the serial run's, and the reply's receipts lead there.
-pub record IsActed (set : AccessContext) (processor : Processor) (a : List State) (act : Act) (r : Reply) (b : List State) : Type 0 where
-  pub reply : (r, b) ≡ line_result set processor a act
+pub record IsActed
+  (context : AccessContext)
+  (processor : Processor)
+  (a : List State)
+  (act : Act)
+  (r : Reply)
+  (b : List State)
+  : Type 0
+  where
+  pub reply : (r, b) ≡ line_result context processor a act
   pub run : IsRun a (receipts_in r) b

@@ -1,4 +1,4 @@
--- The run_state that a partition and its processors make.
+-- What the machine that runs a trace carries: a partition, and its processors.
 use Rattle.std.specs.Prelude.{List}
 use Rattle.std.specs.List.{AllByRecursion}
 use Rattle.entry_model.specs.State.{State}
@@ -10,17 +10,24 @@ use Rattle.tlb_model.specs.Processor.{Processor}
 use Rattle.partition.specs.PartitionState.{PartitionState, HasStates}
 use Rattle.run_model.specs.RunState.{RunState}
 
+-- The run state of a partition and its processors.
 abbrev pub run_state_of : PartitionState → List Processor → RunState
-run_state_of partition processors = record { grants = partition.granted.grants; memory = partition.memory; processors = processors }
+run_state_of partition processors = record {
+  grants = partition.granted.grants;
+  memory = partition.memory;
+  processors = processors;
+}
 
 -- Each line that is cached holds of its entry's state.
 abbrev pub Holding : List State → Line → Type 0
 Holding states line = Holds line (state_at states line.entry)
 
+-- Each line that a processor has cached does.
 abbrev pub AllHold : List State → List Processor → Type 0
-AllHold states processors = AllByRecursion (λ (processor : Processor). AllCached (Holding states) processor.cache) processors
+AllHold states processors =
+    AllByRecursion (λ (p : Processor). AllCached (Holding states) p.cache) processors
 
--- The states are at memory, and all cached lines hold of them.
+-- The table has its states, and all cached lines hold of them.
 pub record IsMachine (partition : PartitionState) (processors : List Processor) : Type 0 where
-  pub memory : HasStates partition
+  pub has_states : HasStates partition
   pub hold : AllHold partition.memory.table.states processors

@@ -93,7 +93,7 @@ impl Cpu {
         ensures seen { AllCached (T.seen store.new) self.new.cache }
 
         // Where it was by Walk, the line of the page that was cached had left its stamp.
-        ensures later { IfSome (gone_line self.old.cache (segment_of self.old.slots ea) result) (λ line. AllLater line result.receipts) }
+        ensures comes_later { IfSome (gone_line self.old.cache (segment_of self.old.slots ea) result) (λ line. AllLater line result.receipts) }
         ensures gone { IfSome (gone_line self.old.cache (segment_of self.old.slots ea) result) (T.gone store.new) }
     {
         match self.slb.segment(ea) {

@@ -28,7 +28,7 @@ pub fn in_segment<T: EntryStore>(
     ensures cache { tlb.new ≡ cache_after tlb.old (Some segment.now) result.by result }
     ensures seen { AllCached (T.seen store.new) tlb.new }
     ensures translate { AllCached TranslatesItsPage tlb.new }
-    ensures later { IfSome (gone_by_way result.by (cached_line tlb.old segment.now.page)) (λ line. AllLater line result.receipts) }
+    ensures comes_later { IfSome (gone_by_way result.by (cached_line tlb.old segment.now.page)) (λ line. AllLater line result.receipts) }
     ensures gone { IfSome (gone_by_way result.by (cached_line tlb.old segment.now.page)) (T.gone store.new) }
 {
     let line = tlb.find(&segment.page);

@@ -1,5 +1,5 @@
-use Rattle.std.proofs.Common.{ℕ, ◌/◌, ◌%◌, ◌<◌, arith}
 use Rattle.std.specs.Prelude.{bit_xor}
+use Rattle.std.proofs.Common.{ℕ, ◌/◌, ◌%◌, ◌<◌, arith}
 use Rattle.std.proofs.lemmas.Nat.{xor_lt}
 use Rattle.trace_gen.proofs.line.act.Goals as goal
 

@@ -1,11 +1,13 @@
 -- Trials: the calls on entries that a hypervisor call names, made in turn as long as the answers go on, and the reply that their receipts give.
-use Rattle.std.specs.Prelude.{◌≡◌, ℕ, zero, suc, ◌+◌, List, [], ◌∷◌, Bool, true, if◌then◌else◌, MatchBool}
+use Rattle.std.specs.Prelude.{◌≡◌, ℕ, zero, suc, ◌+◌, List, [], ◌∷◌, Bool, true, if◌then◌else◌, MatchBool, Option, not, find, drop, length}
 use Rattle.entry_model.specs.State.{State}
 use Rattle.entry_model.specs.declared.operation.Op.{Op}
 use Rattle.entry_model.specs.declared.operation.Answer.{Answer}
 use Rattle.entry_model.specs.declared.receipt.Receipt.{Receipt}
 use Rattle.entry_model.specs.declared.hreply.HReply.{HReply}
-use Rattle.entry_model.specs.Receipt.{IsReceiptOf, receipt_of}
+use Rattle.entry_model.specs.Receipt.{IsReceiptOf, receipt_of, is_taken, is_no_match}
+use Rattle.entry_model.specs.declared.trial.GoesOn.{GoesOn}
+use Rattle.entry_model.specs.declared.trial.GoesOn.TheVariants.{WhileTaken, WhileNoMatch, Always}
 use Rattle.entry_model.specs.Run.{state_at, states_after}
 use Rattle.papr_codes.specs.declared.codes.Rc.{Rc}
 
@@ -23,6 +25,20 @@ IsTrial goes [] [] = Unit {0}
 IsTrial goes [] (r ∷ rs) = ⊥
 IsTrial goes (c ∷ cs) [] = ⊥
 IsTrial goes (c ∷ cs) (r ∷ rs) = IsReceiptOf c.entry c.op r × MatchBool (goes r.answer) (IsTrial goes cs rs) (rs ≡ [])
+
+-- After which answers a trial goes on to the next entry.
+abbrev pub goes_after : GoesOn → Answer → Bool
+goes_after WhileTaken = is_taken
+goes_after WhileNoMatch = is_no_match
+goes_after Always = λ answer. true
+
+-- The receipt that ended a trial: the first after which it doesn't go on.
+abbrev pub ending_of : (Answer → Bool) → List Receipt → Option Receipt
+ending_of goes rs = find (λ (r : Receipt). not (goes r.answer)) rs
+
+-- The receipts behind those that were there before.
+abbrev pub receipts_added : List Receipt → List Receipt → List Receipt
+receipts_added old new = drop (length old) new
 
 -- ---- on a list of states that nobody else changes
 -- The receipt of a call.

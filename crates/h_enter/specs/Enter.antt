@@ -1,5 +1,5 @@
 -- H_ENTER after its checks: the entries that it tries, and the reply that their answers give.
-use Rattle.std.specs.Prelude.{ℕ, ◌*◌, ◌/◌, List, [], ◌∷◌, map, if◌then◌else◌}
+use Rattle.std.specs.Prelude.{ℕ, ◌*◌, ◌/◌, List, [], ◌∷◌, map, if◌then◌else◌, Option, None, Some}
 use Rattle.std.specs.List.{range_with_len}
 use Rattle.papr_codes.specs.FlagBits.{has_flag}
 use Rattle.papr_codes.specs.declared.codes.Rc.{Rc}
@@ -12,6 +12,11 @@ use Rattle.entry_model.specs.Trial.{Plan, call}
 -- Under H_EXACT the named entry, else the eight of its group in slot order.
 unfoldable pub candidates : ℕ → ℕ → List ℕ
 candidates flags ptex = if has_flag flags 0x8000000000 then range_with_len ptex 1 else range_with_len (ptex / 8 * 8) 8
+
+-- By the receipt of the entry that wasn't taken: Entered gives H_SUCCESS and the index, Worn gives H_HARDWARE. With none the group is full.
+abbrev pub told_by_ending : Option Receipt → Rc × List ℕ
+told_by_ending None = (PtegFull, [])
+told_by_ending (Some r) = if is_worn r.answer then (Hardware, []) else (Success, r.entry ∷ [])
 
 -- The last receipt decides: Entered gives H_SUCCESS and the index, Worn gives H_HARDWARE. Where each was Taken the group is full.
 abbrev pub enter_told : List Receipt → Rc × List ℕ

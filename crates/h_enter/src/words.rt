@@ -4,9 +4,11 @@ ghost use Rattle.hpte_fields.specs.Fields.{normal_words};
 ghost use Rattle.entry_model.specs.declared.operation.Op.TheVariants.{Enter};
 ghost use Rattle.entry_model.specs.Receipt.{is_taken, IsNormal};
 ghost use Rattle.entry_model.specs.Trial.{IsReplyOf, IsTrial, call};
-ghost use Rattle.h_enter.specs.Enter.{enter_plan, enter_told};
+ghost use Rattle.h_enter.specs.Enter.{enter_plan, enter_told, told_by_ending};
 
-use entry_model::{Answer, EntryStore, HReply, Op, Receipts, ReplyWords};
+use entry_model::{
+    Answer, EntryStore, GoesOn, HReply, Op, Receipt, Receipts, ReplyWords, try_entries,
+};
 use papr_codes::{CallFlags, Rc};
 
 /// The entries of a page table entry group.
@@ -49,29 +51,28 @@ fn search<T: EntryStore>(store: &mut T, first: u32, count: u32, op: Op) -> HRepl
     ensures told { (result.rc, result.words) ≡ enter_told result.receipts }
 {
     let mut receipts = Receipts::new();
-    for i in 0..count {
-        let receipt = store.apply(first + i, op);
-        let answer = receipt.answer;
-        receipts.push(receipt);
-        match answer {
-            Answer::Taken => {}
-            Answer::Worn => return ended(Rc::Hardware, ReplyWords::new(), receipts),
-            _ => {
-                let mut words = ReplyWords::new();
-                words.push(u64::from(first + i));
-                return ended(Rc::Success, words, receipts);
-            }
-        }
-    }
-    ended(Rc::PtegFull, ReplyWords::new(), receipts)
-}
-
-fn ended(rc: Rc, words: ReplyWords, receipts: Receipts) -> HReply
-    ensures { result ≡ record { rc = rc; words = words; receipts = receipts } }
-{
+    let ending = try_entries(store, op, first, count, GoesOn::WhileTaken, &mut receipts);
+    let (rc, words) = code_and_words(&ending);
     HReply {
         rc,
         words,
         receipts,
+    }
+}
+
+/// The code, and the words, by the receipt of the entry that wasn't taken, if there was one.
+fn code_and_words(ending: &Option<Receipt>) -> (Rc, ReplyWords)
+    ensures { result ≡ told_by_ending ending.now }
+{
+    let mut words = ReplyWords::new();
+    match ending {
+        None => (Rc::PtegFull, words),
+        Some(receipt) => match receipt.answer {
+            Answer::Worn => (Rc::Hardware, words),
+            _ => {
+                words.push(u64::from(receipt.entry));
+                (Rc::Success, words)
+            }
+        },
     }
 }

@@ -1,5 +1,6 @@
 -- The hypervisor calls on one entry, or on four that are read together: what each asks of the entry, and the reply that the answer gives.
 use Rattle.std.specs.Prelude.{ℕ, ◌+◌, ◌-◌, ◌*◌, ◌/◌, ◌^◌, List, [], ◌∷◌, true, Option, Some, None, if◌then◌else◌, nat_lt, map, flat_map}
+use Rattle.std.specs.List.{range_with_len}
 use Rattle.papr_codes.specs.FlagBits.{has_flag}
 use Rattle.papr_codes.specs.declared.codes.Rc.{Rc}
 use Rattle.entry_model.specs.declared.operation.Op.{Op}
@@ -65,7 +66,8 @@ h_clear_mod_plan order ptex = single_plan order ptex ClearMod second_word
 -- ---- H_READ
 -- The named entry, or under H_READ_4 the four that it lies among.
 abbrev pub read_entries : ℕ → ℕ → List ℕ
-read_entries flags ptex = if has_flag flags 0x2000000000 then (let first = ptex / 4 * 4 in first ∷ (first + 1) ∷ (first + 2) ∷ (first + 3) ∷ []) else ptex ∷ []
+read_entries flags ptex =
+    if has_flag flags 0x2000000000 then range_with_len (ptex / 4 * 4) 4 else range_with_len ptex 1
 
 -- Each entry's doublewords, in order.
 unfoldable pub h_read_plan : ℕ → ℕ → ℕ → Plan

@@ -1,7 +1,7 @@
 -- The translations of a table: the page of each entry that has one. No hash is searched.
-use Rattle.hpte_fields.specs.Fields.{is_secondary}
 use Rattle.std.specs.Prelude.{◌==◌, ◌&&◌, Bool, ℕ, ◌+◌, List, [], ◌∷◌, Option, Some, None, if◌then◌else◌, IsTrue, ◌≡◌}
 use Rattle.std.specs.List.{list_any}
+use Rattle.hpte_fields.specs.Fields.{is_secondary}
 use Rattle.power_addr.specs.Pages.{VirtualPage, same_page, tag_of}
 use Rattle.hpt_hash.specs.Entries.{page_at}
 use Rattle.hpt_walk.specs.Walk.{h_bit}

@@ -36,7 +36,3 @@ walk_entries order page = range_with_len (group_of page order false * 8) 8 ++ ra
 pub record AreAllNoMatch (rs : List Receipt) : Type 0 where
   pub count : length rs ≡ 16
   pub each : AllByRecursion (λ (r : Receipt). IsTrue (is_no_match r.answer)) rs
-
--- The receipts behind those that were there before.
-abbrev pub receipts_added : List Receipt → List Receipt → List Receipt
-receipts_added old new = drop (length old) new

@@ -1,12 +1,12 @@
 ghost use Rattle.std.specs.Prelude.{◌≡◌, ◌≤◌, ◌<◌, ◌-◌, ◌+◌, ◌*◌, ◌^◌, ◌++◌, ◌↔◌, length, IsNone, IfSome};
 ghost use Rattle.entry_model.specs.Receipt.{IsNormal, is_no_match, found_of};
-ghost use Rattle.entry_model.specs.Trial.{IsTrial};
+ghost use Rattle.entry_model.specs.Trial.{IsTrial, receipts_added};
 ghost use Rattle.entry_model.specs.CachedLines.{ShowsLine, line_of};
-ghost use Rattle.hpt_walk.specs.Walk.{walk_calls, group_calls, receipts_added, AreAllNoMatch};
+ghost use Rattle.hpt_walk.specs.Walk.{walk_calls, group_calls, AreAllNoMatch};
 ghost use Rattle.hpt_walk.specs.Translations.{TranslatesItsPage};
 
 use crate::access::access_op;
-use entry_model::{Answer, EntryStore, Op, Receipt, Receipts};
+use entry_model::{EntryStore, GoesOn, Op, Receipt, Receipts, try_entries};
 use hpt_hash::groups;
 use power_addr::Page;
 use storage_prot::Want;
@@ -75,14 +75,12 @@ fn search<T: EntryStore>(
     ensures trial { IsTrial is_no_match (group_calls op group) (receipts_added receipts.old receipts.new) }
     ensures found { result ≡ found_of (receipts_added receipts.old receipts.new) }
 {
-    for i in 0..GROUP {
-        let made = store.apply(group * GROUP + i, op);
-        let receipt = &made;
-        receipts.push(*receipt);
-        match receipt.answer {
-            Answer::NoMatch => {}
-            _ => return Some(*receipt),
-        }
-    }
-    None
+    try_entries(
+        store,
+        op,
+        group * GROUP,
+        GROUP,
+        GoesOn::WhileNoMatch,
+        receipts,
+    )
 }

@@ -1,9 +1,9 @@
 use Rattle.std.proofs.Common.{◌≡◌, List, Some, true, false, ap, sym, ◌∙◌, subst}
 use Rattle.entry_model.specs.declared.receipt.Receipt.{Receipt}
 use Rattle.entry_model.specs.Receipt.{is_no_match, found_of}
-use Rattle.entry_model.specs.Trial.{IsTrial}
+use Rattle.entry_model.specs.Trial.{IsTrial, receipts_added}
 use Rattle.hpt_hash.specs.Hash.{group_of}
-use Rattle.hpt_walk.specs.Walk.{group_calls, walk_calls, receipts_added}
+use Rattle.hpt_walk.specs.Walk.{group_calls, walk_calls}
 use Rattle.hpt_walk.proofs.Found.{found_joined}
 use Rattle.hpt_walk.proofs.Walks.{group_in_table, walk_ends, walk_joined, walk_none, walk_shown, walk_translates}
 use Rattle.hpt_walk.proofs.walking.walk.Goals as goal

@@ -7,7 +7,7 @@ use Rattle.entry_model.specs.declared.operation.Op.TheVariants.{Enter, Remove, P
 use Rattle.entry_model.specs.declared.operation.Test.{Test}
 use Rattle.entry_model.specs.declared.operation.Answer.{Answer}
 use Rattle.entry_model.specs.declared.operation.Answer.TheVariants.{Entered, Taken, Removed, Protected, Was, Words, NotFound, NoMatch, Denied, At, Worn}
-use Rattle.hpte_fields.specs.Fields.{is_referenced, is_changed, without_rc, with_rc, protected_word, pp_of, is_no_execute}
+use Rattle.hpte_fields.specs.Fields.{is_referenced, is_changed, without_rc, with_rc, protected_word, pp_of, is_no_execute, tag_field}
 use Rattle.page_sizes.specs.Sizes.{size_of}
 use Rattle.page_sizes.specs.declared.size.PageSize.{PageSize}
 use Rattle.storage_prot.specs.declared.want.Want.{Want}
@@ -19,10 +19,10 @@ abbrev pub words_of : State → ℕ × ℕ
 words_of s = (s.dword0, with_rc s.dword1 s.referenced s.changed)
 
 -- ---- the test of H_REMOVE and H_PROTECT
--- Under H_AVPN doubleword 0 without its low seven bits has to be the given word.
+-- Under H_AVPN the given word has to be B and the abbreviated virtual page number of doubleword 0.
 abbrev pub fits_avpn : ℕ → Option ℕ → Bool
 fits_avpn dword0 None = true
-fits_avpn dword0 (Some avpn) = bit_and dword0 0xFFFFFFFFFFFFFF80 == avpn
+fits_avpn dword0 (Some avpn) = tag_field dword0 == avpn
 
 -- Under H_ANDCOND no bit of the given word may be set in doubleword 0.
 abbrev pub fits_andcond : ℕ → Option ℕ → Bool

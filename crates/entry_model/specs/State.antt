@@ -1,4 +1,5 @@
 -- The state of one page table entry.
+use Rattle.hpte_fields.specs.Fields.{rc_bits}
 use Rattle.std.specs.Prelude.{◌≡◌, ℕ, Bool, false, bit_and, true}
 
 -- The two doublewords without R and C, the two bits, and the stamp: how often the entry has changed, but for R and C that accesses set.
@@ -12,7 +13,7 @@ pub record State : Type 0 where
 
 -- R and C stand apart from doubleword 1, and an entry that isn't valid has nothing: each state is written in one way.
 pub record IsCanonical (valid : Bool) (dword0 dword1 : ℕ) (referenced changed : Bool) : Type 0 where
-  pub apart : bit_and dword1 0x180 ≡ 0
+  pub apart : bit_and dword1 rc_bits ≡ 0
   pub no_first : valid ≡ false → dword0 ≡ 0
   pub no_second : valid ≡ false → dword1 ≡ 0
   pub no_reference : valid ≡ false → referenced ≡ false

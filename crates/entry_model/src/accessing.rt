@@ -3,12 +3,12 @@ ghost use Rattle.entry_model.specs.Reply as table;
 
 use crate::operation::Answer;
 use crate::state::EntryState;
-use hpte_fields::pp;
+use hpte_fields::{SECONDARY, TAG, VALID, pp};
 use page_sizes::decode;
 use storage_prot::{Want, allows};
 
 /// B, the abbreviated virtual page number, H and V.
-const COMPARED: u64 = 0xFFFF_FFFF_FFFF_FF83;
+const COMPARED: u64 = TAG | SECONDARY | VALID;
 
 /// What an entry answers to an access, and its next state.
 pub fn accessed(

@@ -7,21 +7,14 @@ use crate::accessing::accessed;
 use crate::operation::{Answer, Op, Test};
 use crate::receipt::Receipt;
 use crate::state::EntryState;
-
-/// The low seven bits of doubleword 0, which the abbreviated virtual page number leaves out.
-const BELOW_TAG: u64 = 0x7F;
-
-/// R and C, in doubleword 1.
-const REFERENCED: u64 = 0x100;
-
-const CHANGED: u64 = 0x80;
+use hpte_fields::{CHANGED, REFERENCED, tag_of};
 
 /// Whether there is an entry and it passes the test.
 fn is_found(state: &EntryState, test: &Test) -> bool
     ensures { result ≡ table.is_found state.now test.now }
 {
     let fits_avpn = match test.avpn {
-        Some(avpn) => state.dword0 & !BELOW_TAG == avpn,
+        Some(avpn) => tag_of(state.dword0) == avpn,
         None => true,
     };
     let fits_andcond = match test.andcond {

@@ -1,5 +1,6 @@
 ghost use Rattle.std.specs.Prelude.{◌≡◌};
 
+use hpte_fields::{CHANGED, REFERENCED};
 use std::marker::Model;
 
 /// The state of one page table entry. It is written in one way: R and C stand apart from
@@ -52,8 +53,8 @@ impl EntryState {
     pub fn words(&self) -> (u64, u64)
         ensures { result ≡ words_of self.now }
     {
-        let referenced = if self.referenced { 0x100 } else { 0 };
-        let changed = if self.changed { 0x80 } else { 0 };
+        let referenced = if self.referenced { REFERENCED } else { 0 };
+        let changed = if self.changed { CHANGED } else { 0 };
         (self.dword0, self.dword1 | referenced | changed)
     }
 }

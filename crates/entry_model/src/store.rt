@@ -1,4 +1,5 @@
 ghost use Rattle.std.specs.Prelude.{IfSome, IfNone, ◌≡◌, ◌≤◌, ◌<◌, ◌^◌, ◌-◌, ◌++◌, [], ◌∷◌, List, ℕ};
+ghost use Rattle.hpte_fields.specs.TableSize.{entry_count};
 ghost use Rattle.entry_model.specs.declared.receipt.Receipt.{Receipt};
 ghost use Rattle.entry_model.specs.declared.line.Line.{Line};
 ghost use Rattle.entry_model.specs.Receipt.{IsNormal, IsReceiptOf};
@@ -33,7 +34,7 @@ pub trait EntryStore {
 
     /// Makes an operation on an entry.
     fn apply(&mut self, entry: u32, op: Op) -> Receipt
-        requires in_table { entry < 2 ^ (table_order self.old - 4) }
+        requires in_table { entry < entry_count (table_order self.old) }
         requires normal { IsNormal op }
         ensures receipt { IsReceiptOf entry op result }
         ensures made { made self.old self.new (result ∷ []) };

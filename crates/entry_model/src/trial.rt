@@ -1,4 +1,5 @@
 ghost use Rattle.std.specs.Prelude.{◌≡◌, ◌≤◌, ◌<◌, ◌-◌, ◌+◌, ◌^◌, ◌++◌, length, map};
+ghost use Rattle.hpte_fields.specs.TableSize.{entry_count};
 ghost use Rattle.std.specs.List.{range_with_len};
 ghost use Rattle.entry_model.specs.Receipt.{IsNormal};
 ghost use Rattle.entry_model.specs.Trial.{IsTrial, call, ending_of, goes_after, receipts_added};
@@ -42,7 +43,7 @@ pub fn try_entries<T: EntryStore>(
     goes_on: GoesOn,
     receipts: &mut Receipts,
 ) -> Option<Receipt>
-    requires in_table { first + count ≤ 2 ^ (T.table_order store.old - 4) }
+    requires in_table { first + count ≤ entry_count (T.table_order store.old) }
     requires small { first + count < 2 ^ 32 }
     requires normal { IsNormal op }
     requires room { length receipts.old + count ≤ 16 }

@@ -32,4 +32,4 @@ words_plan grants flags ptex (Some w) = if suits_grants grants w.0 w.1 then ente
 
 -- H_ENTER. H_PARAMETER comes where the index is past the table, where the doublewords can't be stored, or where no single grant holds the page with these storage control bits; nothing is tried then.
 unfoldable pub h_enter_plan : ℕ → List Grant → ℕ → ℕ → ℕ → ℕ → Plan
-h_enter_plan order grants flags ptex pteh ptel = if nat_lt ptex (2 ^ (order - 4)) then words_plan grants flags ptex (normal_words pteh ptel) else plan_of_code Parameter
+h_enter_plan order grants flags ptex pteh ptel = if nat_lt ptex (entry_count order) then words_plan grants flags ptex (normal_words pteh ptel) else plan_of_code Parameter

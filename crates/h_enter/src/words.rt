@@ -1,4 +1,5 @@
 ghost use Rattle.std.specs.Prelude.{◌≡◌, ◌≤◌, ◌<◌, ◌-◌, ◌+◌, ◌^◌, Some, map};
+ghost use Rattle.hpte_fields.specs.TableSize.{entry_count};
 ghost use Rattle.std.specs.List.{range_with_len};
 ghost use Rattle.hpte_fields.specs.Fields.{normal_words};
 ghost use Rattle.entry_model.specs.declared.operation.Op.TheVariants.{Enter};
@@ -9,10 +10,8 @@ ghost use Rattle.h_enter.specs.Enter.{enter_plan, enter_told, told_by_ending};
 use entry_model::{
     Answer, EntryStore, GoesOn, HReply, Op, Receipt, Receipts, ReplyWords, try_entries,
 };
+use hpte_fields::GROUP_SIZE;
 use papr_codes::{CallFlags, Rc};
-
-/// The entries of a page table entry group.
-const GROUP: u32 = 8;
 
 /// The part of H_ENTER after its checks: tries the named entry under H_EXACT, else the eight of its
 /// group in slot order, until one isn't taken. H_SUCCESS comes with the entry's index, H_PTEG_FULL
@@ -25,7 +24,7 @@ pub fn enter_words<T: EntryStore>(
     dword0: u64,
     dword1: u64,
 ) -> HReply
-    requires in_table { ptex < 2 ^ (T.table_order store.old - 4) }
+    requires in_table { ptex < entry_count (T.table_order store.old) }
     requires normal { normal_words dword0 dword1 ≡ Some (dword0, dword1) }
     ensures made { T.made store.old store.new result.receipts }
     ensures reply { IsReplyOf (enter_plan flags ptex dword0 dword1) result }
@@ -36,14 +35,14 @@ pub fn enter_words<T: EntryStore>(
     if CallFlags::of(flags).has(CallFlags::EXACT) {
         search(store, index, 1, op)
     } else {
-        search(store, index / GROUP * GROUP, GROUP, op)
+        search(store, index / GROUP_SIZE * GROUP_SIZE, GROUP_SIZE, op)
     }
 }
 
 /// Tries entries one behind the other until one isn't taken.
 fn search<T: EntryStore>(store: &mut T, first: u32, count: u32, op: Op) -> HReply
     requires few { count ≤ 8 }
-    requires in_table { first + count ≤ 2 ^ (T.table_order store.old - 4) }
+    requires in_table { first + count ≤ entry_count (T.table_order store.old) }
     requires small { first + count ≤ 2 ^ 22 }
     requires normal { IsNormal op }
     ensures made { T.made store.old store.new result.receipts }

@@ -52,7 +52,7 @@ removes_under entry (Some test) = Remove entry test
 unfoldable pub asked_by : ℕ → Pair → Asked
 asked_by order p =
     if type_of p.request == 3 then End
-    else if (type_of p.request == 1) && nat_lt (index_of p.request) (2 ^ (order - 4)) then removes_under (index_of p.request) (test_by (flags_of p.request) p.word)
+    else if (type_of p.request == 1) && nat_lt (index_of p.request) (entry_count order) then removes_under (index_of p.request) (test_by (flags_of p.request) p.word)
     else Refused
 
 -- ---- what a pair's first word becomes

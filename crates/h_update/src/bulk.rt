@@ -4,6 +4,7 @@ ghost use Rattle.entry_model.specs.Trial.{IsReplyOf};
 ghost use Rattle.h_update.specs.Bulk as plans;
 
 use entry_model::{Answer, EntryStore, HReply, Op, Receipt, Receipts, ReplyWords, Test};
+use hpte_fields::entry_count;
 use papr_codes::Rc;
 
 /// The type of a pair's first word.
@@ -85,7 +86,7 @@ fn asked_by(order: u8, request: u64, word: u64) -> Asked
         return Asked::End;
     }
     let index = request & INDEX;
-    if request & TYPE != REQUEST || index >= 1 << (order - 4) {
+    if request & TYPE != REQUEST || index >= u64::from(entry_count(order)) {
         return Asked::Refused;
     }
     match test_of(request, word) {

@@ -1,10 +1,12 @@
 ghost use Rattle.std.specs.Prelude.{◌≡◌, ◌≤◌, ◌-◌, ◌+◌, ◌^◌, length, true, map, flat_map};
+ghost use Rattle.hpte_fields.specs.TableSize as table;
 ghost use Rattle.std.specs.List.{range_with_len};
 ghost use Rattle.entry_model.specs.Trial.{IsReplyOf, IsTrial, call};
 ghost use Rattle.entry_model.specs.declared.operation.Op.TheVariants.{Read};
 ghost use Rattle.h_update.specs.Single.{h_read_plan, both_words};
 
 use entry_model::{EntryStore, GoesOn, HReply, Op, Receipt, Receipts, ReplyWords, try_entries};
+use hpte_fields::entry_count;
 use papr_codes::{CallFlags, Rc};
 
 /// Both doublewords of each entry that was read, with R and C.
@@ -24,7 +26,7 @@ fn words_read(receipts: &[Receipt]) -> ReplyWords
 /// Reads entries one behind the other, and gives each one's doublewords, with R and C.
 fn read_from<T: EntryStore>(store: &mut T, first: u32, count: u32) -> HReply
     requires few { count ≤ 4 }
-    requires in_table { first + count ≤ 2 ^ (T.table_order store.old - 4) }
+    requires in_table { first + count ≤ table.entry_count (T.table_order store.old) }
     requires small { first + count ≤ 2 ^ 22 }
     ensures made { T.made store.old store.new result.receipts }
     ensures trial { IsTrial (λ answer. true) (map (call Read) (range_with_len first count)) result.receipts }
@@ -49,7 +51,7 @@ pub fn h_read<T: EntryStore>(store: &mut T, flags: u64, ptex: u64) -> HReply
     ensures made { T.made store.old store.new result.receipts }
     ensures reply { IsReplyOf (h_read_plan (T.table_order store.old) flags ptex) result }
 {
-    if ptex >= 1 << (store.order() - 4) {
+    if ptex >= u64::from(entry_count(store.order())) {
         return HReply::without_receipts(Rc::Parameter);
     }
     let index = ptex as u32;

@@ -5,6 +5,7 @@ ghost use Rattle.h_update.specs.ShownWords.{words_shown};
 ghost use Rattle.h_update.specs.Single as plans;
 
 use entry_model::{Answer, EntryStore, HReply, Op, Receipt, Receipts, ReplyWords, Test};
+use hpte_fields::entry_count;
 use papr_codes::{CallFlags, Rc};
 
 /// The doublewords of the entry as it was that a reply shows.
@@ -50,7 +51,7 @@ fn single<T: EntryStore>(store: &mut T, ptex: u64, op: Op, shown: ShownWords) ->
     ensures made { T.made store.old store.new result.receipts }
     ensures reply { IsReplyOf (plans.single_plan (T.table_order store.old) ptex op (words_shown shown)) result }
 {
-    if ptex >= 1 << (store.order() - 4) {
+    if ptex >= u64::from(entry_count(store.order())) {
         return HReply::without_receipts(Rc::Parameter);
     }
     let receipt = store.apply(ptex as u32, op);

@@ -1,7 +1,7 @@
 -- A table that is made ready.
 use Rattle.std.specs.Prelude.{◌≡◌, ℕ, ◌+◌, ◌≤◌, ◌==◌, Bool, List, length, min, replicate}
 use Rattle.entry_model.specs.State.{State, empty_state}
-use Rattle.hpt_resize.specs.Rehash.{entry_count}
+use Rattle.hpte_fields.specs.TableSize.{entry_count}
 
 -- It has 2 ^ order bytes at place in the pool, and so many of its entries are ready.
 pub record PendingTable : Type 0 where

@@ -10,10 +10,6 @@ use Rattle.entry_model.specs.State.{State, empty_state}
 use Rattle.entry_model.specs.Run.{state_at}
 use Rattle.hpt_resize.specs.declared.carry.Collision.{Collision}
 
--- A table of 2 ^ order bytes has 2 ^ (order - 4) entries of 16 bytes.
-abbrev pub entry_count : ℕ → ℕ
-entry_count order = 2 ^ (order - 4)
-
 -- ---- one entry
 -- The page of an entry that is carried: one that is valid and bolted, where it is the entry of a page.
 unfoldable pub carried_page : ℕ → State → ℕ → Option VirtualPage

@@ -7,7 +7,8 @@ use Rattle.papr_codes.specs.declared.codes.Rc.TheVariants.{Success, Busy, Closed
 use Rattle.hpt_resize.specs.declared.carry.Collision.{Collision}
 use Rattle.hpt_resize.specs.declared.current.Current.{Current}
 use Rattle.hpt_resize.specs.declared.current.CommitAnswer.{CommitAnswer}
-use Rattle.hpt_resize.specs.Rehash.{entry_count, collision_of, rehashed_states}
+use Rattle.hpt_resize.specs.Rehash.{collision_of, rehashed_states}
+use Rattle.hpte_fields.specs.TableSize.{entry_count}
 use Rattle.hpt_resize.specs.Pending.{PendingTable, no_entries, is_ready, with_more_ready}
 
 -- The block of a pending table is taken in the pool.

@@ -2,7 +2,7 @@ ghost use Rattle.std.specs.Prelude.{◌≡◌, ◌≢◌, ◌+◌, ◌-◌, ◌^
 ghost use Rattle.std.specs.Option.{ForSome};
 ghost use Rattle.hpt_pool.specs.Pool.{block_at};
 ghost use Rattle.entry_model.specs.State.{empty_state};
-ghost use Rattle.hpt_resize.specs.Rehash.{entry_count};
+ghost use Rattle.hpte_fields.specs.TableSize.{entry_count};
 ghost use Rattle.hpt_resize.specs.Pending.{PendingTable, is_ready, with_more_ready};
 ghost use Rattle.hpt_resize.specs.Resize.{IsHeld, IsElsewhere, IsTable, prepare_outcome, is_prepare_request, is_commit_request, pool_without, is_pending, needs_table, start_outcome, outcome_of_prepare, table_of, commit_refusal, pending_refusal, complete_outcome, outcome_of_commit, commit_outcome, KeepsBlocks};
 

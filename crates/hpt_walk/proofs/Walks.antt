@@ -4,7 +4,8 @@ use Rattle.std.proofs.Common.{◌≡◌, ℕ, ◌+◌, ◌-◌, ◌*◌, ◌^◌
 use Rattle.std.specs.List.{AllByRecursion, range_with_len}
 use Rattle.storage_prot.specs.declared.want.Want.{Want}
 use Rattle.power_addr.specs.Pages.{VirtualPage}
-use Rattle.hpt_hash.specs.Hash.{group_of, group_count}
+use Rattle.hpt_hash.specs.Hash.{group_of}
+use Rattle.hpte_fields.specs.TableSize.{group_count}
 use Rattle.entry_model.specs.declared.operation.Op.{Op}
 use Rattle.entry_model.specs.declared.receipt.Receipt.{Receipt}
 use Rattle.entry_model.specs.Receipt.{is_no_match, is_decided, found_of}

@@ -3,14 +3,9 @@ ghost use Rattle.entry_model.specs.Receipt.{IsNormal};
 ghost use Rattle.hpt_walk.specs.Walk as table;
 
 use entry_model::Op;
+use hpte_fields::{SECONDARY, VALID};
 use power_addr::Page;
 use storage_prot::Want;
-
-/// V, in doubleword 0: the entry is valid.
-const VALID: u64 = 0x01;
-
-/// H, in doubleword 0: the entry stands in its page's secondary group.
-const SECONDARY: u64 = 0x02;
 
 /// The access of a page by one of its entries: `secondary` says whether the entry stands in the
 /// page's secondary group, `key` is the segment's key for the state of the processor, and

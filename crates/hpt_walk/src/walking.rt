@@ -1,4 +1,5 @@
 ghost use Rattle.std.specs.Prelude.{◌≡◌, ◌≤◌, ◌<◌, ◌-◌, ◌+◌, ◌*◌, ◌^◌, ◌++◌, ◌↔◌, length, IsNone, IfSome};
+ghost use Rattle.hpte_fields.specs.TableSize.{entry_count};
 ghost use Rattle.entry_model.specs.Receipt.{IsNormal, is_no_match, found_of};
 ghost use Rattle.entry_model.specs.Trial.{IsTrial, receipts_added};
 ghost use Rattle.entry_model.specs.CachedLines.{ShowsLine, line_of};
@@ -8,11 +9,9 @@ ghost use Rattle.hpt_walk.specs.Translations.{TranslatesItsPage};
 use crate::access::access_op;
 use entry_model::{EntryStore, GoesOn, Op, Receipt, Receipts, try_entries};
 use hpt_hash::groups;
+use hpte_fields::GROUP_SIZE;
 use power_addr::Page;
 use storage_prot::Want;
-
-/// The entries of a page table entry group.
-const GROUP: u32 = 8;
 
 /// What a walk found, and the receipts that it made, in their order.
 #[derive(Drop)]
@@ -65,7 +64,7 @@ fn search<T: EntryStore>(
     op: Op,
     receipts: &mut Receipts,
 ) -> Option<Receipt>
-    requires in_table { group * 8 + 8 ≤ 2 ^ (T.table_order store.old - 4) }
+    requires in_table { group * 8 + 8 ≤ entry_count (T.table_order store.old) }
     requires small { group < 2 ^ 15 }
     requires normal { IsNormal op }
     requires room { length receipts.old ≤ 8 }
@@ -78,8 +77,8 @@ fn search<T: EntryStore>(
     try_entries(
         store,
         op,
-        group * GROUP,
-        GROUP,
+        group * GROUP_SIZE,
+        GROUP_SIZE,
         GoesOn::WhileNoMatch,
         receipts,
     )

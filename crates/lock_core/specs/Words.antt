@@ -17,7 +17,7 @@ use Rattle.lock_core.specs.declared.entry.Entry.{Entry}
 -- ---- the state of words
 -- A second data word without R and C, which stand in the control word.
 abbrev pub without_bits : ℕ → ℕ
-without_bits dword1 = bit_xor dword1 (bit_and dword1 0x180)
+without_bits dword1 = bit_xor dword1 (bit_and dword1 rc_bits)
 
 -- The state that a control word and two data words stand for. Where valid is clear it has nothing, whatever the data words are.
 abbrev pub state_of : Control → ℕ → ℕ → State

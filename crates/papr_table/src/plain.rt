@@ -1,4 +1,5 @@
 ghost use Rattle.std.specs.Prelude.{◌≡◌, ◌≤◌, ◌<◌, ◌-◌, ◌^◌, vec_len};
+ghost use Rattle.hpte_fields.specs.TableSize.{entry_count};
 ghost use Rattle.entry_model.specs.Run.{state_at};
 
 use entry_model::{EntryState, EntryStore, Line, Op, Receipt, reply};
@@ -20,7 +21,7 @@ impl Model for PlainTable {
 
     ghost view = { λ t. record { states = t.states.items; order = t.order } };
 
-    ghost invariant = { λ t. (18 ≤ t.order) × (t.order ≤ 22) × (vec_len t.states ≡ 2 ^ (t.order - 4)) };
+    ghost invariant = { λ t. (18 ≤ t.order) × (t.order ≤ 22) × (vec_len t.states ≡ entry_count t.order) };
 }
 
 impl PlainTable {
@@ -28,7 +29,7 @@ impl PlainTable {
     pub fn open(states: Vec<EntryState>, order: u8) -> PlainTable
         requires low { 18 ≤ order }
         requires high { order ≤ 22 }
-        requires whole { vec_len states ≡ 2 ^ (order - 4) }
+        requires whole { vec_len states ≡ entry_count order }
         ensures states { result.states ≡ states.items }
         ensures order { result.order ≡ order }
     {
@@ -37,7 +38,7 @@ impl PlainTable {
 
     /// The state of an entry.
     pub fn state(&self, entry: u32) -> EntryState
-        requires { entry < 2 ^ (self.now.order - 4) }
+        requires { entry < entry_count self.now.order }
         ensures { result ≡ state_at self.now.states entry }
     {
         self.states[entry as usize]

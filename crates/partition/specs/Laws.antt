@@ -8,7 +8,8 @@ use Rattle.entry_model.specs.Run.{state_at}
 use Rattle.hpt_walk.specs.Laws.{IsEntryState}
 use Rattle.hpt_walk.specs.Translations.{translations, is_paired}
 use Rattle.papr_codes.specs.declared.codes.Rc.TheVariants.{Success}
-use Rattle.hpt_resize.specs.Rehash.{entry_count, at_stamp_0}
+use Rattle.hpt_resize.specs.Rehash.{at_stamp_0}
+use Rattle.hpte_fields.specs.TableSize.{entry_count}
 use Rattle.hpt_resize.specs.Translations.{KeepsTranslations}
 use Rattle.hpt_resize.specs.Resize.{Table}
 use Rattle.hpt_resize.specs.TableMemory.{TableMemory, commit_result}

@@ -1,6 +1,6 @@
 ghost use Rattle.std.specs.Prelude.{◌≡◌, ◌-◌, ◌^◌, ◌<◌, ◌≤◌, [], length, true, None, IfOk, OnOk, OnErr};
 ghost use Rattle.hpt_pool.specs.Pool.{no_blocks, pool_refusal};
-ghost use Rattle.hpt_resize.specs.Rehash.{entry_count};
+ghost use Rattle.hpte_fields.specs.TableSize.{entry_count};
 ghost use Rattle.hpt_resize.specs.Resize.{needs_table};
 ghost use Rattle.hpt_resize.specs.TableMemory.{prepare_result, commit_result, with_states};
 ghost use Rattle.partition.specs.PartitionState.{HasStates, HasNoStates, IsPartition, CountsTables, opening_partition, with_memory, reply_of_code};

@@ -1,6 +1,6 @@
 -- The state of one page table entry.
-use Rattle.hpte_fields.specs.Fields.{rc_bits}
 use Rattle.std.specs.Prelude.{◌≡◌, ℕ, Bool, false, bit_and, true}
+use Rattle.hpte_fields.specs.Fields.{rc_bits}
 
 -- The two doublewords without R and C, the two bits, and the stamp: how often the entry has changed, but for R and C that accesses set.
 pub record State : Type 0 where

@@ -1,6 +1,6 @@
 ghost use Rattle.std.specs.Prelude.{◌≡◌, ◌≤◌, ◌<◌, ◌-◌, ◌+◌, ◌^◌, ◌++◌, length, map};
-ghost use Rattle.hpte_fields.specs.TableSize.{entry_count};
 ghost use Rattle.std.specs.List.{range_with_len};
+ghost use Rattle.hpte_fields.specs.TableSize.{entry_count};
 ghost use Rattle.entry_model.specs.Receipt.{IsNormal};
 ghost use Rattle.entry_model.specs.Trial.{IsTrial, call, ending_of, goes_after, receipts_added};
 

@@ -1,4 +1,5 @@
 -- H_ENTER after its checks: the entries that it tries, and the reply that their answers give.
+use Rattle.hpte_fields.specs.TableSize.{group_size}
 use Rattle.std.specs.Prelude.{ℕ, ◌*◌, ◌/◌, List, [], ◌∷◌, map, if◌then◌else◌, Option, None, Some}
 use Rattle.std.specs.List.{range_with_len}
 use Rattle.papr_codes.specs.FlagBits.{has_flag, h_exact}

@@ -1,4 +1,5 @@
 -- H_BULK_REMOVE: four pairs of words, each a request to remove one entry.
+use Rattle.hpte_fields.specs.TableSize.{entry_count}
 use Rattle.std.specs.Prelude.{ℕ, ◌+◌, ◌-◌, ◌*◌, ◌/◌, ◌%◌, ◌^◌, ◌==◌, ◌&&◌, List, [], ◌∷◌, not, Option, Some, None, if◌then◌else◌, nat_lt}
 use Rattle.papr_codes.specs.declared.codes.Rc.{Rc}
 use Rattle.entry_model.specs.State.{State}

@@ -1,5 +1,6 @@
 ghost use Rattle.std.specs.Prelude.{◌≡◌, ◌≤◌, ◌<◌, ◌-◌, ◌+◌, ◌*◌, ◌^◌, ◌++◌, ◌↔◌, length, IsNone, IfSome};
 ghost use Rattle.hpte_fields.specs.TableSize.{entry_count};
+ghost use Rattle.entry_model.specs.Reply.{access_mode};
 ghost use Rattle.entry_model.specs.Receipt.{IsNormal, is_no_match, found_of};
 ghost use Rattle.entry_model.specs.Trial.{IsTrial, receipts_added};
 ghost use Rattle.entry_model.specs.CachedLines.{ShowsLine, line_of};
@@ -34,7 +35,7 @@ pub fn walk<T: EntryStore>(
     no_execute: bool,
 ) -> WalkAnswer
     ensures made { T.made store.old store.new result.receipts }
-    ensures trial { IsTrial is_no_match (walk_calls (T.table_order store.old) page.now key no_execute want) result.receipts }
+    ensures trial { IsTrial is_no_match (walk_calls (T.table_order store.old) page.now (access_mode key no_execute want)) result.receipts }
     ensures found { result.found ≡ found_of result.receipts }
     ensures none { IsNone result.found ↔ AreAllNoMatch result.receipts }
 

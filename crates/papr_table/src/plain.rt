@@ -14,7 +14,8 @@ pub struct PlainTable {
 }
 
 impl Model for PlainTable {
-    ghost use Rattle.std.specs.Prelude.{◌≡◌, ◌≤◌, ◌-◌, ◌^◌, vec_len};
+    ghost use Rattle.std.specs.Prelude.{◌≡◌, ◌≤◌, vec_len};
+    ghost use Rattle.hpte_fields.specs.TableSize.{entry_count};
     ghost use Rattle.papr_table.specs.TableState.{TableState};
 
     ghost Value = { TableState };

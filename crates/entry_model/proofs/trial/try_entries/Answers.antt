@@ -2,7 +2,7 @@ use Rattle.std.proofs.Common.{◌≡◌, true, false, None, arith, ap, sym, subs
 use Rattle.std.proofs.lemmas.Grind.{common_steps}
 use Rattle.entry_model.specs.declared.receipt.Receipt.{Receipt}
 use Rattle.entry_model.specs.Trial.{IsTrial, ending_of, goes_after, receipts_added}
-use Rattle.entry_model.proofs.TrialSteps.{calls_from, trial_ends, trial_goes, trial_none, ending-on, ending-off, added-push, behind-push}
+use Rattle.entry_model.proofs.TrialSteps.{calls_from, trial_ends, trial_goes, trial_none, ending-on, added-push, behind-push}
 use Rattle.entry_model.proofs.trial.try_entries.Goals as goal
 
 pub returns-then-not-after-clause-trial : goal.returns-then-not-after-clause-trial

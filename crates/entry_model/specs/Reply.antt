@@ -71,12 +71,15 @@ compared_bits dword0 = bit_and dword0 0xFFFFFFFFFFFFFF83
 
 -- The page size that the doublewords encode has this base size.
 unfoldable pub has_base : ℕ → ℕ → ℕ → Bool
-has_base dword0 dword1 base = option_map_or (λ (size : PageSize). size.base == base) (size_of dword0 dword1) false
+has_base dword0 dword1 base =
+    option_map_or (λ (size : PageSize). size.base == base) (size_of dword0 dword1) false
 
 -- The entry translates pages with this tag and base size.
 abbrev pub is_match : State → ℕ → ℕ → Bool
-is_match s tag base = s.valid && ((compared_bits s.dword0 == tag) && has_base s.dword0 s.dword1 base)
+is_match s tag base =
+    s.valid && ((compared_bits s.dword0 == tag) && has_base s.dword0 s.dword1 base)
 
+-- The access is a store.
 abbrev pub is_store : Want → Bool
 is_store Load = false
 is_store Store = true

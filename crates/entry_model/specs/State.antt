@@ -19,12 +19,20 @@ pub record IsCanonical (valid : Bool) (dword0 dword1 : ℕ) (referenced changed 
   pub no_reference : valid ≡ false → referenced ≡ false
   pub no_change : valid ≡ false → changed ≡ false
 
+-- The state is written in that way.
 abbrev pub IsCanonicalState : State → Type 0
 IsCanonicalState s = IsCanonical s.valid s.dword0 s.dword1 s.referenced s.changed
 
 -- An entry with nothing in it.
 abbrev pub empty_state : ℕ → State
-empty_state stamp = record { valid = false; dword0 = 0; dword1 = 0; referenced = false; changed = false; stamp = stamp }
+empty_state stamp = record {
+  valid = false;
+  dword0 = 0;
+  dword1 = 0;
+  referenced = false;
+  changed = false;
+  stamp = stamp;
+}
 
 -- ---- R and C
 -- The second state has what the first has, and each of its bits.

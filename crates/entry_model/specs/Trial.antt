@@ -16,6 +16,7 @@ pub record Call : Type 0 where
   pub entry : ℕ
   pub op : Op
 
+-- An operation on an entry.
 abbrev pub call : Op → ℕ → Call
 call op e = record { entry = e; op = op }
 
@@ -24,7 +25,8 @@ abbrev pub IsTrial : (Answer → Bool) → List Call → List Receipt → Type 0
 IsTrial goes [] [] = Unit {0}
 IsTrial goes [] (r ∷ rs) = ⊥
 IsTrial goes (c ∷ cs) [] = ⊥
-IsTrial goes (c ∷ cs) (r ∷ rs) = IsReceiptOf c.entry c.op r × MatchBool (goes r.answer) (IsTrial goes cs rs) (rs ≡ [])
+IsTrial goes (c ∷ cs) (r ∷ rs) =
+    IsReceiptOf c.entry c.op r × MatchBool (goes r.answer) (IsTrial goes cs rs) (rs ≡ [])
 
 -- After which answers a trial goes on to the next entry.
 abbrev pub goes_after : GoesOn → Answer → Bool
@@ -71,7 +73,9 @@ reply_by plan rs = record { rc = (plan.told rs).0; words = (plan.told rs).1; rec
 
 -- The reply on a list of states that nobody else changes, and the states after it.
 unfoldable pub plan_run : Plan → List State → HReply × List State
-plan_run plan states = (reply_by plan (trial_run plan.goes_on states plan.calls).0, (trial_run plan.goes_on states plan.calls).1)
+plan_run plan states =
+    (reply_by plan (trial_run plan.goes_on states plan.calls).0,
+     (trial_run plan.goes_on states plan.calls).1)
 
 -- A call that is answered by itself names no entry.
 abbrev pub plan_of_code : Rc → Plan

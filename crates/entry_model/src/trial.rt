@@ -58,7 +58,9 @@ pub fn try_entries<T: EntryStore>(
             (map (call op) (range_with_len first count))
             (receipts_added receipts.old receipts.new)
     }
-    ensures ending { result ≡ ending_of (goes_after goes_on) (receipts_added receipts.old receipts.new) }
+    ensures ending {
+        result ≡ ending_of (goes_after goes_on) (receipts_added receipts.old receipts.new)
+    }
 {
     for i in 0..count {
         let made = store.apply(first + i, op);

@@ -53,17 +53,26 @@ told_by words (r ∷ rs) = code_and_words r.answer (words r)
 -- ---- plans
 -- One operation on the named entry; H_PARAMETER where the index is past the table.
 abbrev pub single_plan : ℕ → ℕ → Op → (Receipt → List ℕ) → Plan
-single_plan order ptex op words = if nat_lt ptex (entry_count order) then record { calls = call op ptex ∷ []; goes_on = λ answer. true; told = told_by words } else plan_of_code rc.Parameter
+single_plan order ptex op words =
+    if nat_lt ptex (entry_count order)
+    then record { calls = call op ptex ∷ []; goes_on = λ answer. true; told = told_by words }
+    else plan_of_code rc.Parameter
 
+-- H_REMOVE: the entry's doublewords as they were.
 unfoldable pub h_remove_plan : ℕ → ℕ → ℕ → ℕ → Plan
-h_remove_plan order flags ptex avpn = single_plan order ptex (Remove (remove_test flags avpn)) both_words
+h_remove_plan order flags ptex avpn =
+    single_plan order ptex (Remove (remove_test flags avpn)) both_words
 
+-- H_PROTECT: no word.
 unfoldable pub h_protect_plan : ℕ → ℕ → ℕ → ℕ → Plan
-h_protect_plan order flags ptex avpn = single_plan order ptex (Protect (protect_test flags avpn) flags) (λ r. [])
+h_protect_plan order flags ptex avpn =
+    single_plan order ptex (Protect (protect_test flags avpn) flags) (λ r. [])
 
+-- H_CLEAR_REF: doubleword 1 as it was.
 unfoldable pub h_clear_ref_plan : ℕ → ℕ → Plan
 h_clear_ref_plan order ptex = single_plan order ptex ClearRef second_word
 
+-- H_CLEAR_MOD: doubleword 1 as it was.
 unfoldable pub h_clear_mod_plan : ℕ → ℕ → Plan
 h_clear_mod_plan order ptex = single_plan order ptex ClearMod second_word
 
@@ -75,4 +84,12 @@ read_entries flags ptex =
 
 -- Each entry's doublewords, in order.
 unfoldable pub h_read_plan : ℕ → ℕ → ℕ → Plan
-h_read_plan order flags ptex = if nat_lt ptex (entry_count order) then record { calls = map (call Read) (read_entries flags ptex); goes_on = λ answer. true; told = λ rs. (rc.Success, flat_map both_words rs) } else plan_of_code rc.Parameter
+h_read_plan order flags ptex =
+    if nat_lt ptex (entry_count order)
+    then
+      record {
+        calls = map (call Read) (read_entries flags ptex);
+        goes_on = λ answer. true;
+        told = λ rs. (rc.Success, flat_map both_words rs);
+      }
+    else plan_of_code rc.Parameter

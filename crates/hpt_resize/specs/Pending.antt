@@ -9,9 +9,11 @@ pub record PendingTable : Type 0 where
   pub place : ℕ
   pub ready : ℕ
 
+-- A table of this order at this place, of which no entry is ready.
 abbrev pub no_entries : ℕ → ℕ → PendingTable
 no_entries order place = record { order = order; place = place; ready = 0 }
 
+-- All its entries are ready.
 abbrev pub is_ready : PendingTable → Bool
 is_ready table = table.ready == entry_count table.order
 

@@ -46,4 +46,5 @@ prepare_result memory flags shift =
 unfoldable pub commit_result : TableMemory → ℕ → ℕ → Rc × TableMemory
 commit_result memory flags shift =
     let answer = outcome_of_commit flags shift memory.pending memory.pool memory.table in
-    (answer.rc, record memory { pool = answer.pool; pending = answer.pending; table = answer.table })
+    (answer.rc,
+     record memory { pool = answer.pool; pending = answer.pending; table = answer.table })

@@ -64,18 +64,30 @@ landing_at (Some x) logical = At x.0
 -- By the receipt that was found.
 abbrev pub outcome_by : List Grant → ℕ → Option Receipt → Outcome
 outcome_by grants ea None = NoPage
-outcome_by grants ea (Some r) = if is_at r.answer then landing_at (machine_range grants (logical_of ea r.before) 1) (logical_of ea r.before) else Denied
+outcome_by grants ea (Some r) =
+    if is_at r.answer
+    then landing_at (machine_range grants (logical_of ea r.before) 1) (logical_of ea r.before)
+    else Denied
 
+-- Where an access with these receipts ends.
 unfoldable pub outcome_of : List Grant → ℕ → List Receipt → Outcome
 outcome_of grants ea rs = outcome_by grants ea (found_of rs)
 
 -- ---- by a cached line
 -- The access of the line's entry, with H as the line has it.
 abbrev pub hit_calls : Segment → Request → Line → List Call
-hit_calls seg a line = call (access_op seg.page (mode_for seg a) (is_secondary line.dword0)) line.entry ∷ []
+hit_calls seg a line =
+    call (access_op seg.page (mode_for seg a) (is_secondary line.dword0)) line.entry ∷ []
 
 -- One receipt, of the line's entry, on a state at which the line is current, which says At or Denied.
-pub record IsHit (context : AccessContext) (seg : Segment) (a : Request) (line : Line) (r : AccessReply) : Type 0 where
+pub record IsHit
+  (context : AccessContext)
+  (seg : Segment)
+  (a : Request)
+  (line : Line)
+  (r : AccessReply)
+  : Type 0
+  where
   pub trial : IsTrial is_no_match (hit_calls seg a line) r.receipts
   pub current : AllByRecursion (λ (x : Receipt). IsCurrent line x.before) r.receipts
   pub decided : AllByRecursion (λ (x : Receipt). is_decided x.answer ≡ true) r.receipts
@@ -83,7 +95,13 @@ pub record IsHit (context : AccessContext) (seg : Segment) (a : Request) (line :
 
 -- ---- by a walk
 -- The receipts are those of a walk of the page.
-pub record IsWalk (context : AccessContext) (seg : Segment) (a : Request) (r : AccessReply) : Type 0 where
+pub record IsWalk
+  (context : AccessContext)
+  (seg : Segment)
+  (a : Request)
+  (r : AccessReply)
+  : Type 0
+  where
   pub trial : IsTrial is_no_match (walk_calls context.order seg.page (mode_for seg a)) r.receipts
   pub outcome : r.outcome ≡ outcome_of context.grants a.ea r.receipts
 

@@ -32,11 +32,14 @@ group_calls op group = map (call op) (range_with_len (group * 8) 8)
 -- The walk order: the eight entries of the primary group with H clear, then the eight of the secondary group with H set.
 unfoldable pub walk_calls : ℕ → VirtualPage → AccessMode → List Call
 walk_calls order page mode =
-    group_calls (access_op page mode false) (group_of page order false) ++ group_calls (access_op page mode true) (group_of page order true)
+    group_calls (access_op page mode false) (group_of page order false)
+    ++ group_calls (access_op page mode true) (group_of page order true)
 
 -- Their entries.
 unfoldable pub walk_entries : ℕ → VirtualPage → List ℕ
-walk_entries order page = range_with_len (group_of page order false * 8) 8 ++ range_with_len (group_of page order true * 8) 8
+walk_entries order page =
+    range_with_len (group_of page order false * 8) 8
+    ++ range_with_len (group_of page order true * 8) 8
 
 -- All sixteen entries were tried, and each said NoMatch.
 pub record AreAllNoMatch (rs : List Receipt) : Type 0 where

@@ -99,7 +99,11 @@ is_no_execute dword1 = not (bit_and dword1 0x0C == 0)
 -- PP0, key high, key low, N and PP replaced by the flags' bits.
 abbrev pub protected_word : ℕ → ℕ → ℕ
 protected_word dword1 flags =
-    bit_or (bit_or (bit_or (bit_and dword1 0x4FFFFFFFFFFFF1F8) (bit_and flags 0x100 * 2 ^ 55)) (bit_and flags 0x3000 * 2 ^ 48)) (bit_and flags 0xE07)
+    bit_or
+      (bit_or
+         (bit_or (bit_and dword1 0x4FFFFFFFFFFFF1F8) (bit_and flags 0x100 * 2 ^ 55))
+         (bit_and flags 0x3000 * 2 ^ 48))
+      (bit_and flags 0xE07)
 
 -- ---- the words that H_ENTER stores
 -- V is set, and the hypervisor's bits 0x60 are clear.
@@ -112,4 +116,7 @@ stored_second ptel = bit_and ptel 0xBFFFFFFFFFFFFFFF
 
 -- None where B is above 1 or no page size fits.
 abbrev pub normal_words : ℕ → ℕ → Option (ℕ × ℕ)
-normal_words pteh ptel = if nat_lt 1 (segment_code pteh) || is_none (size_of pteh ptel) then None else Some (stored_first pteh, stored_second ptel)
+normal_words pteh ptel =
+    if nat_lt 1 (segment_code pteh) || is_none (size_of pteh ptel)
+    then None
+    else Some (stored_first pteh, stored_second ptel)

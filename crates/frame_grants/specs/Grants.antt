@@ -1,6 +1,7 @@
 -- The memory granted to the guest: which grant is refused, where one is put, and the machine range of a logical range.
 use Rattle.std.specs.Prelude.{◌≡◌, ◌<◌, ◌≤◌, ℕ, ◌+◌, ◌-◌, ◌%◌, ◌^◌, ◌==◌, Bool, false, not, ◌&&◌, ◌||◌, if◌then◌else◌, nat_lt, nat_le, List, [], ◌∷◌, ◌++◌, length, filter, find, All, AllPairs, Option, None, option_map}
 use Rattle.std.specs.List.{list_any}
+use Rattle.pool_range.specs.Ranges.{IsPoolRange, address_end}
 use Rattle.basics.specs.Words.{first_refusal}
 use Rattle.frame_grants.specs.Ranges.{ranges_meet, range_within}
 use Rattle.frame_grants.specs.declared.error.GrantError.{GrantError}
@@ -40,7 +41,8 @@ is_aligned grant =
 -- One of the two ranges ends above 2 ^ 60.
 abbrev pub ends_past : Grant → Bool
 ends_past grant =
-    nat_lt (2 ^ 60) (grant.logical + grant.length) || nat_lt (2 ^ 60) (grant.machine + grant.length)
+    nat_lt (address_end) (grant.logical + grant.length)
+    || nat_lt (address_end) (grant.machine + grant.length)
 
 -- ---- two grants
 -- The two logical ranges share an address.
@@ -111,8 +113,8 @@ pub record IsPlaced (grant : Grant) : Type 0 where
   pub logical_aligned : grant.logical % 4096 ≡ 0
   pub machine_aligned : grant.machine % 4096 ≡ 0
   pub length_aligned : grant.length % 4096 ≡ 0
-  pub logical_end : grant.logical + grant.length ≤ 2 ^ 60
-  pub machine_end : grant.machine + grant.length ≤ 2 ^ 60
+  pub logical_end : grant.logical + grant.length ≤ address_end
+  pub machine_end : grant.machine + grant.length ≤ address_end
 
 -- Each grant is as it should be, they rise by logical address, and none meets another or the pool.
 pub record AreApart (granted : GrantedMemory) : Type 0 where
@@ -124,14 +126,7 @@ pub record AreApart (granted : GrantedMemory) : Type 0 where
     AllPairs (λ (lower higher : Grant). meets_machine lower higher ≡ false) granted.grants
   pub off_pool : All (λ grant. meets_pool granted grant ≡ false) granted.grants
 
--- The pool has 2 ^ 18 to 2 ^ 34 bytes, is aligned to its size and ends at most at 2 ^ 60.
-pub record IsPool (base order : ℕ) : Type 0 where
-  pub at_least : 18 ≤ order
-  pub at_most : order ≤ 34
-  pub aligned : base % 2 ^ order ≡ 0
-  pub end : base + 2 ^ order ≤ 2 ^ 60
-
--- A pool, and grants that are apart.
+-- The pool is a range for page tables, and the grants stand apart beside it.
 pub record IsSound (granted : GrantedMemory) : Type 0 where
-  pub pool : IsPool granted.pool_base granted.pool_order
+  pub pool : IsPoolRange granted.pool_base granted.pool_order
   pub apart : AreApart granted

@@ -1,5 +1,6 @@
 ghost use Rattle.std.specs.Prelude.{◌≡◌, ◌+◌, ◌≤◌, ◌%◌, ◌^◌, true, Some, None, IfSome, find, count_by, MatchResult, OnOk, OnErr};
 ghost use Rattle.std.specs.List.{list_any};
+ghost use Rattle.pool_range.specs.Ranges.{IsPoolRange};
 ghost use Rattle.frame_grants.specs.Grants.{no_grants, overlaps, meets_pool, add_refusal, starts_below, with_grant, holds, machine_range, IsPlaced, AreApart, IsSound};
 
 use crate::error::GrantError;
@@ -35,10 +36,7 @@ impl Model for Grants {
 impl Grants {
     /// No grant, beside a pool of `2^pool_order` bytes from `pool_base`.
     pub fn new(pool_base: u64, pool_order: u8) -> Grants
-        requires at_least { 18 ≤ pool_order }
-        requires at_most { pool_order ≤ 34 }
-        requires aligned { pool_base % 2 ^ pool_order ≡ 0 }
-        requires end { pool_base + 2 ^ pool_order ≤ 2 ^ 60 }
+        requires { IsPoolRange pool_base pool_order }
         ensures { result ≡ no_grants pool_base pool_order }
     {
         Grants {

@@ -1,8 +1,7 @@
 ghost use Rattle.std.specs.Prelude.{◌≡◌, ◌+◌, ◌^◌, ◌<◌, ◌↔◌, IsTrue, nat_lt};
 ghost use Rattle.frame_grants.specs.Ranges.{ShareAddress, ranges_meet, range_within};
 
-/// The end of the addresses that a grant may have.
-const TOP: u64 = 1 << 60;
+use pool_range::ADDRESS_END;
 
 // The end of a range may be past 2^64, so the tests below never compute it.
 
@@ -33,5 +32,5 @@ pub fn range_within(start: u64, length: u64, outer: u64, outer_length: u64) -> b
 pub fn ends_past_top(start: u64, length: u64) -> bool
     ensures { result ≡ nat_lt (2 ^ 60) (start + length) }
 {
-    start > TOP || length > TOP - start
+    start > ADDRESS_END || length > ADDRESS_END - start
 }

@@ -1,9 +1,9 @@
 -- Lists: tests of some element, filters, the first that passes, and what holds between each element and a later one.
-use Rattle.std.proofs.Common.{◌≡◌, ℕ, suc, zero, ◌<◌, get_or, length, Bool, true, false, not, ◌&&◌, ◌||◌, List, [], ◌∷◌, ◌++◌, filter, find, All, AllPairs, Contains, Some, None, refl, ap, sym, subst, inl, inr, ◌⊎◌, ◌∙◌, arith}
+use Rattle.std.proofs.Common.{◌≡◌, ℕ, suc, zero, ◌<◌, get_or, length, Bool, true, false, not, List, [], ◌∷◌, ◌++◌, filter, find, All, AllPairs, Some, None, refl, ap, inl, inr, ◌⊎◌, arith}
 use Rattle.std.specs.List.{list_any}
-use Rattle.std.proofs.lemmas.Bool.{cases_Bool, cases_order}
-use Rattle.std.proofs.lemmas.List.{get_or_default}
+use Rattle.std.proofs.lemmas.Bool.{cases_Bool}
 use Rattle.std.proofs.lemmas.List.Elements.{All-nil, All-cons, All-head, All-tail, All-append}
+use Rattle.std.proofs.lemmas.List.Folds.{list_any_none}
 use Rattle.std.proofs.lemmas.List.Kept.{AllPairs-cons}
 
 -- ---- the parts of a list
@@ -30,21 +30,6 @@ AllPairs-between R x (y ∷ xs) ys pairs lower higher =
     (All-append (R y) xs (x ∷ ys) (All-left (R y) xs ys later) (All-cons (R y) x ys (All-head (λ z. R z x) y xs lower) (All-right (R y) xs ys later)))
     (AllPairs-between R x xs ys (AllPairs-tail R y (xs ++ ys) pairs) (All-tail (λ z. R z x) y xs lower) higher)
 
--- Between an element of the list and each other one, where the relation goes both ways.
-pub others_related : {X : Type 0} (R : X → X → Type 0) → ((x y : X) → R x y → R y x) → (xs : List X) (x : X) → AllPairs R xs → Contains xs x → All (λ y. (y ≡ x) ⊎ R x y) xs
-others_related {X} R turn xs x pairs (i, here, is) k d inside = at (cases_order k i) where
-  same : get_or xs k d ≡ get_or xs k x
-  same = get_or_default xs k d x inside
-
-  at : (k ≡ i) ⊎ ((k < i) ⊎ (i < k)) → (get_or xs k d ≡ x) ⊎ R x (get_or xs k d)
-  at (inl it) = inl (same ∙ ap (λ n. get_or xs n x) it ∙ is)
-  at (inr (inl before)) =
-      let related = turn _ _ (pairs k i x before here) in
-      inr (subst (λ y. R x y) (sym same) (subst (λ y. R y (get_or xs k x)) is related))
-  at (inr (inr after)) =
-      let related = pairs i k x after inside in
-      inr (subst (λ y. R x y) (sym same) (subst (λ y. R y (get_or xs k x)) is related))
-
 -- ---- filters
 pub filter_all : {X : Type 0} (p : X → Bool) (xs : List X) → All (λ x. p x ≡ true) xs → filter p xs ≡ xs
 filter_all p [] all = refl
@@ -53,19 +38,6 @@ filter_all p (x ∷ xs) all = rw (All-head (λ y. p y ≡ true) x xs all, filter
 pub filter_none : {X : Type 0} (p : X → Bool) (xs : List X) → All (λ x. p x ≡ false) xs → filter p xs ≡ []
 filter_none p [] all = refl
 filter_none p (x ∷ xs) all = rw (All-head (λ y. p y ≡ false) x xs all) (filter_none p xs (All-tail (λ y. p y ≡ false) x xs all))
-
--- Two tests that agree on each element of the list keep the same ones.
-pub filter_same : {X : Type 0} (p q : X → Bool) (xs : List X) → All (λ x. p x ≡ q x) xs → filter p xs ≡ filter q xs
-filter_same p q [] all = refl
-filter_same p q (x ∷ xs) all = rw (All-head (λ y. p y ≡ q y) x xs all, filter_same p q xs (All-tail (λ y. p y ≡ q y) x xs all)) refl
-
-pub filter-filter : {X : Type 0} (p q : X → Bool) (xs : List X) → filter p (filter q xs) ≡ filter (λ x. q x && p x) xs
-filter-filter p q [] = refl
-filter-filter {X} p q (x ∷ xs) = at (filter-filter p q xs) (cases_Bool (q x)) (cases_Bool (p x)) where
-  at : filter p (filter q xs) ≡ filter (λ y. q y && p y) xs → (q x ≡ true) ⊎ (q x ≡ false) → (p x ≡ true) ⊎ (p x ≡ false) → filter p (filter q (x ∷ xs)) ≡ filter (λ y. q y && p y) (x ∷ xs)
-  at shorter (inl kept) (inl passes) = rw (kept, passes, shorter) refl
-  at shorter (inl kept) (inr fails) = rw (kept, fails, shorter) refl
-  at shorter (inr dropped) either = rw (dropped, shorter) refl
 
 -- Where what fails is followed only by what fails, the elements that pass stand before the others.
 pub filters_join : {X : Type 0} (p : X → Bool) (xs : List X) → AllPairs (λ x y. p x ≡ false → p y ≡ false) xs → filter p xs ++ filter (λ x. not (p x)) xs ≡ xs
@@ -77,11 +49,6 @@ filters_join {X} p (x ∷ xs) pairs = at (filters_join p xs (AllPairs-tail (λ y
       let rest : All (λ y. p y ≡ false) xs = λ k d inside. AllPairs-head (λ y z. p y ≡ false → p z ≡ false) x xs pairs k d inside fails in
       let others : All (λ y. not (p y) ≡ true) xs = λ k d inside. rw (rest k d inside) refl in
       rw (fails, filter_none p xs rest, filter_all (λ y. not (p y)) xs others) refl
-
--- ---- whether some element passes
-pub list_any-none : {X : Type 0} (p : X → Bool) (xs : List X) → All (λ x. p x ≡ false) xs → list_any p xs ≡ false
-list_any-none p [] all = refl
-list_any-none p (x ∷ xs) all = rw (All-head (λ y. p y ≡ false) x xs all) (list_any-none p xs (All-tail (λ y. p y ≡ false) x xs all))
 
 pub list_any-false : {X : Type 0} (p : X → Bool) (xs : List X) → list_any p xs ≡ false → All (λ x. p x ≡ false) xs
 list_any-false p [] none = All-nil (λ x. p x ≡ false)
@@ -96,34 +63,11 @@ list_any-weaker {X} p q xs all some = at (cases_Bool (list_any q xs)) where
   at (inl passes) = passes
   at (inr fails) =
       let none = list_any-false q xs fails in
-      let none_before = list_any-none p xs (λ k d inside. no k d inside (none k d inside) (cases_Bool (p (get_or xs k d)))) in
+      let none_before = list_any_none p xs (λ k d inside. no k d inside (none k d inside) (cases_Bool (p (get_or xs k d)))) in
       absurd (cc) where
         no : (k : ℕ) (d : X) → k < length xs → q (get_or xs k d) ≡ false → (p (get_or xs k d) ≡ true) ⊎ (p (get_or xs k d) ≡ false) → p (get_or xs k d) ≡ false
         no k d inside out (inl passes) = let yes = all k d inside passes in absurd (cc)
         no k d inside out (inr is) = is
-
-pub list_any-append : {X : Type 0} (p : X → Bool) (xs ys : List X) → list_any p (xs ++ ys) ≡ (list_any p xs || list_any p ys)
-list_any-append p [] ys = refl
-list_any-append {X} p (x ∷ xs) ys = at (list_any-append p xs ys) (cases_Bool (p x)) where
-  at : list_any p (xs ++ ys) ≡ (list_any p xs || list_any p ys) → (p x ≡ true) ⊎ (p x ≡ false) → list_any p ((x ∷ xs) ++ ys) ≡ (list_any p (x ∷ xs) || list_any p ys)
-  at shorter (inl passes) = rw passes refl
-  at shorter (inr fails) = rw fails shorter
-
--- A filter that drops only what fails.
-pub list_any-kept : {X : Type 0} (p q : X → Bool) (xs : List X) → All (λ x. q x ≡ false → p x ≡ false) xs → list_any p (filter q xs) ≡ list_any p xs
-list_any-kept p q [] all = refl
-list_any-kept {X} p q (x ∷ xs) all = at (list_any-kept p q xs (All-tail (λ y. q y ≡ false → p y ≡ false) x xs all)) (cases_Bool (q x)) where
-  at : list_any p (filter q xs) ≡ list_any p xs → (q x ≡ true) ⊎ (q x ≡ false) → list_any p (filter q (x ∷ xs)) ≡ list_any p (x ∷ xs)
-  at shorter (inl kept) = rw kept (ap (λ b. p x || b) shorter)
-  at shorter (inr dropped) = let fails = All-head (λ y. q y ≡ false → p y ≡ false) x xs all dropped in rw (dropped, fails) shorter
-
--- A filter that keeps nothing that passes.
-pub list_any-dropped : {X : Type 0} (p q : X → Bool) (xs : List X) → All (λ x. q x ≡ true → p x ≡ false) xs → list_any p (filter q xs) ≡ false
-list_any-dropped p q [] all = refl
-list_any-dropped {X} p q (x ∷ xs) all = at (list_any-dropped p q xs (All-tail (λ y. q y ≡ true → p y ≡ false) x xs all)) (cases_Bool (q x)) where
-  at : list_any p (filter q xs) ≡ false → (q x ≡ true) ⊎ (q x ≡ false) → list_any p (filter q (x ∷ xs)) ≡ false
-  at shorter (inl kept) = let fails = All-head (λ y. q y ≡ true → p y ≡ false) x xs all kept in rw (kept, fails) shorter
-  at shorter (inr dropped) = rw dropped shorter
 
 -- ---- the first that passes
 pub find_none : {X : Type 0} (p : X → Bool) (xs : List X) → All (λ x. p x ≡ false) xs → find p xs ≡ None

@@ -1,16 +1,17 @@
 -- The lowest place that fits: the first among the multiples, as each place that fits is one of them.
-use Rattle.std.proofs.Common.{◌≡◌, ℕ, ◌+◌, ◌-◌, ◌*◌, ◌%◌, ◌^◌, ◌<◌, ◌≤◌, ◌&&◌, ◌==◌, nat_le, get_or, Bool, true, false, not, length, Some, None, refl, sym, ap, ◌∙◌, subst, inl, inr, ◌⊎◌, arith}
+use Rattle.std.proofs.Common.{◌≡◌, ℕ, ◌+◌, ◌-◌, ◌*◌, ◌%◌, ◌^◌, ◌<◌, ◌≤◌, ◌&&◌, ◌==◌, nat_le, get_or, Bool, true, false, not, length, Some, None, refl, ap, ◌∙◌, subst, inl, inr, ◌⊎◌, arith}
 use Rattle.std.specs.List.{list_any}
 use Rattle.std.proofs.lemmas.Bool.{cases_Bool, and_parts}
 use Rattle.std.proofs.lemmas.Bool.Decides.{nat_tests}
 use Rattle.std.proofs.lemmas.Nat.{pow_pos, pow_below, mod-mul-add}
 use Rattle.std.proofs.lemmas.List.FromFn.{length-map-range_with_len, get_or-map-range_with_len}
-use Rattle.hpt_pool.specs.Pool.{PoolState, block_at, overlap, fits, multiples, lowest_place, IsLowest, FitsNowhere, IsPlaced, IsPool, IsSound}
+use Rattle.hpt_pool.specs.Pool.{PoolState, block_at, overlap, fits, multiples, lowest_place, IsLowest, FitsNowhere, IsPlaced}
+use Rattle.pool_range.specs.Ranges.{IsPoolRange}
 use Rattle.hpt_pool.proofs.Lists.{find_none, find_first}
-use Rattle.hpt_pool.proofs.Leaves.{pow_split, multiple_of_lower}
+use Rattle.hpt_pool.proofs.Powers.{pow_split, multiple_of_lower}
 
 -- ---- a multiple in the pool
-pub multiple_placed : (pool_state : PoolState) (order n : ℕ) → IsPool pool_state.base pool_state.order → 18 ≤ order → order ≤ pool_state.order → n < 2 ^ (pool_state.order - order) → IsPlaced pool_state (block_at (pool_state.base + n * 2 ^ order) order)
+pub multiple_placed : (pool_state : PoolState) (order n : ℕ) → IsPoolRange pool_state.base pool_state.order → 18 ≤ order → order ≤ pool_state.order → n < 2 ^ (pool_state.order - order) → IsPlaced pool_state (block_at (pool_state.base + n * 2 ^ order) order)
 multiple_placed pool_state order n pool large small below =
     let at_base = multiple_of_lower pool_state.base order pool_state.order small pool.aligned in
     let whole : 2 ^ pool_state.order ≡ 2 ^ (pool_state.order - order) * 2 ^ order = pow_split order pool_state.order small in
@@ -50,7 +51,7 @@ record IsMultiple (pool_state : PoolState) (order place : ℕ) : Type 0 where
   below : n < 2 ^ (pool_state.order - order)
   is : place ≡ pool_state.base + n * 2 ^ order
 
-fitting_multiple : (pool_state : PoolState) (order place : ℕ) → IsPool pool_state.base pool_state.order → order ≤ pool_state.order → fits pool_state order place ≡ true → IsMultiple pool_state order place
+fitting_multiple : (pool_state : PoolState) (order place : ℕ) → IsPoolRange pool_state.base pool_state.order → order ≤ pool_state.order → fits pool_state order place ≡ true → IsMultiple pool_state order place
 unfolding lies
 fitting_multiple pool_state order place pool small fit =
     let free : Bool = not (list_any (overlap (block_at place order)) pool_state.taken) in
@@ -98,7 +99,7 @@ lowest_some pool_state order n below lower fit =
     find_first (fits pool_state order) (multiples pool_state order) n 0 (omega arith) (λ k before. ap (fits pool_state order) (at_ k (omega arith)) ∙ lower k before) (ap (fits pool_state order) (at_ n below) ∙ fit)
     ∙ ap Some (at_ n below)
 
-pub is_lowest : (pool_state : PoolState) (order n : ℕ) → IsPool pool_state.base pool_state.order → order ≤ pool_state.order → ((k : ℕ) → k < n → fits pool_state order (pool_state.base + k * 2 ^ order) ≡ false) → fits pool_state order (pool_state.base + n * 2 ^ order) ≡ true → IsLowest pool_state order (pool_state.base + n * 2 ^ order)
+pub is_lowest : (pool_state : PoolState) (order n : ℕ) → IsPoolRange pool_state.base pool_state.order → order ≤ pool_state.order → ((k : ℕ) → k < n → fits pool_state order (pool_state.base + k * 2 ^ order) ≡ false) → fits pool_state order (pool_state.base + n * 2 ^ order) ≡ true → IsLowest pool_state order (pool_state.base + n * 2 ^ order)
 is_lowest pool_state order n pool small lower fit =
     record { fitting = fit; lowest = λ place before. at place before (cases_Bool (fits pool_state order place)) } where
       at : (place : ℕ) → place < pool_state.base + n * 2 ^ order → (fits pool_state order place ≡ true) ⊎ (fits pool_state order place ≡ false) → fits pool_state order place ≡ false
@@ -111,50 +112,10 @@ is_lowest pool_state order n pool small lower fit =
             below : (x y s : ℕ) → x * s < y * s → x < y
             below x y s under = grind arith
 
-pub fits_nowhere : (pool_state : PoolState) (order : ℕ) → IsPool pool_state.base pool_state.order → order ≤ pool_state.order → ((k : ℕ) → k < 2 ^ (pool_state.order - order) → fits pool_state order (pool_state.base + k * 2 ^ order) ≡ false) → FitsNowhere pool_state order
+pub fits_nowhere : (pool_state : PoolState) (order : ℕ) → IsPoolRange pool_state.base pool_state.order → order ≤ pool_state.order → ((k : ℕ) → k < 2 ^ (pool_state.order - order) → fits pool_state order (pool_state.base + k * 2 ^ order) ≡ false) → FitsNowhere pool_state order
 fits_nowhere pool_state order pool small all place = at (cases_Bool (fits pool_state order place)) where
   at : (fits pool_state order place ≡ true) ⊎ (fits pool_state order place ≡ false) → fits pool_state order place ≡ false
   at (inr fails) = fails
   at (inl fitting) =
       let m = fitting_multiple pool_state order place pool small fitting in
       ap (fits pool_state order) m.is ∙ all m.n m.below
-
--- ---- a turn of the loop that tries the multiples
--- The pool is `seen` by its fields and `now` to the caller.
-pub record IsTried (now : PoolState) (order n place : ℕ) : Type 0 where
-  pub pool : IsPool now.base now.order
-  pub large : 18 ≤ order
-  pub small : order ≤ now.order
-  pub below : n < 2 ^ (now.order - order)
-  pub is : place ≡ now.base + n * 2 ^ order
-
-pub pool_of : (seen now : PoolState) → seen ≡ now → IsSound seen → IsPool now.base now.order
-pool_of seen now same sound = subst (λ (p : PoolState). IsPool p.base p.order) same sound.pool
-
-pub tried : (seen now : PoolState) (order n count size : ℕ) → seen ≡ now → IsSound seen → 18 ≤ order → order ≤ seen.order → n < count → count ≡ 2 ^ (seen.order - order) → size ≡ 2 ^ order → IsTried now order n (seen.base + n * size)
-tried seen now order n count size same sound large small below count_is size_is =
-    let order_is : seen.order ≡ now.order = ap (λ (p : PoolState). p.order) same in
-    let base_is : seen.base ≡ now.base = ap (λ (p : PoolState). p.base) same in
-    let count_now : count ≡ 2 ^ (now.order - order) = count_is ∙ ap (λ m. 2 ^ (m - order)) order_is in
-    record {
-      pool = pool_of seen now same sound;
-      large = large;
-      small = omega arith;
-      below = omega arith;
-      is = ap (λ m. m + n * size) base_is ∙ ap (λ m. now.base + n * m) size_is;
-    }
-
-pub tried_placed : (now : PoolState) (order n place : ℕ) → IsTried now order n place → IsPlaced now (block_at place order)
-tried_placed now order n place turn = subst (λ m. IsPlaced now (block_at m order)) (sym turn.is) (multiple_placed now order n turn.pool turn.large turn.small turn.below)
-
-pub tried_top : (now : PoolState) (order n place : ℕ) → IsTried now order n place → place < 2 ^ 60
-tried_top now order n place turn =
-    let to_end : place + 2 ^ order ≤ now.base + 2 ^ now.order = (tried_placed now order n place turn).to_end in
-    let top : now.base + 2 ^ now.order ≤ 2 ^ 60 = turn.pool.to_end in
-    let some : 0 < 2 ^ order = pow_pos order in
-    omega arith
-
--- What the test of the place says.
-pub tried_fits : (now : PoolState) (order n place : ℕ) (answer : Bool) → IsTried now order n place → answer ≡ not (list_any (overlap (block_at place order)) now.taken) → fits now order (now.base + n * 2 ^ order) ≡ answer
-tried_fits now order n place answer turn is =
-    ap (λ m. fits now order m) (sym turn.is) ∙ fits_is now order place (tried_placed now order n place turn) ∙ sym is

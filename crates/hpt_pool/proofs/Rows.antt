@@ -1,7 +1,10 @@
 -- Worked values, which the checker computes.
 use Rattle.std.proofs.Common.{◌≡◌, List, [], ◌∷◌, Some, None, refl}
 use Rattle.hpt_pool.specs.declared.error.PoolError.TheVariants.{Order, Unaligned, Past}
-use Rattle.hpt_pool.specs.Pool.{Block, PoolState, block_at, refusals, pool_refusal, multiples, lowest_place, taken_with, taken_without}
+use Rattle.hpt_pool.specs.declared.tree.Node.TheVariants.{Taken, Open}
+use Rattle.hpt_pool.specs.Tree.{blocks_below}
+use Rattle.hpt_pool.specs.Pool.{Block, PoolState, block_at, pool_refusal, multiples, lowest_place, taken_with, taken_without}
+use Rattle.pool_range.specs.Ranges.{range_refusal, refusals}
 
 -- A pool of four leaves, and what is taken of it.
 small : List Block → PoolState
@@ -55,24 +58,43 @@ given_back : taken_without (first_leaf ∷ second_leaf ∷ upper_half ∷ []) 0x
 unfolding taken_without first_leaf second_leaf upper_half
 given_back = refl
 
+-- ---- the tree
+-- Of two leaves the left one is taken, then the right one, then both in one block.
+left_taken : blocks_below 1 0x1000000000 (Open 18 ∷ Taken ∷ Open 18 ∷ []) ≡ first_leaf ∷ []
+unfolding blocks_below first_leaf
+left_taken = refl
+
+right_taken : blocks_below 1 0x1000000000 (Open 18 ∷ Open 18 ∷ Taken ∷ []) ≡ second_leaf ∷ []
+unfolding blocks_below second_leaf
+right_taken = refl
+
+both_taken : blocks_below 1 0x1000000000 (Taken ∷ Open 18 ∷ Open 18 ∷ []) ≡ block_at 0x1000000000 19 ∷ []
+unfolding blocks_below
+both_taken = refl
+
+-- Of four leaves the upper two are one block: the right half stands behind the left one.
+upper_taken : blocks_below 2 0x1000000000 (Open 19 ∷ Open 19 ∷ Open 18 ∷ Open 18 ∷ Taken ∷ Open 18 ∷ Open 18 ∷ []) ≡ upper_half ∷ []
+unfolding blocks_below upper_half
+upper_taken = refl
+
 -- ---- refusals, and their order
 order_first : pool_refusal 1 17 ≡ Some Order
-unfolding pool_refusal refusals
+unfolding pool_refusal range_refusal refusals
 order_first = refl
 
 above_34 : pool_refusal 0 35 ≡ Some Order
-unfolding pool_refusal refusals
+unfolding pool_refusal range_refusal refusals
 above_34 = refl
 
 unaligned_first : pool_refusal 0xffffffffffffffff 18 ≡ Some Unaligned
-unfolding pool_refusal refusals
+unfolding pool_refusal range_refusal refusals
 unaligned_first = refl
 
 past : pool_refusal 0x1000000000000000 18 ≡ Some Past
-unfolding pool_refusal refusals
+unfolding pool_refusal range_refusal refusals
 past = refl
 
 -- A pool may end at 2 ^ 60.
 to_the_top : pool_refusal 0xffffffffffc0000 18 ≡ None
-unfolding pool_refusal refusals
+unfolding pool_refusal range_refusal refusals
 to_the_top = refl

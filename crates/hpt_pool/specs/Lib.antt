@@ -1,2 +1,3 @@
 pub mod Pool
-pub mod Marks
+pub mod Free
+pub mod Tree

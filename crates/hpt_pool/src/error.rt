@@ -10,7 +10,7 @@ pub enum PoolError {
     /// The pool ends above `2^60`.
     #[error("the pool ends above 2^60")]
     Past,
-    /// There is no memory to keep the pool's marks in.
+    /// There is no memory to keep the pool's tree in.
     #[error("out of memory")]
     Memory,
 }

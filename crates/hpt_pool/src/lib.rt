@@ -5,8 +5,8 @@
 #![tactic(auto)]
 
 mod error;
-mod mark;
 mod pool;
+mod tree;
 
 pub use error::PoolError;
 pub use pool::Pool;

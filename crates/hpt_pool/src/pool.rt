@@ -1,17 +1,11 @@
-ghost use Rattle.std.specs.Prelude.{◌≡◌, ◌+◌, ◌-◌, ◌/◌, ◌<◌, ◌≤◌, ◌^◌, not, Contains, MatchOption, IfOk, IfSome, IfNone, IsOkUnless, MatchResult, OnOk, Some, None, Err};
-ghost use Rattle.std.specs.List.{list_any};
-ghost use Rattle.hpt_pool.specs.Pool.{block_at, no_blocks, pool_refusal, overlap, lowest_place, FitsNowhere, IsLowest, with_block, without_block, IsPlaced, IsPool, IsSound};
+ghost use Rattle.std.specs.Prelude.{◌≡◌, ◌<◌, ◌≤◌, ◌^◌, Contains, MatchOption, IfOk, IfSome, IfNone, IsOkUnless, MatchResult, OnOk, Some, None, Err};
+ghost use Rattle.hpt_pool.specs.Pool.{block_at, no_blocks, pool_error, pool_refusal, lowest_place, FitsNowhere, IsLowest, with_block, without_block, IsSound};
 
 use crate::error::PoolError;
-use crate::mark::{Mark, are_free, fill, free_marks, put_block};
-use std::alloc::Global;
+use crate::tree::{LEAF_ORDER, Node, free_nodes, give_back, take_first};
+use pool_range::{PoolRange, RangeError};
+use std::alloc::{AllocError, Global};
 use std::marker::Model;
-
-/// A leaf, the smallest part that is handed out, has `2^18` bytes.
-const LEAF_ORDER: u8 = 18;
-
-/// The end of the addresses that a pool may have.
-const TOP: u64 = 1 << 60;
 
 /// A pool of memory for page tables. Each block that is taken from it has a power of two of bytes and
 /// begins at a multiple of its size.
@@ -19,7 +13,7 @@ const TOP: u64 = 1 << 60;
 pub struct Pool {
     base: u64,
     order: u8,
-    marks: Vec<Mark>,
+    nodes: Vec<Node>,
 }
 
 impl Model for Pool {
@@ -27,24 +21,41 @@ impl Model for Pool {
 
     ghost Value = { PoolState };
 
-    ghost use Rattle.hpt_pool.specs.Marks.{marked_pool, IsMarked};
+    ghost use Rattle.hpt_pool.specs.Tree.{tree_pool, IsTreePool};
 
-    ghost view = { λ p. marked_pool p.base p.order p.marks.items };
+    ghost view = { λ p. tree_pool p.base p.order p.nodes.items };
 
-    ghost invariant = { λ p. IsMarked p.base p.order p.marks.items };
+    ghost invariant = { λ p. IsTreePool p.base p.order p.nodes.items };
 }
 
 impl Pool {
     /// A pool of `2^order` bytes from `base`, with nothing taken, or why there is none.
+    #[tactic(auto, unfolding(crate::specs::Pool::pool_refusal))]
     pub fn new(alloc: Global, base: u64, order: u8) -> Result<Pool, PoolError>
-        ensures refused { MatchOption (pool_refusal base order) (IsOkUnless result PoolError.Memory) (λ e. result ≡ Err e) }
+        ensures refused {
+            MatchOption
+              (pool_refusal base order)
+              (IsOkUnless result PoolError.Memory)
+              (λ e. result ≡ Err e)
+        }
         ensures ok { IfOk result (λ pool. pool ≡ no_blocks base order) }
     {
-        check(base, order)?;
-        match free_marks(alloc, leaves_of(order)) {
-            Ok(marks) => Ok(Pool { base, order, marks }),
-            Err(_) => Err(PoolError::Memory),
+        match PoolRange::new(base, u64::from(order)) {
+            Err(error) => Err(refused(error)),
+            Ok(range) => match Pool::within(alloc, range) {
+                Ok(pool) => Ok(pool),
+                Err(_) => Err(PoolError::Memory),
+            },
         }
+    }
+
+    /// A pool of this range, with nothing taken. The only error is want of memory.
+    pub fn within(alloc: Global, range: PoolRange) -> Result<Pool, AllocError>
+        ensures { IfOk result (λ pool. pool ≡ no_blocks range.base range.order) }
+    {
+        let PoolRange { base, order } = range;
+        let nodes = free_nodes(alloc, order - LEAF_ORDER)?;
+        Ok(Pool { base, order, nodes })
     }
 
     /// The address at which the pool begins.
@@ -69,14 +80,17 @@ impl Pool {
         requires at_most { order ≤ 46 }
         ensures place { result ≡ lowest_place self.old order }
         ensures lowest { MatchOption result (FitsNowhere self.old order) (IsLowest self.old order) }
-        ensures taken { IfSome result (λ place. self.new ≡ with_block self.old (block_at place order)) }
+        ensures taken {
+            IfSome result (λ place. self.new ≡ with_block self.old (block_at place order))
+        }
         ensures none { IfNone result (self.new ≡ self.old) }
         ensures sound { IsSound self.new }
     {
-        let lowest = self.lowest_free(order)?;
-        let first = self.leaf_of(lowest);
-        put_block(&mut self.marks, first, leaves_of(order), order);
-        Some(lowest)
+        if self.nodes[0].largest() < order {
+            return None;
+        }
+        let height = self.order - LEAF_ORDER;
+        Some(take_first(&mut self.nodes, height, self.base, order))
     }
 
     /// Gives a block back.
@@ -85,77 +99,18 @@ impl Pool {
         ensures given { self.new ≡ without_block self.old place }
         ensures sound { IsSound self.new }
     {
-        let first = self.leaf_of(place);
-        fill(&mut self.marks, first, leaves_of(order), Mark::Free);
-    }
-
-    fn lowest_free(&self, order: u8) -> Option<u64>
-        requires at_least { 18 ≤ order }
-        requires at_most { order ≤ 46 }
-        ensures place { result ≡ lowest_place self.now order }
-        ensures lowest { MatchOption result (FitsNowhere self.now order) (IsLowest self.now order) }
-    {
-        if order > self.order {
-            return None;
-        }
-        for n in 0..size_of(self.order - order) {
-            let place = self.base + n * size_of(order);
-            if self.is_free(place, order) {
-                return Some(place);
-            }
-        }
-        None
-    }
-
-    // Whether a block that is aligned and lies in the pool overlaps no taken block.
-    fn is_free(&self, place: u64, order: u8) -> bool
-        requires { IsPlaced self.now (block_at place order) }
-        ensures { result ≡ not (list_any (overlap (block_at place order)) self.now.taken) }
-    {
-        are_free(&self.marks, self.leaf_of(place), leaves_of(order))
-    }
-
-    // The leaf at which a block begins.
-    fn leaf_of(&self, place: u64) -> usize
-        requires { self.now.base ≤ place }
-        ensures { result ≡ (place - self.now.base) / 2 ^ 18 }
-    {
-        ((place - self.base) >> LEAF_ORDER) as usize
+        let height = self.order - LEAF_ORDER;
+        give_back(&mut self.nodes, height, self.base, place, order);
     }
 }
 
-// How many bytes a block has.
-fn size_of(order: u8) -> u64
-    requires { order < 64 }
-    ensures { result ≡ 2 ^ order }
+// The pool's word for what is wrong with a range.
+fn refused(error: RangeError) -> PoolError
+    ensures { result ≡ pool_error error }
 {
-    1 << order
-}
-
-// How many leaves a block has.
-fn leaves_of(order: u8) -> usize
-    requires at_least { 18 ≤ order }
-    requires at_most { order ≤ 46 }
-    ensures { result ≡ 2 ^ (order - 18) }
-{
-    1 << (order - LEAF_ORDER)
-}
-
-// Whether there can be a pool of `2^order` bytes from `base`.
-#[tactic(auto, unfolding(crate::specs::Pool::pool_refusal, crate::specs::Pool::refusals))]
-fn check(base: u64, order: u8) -> Result<(), PoolError>
-    ensures pool { OnOk result (IsPool base order) }
-    ensures told { MatchResult result (λ _. pool_refusal base order ≡ None) (λ e. pool_refusal base order ≡ Some e) }
-{
-    if order < LEAF_ORDER || order > 34 {
-        return Err(PoolError::Order);
+    match error {
+        RangeError::Order => PoolError::Order,
+        RangeError::Unaligned => PoolError::Unaligned,
+        RangeError::Past => PoolError::Past,
     }
-    let size = size_of(order);
-    if base % size != 0 {
-        return Err(PoolError::Unaligned);
-    }
-    if base > TOP - size {
-        return Err(PoolError::Past);
-    }
-    Ok(())
 }

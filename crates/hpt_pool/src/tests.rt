@@ -1,3 +1,6 @@
+mod beside_plain;
+mod plain;
+
 use crate::{Pool, PoolError};
 use std::test::Fail;
 
@@ -46,4 +49,27 @@ fn each_refusal_comes_in_its_order(rt: HostRuntime) {
         )
     );
     assert!(rt; matches!(Pool::new(rt.alloc(), 0xFFF_FFFF_FFFC_0000, 18), Ok(_)));
+}
+
+#[test]
+fn a_pool_of_the_largest_order(rt: HostRuntime) -> Result<(), Fail> {
+    let base = 0x40_0000_0000;
+    let mut pool = Pool::new(rt.alloc(), base, 34)?;
+    let Some(whole) = pool.take(34) else {
+        return Err("no whole pool".into());
+    };
+    assert_eq!(rt; whole, base);
+    assert_eq!(rt; pool.take(18), None);
+    pool.give(whole, 34);
+    let Some(leaf) = pool.take(18) else {
+        return Err("no leaf".into());
+    };
+    assert_eq!(rt; leaf, base);
+    assert_eq!(rt; pool.take(33), Some(base + 0x2_0000_0000));
+    assert_eq!(rt; pool.take(33), None);
+    assert_eq!(rt; pool.take(18), Some(base + 0x4_0000));
+    pool.give(leaf, 18);
+    assert_eq!(rt; pool.take(19), Some(base + 0x8_0000));
+    assert_eq!(rt; pool.take(18), Some(base));
+    Ok(())
 }

@@ -8,11 +8,10 @@ use Rattle.std.proofs.Math.Pow.{pow_mono}
 use Rattle.std.proofs.Math.Nat.{mod-eq_of_lt}
 use Rattle.std.proofs.lemmas.List.{length-replicate}
 use Rattle.std.proofs.lemmas.Bool.Decides.{nat_tests}
-use Rattle.hpt_pool.specs.Pool.{PoolState, IsPool, IsSound, IsLowest, FitsNowhere, block_at, fits, lowest_place, no_blocks, pool_refusal, refusals, with_block}
-use Rattle.hpt_pool.specs.declared.error.PoolError.{PoolError}
-use Rattle.hpt_pool.specs.declared.error.PoolError.TheVariants.{Memory}
+use Rattle.hpt_pool.specs.Pool.{PoolState, IsSound, IsLowest, FitsNowhere, block_at, fits, lowest_place, no_blocks, with_block}
 use Rattle.hpt_pool.proofs.Lowest.{multiple_placed, fits_is}
 use Rattle.hpt_pool.proofs.Kept.{with_contains}
+use Rattle.pool_range.specs.Ranges.{IsPoolRange}
 use Rattle.frame_grants.specs.Grants.{GrantedMemory}
 use Rattle.trace_read.specs.Configuration.{Configuration}
 use Rattle.entry_model.specs.State.{State, empty_state}
@@ -22,45 +21,26 @@ use Rattle.partition.specs.PartitionState.{PartitionState, IsPartition, opening_
 use Rattle.partition.proofs.Resizing.{partition, memory_or}
 use Rattle.frame_grants.specs.Grants as grants
 
--- The pool that the grants stand beside can be one.
-pub can_be : (base order : ℕ) → grants.IsPool base order → pool_refusal base order ≡ None
-unfolding pool_refusal refusals
-can_be base order pool =
-    let large = pool.at_least in
-    let small = pool.at_most in
-    let aligned = pool.aligned in
-    let end = pool.end in
-    grind (arith, nat_tests)
-
-pool_of : (base order : ℕ) → grants.IsPool base order → IsPool base order
-pool_of base order pool = record { at_least = pool.at_least; at_most = pool.at_most; aligned = pool.aligned; to_end = pool.end }
-
-fits_first : (base order table : ℕ) → grants.IsPool base order → 18 ≤ table → table ≤ order → fits (no_blocks base order) table base ≡ true
+fits_first : (base order table : ℕ) → IsPoolRange base order → 18 ≤ table → table ≤ order → fits (no_blocks base order) table base ≡ true
 fits_first base order table pool large small =
     let first : base + 0 * 2 ^ table ≡ base = omega arith in
     let some = pow_pos (order - table) in
     subst (λ n. fits (no_blocks base order) table n ≡ true) first
-    (fits_is (no_blocks base order) table (base + 0 * 2 ^ table) (multiple_placed (no_blocks base order) table 0 (pool_of base order pool) large small some))
+    (fits_is (no_blocks base order) table (base + 0 * 2 ^ table) (multiple_placed (no_blocks base order) table 0 pool large small some))
 
-pub has_place : (pool : PoolState) (base order table : ℕ) (o : Option ℕ) → pool ≡ no_blocks base order → grants.IsPool base order → 18 ≤ table → table ≤ order → MatchOption o (FitsNowhere pool table) (IsLowest pool table) → IsSome o
+pub has_place : (pool : PoolState) (base order table : ℕ) (o : Option ℕ) → pool ≡ no_blocks base order → IsPoolRange base order → 18 ≤ table → table ≤ order → MatchOption o (FitsNowhere pool table) (IsLowest pool table) → IsSome o
 has_place pool base order table (Some place) is sound large small lowest = refl
 has_place pool base order table None is sound large small nowhere =
     let fit : fits pool table base ≡ true = subst (λ (p : PoolState). fits p table base ≡ true) (sym is) (fits_first base order table sound large small) in
     let fails : fits pool table base ≡ false = nowhere base in
     absurd (cc)
 
--- What refuses such a pool is want of memory.
-pub memory_alone : (refusal : Option PoolError) (result : Result PoolState PoolError) (e : PoolError) → refusal ≡ None → result ≡ Err e → MatchOption refusal (IsOkUnless result Memory) (λ other. result ≡ Err other) → e ≡ Memory
-memory_alone None (Ok pool) e none is told = cc
-memory_alone None (Err other) e none is told = let same : other ≡ e = cc in sym same ∙ told
-memory_alone (Some refusal) result e none is told = absurd (cc)
-
 -- The grants are sound, and stand beside the configured pool.
-pub sound_pool : (copied granted : GrantedMemory) (base order : ℕ) → grants.IsSound copied → copied ≡ granted → granted.pool_base ≡ base → granted.pool_order ≡ order → grants.IsPool base order
+pub sound_pool : (copied granted : GrantedMemory) (base order : ℕ) → grants.IsSound copied → copied ≡ granted → granted.pool_base ≡ base → granted.pool_order ≡ order → IsPoolRange base order
 sound_pool copied granted base order sound same base_is order_is =
     let first : copied.pool_base ≡ base = ap (λ (g : GrantedMemory). g.pool_base) same ∙ base_is in
     let second : copied.pool_order ≡ order = ap (λ (g : GrantedMemory). g.pool_order) same ∙ order_is in
-    subst (λ n. grants.IsPool n order) first (subst (λ n. grants.IsPool copied.pool_base n) second sound.pool)
+    subst (λ n. IsPoolRange n order) first (subst (λ n. IsPoolRange copied.pool_base n) second sound.pool)
 
 pub beside : (pool : PoolState) (granted : GrantedMemory) (base order : ℕ) → pool ≡ no_blocks base order → granted.pool_base ≡ base → granted.pool_order ≡ order → pool ≡ no_blocks granted.pool_base granted.pool_order
 beside pool granted base order is first second = cc

@@ -1,5 +1,5 @@
 ghost use Rattle.std.specs.Prelude.{◌≡◌, ◌-◌, ◌^◌, ◌<◌, ◌≤◌, [], length, true, None, IfOk, OnOk, OnErr};
-ghost use Rattle.hpt_pool.specs.Pool.{no_blocks, pool_refusal};
+ghost use Rattle.hpt_pool.specs.Pool.{no_blocks};
 ghost use Rattle.hpte_fields.specs.TableSize.{entry_count};
 ghost use Rattle.hpt_resize.specs.Resize.{needs_table};
 ghost use Rattle.hpt_resize.specs.TableMemory.{prepare_result, commit_result, with_states};
@@ -7,19 +7,13 @@ ghost use Rattle.partition.specs.PartitionState.{HasStates, HasNoStates, IsParti
 
 use entry_model::{EntryState, HReply};
 use frame_grants::Grants;
-use hpt_pool::{Pool, PoolError};
+use hpt_pool::Pool;
 use hpt_resize::{Current, Resize};
+use pool_range::PoolRange;
 use std::alloc::{AllocError, Global};
 use std::marker::Model;
 use std::mem;
 use trace_read::Config;
-
-// The pool of an accepted configuration is refused for no other reason.
-fn only_memory(_error: PoolError) -> AllocError
-    requires { _error ≡ PoolError.Memory }
-{
-    AllocError
-}
 
 /// A partition: its page table, the table that is being prepared, the pool of table memory, and the
 /// memory that is granted to the guest. The states of the table's entries may be taken out, for
@@ -77,10 +71,8 @@ impl Partition {
         ensures has_states { IfOk result HasStates }
     {
         let grants = config.grants.copy();
-        let mut pool = match Pool::new(alloc, config.pool_base, config.pool_order) {
-            Ok(pool) => pool,
-            Err(error) => return Err(only_memory(error)),
-        };
+        let range = PoolRange::accepted(config.pool_base, config.pool_order);
+        let mut pool = Pool::within(alloc, range)?;
         let states = vec![in alloc; EntryState::empty(0); 1 << (config.order - 4)]?;
         let place = pool.take(config.order).unwrap();
         Ok(Partition {

@@ -4,7 +4,7 @@ use Rattle.frame_grants.specs.declared.error.GrantError.{GrantError}
 use Rattle.frame_grants.specs.declared.grant.Grant.{Grant}
 use Rattle.frame_grants.specs.declared.grant.Kind.{Kind}
 use Rattle.frame_grants.specs.Grants.{GrantedMemory, no_grants, add_refusal, with_grant}
-use Rattle.hpt_pool.specs.Pool.{pool_refusal}
+use Rattle.pool_range.specs.Ranges.{range_refusal}
 use Rattle.trace_read.specs.declared.why.Why.{Why}
 use Rattle.trace_read.specs.declared.why.Why.TheVariants.{Count, Range, Small}
 use Rattle.trace_read.specs.Acts.{number_at}
@@ -46,7 +46,7 @@ with_pool c ws = do
   counted ← guard (length ws == 3) Count
   base ← number_at ws 1
   order ← number_at ws 2
-  within ← guard (is_none (pool_refusal base order)) Range
+  within ← guard (is_none (range_refusal base order)) Range
   Ok (record c { granted = no_grants base order })
 
 -- A grant, unless it is refused.

@@ -1,6 +1,4 @@
-ghost use Rattle.std.specs.Prelude.{◌≡◌, ◌≤◌, ◌^◌, true, is_none, OnOk};
-ghost use Rattle.frame_grants.specs.Grants.{IsPool};
-ghost use Rattle.hpt_pool.specs.Pool.{pool_refusal};
+ghost use Rattle.std.specs.Prelude.{◌≡◌, ◌≤◌, OnOk};
 ghost use Rattle.trace_read.specs.TextLines.{texts};
 ghost use Rattle.trace_read.specs.Settings.{default_settings, with_order, with_limit, with_cpus, with_pool, with_granted, with_begin, SetsTo};
 
@@ -8,6 +6,7 @@ use crate::acts::number_at;
 use crate::config::Config;
 use crate::why::{Why, grant_why};
 use frame_grants::{Grant, Grants, Kind};
+use pool_range::PoolRange;
 use std::marker::Model;
 
 /// The machine region for page tables where a trace names none: its base, and the binary logarithm
@@ -15,9 +14,6 @@ use std::marker::Model;
 const POOL_BASE: u64 = 0x10_0000_0000;
 
 const POOL_ORDER: u8 = 24;
-
-/// The end of the addresses that a pool may have.
-const TOP: u64 = 1 << 60;
 
 /// What the configuration lines so far have given.
 #[derive(Drop)]
@@ -41,31 +37,6 @@ impl Model for Settings {
     };
 
     ghost invariant = { λ s. AreSettings s.order s.limit s.cpus s.pool_base s.pool_order s.grants };
-}
-
-/// Whether there can be a pool of `2^order` bytes from `base`.
-#[tactic(auto, unfolding(hpt_pool::specs::Pool::pool_refusal, hpt_pool::specs::Pool::refusals))]
-fn is_pool(base: u64, order: u64) -> bool
-    ensures told { result ≡ is_none (pool_refusal base order) }
-    ensures pool { result ≡ true → IsPool base order }
-{
-    if order < 18 || order > 34 {
-        return false;
-    }
-    let size = size_of(order);
-    if base % size != 0 {
-        return false;
-    }
-    base <= TOP - size
-}
-
-/// How many bytes a pool has.
-fn size_of(order: u64) -> u64
-    requires { order ≤ 34 }
-    ensures size { result ≡ 2 ^ order }
-    ensures most { result ≤ 2 ^ 34 }
-{
-    1 << order
 }
 
 impl Settings {
@@ -142,13 +113,15 @@ impl Settings {
         }
         let base = number_at(words, 1)?;
         let order = number_at(words, 2)?;
-        if !is_pool(base, order) {
-            return Err(Why::Range);
+        match PoolRange::new(base, order) {
+            Err(_) => Err(Why::Range),
+            Ok(range) => {
+                self.pool_base = range.base;
+                self.pool_order = range.order;
+                self.grants = Grants::new(range.base, range.order);
+                Ok(())
+            }
         }
-        self.pool_base = base;
-        self.pool_order = order as u8;
-        self.grants = Grants::new(base, order as u8);
-        Ok(())
     }
 
     /// `ram LOGICAL MACHINE LENGTH` or `io LOGICAL MACHINE LENGTH`

@@ -1,0 +1,157 @@
+ghost use Rattle.std.specs.Prelude.{◌≡◌, ◌+◌, ◌<◌, ◌≤◌, ◌^◌, Contains, IfOk, length, slice_set};
+ghost use Rattle.hpt_pool.specs.Pool.{block_at, taken_with, taken_without};
+ghost use Rattle.hpt_pool.specs.Tree.{root_of, left_of, right_of, blocks_below, largest_of, JoinsHalves, IsTree};
+ghost use Rattle.hpt_pool.specs.Free.{IsFirstFree};
+
+use std::alloc::{AllocError, Global};
+
+/// A leaf, the smallest part that is handed out, has `2^18` bytes.
+pub const LEAF_ORDER: u8 = 18;
+
+/// What a node of the tree says of its block.
+#[derive(Clone, Copy, PartialEq, Eq, Debug)]
+pub enum Node {
+    /// It is a taken block.
+    Taken,
+    /// It is none. The largest free block in it has `2^order` bytes, or none is free at 0.
+    Open(u8),
+}
+
+impl Node {
+    /// The order of the largest free block, or 0 where none is free.
+    pub fn largest(self) -> u8
+        ensures { result ≡ largest_of self }
+    {
+        match self {
+            Node::Taken => 0,
+            Node::Open(order) => order,
+        }
+    }
+}
+
+/// The nodes of a tree of `2^height` leaves that are all free.
+pub fn free_nodes(alloc: Global, height: u8) -> Result<Vec<Node>, AllocError>
+    requires { height ≤ 16 }
+    ensures tree { IfOk result (λ nodes. IsTree height nodes.items) }
+    ensures free { IfOk result (λ nodes. largest_of (root_of nodes.items) ≡ 18 + height) }
+{
+    let mut nodes = vec![in alloc; Node::Taken; half_of(height + 1) - 1]?;
+    free_all(&mut nodes, height);
+    Ok(nodes)
+}
+
+// Makes each node say that its block is free.
+fn free_all(nodes: &mut [Node], height: u8)
+    requires most { height ≤ 16 }
+    requires whole { length nodes.old + 1 ≡ 2 ^ (height + 1) }
+    ensures tree { IsTree height nodes.new }
+    ensures free { largest_of (root_of nodes.new) ≡ 18 + height }
+{
+    nodes[0] = Node::Open(LEAF_ORDER + height);
+    if height > 0 {
+        let half = half_of(height);
+        free_all(&mut nodes[1..half], height - 1);
+        free_all(&mut nodes[half..], height - 1);
+    }
+}
+
+/// Takes the first block of this order that is free, and gives its place.
+pub fn take_first(nodes: &mut [Node], height: u8, place: u64, order: u8) -> u64
+    requires tree { IsTree height nodes.old }
+    requires most { height ≤ 16 }
+    requires top { place + 2 ^ (18 + height) ≤ 2 ^ 60 }
+    requires least { 18 ≤ order }
+    requires some { order ≤ largest_of (root_of nodes.old) }
+    ensures first { IsFirstFree (blocks_below height place nodes.old) height place order result }
+    ensures taken { blocks_below height place nodes.new
+        ≡ taken_with (blocks_below height place nodes.old) (block_at result order) }
+    ensures tree { IsTree height nodes.new }
+{
+    if LEAF_ORDER + height == order {
+        nodes[0] = Node::Taken;
+        return place;
+    }
+    let half = half_of(height);
+    if nodes[1].largest() >= order {
+        let first = take_first(&mut nodes[1..half], height - 1, place, order);
+        mend(nodes, height);
+        return first;
+    }
+    let first = take_first(
+        &mut nodes[half..],
+        height - 1,
+        middle_of(height, place),
+        order,
+    );
+    mend(nodes, height);
+    first
+}
+
+/// Gives the block of this order at `given` back.
+pub fn give_back(nodes: &mut [Node], height: u8, place: u64, given: u64, order: u8)
+    requires tree { IsTree height nodes.old }
+    requires most { height ≤ 16 }
+    requires top { place + 2 ^ (18 + height) ≤ 2 ^ 60 }
+    requires taken { Contains (blocks_below height place nodes.old) (block_at given order) }
+    ensures given { blocks_below height place nodes.new
+        ≡ taken_without (blocks_below height place nodes.old) given }
+    ensures tree { IsTree height nodes.new }
+{
+    if LEAF_ORDER + height == order {
+        nodes[0] = Node::Open(order);
+        return;
+    }
+    let half = half_of(height);
+    let middle = middle_of(height, place);
+    if given < middle {
+        give_back(&mut nodes[1..half], height - 1, place, given, order);
+        return mend(nodes, height);
+    }
+    give_back(&mut nodes[half..], height - 1, middle, given, order);
+    mend(nodes, height);
+}
+
+// Makes the root say what its halves say.
+fn mend(nodes: &mut [Node], height: u8)
+    requires least { 0 < height }
+    requires most { height ≤ 16 }
+    requires whole { length nodes.old + 1 ≡ 2 ^ (height + 1) }
+    ensures joined { JoinsHalves (17 + height) (largest_of (root_of (left_of height nodes.old)))
+        (largest_of (root_of (right_of height nodes.old))) (largest_of (root_of nodes.new)) }
+    ensures rest { nodes.new
+        ≡ slice_set nodes.old 0 (Node.Open (largest_of (root_of nodes.new))) }
+{
+    let left = nodes[1].largest();
+    let right = nodes[half_of(height)].largest();
+    nodes[0] = Node::Open(joined(LEAF_ORDER + height - 1, left, right));
+}
+
+// The largest order that is free in two halves of this order.
+fn joined(order: u8, left: u8, right: u8) -> u8
+    requires { order < 255 }
+    ensures { JoinsHalves order left right result }
+{
+    if left == order && right == order {
+        order + 1
+    } else {
+        left.max(right)
+    }
+}
+
+// How many leaves a tree has: the nodes of its right half begin there.
+fn half_of(height: u8) -> usize
+    requires { height < 64 }
+    ensures { result ≡ 2 ^ height }
+{
+    1 << height
+}
+
+// The place of the first leaf of the right half.
+fn middle_of(height: u8, place: u64) -> u64
+    requires least { 0 < height }
+    requires most { height ≤ 16 }
+    requires top { place + 2 ^ (18 + height) ≤ 2 ^ 60 }
+    ensures middle { result ≡ place + 2 ^ (17 + height) }
+{
+    place + (1 << (LEAF_ORDER + height - 1))
+}

@@ -41,8 +41,8 @@ is_aligned grant =
 -- One of the two ranges ends above 2 ^ 60.
 abbrev pub ends_past : Grant → Bool
 ends_past grant =
-    nat_lt (address_end) (grant.logical + grant.length)
-    || nat_lt (address_end) (grant.machine + grant.length)
+    nat_lt address_end (grant.logical + grant.length)
+    || nat_lt address_end (grant.machine + grant.length)
 
 -- ---- two grants
 -- The two logical ranges share an address.

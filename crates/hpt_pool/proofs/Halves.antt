@@ -8,7 +8,8 @@ use Rattle.std.proofs.lemmas.List.Folds.{list_any-append, list_any_none}
 use Rattle.std.proofs.lemmas.List.Elements.{All-contains, Contains-append_cases, filter-append}
 use Rattle.hpt_pool.specs.Pool.{Block, block_at, end_of, overlap, begins_below, taken_with, taken_without}
 use Rattle.hpt_pool.specs.Free.{is_met}
-use Rattle.hpt_pool.proofs.Lists.{filter_all, filter_none, list_any-weaker}
+use Rattle.basics.proofs.Lists.{filter_all, filter_none}
+use Rattle.hpt_pool.proofs.Lists.{list_any-weaker}
 
 -- A block begins at least here and ends at most there.
 pub record LiesIn (low high : ℕ) (block : Block) : Type 0 where

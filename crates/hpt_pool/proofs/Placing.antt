@@ -7,7 +7,7 @@ use Rattle.std.proofs.lemmas.Nat.{pow_pos}
 use Rattle.std.proofs.lemmas.List.Elements.{All-cons, All-append, All-filter, filter_passes}
 use Rattle.std.proofs.lemmas.List.Kept.{AllPairs-filter}
 use Rattle.hpt_pool.specs.Pool.{Block, PoolState, block_at, overlap, fits, begins_below, taken_with, taken_without, with_block, without_block, IsPlaced, AreApart, IsSound}
-use Rattle.hpt_pool.proofs.Lists.{AllPairs-between, filters_join, list_any-false}
+use Rattle.basics.proofs.Lists.{AllPairs-between, filters_join, list_any-false}
 
 abbrev pub size_above : (block : Block) → 0 < 2 ^ block.order
 size_above block = pow_pos block.order

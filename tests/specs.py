@@ -23,6 +23,17 @@ class Definition:
         """How many lines it has, where each is wrapped at so many columns."""
         return sum(-(-len(line) // columns) for line in self.lines)
 
+    def filled(self, columns):
+        """How many lines it would have, if each equation and each field filled lines of so many columns."""
+        parts = []
+        for line in self.lines:
+            is_field = self.kind in ('record', 'data') and re.match(r'  \S', line)
+            if parts and line.startswith(' ') and not is_field:
+                parts[-1] += ' ' + line.strip()
+            else:
+                parts.append(line)
+        return sum(-(-len(part) // columns) for part in parts)
+
     def text(self):
         return normal('\n'.join(self.lines))
 
@@ -138,15 +149,17 @@ def meanings(modules, text, names, aliases, local):
                 yield found
 
 
-CLAUSE = re.compile(r'\b(requires|ensures|ghost)\b\s*([\w]+)?\s*(:|=)?\s*\{')
+CLAUSE = re.compile(r'\b(requires|ensures|ghost)\b\s*(\w+)?\s*[:=]?\s*\{')
+FUNCTION = re.compile(r'\bfn (\w+)')
+TYPE = re.compile(r'^(?:pub )?(?:struct|enum|trait|impl(?:<[^>]*>)?(?: \w+ for)?) (\w+)', re.M)
 
 
 class Clause:
     """A clause of a function, or a fact of a type or a trait: what has it, its word and name, its text."""
 
-    def __init__(self, crate, file, owner, word, label, text):
+    def __init__(self, crate, file, owner, word, label, body):
         self.crate, self.file, self.owner, self.word, self.label = crate, file, owner, word, label
-        self.body = text
+        self.body = body
 
     def text(self):
         return normal(self.body)
@@ -176,22 +189,23 @@ def read_clauses(root):
     return clauses
 
 
+def last_before(pattern, text, end):
+    """The name that the pattern finds last before a place."""
+    name = ''
+    for found in pattern.finditer(text, 0, end):
+        name = found.group(1)
+    return name
+
+
 def file_clauses(path, crate, file):
-    lines = open(path, encoding='utf8').read().split('\n')
-    lines = [without_remark(x.rstrip(), '//') for x in lines]
+    lines = [without_remark(x.rstrip(), '//') for x in open(path, encoding='utf8').read().split('\n')]
     text = '\n'.join(x for x in lines if not re.match(r'\s*(ghost )?use ', x))
-    owners = [(x.start(), x.group(1)) for x in re.finditer(r'\bfn (\w+)|\b(?:struct|enum|trait|impl)\b[^{]*', text)
-              if x.group(1)]
-    types = [(x.start(), x.group(2)) for x in re.finditer(r'^(pub )?(?:struct|enum|trait|impl(?:<[^>]*>)?(?: \w+ for)?) (\w+)', text, re.M)]
     clauses, at = [], 0
     while True:
         found = CLAUSE.search(text, at)
         if not found:
             return clauses
-        end = balanced(text, found.end())
         word, label = found.group(1), found.group(2) or ''
-        last_fn = max((x for x in owners if x[0] < found.start()), default=(-1, ''))
-        last_type = max((x for x in types if x[0] < found.start()), default=(-1, ''))
-        owner = last_type[1] if word == 'ghost' else last_fn[1]
-        clauses.append(Clause(crate, file, owner, word, label, text[found.end():end - 1]))
-        at = end
+        owner = last_before(TYPE if word == 'ghost' else FUNCTION, text, found.start())
+        at = balanced(text, found.end())
+        clauses.append(Clause(crate, file, owner, word, label, text[found.end():at - 1]))

@@ -1,7 +1,7 @@
 # Builds papr and puts it, its page, its completion and its examples in their usual places.
 #
 #   make                          build the program where it is missing or older than its sources
-#   make check                    run the examples, the tests of the tools and the checks of the crates
+#   make check                    run the examples and the tests of the tools
 #   make install PREFIX=/usr      install; DESTDIR is put in front of every path
 #   make uninstall PREFIX=/usr    take away what install put there
 
@@ -25,8 +25,6 @@ all:
 
 check: all
 	examples/check
-	tests/levels
-	tests/reach
 	tests/tools
 
 $(PROGRAM):

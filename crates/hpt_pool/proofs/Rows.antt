@@ -4,7 +4,7 @@ use Rattle.hpt_pool.specs.declared.error.PoolError.TheVariants.{Order, Unaligned
 use Rattle.hpt_pool.specs.declared.tree.Node.TheVariants.{Taken, Open}
 use Rattle.hpt_pool.specs.Tree.{blocks_below}
 use Rattle.hpt_pool.specs.Pool.{Block, PoolState, block_at, pool_refusal, multiples, lowest_place, taken_with, taken_without}
-use Rattle.pool_range.specs.Ranges.{range_refusal, refusals}
+use Rattle.pool_range.specs.Ranges.{range_refusal}
 
 -- A pool of four leaves, and what is taken of it.
 small : List Block → PoolState
@@ -79,22 +79,22 @@ upper_taken = refl
 
 -- ---- refusals, and their order
 order_first : pool_refusal 1 17 ≡ Some Order
-unfolding pool_refusal range_refusal refusals
+unfolding pool_refusal range_refusal
 order_first = refl
 
 above_34 : pool_refusal 0 35 ≡ Some Order
-unfolding pool_refusal range_refusal refusals
+unfolding pool_refusal range_refusal
 above_34 = refl
 
 unaligned_first : pool_refusal 0xffffffffffffffff 18 ≡ Some Unaligned
-unfolding pool_refusal range_refusal refusals
+unfolding pool_refusal range_refusal
 unaligned_first = refl
 
 past : pool_refusal 0x1000000000000000 18 ≡ Some Past
-unfolding pool_refusal range_refusal refusals
+unfolding pool_refusal range_refusal
 past = refl
 
 -- A pool may end at 2 ^ 60.
 to_the_top : pool_refusal 0xffffffffffc0000 18 ≡ None
-unfolding pool_refusal range_refusal refusals
+unfolding pool_refusal range_refusal
 to_the_top = refl

@@ -1,6 +1,5 @@
 -- The ranges of machine memory that can be kept for page tables.
-use Rattle.std.specs.Prelude.{◌≡◌, ◌≤◌, ℕ, ◌+◌, ◌%◌, ◌^◌, ◌==◌, Bool, not, ◌||◌, nat_lt, List, [], ◌∷◌, Option}
-use Rattle.basics.specs.Words.{first_refusal}
+use Rattle.std.specs.Prelude.{◌≡◌, ◌≤◌, ℕ, ◌+◌, ◌%◌, ◌^◌, ◌==◌, not, ◌||◌, nat_lt, if◌then◌else◌, Option, Some, None}
 use Rattle.pool_range.specs.declared.range.RangeError.{RangeError}
 use Rattle.pool_range.specs.declared.range.RangeError.TheVariants.{Order, Unaligned, Past}
 
@@ -15,14 +14,10 @@ pub record IsPoolRange (base order : ℕ) : Type 0 where
   pub aligned : base % 2 ^ order ≡ 0
   pub to_end : base + 2 ^ order ≤ address_end
 
--- What may be wrong with two numbers, in the order in which it is tried.
-unfoldable pub refusals : ℕ → ℕ → List (Bool × RangeError)
-refusals base order =
-    (nat_lt order 18 || nat_lt 34 order, Order)
-    ∷ (not (base % 2 ^ order == 0), Unaligned)
-    ∷ (nat_lt address_end (base + 2 ^ order), Past)
-    ∷ []
-
--- The first that is wrong, or none.
+-- What is wrong with two numbers: the tests are tried in this order, and the first that fails says why.
 unfoldable pub range_refusal : ℕ → ℕ → Option RangeError
-range_refusal base order = first_refusal (refusals base order)
+range_refusal base order =
+    if nat_lt order 18 || nat_lt 34 order then Some Order
+    else if not (base % 2 ^ order == 0) then Some Unaligned
+    else if nat_lt address_end (base + 2 ^ order) then Some Past
+    else None

@@ -32,14 +32,12 @@ pub struct PoolRange {
 
 impl PoolRange {
     /// The range of these numbers, or why there is none: the refusals are tried in their order.
-    #[tactic(auto, unfolding(crate::specs::Ranges::range_refusal, crate::specs::Ranges::refusals))]
+    #[tactic(auto, unfolding(crate::specs::Ranges::range_refusal))]
     pub fn new(base: u64, order: u64) -> Result<PoolRange, RangeError>
-        ensures told {
-            MatchResult
-                result
-                (λ _. range_refusal base order ≡ None)
-                (λ e. range_refusal base order ≡ Some e)
-        }
+        ensures told { MatchResult
+            result
+            (λ _. range_refusal base order ≡ None)
+            (λ e. range_refusal base order ≡ Some e) }
         ensures base { IfOk result (λ range. range.base ≡ base) }
         ensures order { IfOk result (λ range. range.order ≡ order) }
     {

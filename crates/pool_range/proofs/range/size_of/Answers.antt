@@ -1,4 +1,4 @@
-use Rattle.std.proofs.Common.{◌≡◌, ◌≤◌, ◌^◌, arith}
+use Rattle.std.proofs.Common.{arith}
 use Rattle.pool_range.proofs.Accepted.{shifted, size_most}
 use Rattle.pool_range.proofs.range.size_of.Goals as goal
 

@@ -29,7 +29,7 @@ abbrev pub EmptyStaysEmpty : Type 0
 EmptyStaysEmpty =
     (s : State) (op : Op) → is_access op ≡ true → s.valid ≡ false → (reply_of s op).1 ≡ s
 
--- One that changes nothing changes nothing, with the same answer, where further bits are set.
+-- One that leaves a state as it is leaves the state with further bits as it is, with the same answer.
 abbrev pub StillAccessesStayStill : Type 0
 StillAccessesStayStill =
     (s t : State) (op : Op)

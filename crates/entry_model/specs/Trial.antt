@@ -73,9 +73,10 @@ reply_by plan rs = record { rc = (plan.told rs).0; words = (plan.told rs).1; rec
 
 -- The reply on a list of states that nobody else changes, and the states after it.
 unfoldable pub plan_run : Plan → List State → HReply × List State
-plan_run plan states =
-    (reply_by plan (trial_run plan.goes_on states plan.calls).0,
-     (trial_run plan.goes_on states plan.calls).1)
+plan_run plan states = (
+  reply_by plan (trial_run plan.goes_on states plan.calls).0,
+  (trial_run plan.goes_on states plan.calls).1,
+)
 
 -- A call that is answered by itself names no entry.
 abbrev pub plan_of_code : Rc → Plan

@@ -98,16 +98,14 @@ pub fn reply(before: &EntryState, op: &Op) -> (Answer, EntryState)
 
 /// Clears C (`change`) or R.
 fn cleared(before: &EntryState, change: bool) -> (Answer, EntryState)
-    ensures {
-        result
+    ensures { result
         ≡ table.change_where
-            before.now.valid
-            before.now
-            Answer.Was
-            (if change
-             then record before.now { changed = false }
-             else record before.now { referenced = false })
-    }
+        before.now.valid
+        before.now
+        Answer.Was
+        (if change
+        then record before.now { changed = false }
+        else record before.now { referenced = false }) }
 {
     if !before.valid {
         return (Answer::NotFound, *before);

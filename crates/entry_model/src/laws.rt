@@ -18,7 +18,8 @@ pub fn empty_stays_empty()
     ensures { EmptyStaysEmpty }
 {}
 
-/// An access that changes nothing changes nothing, with the same answer, where further bits are set.
+/// Where an access leaves a state as it is, it leaves the state with further bits as it is too, and
+/// has the same answer there.
 pub fn still_accesses_stay_still()
     ensures { StillAccessesStayStill }
 {}

@@ -24,31 +24,27 @@ impl Model for EntryState {
 
     ghost Value = { State };
 
-    ghost view = {
-        λ s.
-          record {
-            valid = s.valid;
-            dword0 = s.dword0;
-            dword1 = s.dword1;
-            referenced = s.referenced;
-            changed = s.changed;
-            stamp = s.stamp;
-          }
-    };
+    ghost view = { λ s.
+        record {
+          valid = s.valid;
+          dword0 = s.dword0;
+          dword1 = s.dword1;
+          referenced = s.referenced;
+          changed = s.changed;
+          stamp = s.stamp;
+        } };
 
     ghost invariant = { λ s. IsCanonical s.valid s.dword0 s.dword1 s.referenced s.changed };
 
-    ghost inverse = {
-        λ s.
-          record {
-            valid = s.valid;
-            dword0 = s.dword0;
-            dword1 = s.dword1;
-            referenced = s.referenced;
-            changed = s.changed;
-            stamp = s.stamp;
-          }
-    };
+    ghost inverse = { λ s.
+        record {
+          valid = s.valid;
+          dword0 = s.dword0;
+          dword1 = s.dword1;
+          referenced = s.referenced;
+          changed = s.changed;
+          stamp = s.stamp;
+        } };
 }
 
 impl EntryState {

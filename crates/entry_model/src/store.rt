@@ -54,38 +54,26 @@ pub trait EntryStore {
     ghost made_none: { (s : Self) → made s s [] };
 
     /// What was made in two stretches of time, one behind the other, was made in both together.
-    ghost made_more: {
-        (a b c : Self) (xs ys : List Receipt) → made a b xs → made b c ys → made a c (xs ++ ys)
-    };
+    ghost made_more: { (a b c : Self) (xs ys : List Receipt) → made a b xs → made b c ys → made a c (xs ++ ys) };
 
     /// No call changes the order.
-    ghost order_stays: {
-        (a b : Self) (xs : List Receipt) → made a b xs → table_order b ≡ table_order a
-    };
+    ghost order_stays: { (a b : Self) (xs : List Receipt) → made a b xs → table_order b ≡ table_order a };
 
     /// What was seen of an entry holds of it from then on.
-    ghost seen_stays: {
-        (a b : Self) (xs : List Receipt) (line : Line) → made a b xs → seen a line → seen b line
-    };
+    ghost seen_stays: { (a b : Self) (xs : List Receipt) (line : Line) → made a b xs → seen a line → seen b line };
 
     /// An answer that used an entry's translation shows the entry's line.
-    ghost shown_is_seen: {
-        (a b : Self) (xs : List Receipt) (line : Line)
+    ghost shown_is_seen: { (a b : Self) (xs : List Receipt) (line : Line)
         → made a b xs
         → ShowsLine line xs
-        → seen b line
-    };
+        → seen b line };
 
     /// An entry never comes back to a stamp that it has left.
-    ghost gone_stays: {
-        (a b : Self) (xs : List Receipt) (line : Line) → made a b xs → gone a line → gone b line
-    };
+    ghost gone_stays: { (a b : Self) (xs : List Receipt) (line : Line) → made a b xs → gone a line → gone b line };
 
     /// Receipts of an entry that had left the line's stamp come after the line.
-    ghost later_than_gone: {
-        (a b : Self) (xs : List Receipt) (line : Line)
+    ghost later_than_gone: { (a b : Self) (xs : List Receipt) (line : Line)
         → made a b xs
         → gone a line
-        → AllLater line xs
-    };
+        → AllLater line xs };
 }

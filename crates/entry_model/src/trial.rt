@@ -52,15 +52,11 @@ pub fn try_entries<T: EntryStore>(
     ensures made { T.made store.old store.new (receipts_added receipts.old receipts.new) }
 
     // The receipts are those of the trial, and the one that ended it is the result.
-    ensures trial {
-        IsTrial
-            (goes_after goes_on)
-            (map (call op) (range_with_len first count))
-            (receipts_added receipts.old receipts.new)
-    }
-    ensures ending {
-        result ≡ ending_of (goes_after goes_on) (receipts_added receipts.old receipts.new)
-    }
+    ensures trial { IsTrial
+        (goes_after goes_on)
+        (map (call op) (range_with_len first count))
+        (receipts_added receipts.old receipts.new) }
+    ensures ending { result ≡ ending_of (goes_after goes_on) (receipts_added receipts.old receipts.new) }
 {
     for i in 0..count {
         let made = store.apply(first + i, op);

@@ -87,7 +87,7 @@ unfoldable pub with_grant : GrantedMemory → Grant → GrantedMemory
 with_grant granted grant =
     record granted {
       grants = filter (starts_below grant) granted.grants ++ grant
-      ∷ filter (λ (other : Grant). not (starts_below grant other)) granted.grants;
+          ∷ filter (λ (other : Grant). not (starts_below grant other)) granted.grants;
     }
 
 -- ---- the machine range of a logical one
@@ -121,9 +121,9 @@ pub record AreApart (granted : GrantedMemory) : Type 0 where
   pub placed : All IsPlaced granted.grants
   pub rising : AllPairs (λ (lower higher : Grant). lower.logical < higher.logical) granted.grants
   pub logical_apart :
-    AllPairs (λ (lower higher : Grant). meets_logical lower higher ≡ false) granted.grants
+      AllPairs (λ (lower higher : Grant). meets_logical lower higher ≡ false) granted.grants
   pub machine_apart :
-    AllPairs (λ (lower higher : Grant). meets_machine lower higher ≡ false) granted.grants
+      AllPairs (λ (lower higher : Grant). meets_machine lower higher ≡ false) granted.grants
   pub off_pool : All (λ grant. meets_pool granted grant ≡ false) granted.grants
 
 -- The pool is a range for page tables, and the grants stand apart beside it.

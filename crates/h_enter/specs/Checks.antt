@@ -22,9 +22,9 @@ suits_kind wimg Io = (wimg == 0x4) || (wimg == 0x5)
 abbrev pub suits_size : List Grant → ℕ → PageSize → Bool
 suits_size grants dword1 size =
     option_map_or
-      (λ (x : ℕ × Kind). suits_kind (wimg_of dword1) x.1)
-      (machine_range grants (frame_of dword1 size.actual) (2 ^ size.actual))
-      false
+    (λ (x : ℕ × Kind). suits_kind (wimg_of dword1) x.1)
+    (machine_range grants (frame_of dword1 size.actual) (2 ^ size.actual))
+    false
 
 -- The same of the page that these doublewords map.
 unfoldable pub suits_grants : List Grant → ℕ → ℕ → Bool

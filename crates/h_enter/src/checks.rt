@@ -58,11 +58,9 @@ pub fn h_enter<T: EntryStore>(
     ptel: u64,
 ) -> HReply
     ensures made { T.made store.old store.new result.receipts }
-    ensures reply {
-        IsReplyOf
-          (h_enter_plan (T.table_order store.old) grants.now.grants flags ptex pteh ptel)
-          result
-    }
+    ensures reply { IsReplyOf
+        (h_enter_plan (T.table_order store.old) grants.now.grants flags ptex pteh ptel)
+        result }
 {
     if ptex >= u64::from(entry_count(store.order())) {
         return HReply::without_receipts(Rc::Parameter);

@@ -56,16 +56,16 @@ unfoldable pub asked_by : ℕ → Pair → Asked
 asked_by order p =
     if type_of p.request == 3 then End
     else
-      if
-      (type_of p.request == 1)
-      &&
-      nat_lt
-      (index_of p.request)
-      (entry_count order)
-      then
-      removes_under
-      (index_of p.request)
-      (test_by (flags_of p.request) p.word)
+    if
+    (type_of p.request == 1)
+    &&
+    nat_lt
+    (index_of p.request)
+    (entry_count order)
+    then
+    removes_under
+    (index_of p.request)
+    (test_by (flags_of p.request) p.word)
     else Refused
 
 -- ---- what a pair's first word becomes

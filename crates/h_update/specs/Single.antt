@@ -87,9 +87,9 @@ unfoldable pub h_read_plan : ℕ → ℕ → ℕ → Plan
 h_read_plan order flags ptex =
     if nat_lt ptex (entry_count order)
     then
-      record {
-        calls = map (call Read) (read_entries flags ptex);
-        goes_on = λ answer. true;
-        told = λ rs. (rc.Success, flat_map both_words rs);
-      }
+    record {
+      calls = map (call Read) (read_entries flags ptex);
+      goes_on = λ answer. true;
+      told = λ rs. (rc.Success, flat_map both_words rs);
+    }
     else plan_of_code rc.Parameter

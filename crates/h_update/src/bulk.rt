@@ -100,12 +100,10 @@ fn asked_by(order: u8, request: u64, word: u64) -> Asked
 
 /// The top byte of the response that a receipt gives.
 fn status(receipt: &Receipt) -> u8
-    ensures value {
-        result
+    ensures value { result
         ≡ (if is_worn receipt.now.answer
-           then plans.worn_status
-           else plans.status_of receipt.now.answer receipt.now.before)
-    }
+        then plans.worn_status
+        else plans.status_of receipt.now.answer receipt.now.before) }
     ensures flags_clear { result % 4 ≡ 0 }
 {
     match receipt.answer {
@@ -154,9 +152,7 @@ fn ended(rc: Rc, mut words: ReplyWords, unchanged: &[u64], receipts: Receipts) -
 #[inline(never)]
 pub fn h_bulk_remove<T: EntryStore>(store: &mut T, pairs: &[u64; 8]) -> HReply
     ensures made { T.made store.old store.new result.receipts }
-    ensures reply {
-        IsReplyOf (plans.h_bulk_remove_plan (T.table_order store.old) pairs.now) result
-    }
+    ensures reply { IsReplyOf (plans.h_bulk_remove_plan (T.table_order store.old) pairs.now) result }
 {
     let order = store.order();
     let mut words = ReplyWords::new();

@@ -49,9 +49,7 @@ fn code_and_words(receipt: &Receipt, shown: ShownWords) -> (Rc, ReplyWords)
 fn single<T: EntryStore>(store: &mut T, ptex: u64, op: Op, shown: ShownWords) -> HReply
     requires { IsNormal op }
     ensures made { T.made store.old store.new result.receipts }
-    ensures reply {
-        IsReplyOf (plans.single_plan (T.table_order store.old) ptex op (words_shown shown)) result
-    }
+    ensures reply { IsReplyOf (plans.single_plan (T.table_order store.old) ptex op (words_shown shown)) result }
 {
     if ptex >= u64::from(entry_count(store.order())) {
         return HReply::without_receipts(Rc::Parameter);
@@ -82,9 +80,7 @@ fn where_flag(flags: CallFlags, flag: CallFlags, word: u64) -> Option<u64>
 #[tactic(auto, unfolding(crate::specs::Single::h_remove_plan))]
 pub fn h_remove<T: EntryStore>(store: &mut T, flags: u64, ptex: u64, avpn: u64) -> HReply
     ensures made { T.made store.old store.new result.receipts }
-    ensures reply {
-        IsReplyOf (plans.h_remove_plan (T.table_order store.old) flags ptex avpn) result
-    }
+    ensures reply { IsReplyOf (plans.h_remove_plan (T.table_order store.old) flags ptex avpn) result }
 {
     let known = CallFlags::of(flags);
     let test = Test {
@@ -101,15 +97,18 @@ pub fn h_remove<T: EntryStore>(store: &mut T, flags: u64, ptex: u64, avpn: u64) 
 #[tactic(auto, unfolding(crate::specs::Single::h_protect_plan))]
 pub fn h_protect<T: EntryStore>(store: &mut T, flags: u64, ptex: u64, avpn: u64) -> HReply
     ensures made { T.made store.old store.new result.receipts }
-    ensures reply {
-        IsReplyOf (plans.h_protect_plan (T.table_order store.old) flags ptex avpn) result
-    }
+    ensures reply { IsReplyOf (plans.h_protect_plan (T.table_order store.old) flags ptex avpn) result }
 {
     let test = Test {
         avpn: where_flag(CallFlags::of(flags), CallFlags::AVPN, avpn),
         andcond: None,
     };
-    single(store, ptex, Op::Protect { test, flags }, ShownWords::Neither)
+    single(
+        store,
+        ptex,
+        Op::Protect { test, flags },
+        ShownWords::Neither,
+    )
 }
 
 /// H_CLEAR_REF: clears R, and gives doubleword 1 as it was. No flag has an effect.

@@ -44,10 +44,10 @@ rebuilt_offset one_tb number shift low =
 abbrev pub rebuilt_page : Bool → ℕ → ℕ → ℕ → Option VirtualPage
 rebuilt_page one_tb number shift low =
     page_of_address
-      one_tb
-      (rebuilt_vsid one_tb number)
-      shift
-      (rebuilt_offset one_tb number shift low)
+    one_tb
+    (rebuilt_vsid one_tb number)
+    shift
+    (rebuilt_offset one_tb number shift low)
 
 -- A page, where its tag and its group are the entry's.
 abbrev pub confirmed_page : ℕ → ℕ → ℕ → VirtualPage → Option VirtualPage
@@ -60,12 +60,12 @@ confirmed_page order index dword0 p =
 abbrev pub page_of_size : ℕ → ℕ → ℕ → PageSize → Option VirtualPage
 page_of_size order index dword0 size =
     option_and_then
-      (confirmed_page order index dword0)
-      (rebuilt_page
-         (is_one_tb dword0)
-         (number_field dword0)
-         size.base
-         (low_hash (index / 8) (is_secondary dword0)))
+    (confirmed_page order index dword0)
+    (rebuilt_page
+    (is_one_tb dword0)
+    (number_field dword0)
+    size.base
+    (low_hash (index / 8) (is_secondary dword0)))
 
 -- The page of an entry, or none.
 unfoldable pub page_at : ℕ → ℕ → ℕ → ℕ → Option VirtualPage

@@ -39,9 +39,7 @@ pub fn page_of(order: u8, index: u32, dword0: u64, dword1: u64) -> Option<Page>
     requires in_table { index < entry_count order }
     ensures value { result ≡ page_at order index dword0 dword1 }
     ensures found { IfSome result (λ p. IsPage p × IsPageOf order index dword0 dword1 p) }
-    ensures exact {
-        (p : VirtualPage) → IsPage p → IsPageOf order index dword0 dword1 p → result ≡ Some p
-    }
+    ensures exact { (p : VirtualPage) → IsPage p → IsPageOf order index dword0 dword1 p → result ≡ Some p }
 {
     if dword0 & VALID != VALID {
         return None;

@@ -32,12 +32,10 @@ impl Pool {
     /// A pool of `2^order` bytes from `base`, with nothing taken, or why there is none.
     #[tactic(auto, unfolding(crate::specs::Pool::pool_refusal))]
     pub fn new(alloc: Global, base: u64, order: u8) -> Result<Pool, PoolError>
-        ensures refused {
-            MatchOption
-              (pool_refusal base order)
-              (IsOkUnless result PoolError.Memory)
-              (λ e. result ≡ Err e)
-        }
+        ensures refused { MatchOption
+            (pool_refusal base order)
+            (IsOkUnless result PoolError.Memory)
+            (λ e. result ≡ Err e) }
         ensures ok { IfOk result (λ pool. pool ≡ no_blocks base order) }
     {
         match PoolRange::new(base, u64::from(order)) {
@@ -80,9 +78,7 @@ impl Pool {
         requires at_most { order ≤ 46 }
         ensures place { result ≡ lowest_place self.old order }
         ensures lowest { MatchOption result (FitsNowhere self.old order) (IsLowest self.old order) }
-        ensures taken {
-            IfSome result (λ place. self.new ≡ with_block self.old (block_at place order))
-        }
+        ensures taken { IfSome result (λ place. self.new ≡ with_block self.old (block_at place order)) }
         ensures none { IfNone result (self.new ≡ self.old) }
         ensures sound { IsSound self.new }
     {

@@ -23,8 +23,8 @@ carried_page from state index =
 unfoldable pub target_of : ℕ → ℕ → State → ℕ → Option ℕ
 target_of from to state index =
     option_map
-      (λ page. group_of page to (is_secondary state.dword0) * 8 + index % 8)
-      (carried_page from state index)
+    (λ page. group_of page to (is_secondary state.dword0) * 8 + index % 8)
+    (carried_page from state index)
 
 -- It keeps its doublewords, R and C.
 abbrev pub at_stamp_0 : State → State
@@ -49,28 +49,28 @@ first_with from to states second target =
 unfoldable pub collision_at : ℕ → ℕ → List State → ℕ → Option Collision
 collision_at from to states second =
     option_and_then
-      (λ target.
-         option_map
-           (λ first. record { first = first; second = second; target = target })
-           (first_with from to states second target))
-      (target_at from to states second)
+    (λ target.
+    option_map
+    (λ first. record { first = first; second = second; target = target })
+    (first_with from to states second target))
+    (target_at from to states second)
 
 -- The collision of the lowest index that has one.
 unfoldable pub collision_of : ℕ → ℕ → List State → Option Collision
 collision_of from to states =
     option_and_then
-      (collision_at from to states)
-      (find
-         (λ second. is_some (collision_at from to states second))
-         (range_with_len 0 (length states)))
+    (collision_at from to states)
+    (find
+    (λ second. is_some (collision_at from to states second))
+    (range_with_len 0 (length states)))
 
 -- The new entry at an index: the one that goes there, or else an empty one.
 unfoldable pub entry_at : ℕ → ℕ → List State → ℕ → State
 entry_at from to states target =
     option_map_or
-      (λ index. at_stamp_0 (state_at states index))
-      (first_with from to states (length states) target)
-      (empty_state 0)
+    (λ index. at_stamp_0 (state_at states index))
+    (first_with from to states (length states) target)
+    (empty_state 0)
 
 -- The new table, where no two entries go to one index.
 unfoldable pub rehashed_states : ℕ → ℕ → List State → List State
@@ -93,19 +93,19 @@ pub record IsCollision (from to : ℕ) (states : List State) (collision : Collis
   pub first_goes : target_at from to states collision.first ≡ Some collision.target
   pub second_goes : target_at from to states collision.second ≡ Some collision.target
   pub first_is_lowest :
-    (k : ℕ) → k < collision.first → target_at from to states k ≢ Some collision.target
+      (k : ℕ) → k < collision.first → target_at from to states k ≢ Some collision.target
   pub second_is_lowest : AreApartBelow from to states collision.second
 
 -- The entries before an index are carried: no two of them go to one target, each is at its target with its doublewords, R and C, at stamp 0, and every other entry of the new table is empty at stamp 0.
 pub record IsPlacedBelow (from to : ℕ) (states new : List State) (index : ℕ) : Type 0 where
   pub long : length new ≡ entry_count to
   pub carried :
-    (k target : ℕ)
-    → k < index
-    → target_at from to states k ≡ Some target
-    → state_at new target ≡ at_stamp_0 (state_at states k)
+      (k target : ℕ)
+      → k < index
+      → target_at from to states k ≡ Some target
+      → state_at new target ≡ at_stamp_0 (state_at states k)
   pub others :
-    (target : ℕ)
-    → ((k : ℕ) → k < index → target_at from to states k ≢ Some target)
-    → state_at new target ≡ empty_state 0
+      (target : ℕ)
+      → ((k : ℕ) → k < index → target_at from to states k ≢ Some target)
+      → state_at new target ≡ empty_state 0
   pub differ : AreApartBelow from to states index

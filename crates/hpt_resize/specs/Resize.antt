@@ -53,19 +53,19 @@ start_outcome order pending pool =
     if is_pending order pending
     then prepare_outcome Success pending pool
     else
-      new_table_outcome
-        order
-        (pool_without pending pool)
-        (lowest_place (pool_without pending pool) order)
+    new_table_outcome
+    order
+    (pool_without pending pool)
+    (lowest_place (pool_without pending pool) order)
 
 -- Further entries of the pending table are made ready.
 abbrev pub advance_outcome : PrepareOutcome → Option PendingTable → PrepareOutcome
 advance_outcome start None = start
 advance_outcome start (Some table) =
     prepare_outcome
-      (if is_ready (with_more_ready table) then Success else LongBusy)
-      (Some (with_more_ready table))
-      start.pool
+    (if is_ready (with_more_ready table) then Success else LongBusy)
+    (Some (with_more_ready table))
+    start.pool
 
 -- A new table is to be made: only then can the call run out of memory.
 abbrev pub needs_table : ℕ → ℕ → ℕ → Option PendingTable → Bool
@@ -83,13 +83,13 @@ outcome_of_prepare limit flags shift pending pool =
     else (if nat_lt limit shift
     then prepare_outcome Resource pending pool
     else
-      (if shift == 0
-       then prepare_outcome Success None (pool_without pending pool)
-       else
-         advance_outcome
-           (start_outcome shift pending pool)
-           (start_outcome shift pending pool).pending)
-      )
+    (if shift == 0
+    then prepare_outcome Success None (pool_without pending pool)
+    else
+    advance_outcome
+    (start_outcome shift pending pool)
+    (start_outcome shift pending pool).pending)
+    )
 
 -- ---- the blocks
 -- The pending table, if there is one, begins elsewhere.
@@ -176,14 +176,13 @@ carry_outcome pending pool table None = record {
   pending = None;
   pool = without_block pool table.place;
   table
-    =
-    record {
-      order = pending.order;
-      place = pending.place;
-      number = table.number + 1;
-      states = rehashed_states table.order pending.order table.states;
-    }
-    ;
+      =
+      record {
+        order = pending.order;
+        place = pending.place;
+        number = table.number + 1;
+        states = rehashed_states table.order pending.order table.states;
+      };
 }
 
 -- Nothing refuses the commit: the pending table takes the place of the current one.

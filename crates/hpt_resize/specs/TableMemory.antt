@@ -45,6 +45,7 @@ prepare_result memory flags shift =
 -- The code of H_RESIZE_HPT_COMMIT, and the memory after it.
 unfoldable pub commit_result : TableMemory → ℕ → ℕ → Rc × TableMemory
 commit_result memory flags shift =
-    let answer = outcome_of_commit flags shift memory.pending memory.pool memory.table in
-    (answer.rc,
-     record memory { pool = answer.pool; pending = answer.pending; table = answer.table })
+    let answer = outcome_of_commit flags shift memory.pending memory.pool memory.table in (
+      answer.rc,
+      record memory { pool = answer.pool; pending = answer.pending; table = answer.table },
+    )

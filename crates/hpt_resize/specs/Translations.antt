@@ -12,8 +12,8 @@ pub record StandsThere (old new : Table) (entry : ℕ) (page : VirtualPage) : Ty
   pub goes : target_at old.order new.order old.states entry ≡ Some index
   pub kept : state_at new.states index ≡ at_stamp_0 (state_at old.states entry)
   pub found :
-    page_at new.order index (state_at new.states index).dword0 (state_at new.states index).dword1
-    ≡ Some page
+      page_at new.order index (state_at new.states index).dword0 (state_at new.states index).dword1
+      ≡ Some page
 
 -- The entry of the new table is one of the old table's that are carried.
 pub record WasCarried (old new : Table) (index : ℕ) : Type 0 where
@@ -26,8 +26,8 @@ pub record WasCarried (old new : Table) (index : ℕ) : Type 0 where
 -- Each bolted entry of a page stands in the new table, and each valid entry of the new table came so.
 pub record KeepsTranslations (old new : Table) : Type 0 where
   pub carried :
-    (entry : ℕ) (page : VirtualPage)
-    → carried_page old.order (state_at old.states entry) entry ≡ Some page
-    → StandsThere old new entry page
+      (entry : ℕ) (page : VirtualPage)
+      → carried_page old.order (state_at old.states entry) entry ≡ Some page
+      → StandsThere old new entry page
   pub from_old :
-    (index : ℕ) → (state_at new.states index).valid ≡ true → WasCarried old new index
+      (index : ℕ) → (state_at new.states index).valid ≡ true → WasCarried old new index

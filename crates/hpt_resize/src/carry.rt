@@ -34,23 +34,17 @@ pub fn rehash(
     requires to_high { order_to ≤ 22 }
     requires whole { length states.now ≡ entry_count order_from }
     requires empty { into.old.items ≡ replicate (entry_count order_to) (empty_state 0) }
-    ensures told {
-        MatchResult
-          result
-          (λ _. collision_of order_from order_to states.now ≡ None)
-          (λ collision. collision_of order_from order_to states.now ≡ Some collision)
-    }
+    ensures told { MatchResult
+        result
+        (λ _. collision_of order_from order_to states.now ≡ None)
+        (λ collision. collision_of order_from order_to states.now ≡ Some collision) }
     ensures meet { IfErr result (IsCollision order_from order_to states.now) }
-    ensures placed {
-        MatchResult
-          result
-          (λ _. IsPlacedBelow order_from order_to states.now into.new.items (length states.now))
-          (λ collision.
-             IsPlacedBelow order_from order_to states.now into.new.items collision.second)
-    }
-    ensures carried {
-        OnOk result (into.new.items ≡ rehashed_states order_from order_to states.now)
-    }
+    ensures placed { MatchResult
+        result
+        (λ _. IsPlacedBelow order_from order_to states.now into.new.items (length states.now))
+        (λ collision.
+        IsPlacedBelow order_from order_to states.now into.new.items collision.second) }
+    ensures carried { OnOk result (into.new.items ≡ rehashed_states order_from order_to states.now) }
     ensures never { order_from ≤ order_to → IsOk result }
     ensures length { vec_len into.new ≡ vec_len into.old }
 {
@@ -115,18 +109,14 @@ fn first(order_from: u8, order_to: u8, states: &[EntryState], second: usize, tar
     requires to_high { order_to ≤ 22 }
     requires whole { length states.now ≡ entry_count order_from }
     requires in_table { second < length states.now }
-    requires taken {
-        ((index : ℕ)
-         → index < second
-         → target_at order_from order_to states.now index ≢ Some target)
-        → ⊥
-    }
+    requires taken { ((index : ℕ)
+        → index < second
+        → target_at order_from order_to states.now index ≢ Some target)
+        → ⊥ }
     ensures found { first_with order_from order_to states.now second target ≡ Some result }
     ensures below { result < second }
     ensures goes { target_at order_from order_to states.now result ≡ Some target }
-    ensures lowest {
-        (index : ℕ) → index < result → target_at order_from order_to states.now index ≢ Some target
-    }
+    ensures lowest { (index : ℕ) → index < result → target_at order_from order_to states.now index ≢ Some target }
 {
     for index in 0..second {
         if target_index(order_from, order_to, states[index], index) == Some(target) {

@@ -81,29 +81,29 @@ hit_calls seg a line =
 
 -- One receipt, of the line's entry, on a state at which the line is current, which says At or Denied.
 pub record IsHit
-  (context : AccessContext)
-  (seg : Segment)
-  (a : Request)
-  (line : Line)
-  (r : AccessReply)
-  : Type 0
+    (context : AccessContext)
+    (seg : Segment)
+    (a : Request)
+    (line : Line)
+    (r : AccessReply)
+    : Type 0
   where
-  pub trial : IsTrial is_no_match (hit_calls seg a line) r.receipts
-  pub current : AllByRecursion (λ (x : Receipt). IsCurrent line x.before) r.receipts
-  pub decided : AllByRecursion (λ (x : Receipt). is_decided x.answer ≡ true) r.receipts
-  pub outcome : r.outcome ≡ outcome_of context.grants a.ea r.receipts
+    pub trial : IsTrial is_no_match (hit_calls seg a line) r.receipts
+    pub current : AllByRecursion (λ (x : Receipt). IsCurrent line x.before) r.receipts
+    pub decided : AllByRecursion (λ (x : Receipt). is_decided x.answer ≡ true) r.receipts
+    pub outcome : r.outcome ≡ outcome_of context.grants a.ea r.receipts
 
 -- ---- by a walk
 -- The receipts are those of a walk of the page.
 pub record IsWalk
-  (context : AccessContext)
-  (seg : Segment)
-  (a : Request)
-  (r : AccessReply)
-  : Type 0
+    (context : AccessContext)
+    (seg : Segment)
+    (a : Request)
+    (r : AccessReply)
+    : Type 0
   where
-  pub trial : IsTrial is_no_match (walk_calls context.order seg.page (mode_for seg a)) r.receipts
-  pub outcome : r.outcome ≡ outcome_of context.grants a.ea r.receipts
+    pub trial : IsTrial is_no_match (walk_calls context.order seg.page (mode_for seg a)) r.receipts
+    pub outcome : r.outcome ≡ outcome_of context.grants a.ea r.receipts
 
 -- ---- replies
 -- The reply where no segment has the address.

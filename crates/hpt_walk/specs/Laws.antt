@@ -27,14 +27,14 @@ pub record IsEntryState (s : State) : Type 0 where
 
 -- The answer used the entry's translation exactly where the entry is one of the page, and is NoMatch exactly where it isn't.
 pub record TellsPage
-  (order entry : ℕ)
-  (page : VirtualPage)
-  (s : State)
-  (answer : Answer)
-  : Type 0
+    (order entry : ℕ)
+    (page : VirtualPage)
+    (s : State)
+    (answer : Answer)
+    : Type 0
   where
-  pub decided : IsTrue (is_decided answer) ↔ IsPageOf order entry s.dword0 s.dword1 page
-  pub no_match : (answer ≡ NoMatch) ↔ ¬ IsPageOf order entry s.dword0 s.dword1 page
+    pub decided : IsTrue (is_decided answer) ↔ IsPageOf order entry s.dword0 s.dword1 page
+    pub no_match : (answer ≡ NoMatch) ↔ ¬ IsPageOf order entry s.dword0 s.dword1 page
 
 -- So does an access of the page by an entry of the page's group for the access's H.
 abbrev pub AccessTellsPage : Type 0
@@ -57,7 +57,7 @@ WalkFindsFirst =
     → IsTrial is_no_match (walk_calls order page mode) rs
     → IsRun a rs b
     → option_map (λ (r : Receipt). r.entry) (found_of rs)
-      ≡ find (is_paired (translations order a) page) (walk_entries order page)
+    ≡ find (is_paired (translations order a) page) (walk_entries order page)
 
 -- ---- lines of a cache
 -- In a walk of the page, a receipt that says Denied or At gives a line that translates the page.
@@ -66,8 +66,8 @@ WalksGiveLines =
     (order : ℕ) (page : VirtualPage) (mode : AccessMode) (rs : List Receipt)
     → IsTrial is_no_match (walk_calls order page mode) rs
     → AllByRecursion
-        (λ (r : Receipt). IsTrue (is_decided r.answer) → TranslatesItsPage (line_of page r))
-        rs
+    (λ (r : Receipt). IsTrue (is_decided r.answer) → TranslatesItsPage (line_of page r))
+    rs
 
 -- An access of its page by such a line, with H as the line has it, matches the line.
 abbrev pub LinesMatchAccesses : Type 0

@@ -19,11 +19,11 @@ h_bit secondary = if secondary then 2 else 0
 abbrev pub access_op : VirtualPage → AccessMode → Bool → Op
 access_op page mode secondary =
     Access
-      (tag_of page + h_bit secondary + 1)
-      page.shift
-      mode.key
-      mode.no_execute
-      mode.want
+    (tag_of page + h_bit secondary + 1)
+    page.shift
+    mode.key
+    mode.no_execute
+    mode.want
 
 -- The operation on the eight entries of a group, in slot order.
 abbrev pub group_calls : Op → ℕ → List Call

@@ -35,12 +35,10 @@ pub fn walk<T: EntryStore>(
     no_execute: bool,
 ) -> WalkAnswer
     ensures made { T.made store.old store.new result.receipts }
-    ensures trial {
-        IsTrial
-          is_no_match
-          (walk_calls (T.table_order store.old) page.now (access_mode key no_execute want))
-          result.receipts
-    }
+    ensures trial { IsTrial
+        is_no_match
+        (walk_calls (T.table_order store.old) page.now (access_mode key no_execute want))
+        result.receipts }
     ensures found { result.found ≡ found_of result.receipts }
     ensures none { IsNone result.found ↔ AreAllNoMatch result.receipts }
 
@@ -77,9 +75,7 @@ fn search<T: EntryStore>(
     ensures behind { receipts.new ≡ receipts.old ++ receipts_added receipts.old receipts.new }
     ensures few { length receipts.new ≤ length receipts.old + 8 }
     ensures made { T.made store.old store.new (receipts_added receipts.old receipts.new) }
-    ensures trial {
-        IsTrial is_no_match (group_calls op group) (receipts_added receipts.old receipts.new)
-    }
+    ensures trial { IsTrial is_no_match (group_calls op group) (receipts_added receipts.old receipts.new) }
     ensures found { result ≡ found_of (receipts_added receipts.old receipts.new) }
 {
     try_entries(

@@ -85,8 +85,8 @@ without_rc dword1 = bit_and dword1 0xFFFFFFFFFFFFFE7F
 abbrev pub with_rc : ℕ → Bool → Bool → ℕ
 with_rc dword1 referenced changed =
     bit_or
-      (bit_or dword1 (if referenced then referenced_bit else 0))
-      (if changed then changed_bit else 0)
+    (bit_or dword1 (if referenced then referenced_bit else 0))
+    (if changed then changed_bit else 0)
 
 -- W 8, I 4, M 2, G 1.
 abbrev pub wimg_of : ℕ → ℕ
@@ -100,10 +100,10 @@ is_no_execute dword1 = not (bit_and dword1 0x0C == 0)
 abbrev pub protected_word : ℕ → ℕ → ℕ
 protected_word dword1 flags =
     bit_or
-      (bit_or
-         (bit_or (bit_and dword1 0x4FFFFFFFFFFFF1F8) (bit_and flags 0x100 * 2 ^ 55))
-         (bit_and flags 0x3000 * 2 ^ 48))
-      (bit_and flags 0xE07)
+    (bit_or
+    (bit_or (bit_and dword1 0x4FFFFFFFFFFFF1F8) (bit_and flags 0x100 * 2 ^ 55))
+    (bit_and flags 0x3000 * 2 ^ 48))
+    (bit_and flags 0xE07)
 
 -- ---- the words that H_ENTER stores
 -- V is set, and the hypervisor's bits 0x60 are clear.

@@ -54,7 +54,7 @@ Goes opening m = (log : List Receipt) × Kept opening m log
 -- ---- a step on an entry
 module _ (opening : List State) (m : Machine) (log : List Receipt) (k : Kept opening m log) where
   module _ (i : ℕ) (a : Actor) (me : slice_get m.actors i ≡ Some a) (live : a.live ≡ true) where
-    result_change : (p : Phase) (s : Step) (x : Entry) → a.phase ≡ p → slice_get m.entries (entry_of p s) ≡ Some x → fits x p s ≡ true → Change m (entry_of p s) i x a (step_result (words_seen m a (entry_of p s) x.control) x p s)
+    pub result_change : (p : Phase) (s : Step) (x : Entry) → a.phase ≡ p → slice_get m.entries (entry_of p s) ≡ Some x → fits x p s ≡ true → Change m (entry_of p s) i x a (step_result (words_seen m a (entry_of p s) x.control) x p s)
     unfolding fits step_result
     result_change Idle (Lock e op) x is at fit = lock_change opening m log k i a me live e x op at is (not_is (is_access op) fit)
     result_change Idle (Look e op) x is at fit = look_change opening m log k i a me live e x op at is fit

@@ -37,9 +37,8 @@ StatesAreInWords =
     → All IsFair states
     → (e : ℕ)
     → e < length states
-    
     → (let x : Entry = entry_at (run (opening_machine states actors) steps) e in
-       x.control.shut ≡ false → x.published ≡ state_of x.control x.dword0 x.dword1)
+    x.control.shut ≡ false → x.published ≡ state_of x.control x.dword0 x.dword1)
 
 -- A step that makes a receipt leaves the state after in place of the state before, and every other state as it is; a step that makes none leaves all states.
 abbrev pub StatesChangeByReceipts : Type 0
@@ -47,12 +46,11 @@ StatesChangeByReceipts =
     (states : List State) (actors : ℕ) (older : List (ℕ × Step))
     → All IsFair states
     → (i : ℕ) (step : Step)
-    
     → (let m : Machine = run (opening_machine states actors) older in
-       MatchOption
-         (made_by m i step)
-         (published_states (after_step m i step) ≡ published_states m)
-         (λ r. IsStep (published_states m) r (published_states (after_step m i step))))
+    MatchOption
+    (made_by m i step)
+    (published_states (after_step m i step) ≡ published_states m)
+    (λ r. IsStep (published_states m) r (published_states (after_step m i step))))
 
 -- ---- histories
 -- Each entry's history over the receipts of all actors leads from its opening state to the state that it counts with.
@@ -62,11 +60,10 @@ EveryHistoryIsLegal =
     → All IsFair states
     → (e : ℕ)
     → e < length states
-    
     → IsLegal
-        (slice_index_or states e (empty_state 0))
-        (history e (receipts_of (run (opening_machine states actors) steps).actors))
-        (published_state (run (opening_machine states actors) steps) e)
+    (slice_index_or states e (empty_state 0))
+    (history e (receipts_of (run (opening_machine states actors) steps).actors))
+    (published_state (run (opening_machine states actors) steps) e)
 
 -- ---- fronts
 -- A receipt that a step makes isn't before the front of its actor.

@@ -102,9 +102,9 @@ second_look x d =
     if is_noted x.control d.noted
     then result_with_receipt x (receipt d)
     else
-      (if is_still x.control d
-       then result_with_receipt x (receipt (with_noted d x.control))
-       else result_without_receipt x Idle)
+    (if is_still x.control d
+    then result_with_receipt x (receipt (with_noted d x.control))
+    else result_without_receipt x Idle)
 
 -- A step on an entry, of an actor that has seen these doublewords of it. A lock that is taken and an entry that is shut leave the actor idle.
 unfoldable pub step_result : Option (ℕ × ℕ) → Entry → Phase → Step → StepResult
@@ -178,7 +178,7 @@ joined_actor a b = record {
 abbrev pub join_in : Machine → ℕ → ℕ → Machine
 join_in m i from = record m {
   actors =
-    slice_set (slice_set m.actors i (joined_actor (actor_at m i) (actor_at m from))) from nobody;
+      slice_set (slice_set m.actors i (joined_actor (actor_at m i) (actor_at m from))) from nobody;
 }
 
 -- ---- which steps are taken

@@ -7,6 +7,7 @@ use Rattle.entry_model.specs.declared.receipt.Receipt.{Receipt}
 use Rattle.entry_model.specs.Reply.{reply_of}
 use Rattle.entry_model.specs.Receipt.{receipt_of}
 use Rattle.basics.specs.Words.{bool_eq}
+use Rattle.hpte_fields.specs.Fields.{rc_bits}
 use Rattle.entry_model.specs.History.{state_eq}
 use Rattle.storage_prot.specs.declared.want.Want.{Want}
 use Rattle.storage_prot.specs.declared.want.Want.TheVariants.{Load, Store, Fetch}

@@ -18,8 +18,8 @@ mod phase;
 mod seeing;
 mod sighting;
 mod step;
-mod taking;
 mod step_result;
+mod taking;
 mod words;
 
 pub use actor::Actor;
@@ -35,6 +35,9 @@ pub use machine::Core;
 pub use phase::Phase;
 pub use sighting::Sighting;
 pub use step::Step;
+pub use words::{
+    changes, is_noted, is_read, is_still, next_state, noted_state, receipt, settled_word, state_of,
+};
 
 #[cfg(test)]
 mod tests;

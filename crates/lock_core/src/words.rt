@@ -22,7 +22,7 @@ fn same_bit(a: bool, b: bool) -> bool
 }
 
 /// The state that words stand for: without valid there is nothing.
-fn state_of(control: &Control, dword0: u64, dword1: u64) -> EntryState
+pub fn state_of(control: &Control, dword0: u64, dword1: u64) -> EntryState
     ensures { result ≡ words.state_of control.now dword0 dword1 }
 {
     if !control.valid {

@@ -29,8 +29,8 @@ row_fits dword1 row = low_of dword1 row.actual == row.low
 abbrev pub large_size : ℕ → Option PageSize
 large_size dword1 =
     option_map
-      (λ (row : Row). record { base = row.base; actual = row.actual })
-      (find (row_fits dword1) large_rows)
+    (λ (row : Row). record { base = row.base; actual = row.actual })
+    (find (row_fits dword1) large_rows)
 
 -- With L clear the page is 4 KB; with L set the row that fits says its size.
 abbrev pub size_of : ℕ → ℕ → Option PageSize

@@ -22,9 +22,7 @@ impl Model for PlainTable {
 
     ghost view = { λ t. record { states = t.states.items; order = t.order } };
 
-    ghost invariant = {
-        λ t. (18 ≤ t.order) × (t.order ≤ 22) × (vec_len t.states ≡ entry_count t.order)
-    };
+    ghost invariant = { λ t. (18 ≤ t.order) × (t.order ≤ 22) × (vec_len t.states ≡ entry_count t.order) };
 }
 
 impl PlainTable {
@@ -99,21 +97,17 @@ impl EntryStore for PlainTable {
 
     ghost made_none = { λ s. record { run = refl; order = refl } };
 
-    ghost made_more = {
-        λ a b c xs ys h k.
-          record {
-            run = run_more a.states b.states c.states xs ys h.run k.run;
-            order = k.order ∙ h.order;
-          }
-    };
+    ghost made_more = { λ a b c xs ys h k.
+        record {
+          run = run_more a.states b.states c.states xs ys h.run k.run;
+          order = k.order ∙ h.order;
+        } };
 
     ghost order_stays = { λ a b xs h. h.order };
 
     ghost seen_stays = { λ a b xs line h seen. run_holds a.states b.states xs line h.run seen };
 
-    ghost shown_is_seen = {
-        λ a b xs line h shows. run_shows a.states b.states xs line h.run shows
-    };
+    ghost shown_is_seen = { λ a b xs line h shows. run_shows a.states b.states xs line h.run shows };
 
     ghost gone_stays = { λ a b xs line h gone. run_leaves a.states b.states xs line h.run gone };
 

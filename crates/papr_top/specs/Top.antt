@@ -5,7 +5,7 @@ use Rattle.trace_io.specs.Outside.{Took, Put, AtEnd}
 use Rattle.trace_read.specs.declared.why.Why.{Why}
 use Rattle.trace_read.specs.Whys.{why_word}
 use Rattle.trace_read.specs.Trace.{AcceptedTrace}
-use Rattle.trace_read.specs.Grammar.{trace_of}
+use Rattle.trace_read.specs.Grammar.{trace_of, most_bytes}
 use Rattle.trace_gen.specs.Generated.{generated_trace}
 use Rattle.run_model.specs.RunState.{opening_run, shown_of}
 use Rattle.run_model.specs.SerialRun.{serial_replies, state_after_lines}
@@ -37,9 +37,9 @@ output_of (Err refusal) = refusal_text refusal.0 refusal.1
 unfoldable pub drill_text : AcceptedTrace → List ℕ
 drill_text t =
     summary_text
-      (length t.lines)
-      (serial_replies t)
-      (shown_of (state_after_lines (opening_run t.config) t.lines).memory).states
+    (length t.lines)
+    (serial_replies t)
+    (shown_of (state_after_lines (opening_run t.config) t.lines).memory).states
 
 -- ---- answers
 -- A run that is good, and what it assures.
@@ -65,7 +65,7 @@ pub record Run : Type 0 where
 -- These bytes were read: to the end of the input, or past the limit.
 pub record Reads (run : Run) (bytes : List ℕ) : Type 0 where
   pub took : Took run.left bytes run.left_after
-  pub end : length bytes ≤ 2 ^ 24 → AtEnd run.left_after
+  pub end : length bytes ≤ most_bytes → AtEnd run.left_after
 
 -- No byte was read.
 abbrev pub ReadsNothing : Run → Type 0
@@ -75,7 +75,7 @@ ReadsNothing run = Took run.left [] run.left_after
 abbrev pub Writes : Run → List ℕ → Type 0
 Writes run text = Put run.taken text run.taken_after
 
--- A front of this text was written.
+-- A prefix of this text was written.
 abbrev pub WritesPrefix : Run → List ℕ → Type 0
 WritesPrefix run text =
     (front : List ℕ) × (rest : List ℕ) × (text ≡ front ++ rest) × Writes run front
@@ -120,7 +120,7 @@ abbrev pub UnderRun : Option Command → Type 0 → Type 0
 UnderRun (Some commands.Run) fact = fact
 UnderRun other fact = ⊥
 
--- The sink failed behind a front of the text.
+-- The sink failed behind a prefix of the text.
 abbrev pub Stops : Option Command → Run → Type 0
 Stops None run = ReadsNothing run × WritesPrefix run usage_text
 Stops (Some commands.Run) run =
@@ -143,7 +143,7 @@ IsOutcome command run WriteFault = Stops command run
 IsOutcome command run Memory = IsListed command × Writes run []
 
 -- ---- drills
--- How a drill ends: the summary was written whole, or the sink failed behind a front of it, or memory ran out.
+-- How a drill ends: the summary was written whole, or the sink failed behind a prefix of it, or memory ran out.
 abbrev pub EndsDrill : AcceptedTrace → Option (List ℕ) → Option (List ℕ) → Status → Type 0
 EndsDrill t taken taken_after Done =
     IsGoodRun t (serial_replies t) × Put taken (drill_text t) taken_after

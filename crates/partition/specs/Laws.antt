@@ -30,16 +30,16 @@ pub record IsSource (table : Table) (order : ℕ) (page : VirtualPage) (target :
 -- The new table pairs a page with an entry exactly where one of the old table's bolted entries of the page goes there, and that entry has its doublewords, R and C.
 pub record PairsCarriedPages (old new : Table) : Type 0 where
   pub pairs :
-    (page : VirtualPage) (target : ℕ)
-    → target < length new.states
-    → Translates new page target ↔ IsSource old new.order page target
+      (page : VirtualPage) (target : ℕ)
+      → target < length new.states
+      → Translates new page target ↔ IsSource old new.order page target
   pub kept :
-    (page : VirtualPage) (target : ℕ) (source : IsSource old new.order page target)
-    → state_at new.states target ≡ at_stamp_0 (state_at old.states source.entry)
+      (page : VirtualPage) (target : ℕ) (source : IsSource old new.order page target)
+      → state_at new.states target ≡ at_stamp_0 (state_at old.states source.entry)
   pub in_table :
-    (page : VirtualPage) (target : ℕ)
-    → IsSource old new.order page target
-    → target < length new.states
+      (page : VirtualPage) (target : ℕ)
+      → IsSource old new.order page target
+      → target < length new.states
 
 -- So does each commit that succeeds, on entries as tables have them.
 abbrev pub CommitPairsCarriedPages : Type 0

@@ -34,13 +34,12 @@ with_memory partition memory = record partition { memory = memory }
 unfoldable pub opening_partition : Configuration → PartitionState
 opening_partition config = record {
   memory
-    =
-    opening_memory
-    config.limit
-    config.order
-    config.granted.pool_base
-    config.granted.pool_order
-    ;
+      =
+      opening_memory
+      config.limit
+      config.order
+      config.granted.pool_base
+      config.granted.pool_order;
   granted = config.granted;
 }
 
@@ -73,6 +72,6 @@ pub record IsPartition (partition : PartitionState) : Type 0 where
   pub taken : Contains partition.memory.pool.taken (block_of partition.memory.table)
   pub elsewhere : IsElsewhere partition.memory.pending (block_of partition.memory.table)
   pub in_or_out :
-    IsTrue
+      IsTrue
       ((length partition.memory.table.states == 0)
-       || (length partition.memory.table.states == entry_count partition.memory.table.order))
+      || (length partition.memory.table.states == entry_count partition.memory.table.order))

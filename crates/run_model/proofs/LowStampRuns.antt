@@ -1,4 +1,4 @@
--- Worlds of low_stamp states, and what quiet lines keep of them.
+-- Runs whose stamps are low, and what quiet lines keep of them.
 use Rattle.std.specs.Prelude.{◌≢◌, ◌==◌, nat_lt, if◌then◌else◌, replicate, slice_index}
 use Rattle.std.proofs.Common.{◌≡◌, ℕ, zero, suc, ◌≤◌, List, [], ◌∷◌, not, ap, ◌∙◌, refl, length, Option, Some, None, arith}
 use Rattle.std.specs.List.{AllByRecursion, range_with_len}
@@ -37,7 +37,7 @@ use Rattle.trace_read.specs.declared.trace.Act.TheVariants as acts
 abbrev pub AreLowStamp : GrantedMemory → ℕ → List State → Type 0
 AreLowStamp granted n states = AllByRecursion (IsLowStamp granted.grants n) states
 
--- The memory that is granted stays, and so does the number of processors; the states are low_stamp.
+-- The memory that is granted stays, and so does the number of processors; the stamps are low.
 pub record IsLowStampRunState (granted : GrantedMemory) (n cpus : ℕ) (w : RunState) : Type 0 where
   pub grants : w.grants ≡ granted.grants
   pub processors : length w.processors ≡ cpus
@@ -59,7 +59,7 @@ rehashed_low_stamp : (granted : GrantedMemory) (n from to : ℕ) (states : List 
 unfolding rehashed_states
 rehashed_low_stamp granted n from to states h = each_of_map (IsLowStamp granted.grants n) (entry_at from to states) (range_with_len 0 (entry_count to)) (λ e. entry_low_stamp granted n from to states e h)
 
--- The code is not H_HARDWARE, and the states stay low_stamp.
+-- The code is not H_HARDWARE, and the stamps stay low.
 pub record CommitsLowStamp (granted : GrantedMemory) (n : ℕ) (c : CommitOutcome) : Type 0 where
   pub code : c.rc ≢ rc.Hardware
   pub states : AreLowStamp granted n c.table.states
@@ -116,7 +116,7 @@ unfolding outcome_of_prepare
 prepared_fine limit flags shift pending pool = cond_both (not (is_prepare_request flags shift)) _ _ IsFinePrepared (λ _ e. cc) (λ _. cond_both (nat_lt limit shift) _ _ IsFinePrepared (λ _ e. cc) (λ _. cond_both (shift == 0) _ _ IsFinePrepared (λ _. success_fine) (λ _. continued_fine (start_outcome shift pending pool) (start_outcome shift pending pool).pending (started_fine shift pending pool))))
 
 -- ---- quiet lines
--- The reply is safe, and the states stay low_stamp.
+-- The reply is safe, and the stamps stay low.
 abbrev KeepsLowStamp : GrantedMemory → ℕ → Reply × RunState → Type 0
 KeepsLowStamp granted n x = IsSafe granted x.0 × (x.1.grants ≡ granted.grants) × AreLowStamp granted n (states_of x.1)
 

@@ -41,7 +41,7 @@ top = 0xFFFFFFFE
 abbrev pub EnterGranted : List Grant → List Receipt → Type 0
 EnterGranted grants rs = AllByRecursion (λ (r : Receipt). EntersOnly (IsGrantedWords grants) r.op) rs
 
--- Each state before is low_stamp.
+-- Each state before has a low stamp.
 abbrev pub FromLowStamp : List Grant → ℕ → List Receipt → Type 0
 FromLowStamp grants n rs = AllByRecursion (λ (r : Receipt). IsLowStamp grants n r.before) rs
 
@@ -106,7 +106,7 @@ pub closed_size : (w : RunState) (ts : List RepliedLine) → length (states_of (
 unfolding section_end closing_states
 closed_size w ts = closing_from_size 0 (states_of w) (receipts_made w ts)
 
--- From low_stamp states, legal histories have low_stamp states.
+-- From states with low stamps, legal histories have states with low stamps.
 pub states_low_stamp : (grants : List Grant) (n m : ℕ) (a b : List State) (rs : List Receipt) → AllByRecursion (IsLowStamp grants n) a → AllByRecursion (λ (r : Receipt). r.entry < length a) rs → ((e : ℕ) → e < length a → IsLegal (state_at a e) (history e rs) (state_at b e)) → length b ≡ length a → EnterGranted grants rs → n + weight rs ≤ m → FromLowStamp grants m rs × AllByRecursion (IsLowStamp grants m) b
 states_low_stamp grants n m a b rs low_stamp within legal size ops low = (each_from_histories (λ (r : Receipt). IsLowStamp grants m r.before) (length a) rs within (λ e k. (along e k).0), each_state (IsLowStamp grants m) b (λ e k. (along e (subst (λ l. e < l) size k)).1)) where
   along : (e : ℕ) → e < length a → FromLowStamp grants m (history e rs) × IsLowStamp grants m (state_at b e)

@@ -116,7 +116,7 @@ pub replied_line_is : (set : AccessContext) (processor : Processor) (a b : List 
 replied_line_is set processor a b t q h = line_is set processor t.line.act t.reply a b q h.call h.access h.gone h.run
 
 -- ---- all lines
--- The run_state after a line that isn't quiet.
+-- The state of the run after a line that isn't quiet.
 abbrev pub next : RunState → RepliedLine → List State → RunState
 next w t mid = record w { memory = with_states w.memory mid; processors = processors_after w.processors t }
 

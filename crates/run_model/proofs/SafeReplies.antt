@@ -1,4 +1,4 @@
--- What each reply enters, how far it raises stamps, and that it is safe where its receipts were made on low_stamp states.
+-- What each reply enters, how far it raises stamps, and that it is safe where its receipts were made on states with low stamps.
 use Rattle.std.specs.Prelude.{IfSome}
 use Rattle.std.proofs.Common.{◌≡◌, ℕ, ◌*◌, ◌≤◌, ◌^◌, List, [], ◌∷◌, true, false, ap, sym, ◌∙◌, refl, subst, ◌⊎◌, inl, inr, arith, Option, Some, None}
 use Rattle.std.specs.List.{AllByRecursion, range_with_len}
@@ -83,7 +83,7 @@ hcall_tame set calls.BulkRemove args = h_bulk_remove_tame (IsSuited set.grants) 
 hcall_tame set other args = answered_tame (IsSuited set.grants) rc.Function (λ e. cc)
 
 -- ---- lines
--- What is entered has a granted page, few stamps are raised, and the reply is safe where the states before were low_stamp.
+-- What is entered has a granted page, few stamps are raised, and the reply is safe where the stamps before were low.
 pub record IsTameLine (granted : GrantedMemory) (reply : Reply) : Type 0 where
   pub enters : EnterGranted granted.grants (receipts_in reply)
   pub few : weight (receipts_in reply) ≤ 32

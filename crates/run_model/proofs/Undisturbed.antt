@@ -25,7 +25,7 @@ abbrev pub processors_on : List Processor → List RepliedLine → List Processo
 processors_on processors [] = processors
 processors_on processors (t ∷ ts) = processors_on (processors_after processors t) ts
 
--- The run_state after a section with these closing states.
+-- The state of the run after a section with these closing states.
 abbrev pub state_behind : RunState → List RepliedLine → List State → RunState
 state_behind w ts b = record w { memory = with_states w.memory b; processors = processors_on w.processors ts }
 

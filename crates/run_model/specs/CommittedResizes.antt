@@ -44,7 +44,7 @@ closing_table s = (section_end s.before s.replied_lines).memory.table
 pub record LeavesTable (s next : Section) : Type 0 where
   pub told : has_table_of s next ≡ not (is_committed s.quiet)
   pub keeps :
-    is_committed s.quiet ≡ true → KeepsTranslations (closing_table s) next.before.memory.table
+      is_committed s.quiet ≡ true → KeepsTranslations (closing_table s) next.before.memory.table
   pub stays : is_committed s.quiet ≡ false → next.before.memory.table ≡ closing_table s
 
 -- Each quiet line does.

@@ -29,9 +29,9 @@ abbrev pub EachLine : (Processor → RepliedLine → Type 0) → Section → Typ
 EachLine P s =
     (cpu : ℕ)
     → EachLineOfProcessor
-      P
-      (processor_at s.before.processors cpu)
-      (lines_of_processor cpu s.replied_lines)
+    P
+    (processor_at s.before.processors cpu)
+    (lines_of_processor cpu s.replied_lines)
 
 -- ---- a section
 -- The receipts that were made in a section.
@@ -45,11 +45,11 @@ opening_states s = states_of s.before
 -- Each receipt is of an entry of the table, and each entry's history is legal, from the state that it opens on to the one that it closes on.
 pub record AreLegal (s : Section) : Type 0 where
   pub in_table :
-    AllByRecursion (λ (r : Receipt). r.entry < length (opening_states s)) (section_receipts s)
+      AllByRecursion (λ (r : Receipt). r.entry < length (opening_states s)) (section_receipts s)
   pub legal :
-    (entry : ℕ)
-    → entry < length (opening_states s)
-    → IsLegal
+      (entry : ℕ)
+      → entry < length (opening_states s)
+      → IsLegal
       (state_at (opening_states s) entry)
       (history entry (section_receipts s))
       (state_at (states_of (section_end s.before s.replied_lines)) entry)
@@ -59,11 +59,11 @@ abbrev pub AreInOrder : Section → Type 0
 AreInOrder s =
     (cpu entry : ℕ)
     → InOrder
-      entry
-      (pair_of (state_at (opening_states s) entry))
-      (events_by
-        (processor_at s.before.processors cpu)
-        (lines_of_processor cpu s.replied_lines))
+    entry
+    (pair_of (state_at (opening_states s) entry))
+    (events_by
+    (processor_at s.before.processors cpu)
+    (lines_of_processor cpu s.replied_lines))
 
 -- Each hypervisor call, slbmte and slbclear has the reply of its receipts.
 abbrev pub CallsAreReplied : Section → Type 0
@@ -71,33 +71,33 @@ CallsAreReplied s = EachLine (λ p t. IsCallReply (context_of s.before) t.line.a
 
 -- The reply of an access; a walk in place of a cached line comes only where the line's entry left its stamp.
 pub record IsAccessLine
-  (context : AccessContext)
-  (states : List State)
-  (processor : Processor)
-  (t : RepliedLine)
-  : Type 0
+    (context : AccessContext)
+    (states : List State)
+    (processor : Processor)
+    (t : RepliedLine)
+    : Type 0
   where
-  pub reply : IsReplyToAccess context processor t.line.act t.reply
-  pub gone :
-    IfSome
-      (gone_line_of processor t.line.act t.reply)
-      (λ line. line.stamp < (state_at states line.entry).stamp)
+    pub reply : IsReplyToAccess context processor t.line.act t.reply
+    pub gone :
+        IfSome
+        (gone_line_of processor t.line.act t.reply)
+        (λ line. line.stamp < (state_at states line.entry).stamp)
 
 -- Each access has the reply of its receipts.
 abbrev pub AccessesAreReplied : Section → Type 0
 AccessesAreReplied s =
     EachLine
-      (IsAccessLine
-        (context_of s.before)
-        (states_of (section_end s.before s.replied_lines)))
-      s
+    (IsAccessLine
+    (context_of s.before)
+    (states_of (section_end s.before s.replied_lines)))
+    s
 
 -- The quiet line behind the section has the reply that the closing states give.
 abbrev pub QuietIsReplied : Section → Type 0
 QuietIsReplied s =
     IfSome
-      s.quiet
-      (λ q. q.reply ≡ (run_quiet_line (section_end s.before s.replied_lines) q.line.act).0)
+    s.quiet
+    (λ q. q.reply ≡ (run_quiet_line (section_end s.before s.replied_lines) q.line.act).0)
 
 -- ---- a run
 -- The replies are of the lines' kinds, and each section is as above.

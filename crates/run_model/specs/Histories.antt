@@ -53,9 +53,9 @@ abbrev pub InOrder : ℕ → ℕ → List Event → Type 0
 InOrder entry front [] = Unit {0}
 InOrder entry front (made r ∷ events) =
     MatchBool
-      (r.entry == entry)
-      ((front ≤ pair_of r.before) × InOrder entry (pair_of (after_of r)) events)
-      (InOrder entry front events)
+    (r.entry == entry)
+    ((front ≤ pair_of r.before) × InOrder entry (pair_of (after_of r)) events)
+    (InOrder entry front events)
 InOrder entry front (gone line ∷ events) =
     InOrder entry (front_after_gone entry front line) events
 

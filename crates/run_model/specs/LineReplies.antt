@@ -22,12 +22,12 @@ use Rattle.trace_reply.specs.declared.reply.Reply.TheVariants as replies
 unfoldable pub hcall_plan : AccessContext → Hcall → List ℕ → Plan
 hcall_plan context calls.Enter args =
     h_enter_plan
-      context.order
-      context.grants
-      (slice_index args 0)
-      (slice_index args 1)
-      (slice_index args 2)
-      (slice_index args 3)
+    context.order
+    context.grants
+    (slice_index args 0)
+    (slice_index args 1)
+    (slice_index args 2)
+    (slice_index args 3)
 hcall_plan context calls.Remove args =
     h_remove_plan context.order (slice_index args 0) (slice_index args 1) (slice_index args 2)
 hcall_plan context calls.Protect args =

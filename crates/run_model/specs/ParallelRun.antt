@@ -22,22 +22,22 @@ use Rattle.run_model.specs.Sections.{receipts_made, cut, QuietPart, section_end_
 -- ---- a processor
 -- One of its lines, from the fronts that it had to those that it has then. Of a cached line that was gone, the entry's receipts come later, and the front says that it was gone.
 pub record WorksLine
-  (context : AccessContext)
-  (fronts : List ℕ)
-  (processor : Processor)
-  (t : RepliedLine)
-  (later : List ℕ)
-  : Type 0
+    (context : AccessContext)
+    (fronts : List ℕ)
+    (processor : Processor)
+    (t : RepliedLine)
+    (later : List ℕ)
+    : Type 0
   where
-  pub call : IsCallReply context t.line.act t.reply
-  pub access : IsReplyToAccess context processor t.line.act t.reply
-  pub in_table : AllByRecursion (λ (r : Receipt). r.entry < length fronts) (receipts_in t.reply)
-  pub keeps : KeepsFronts fronts (receipts_in t.reply) later
-  pub comes_later :
-    IfSome
-      (gone_line_of processor t.line.act t.reply)
-      (λ line. AllLater line (receipts_in t.reply))
-  pub gone : IfSome (gone_line_of processor t.line.act t.reply) (IsGone later)
+    pub call : IsCallReply context t.line.act t.reply
+    pub access : IsReplyToAccess context processor t.line.act t.reply
+    pub in_table : AllByRecursion (λ (r : Receipt). r.entry < length fronts) (receipts_in t.reply)
+    pub keeps : KeepsFronts fronts (receipts_in t.reply) later
+    pub comes_later :
+        IfSome
+        (gone_line_of processor t.line.act t.reply)
+        (λ line. AllLater line (receipts_in t.reply))
+    pub gone : IfSome (gone_line_of processor t.line.act t.reply) (IsGone later)
 
 -- Its lines, one after the other.
 abbrev pub Works :
@@ -54,34 +54,34 @@ abbrev pub AllWork : RunState → List RepliedLine → (ℕ → List ℕ) → Ty
 AllWork w ts fronts =
     (cpu : ℕ)
     → Works
-      (context_of w)
-      (opening_fronts (states_of w))
-      (processor_at w.processors cpu)
-      (lines_of_processor cpu ts)
-      (fronts cpu)
+    (context_of w)
+    (opening_fronts (states_of w))
+    (processor_at w.processors cpu)
+    (lines_of_processor cpu ts)
+    (fronts cpu)
 
 -- The table closed on these states: each entry has one legal history, and a line that is gone by a processor's fronts has a lower stamp than its entry.
 pub record IsClosed
-  (w : RunState)
-  (ts : List RepliedLine)
-  (fronts : ℕ → List ℕ)
-  (states : List State)
-  : Type 0
+    (w : RunState)
+    (ts : List RepliedLine)
+    (fronts : ℕ → List ℕ)
+    (states : List State)
+    : Type 0
   where
-  pub size : length states ≡ length (states_of w)
-  pub in_table :
-    AllByRecursion (λ (r : Receipt). r.entry < length (states_of w)) (receipts_made w ts)
-  pub legal :
-    (entry : ℕ)
-    → entry < length (states_of w)
-    → IsLegal
-      (state_at (states_of w) entry)
-      (history entry (receipts_made w ts))
-      (state_at states entry)
-  pub gone :
-    (cpu : ℕ) (line : Line)
-    → IsGone (fronts cpu) line
-    → line.stamp < (state_at states line.entry).stamp
+    pub size : length states ≡ length (states_of w)
+    pub in_table :
+        AllByRecursion (λ (r : Receipt). r.entry < length (states_of w)) (receipts_made w ts)
+    pub legal :
+        (entry : ℕ)
+        → entry < length (states_of w)
+        → IsLegal
+        (state_at (states_of w) entry)
+        (history entry (receipts_made w ts))
+        (state_at states entry)
+    pub gone :
+        (cpu : ℕ) (line : Line)
+        → IsGone (fronts cpu) line
+        → line.stamp < (state_at states line.entry).stamp
 
 -- ---- a run
 -- Sections, one after the other, and each quiet line on the states that the section before it closed on.

@@ -36,9 +36,9 @@ processor_after p act r = p
 abbrev pub processors_after : List Processor → RepliedLine → List Processor
 processors_after processors t =
     slice_set
-      processors
-      t.line.cpu
-      (processor_after (processor_at processors t.line.cpu) t.line.act t.reply)
+    processors
+    t.line.cpu
+    (processor_after (processor_at processors t.line.cpu) t.line.act t.reply)
 
 -- The cached line that was gone when a line was run: that of the page which an access then walked.
 abbrev pub gone_line_of : Processor → Act → Reply → Option Line

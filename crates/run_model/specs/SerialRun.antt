@@ -90,10 +90,10 @@ run_line w l =
     if is_quiet l.act
     then run_quiet_line w l.act
     else
-      with_result
-        w
-        l
-        (line_result (context_of w) (processor_at w.processors l.cpu) (states_of w) l.act)
+    with_result
+    w
+    l
+    (line_result (context_of w) (processor_at w.processors l.cpu) (states_of w) l.act)
 
 -- ---- all lines
 -- The replies to lines, one after the other.

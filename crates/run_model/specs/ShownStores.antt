@@ -67,22 +67,22 @@ carried_to old new entry =
     if has_table_of old new
     then Some entry
     else target_at
-      old.before.memory.table.order
-      new.before.memory.table.order
-      (states_of (section_end old.before old.replied_lines))
-      entry
+    old.before.memory.table.order
+    new.before.memory.table.order
+    (states_of (section_end old.before old.replied_lines))
+    entry
 
 -- C of this entry is set when these sections begin, and is shown from there on: through each section, and then at the place to which a committed resize carried the entry. One that a resize drops is dropped by that call's reply.
 abbrev pub StaysShown : Section → ℕ → List Section → Type 0
 StaysShown s entry [] = Unit {0}
 StaysShown s entry (next ∷ rest) =
     MatchOption
-      (carried_to s next entry)
-      (Unit {0})
-      (λ target. ShowsChange
-        (history_in next target)
-        (closing_state next target)
-        (StaysShown next target rest))
+    (carried_to s next entry)
+    (Unit {0})
+    (λ target. ShowsChange
+    (history_in next target)
+    (closing_state next target)
+    (StaysShown next target rest))
 
 -- Each store in a history is shown from its place on.
 abbrev pub StoresAreShown : List Receipt → State → Type 0 → Type 0
@@ -95,6 +95,6 @@ abbrev pub NoStoreIsLostIn : List Section → Type 0
 NoStoreIsLostIn [] = Unit {0}
 NoStoreIsLostIn (s ∷ rest) =
     ((entry : ℕ)
-      → entry < length (states_of s.before)
-      → StoresAreShown (history_in s entry) (closing_state s entry) (StaysShown s entry rest))
+    → entry < length (states_of s.before)
+    → StoresAreShown (history_in s entry) (closing_state s entry) (StaysShown s entry rest))
     × NoStoreIsLostIn rest

@@ -14,4 +14,4 @@ tests_of_words rs =
 unfoldable pub mte_refusal : ℕ → ℕ → Option BadSlb
 mte_refusal rb rs =
     first_refusal
-      ((nat_lt 31 (slot_number rb), bad.Slot) ∷ (if is_valid rb then tests_of_words rs else []))
+    ((nat_lt 31 (slot_number rb), bad.Slot) ∷ (if is_valid rb then tests_of_words rs else []))

@@ -61,8 +61,8 @@ base_pages =
 abbrev pub base_shift_of : ℕ → Option ℕ
 base_shift_of rs =
     option_map
-      (λ (page : BasePage). page.shift)
-      (find (λ (page : BasePage). page.code == bit_and rs 0x130) base_pages)
+    (λ (page : BasePage). page.shift)
+    (find (λ (page : BasePage). page.code == bit_and rs 0x130) base_pages)
 
 -- The words encode a base page size that a segment of their size can have.
 abbrev pub has_base_page : ℕ → Bool

@@ -1,3 +1,4 @@
 pub mod Room
+pub mod Twice
 pub mod Pieces
 mod Rows

@@ -1,8 +1,7 @@
 -- Bytes that go in and out, where an object tells them, and the count of its faults.
 use Rattle.std.specs.Prelude.{◌≡◌, ℕ, ◌+◌, ◌<◌, ◌≤◌, ◌^◌, ◌-◌, min, ◌⊎◌, List, [], ◌++◌, length, Option, Some, None}
-use Rattle.std.proofs.Common.{sym, ap, ◌∙◌, append_assoc}
 
--- These bytes were taken from the front of those that were left. An object tells what is left always or never.
+-- These bytes were taken, the first of those that were left. An object tells what is left always or never.
 abbrev pub Took : Option (List ℕ) → List ℕ → Option (List ℕ) → Type 0
 Took None bytes None = Unit {0}
 Took None bytes (Some new) = ⊥
@@ -37,29 +36,11 @@ abbrev pub TookPast : ℕ → Option (List ℕ) → Option (List ℕ) → Type 0
 TookPast limit old new =
     (bytes : List ℕ) × (limit < length bytes) × Took old bytes new × (length bytes ≡ limit + 1)
 
--- A front of the text was put, and not the whole.
+-- A prefix of the text was put, and not the whole.
 abbrev pub PutPrefix : List ℕ → Option (List ℕ) → Option (List ℕ) → Type 0
 PutPrefix text old new =
-    (front : List ℕ)
+    (prefix : List ℕ)
     × (rest : List ℕ)
-    × (text ≡ front ++ rest)
-    × Put old front new
+    × (text ≡ prefix ++ rest)
+    × Put old prefix new
     × (0 < length rest)
-
--- ---- laws
-pub took_more :
-    (a b c : Option (List ℕ)) (xs ys : List ℕ) → Took a xs b → Took b ys c → Took a (xs ++ ys) c
-took_more None None None xs ys h k = tt
-took_more None None (Some c) xs ys h k = absurd k
-took_more None (Some b) c xs ys h k = absurd h
-took_more (Some a) None c xs ys h k = absurd h
-took_more (Some a) (Some b) None xs ys h k = absurd k
-took_more (Some a) (Some b) (Some c) xs ys h k =
-    h ∙ ap (λ z. xs ++ z) k ∙ sym (append_assoc xs ys c)
-
-pub put_more :
-    (a b c : Option (List ℕ)) (xs ys : List ℕ) → Put a xs b → Put b ys c → Put a (xs ++ ys) c
-put_more a b None xs ys h k = tt
-put_more a None (Some c) xs ys h k = absurd k
-put_more None (Some b) (Some c) xs ys h k = absurd h
-put_more (Some a) (Some b) (Some c) xs ys h k = k ∙ ap (λ z. z ++ ys) h ∙ append_assoc a xs ys

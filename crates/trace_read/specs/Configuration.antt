@@ -11,15 +11,15 @@ pub record Configuration : Type 0 where
 
 -- Orders are from 18 to 22, there are 1 to 64 processors, the pool is the one that the grants stand beside, and it has room for the opening table.
 pub record IsConfigured
-  (order limit cpus pool_base pool_order : ℕ)
-  (granted : GrantedMemory)
-  : Type 0
+    (order limit cpus pool_base pool_order : ℕ)
+    (granted : GrantedMemory)
+    : Type 0
   where
-  pub at_least : 18 ≤ order
-  pub within : order ≤ limit
-  pub at_most : limit ≤ 22
-  pub some : 1 ≤ cpus
-  pub few : cpus ≤ 64
-  pub base : granted.pool_base ≡ pool_base
-  pub size : granted.pool_order ≡ pool_order
-  pub room : order ≤ pool_order
+    pub at_least : 18 ≤ order
+    pub within : order ≤ limit
+    pub at_most : limit ≤ 22
+    pub some : 1 ≤ cpus
+    pub few : cpus ≤ 64
+    pub base : granted.pool_base ≡ pool_base
+    pub size : granted.pool_order ≡ pool_order
+    pub room : order ≤ pool_order

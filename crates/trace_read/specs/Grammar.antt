@@ -100,10 +100,14 @@ unfoldable pub after_lines : Reading → List (List ℕ) → Result AcceptedTrac
 after_lines r [] = trace_at_end r
 after_lines r (l ∷ ls) = go_on (r.taken + 1) (after_line r l) (λ s. after_lines s ls)
 
--- The accepted trace, or the first refused line and the reason. More than 2 ^ 24 bytes are refused as line 0.
+-- The most bytes that an input may have.
+abbrev pub most_bytes : ℕ
+most_bytes = 2 ^ 24
+
+-- The accepted trace, or the first refused line and the reason. More bytes than may be are refused as line 0.
 unfoldable pub trace_of : List ℕ → Result AcceptedTrace (ℕ × Why)
 trace_of bytes =
-    if nat_lt (2 ^ 24) (length bytes)
+    if nat_lt most_bytes (length bytes)
     then Err (0, whys.Long)
     else after_lines opening_reading (raw_lines bytes)
 

@@ -12,8 +12,8 @@ all_digits base ds = list_all (λ c. nat_lt (digit_value c) base) ds
 abbrev pub digits_number : ℕ → ℕ → List ℕ → Option ℕ
 digits_number base most ds =
     if
-      (nat_lt 0 (length ds) && nat_le (length ds) most)
-      && (all_digits base ds && nat_lt (digits_value base ds) (2 ^ 64))
+    (nat_lt 0 (length ds) && nat_le (length ds) most)
+    && (all_digits base ds && nat_lt (digits_value base ds) (2 ^ 64))
     then Some (digits_value base ds)
     else None
 

@@ -74,20 +74,20 @@ with_begin c ws = do
 -- ---- what holds of the settings at all times
 -- As of a configuration, but that the pool may still be too small.
 pub record AreSettings
-  (order limit cpus pool_base pool_order : ℕ)
-  (granted : GrantedMemory)
-  : Type 0
+    (order limit cpus pool_base pool_order : ℕ)
+    (granted : GrantedMemory)
+    : Type 0
   where
-  pub at_least : 18 ≤ order
-  pub within : order ≤ limit
-  pub at_most : limit ≤ 22
-  pub some : 1 ≤ cpus
-  pub few : cpus ≤ 64
-  pub base : granted.pool_base ≡ pool_base
-  pub size : granted.pool_order ≡ pool_order
+    pub at_least : 18 ≤ order
+    pub within : order ≤ limit
+    pub at_most : limit ≤ 22
+    pub some : 1 ≤ cpus
+    pub few : cpus ≤ 64
+    pub base : granted.pool_base ≡ pool_base
+    pub size : granted.pool_order ≡ pool_order
 
 -- The settings after a line are as it says, or it is refused and they stay.
 abbrev pub SetsTo :
-    Result Configuration Why → Result (Unit { 0 }) Why → Configuration → Configuration → Type 0
+    Result Configuration Why → Result (Unit {0}) Why → Configuration → Configuration → Type 0
 SetsTo said (Ok done) old new = said ≡ Ok new
 SetsTo said (Err why) old new = (said ≡ Err why) × (new ≡ old)

@@ -50,7 +50,7 @@ pub record IsTrace (cpus : ℕ) (lines : List TraceLine) : Type 0 where
 -- What each accepted trace has: the configuration lines were accepted, the grants stand beside the pool, and the run lines keep the limits.
 pub record IsAccepted (t : AcceptedTrace) : Type 0 where
   pub configured :
-    IsConfigured
+      IsConfigured
       t.config.order t.config.limit t.config.cpus
       t.config.granted.pool_base t.config.granted.pool_order t.config.granted
   pub sound : IsSound t.config.granted

@@ -19,7 +19,7 @@ mod why;
 
 pub use config::Config;
 pub use numbers::number;
-pub use parser::{TraceError, parse};
+pub use parser::{MOST_BYTES, TraceError, parse};
 pub use trace::{Act, Trace, TraceLine, TraceLines};
 pub use why::Why;
 

@@ -10,7 +10,7 @@ use crate::why::Why;
 use std::alloc::Global;
 
 /// The most bytes that an input may have.
-const MOST_BYTES: usize = 16_777_216;
+pub const MOST_BYTES: usize = 16_777_216;
 
 /// Why an input gives no trace.
 #[derive(Debug, Drop)]

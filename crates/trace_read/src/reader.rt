@@ -40,15 +40,11 @@ impl Model for Reader {
 
     ghost Value = { Reading };
 
-    ghost view = {
-        λ r. record { taken = r.taken; stage = r.stage; config = r.settings; lines = r.lines }
-    };
+    ghost view = { λ r. record { taken = r.taken; stage = r.stage; config = r.settings; lines = r.lines } };
 
-    ghost invariant = {
-        λ r.
-          IsReading
-            (record { taken = r.taken; stage = r.stage; config = r.settings; lines = r.lines })
-    };
+    ghost invariant = { λ r.
+        IsReading
+        (record { taken = r.taken; stage = r.stage; config = r.settings; lines = r.lines }) };
 }
 
 impl Reader {
@@ -149,12 +145,10 @@ impl Reader {
 
     fn take_order(&mut self, words: &[&[u8]]) -> Result<(), Stop>
         requires { is_first self.old.stage ≡ true }
-        ensures {
-            ReadsTo
-              (set_to self.old Stage.Limit (with_order self.old.config (texts words.now)))
-              result
-              self.new
-        }
+        ensures { ReadsTo
+            (set_to self.old Stage.Limit (with_order self.old.config (texts words.now)))
+            result
+            self.new }
     {
         self.settings.take_order(words)?;
         self.stage = Stage::Limit;
@@ -163,12 +157,10 @@ impl Reader {
 
     fn take_limit(&mut self, words: &[&[u8]]) -> Result<(), Stop>
         requires { is_running self.old.stage ≡ false }
-        ensures {
-            ReadsTo
-              (set_to self.old Stage.Cpus (with_limit self.old.config (texts words.now)))
-              result
-              self.new
-        }
+        ensures { ReadsTo
+            (set_to self.old Stage.Cpus (with_limit self.old.config (texts words.now)))
+            result
+            self.new }
     {
         self.settings.take_limit(words)?;
         self.stage = Stage::Cpus;
@@ -177,12 +169,10 @@ impl Reader {
 
     fn take_cpus(&mut self, words: &[&[u8]]) -> Result<(), Stop>
         requires { is_running self.old.stage ≡ false }
-        ensures {
-            ReadsTo
-              (set_to self.old Stage.Pool (with_cpus self.old.config (texts words.now)))
-              result
-              self.new
-        }
+        ensures { ReadsTo
+            (set_to self.old Stage.Pool (with_cpus self.old.config (texts words.now)))
+            result
+            self.new }
     {
         self.settings.take_cpus(words)?;
         self.stage = Stage::Pool;
@@ -191,12 +181,10 @@ impl Reader {
 
     fn take_pool(&mut self, words: &[&[u8]]) -> Result<(), Stop>
         requires { is_running self.old.stage ≡ false }
-        ensures {
-            ReadsTo
-              (set_to self.old Stage.Grants (with_pool self.old.config (texts words.now)))
-              result
-              self.new
-        }
+        ensures { ReadsTo
+            (set_to self.old Stage.Grants (with_pool self.old.config (texts words.now)))
+            result
+            self.new }
     {
         self.settings.take_pool(words)?;
         self.stage = Stage::Grants;
@@ -205,12 +193,10 @@ impl Reader {
 
     fn take_grant(&mut self, kind: Kind, words: &[&[u8]]) -> Result<(), Stop>
         requires { is_running self.old.stage ≡ false }
-        ensures {
-            ReadsTo
-              (set_to self.old Stage.Grants (with_granted self.old.config kind (texts words.now)))
-              result
-              self.new
-        }
+        ensures { ReadsTo
+            (set_to self.old Stage.Grants (with_granted self.old.config kind (texts words.now)))
+            result
+            self.new }
     {
         self.settings.take_grant(kind, words)?;
         self.stage = Stage::Grants;
@@ -219,12 +205,10 @@ impl Reader {
 
     fn take_begin(&mut self, words: &[&[u8]]) -> Result<(), Stop>
         requires { is_running self.old.stage ≡ false }
-        ensures {
-            ReadsTo
-              (set_to self.old Stage.Lines (with_begin self.old.config (texts words.now)))
-              result
-              self.new
-        }
+        ensures { ReadsTo
+            (set_to self.old Stage.Lines (with_begin self.old.config (texts words.now)))
+            result
+            self.new }
     {
         self.settings.take_begin(words)?;
         self.stage = Stage::Lines;
@@ -236,12 +220,10 @@ impl Reader {
         requires few { length self.old.lines < self.old.taken }
         requires place { is_running self.old.stage ≡ true }
         requires named { IsNamedForm (Form.Run verb) }
-        ensures {
-            ReadsTo
-              (after_act self.old (run_act self.old.config.cpus verb (texts words.now)))
-              result
-              self.new
-        }
+        ensures { ReadsTo
+            (after_act self.old (run_act self.old.config.cpus verb (texts words.now)))
+            result
+            self.new }
     {
         let (cpu, act) = run_act(self.settings.cpus(), verb, words)?;
         self.add(cpu, act)

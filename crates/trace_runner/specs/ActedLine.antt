@@ -11,13 +11,13 @@ use Rattle.run_model.specs.SerialRun.{line_result}
 
 -- The reply and the states after it are the serial run's, and the reply's receipts lead there.
 pub record IsActed
-  (context : AccessContext)
-  (processor : Processor)
-  (a : List State)
-  (act : Act)
-  (r : Reply)
-  (b : List State)
-  : Type 0
+    (context : AccessContext)
+    (processor : Processor)
+    (a : List State)
+    (act : Act)
+    (r : Reply)
+    (b : List State)
+    : Type 0
   where
-  pub reply : (r, b) ≡ line_result context processor a act
-  pub run : IsRun a (receipts_in r) b
+    pub reply : (r, b) ≡ line_result context processor a act
+    pub run : IsRun a (receipts_in r) b

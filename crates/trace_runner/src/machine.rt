@@ -10,10 +10,10 @@ use entry_model::HReply;
 use papr_codes::{Hcall, Rc};
 use papr_table::PlainTable;
 use partition::Partition;
-use trace_reply::{Reply, Shown};
 use std::alloc::{AllocError, Global};
 use std::marker::Model;
 use trace_read::{Act, Config, TraceLine};
+use trace_reply::{Reply, Shown};
 use vcpu::Cpu;
 
 /// A partition with its processors, between two lines.
@@ -83,9 +83,7 @@ impl Machine {
         requires cpu { line.now.cpu < length self.old.processors }
         requires number { self.old.memory.table.number < 2 ^ 32 - 1 }
         ensures reply { OnOk result ((reply.new, self.new) ≡ run_line self.old line.now) }
-        ensures number {
-            OnOk result (self.new.memory.table.number ≤ self.old.memory.table.number + 1)
-        }
+        ensures number { OnOk result (self.new.memory.table.number ≤ self.old.memory.table.number + 1) }
         ensures cpus { OnOk result (length self.new.processors ≡ length self.old.processors) }
     {
         if line.act.is_quiet() {
@@ -126,9 +124,7 @@ impl Machine {
         requires quiet { is_quiet act.now ≡ true }
         requires number { self.old.memory.table.number < 2 ^ 32 - 1 }
         ensures reply { OnOk result ((reply.new, self.new) ≡ run_quiet_line self.old act.now) }
-        ensures number {
-            OnOk result (self.new.memory.table.number ≤ self.old.memory.table.number + 1)
-        }
+        ensures number { OnOk result (self.new.memory.table.number ≤ self.old.memory.table.number + 1) }
         ensures cpus { OnOk result (length self.new.processors ≡ length self.old.processors) }
     {
         match *act {
@@ -144,14 +140,10 @@ impl Machine {
     #[tactic(auto, unfolding(run_model::specs::RunState::run_resize))]
     fn resize(&mut self, alloc: Global, hcall: Hcall, args: &[u64; 8]) -> Result<HReply, AllocError>
         requires number { self.old.memory.table.number < 2 ^ 32 - 1 }
-        ensures reply {
-            IfOk
-              result
-              (λ reply. (Reply.Hcall reply, self.new) ≡ run_resize self.old hcall args.now)
-        }
-        ensures number {
-            OnOk result (self.new.memory.table.number ≤ self.old.memory.table.number + 1)
-        }
+        ensures reply { IfOk
+            result
+            (λ reply. (Reply.Hcall reply, self.new) ≡ run_resize self.old hcall args.now) }
+        ensures number { OnOk result (self.new.memory.table.number ≤ self.old.memory.table.number + 1) }
         ensures cpus { OnOk result (length self.new.processors ≡ length self.old.processors) }
     {
         match hcall {

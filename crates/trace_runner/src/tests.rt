@@ -1,11 +1,11 @@
 use crate::{Ran, run_serial, run_to_text, run_with_table};
 use entry_model::EntryState;
-use trace_reply::Reply;
 use reply_text::text_of;
 use std::alloc::Global;
 use std::fmt::Write;
 use std::test::Fail;
 use trace_read::{Trace, TraceError, parse};
+use trace_reply::Reply;
 
 fn accepted(alloc: Global, input: &str) -> Result<Trace, Fail> {
     match parse(alloc, input.as_bytes()) {

@@ -1,5 +1,5 @@
 use Rattle.std.proofs.Common.{◌≡◌, ◌+◌, ◌≤◌, ◌++◌, ℕ, List, length, take, arith, rules, vec_len}
-use Rattle.trace_io.specs.Outside.{took_more}
+use Rattle.trace_io.proofs.Twice.{took_more}
 use Rattle.trace_io.proofs.Pieces.{joined_length}
 use Rattle.trace_io.proofs.reading.read_all.Goals as goal
 

@@ -1,5 +1,5 @@
 use Rattle.std.proofs.Common.{take, arith, rules}
-use Rattle.trace_io.specs.Outside.{put_more}
+use Rattle.trace_io.proofs.Twice.{put_more}
 use Rattle.trace_io.proofs.Pieces.{front_more}
 use Rattle.trace_io.proofs.writing.write_all.Goals as goal
 

@@ -1,0 +1,138 @@
+-- By which step of the machine the table goes on, at each atomic operation.
+use Rattle.std.specs.Prelude.{is_none, option_map, if◌then◌else◌}
+use Rattle.std.proofs.Common.{◌≡◌, ℕ, ◌<◌, ◌==◌, ◌&&◌, not, Bool, true, false, List, [], ◌∷◌, length, set, get_or, ⊎_elim, refl, sym, ap, ◌∙◌, subst, arith, find}
+use Rattle.std.proofs.lemmas.Bool.{false≢true, and_parts, ltb-true}
+use mathlib.Core.Logic.{dite}
+use native.Mathlib.Decide.{ℕ_discrete}
+use Rattle.atomic_table.specs.Table.{State as TableState}
+use Rattle.entry_model.specs.declared.operation.Op.{Op}
+use Rattle.entry_model.specs.Receipt.{is_access}
+use Rattle.lock_core.specs.declared.doing.Doing.{Doing}
+use Rattle.lock_core.specs.declared.error.CoreError.{CoreError}
+use Rattle.lock_core.specs.declared.error.CoreError.TheVariants.{Actor as ActorFault, Entry as EntryFault, Phase as PhaseFault}
+use Rattle.lock_core.specs.declared.phase.Phase.{Phase}
+use Rattle.lock_core.specs.declared.phase.Phase.TheVariants.{Idle, Held, HeldShut, Looked}
+use Rattle.lock_core.specs.declared.step.Step.{Step}
+use Rattle.lock_core.specs.declared.step.Step.TheVariants.{Lock, Look, LoadData, Shut, StoreData, Settle, Release, Mark}
+use Rattle.lock_core.specs.Words.{is_still}
+use Rattle.lock_core.specs.Machine.{Actor, Machine, actor_at, entry_at, in_table}
+use Rattle.lock_core.specs.Steps.{entry_of, fits, may_act, names_entry, fits_phase, refusal, refusals, is_allowed}
+use Rattle.lock_core.proofs.Noted.{not_is}
+use Rattle.entry_lock.specs.declared.rule.View.{View}
+use Rattle.entry_lock.specs.declared.rule.Opening.{Opening}
+use Rattle.entry_lock.specs.Layout.{word_of, control_place}
+use Rattle.entry_lock.specs.Views.{states_of}
+use Rattle.entry_lock.specs.Rule.{Shows, machine_after}
+use Rattle.entry_lock.specs.HolderSteps.{LockTells}
+use Rattle.entry_lock.specs.AccessSteps.{AreAlike, LookTells, SecondLookTells, MarkTells}
+use Rattle.entry_lock.specs.Operations.{marked_word, operation_of, words_after}
+use Rattle.entry_lock.specs.Laws.{ShowsPass, TablesOpenOnTheirStates, EachOperationIsAStep, LooksThatFindGoneAreNoSteps, SplitsAreSteps, JoinsAreSteps}
+use Rattle.entry_lock.proofs.ViewLists.{bool_is}
+use Rattle.entry_lock.proofs.MachineMoves.{may_is, phase_is, actor_is}
+use Rattle.entry_lock.proofs.Turns.{kept, me}
+use Rattle.entry_lock.proofs.HolderOperations.{lock_step, load_step, shut_step, store_step, settle_step, release_step, stored_numbers}
+use Rattle.entry_lock.proofs.AccessOperations.{look_step, looked_load_step, look_again_step, mark_step}
+use Rattle.entry_lock.proofs.LineOperations.{raise_shown}
+use Rattle.entry_lock.proofs.SplitsAndJoins.{shows_split, shows_join}
+use Rattle.entry_lock.proofs.Openings.{opens}
+use prog.Atomic.{either}
+
+-- ---- what an allowed step says
+three_right : (a b c : Bool) → is_none (option_map (λ (row : Bool × CoreError). row.1) (find (λ (row : Bool × CoreError). row.0) ((not a, ActorFault) ∷ (not b, EntryFault) ∷ (not c, PhaseFault) ∷ []))) ≡ true → (a ≡ true) × (b ≡ true) × (c ≡ true)
+three_right true true true h = (refl, refl, refl)
+three_right true true false h = absurd (false≢true h)
+three_right true false c h = absurd (false≢true h)
+three_right false b c h = absurd (false≢true h)
+
+allowed_parts : (m : Machine) (i : ℕ) (s : Step) → is_allowed m i s ≡ true → (may_act m i s ≡ true) × (names_entry m s ≡ true) × (fits_phase m i s ≡ true)
+unfolding is_allowed refusal refusals
+allowed_parts m i s h = three_right (may_act m i s) (names_entry m s) (fits_phase m i s) h
+
+-- ---- a step leaves the numbers of its pass
+lock_numbers : (op : Op) (e : ℕ) (v : View) (found : ℕ) (w : View) → LockTells op e v found w → w.numbers ≡ v.numbers
+lock_numbers op e v found w t = ⊎_elim {C = w.numbers ≡ v.numbers} (λ (q : t.0.locked ≡ true). ap (λ (z : View). z.numbers) (t.3 q)) (λ (q : t.0.locked ≡ false). ap (λ (z : View). z.numbers) (t.4 q)) (bool_is t.0.locked)
+
+look_numbers : (op : Op) (e : ℕ) (v : View) (found : ℕ) (w : View) → LookTells op e v found w → w.numbers ≡ v.numbers
+look_numbers op e v found w t = ⊎_elim {C = w.numbers ≡ v.numbers} (λ (q : t.0.shut ≡ true). ap (λ (z : View). z.numbers) (t.3 q)) (λ (q : t.0.shut ≡ false). ap (λ (z : View). z.numbers) (t.4 q).1) (bool_is t.0.shut)
+
+second_numbers : (d : Doing) (v : View) (found : ℕ) (w : View) → SecondLookTells d v found w → w.numbers ≡ v.numbers
+second_numbers d v found w t = dite {C = w.numbers ≡ v.numbers} (ℕ_discrete found (word_of d.noted)) (λ hit. ap (λ (z : View). z.numbers) (t.3 hit).0)
+    (λ miss. ⊎_elim {C = w.numbers ≡ v.numbers} (λ (q : is_still t.0 d ≡ true). ap (λ (z : View). z.numbers) (t.4 miss q).0) (λ (q : is_still t.0 d ≡ false). ap (λ (z : View). z.numbers) (t.5 miss q)) (bool_is (is_still t.0 d)))
+
+mark_numbers : (d : Doing) (v : View) (found : ℕ) (w : View) → MarkTells d v found w → w.numbers ≡ v.numbers
+mark_numbers d v found w t = dite {C = w.numbers ≡ v.numbers} (ℕ_discrete found (word_of d.noted)) (λ hit. ap (λ (z : View). z.numbers) (t.3 hit).0) (λ miss. ap (λ (z : View). z.numbers) (t.4 miss))
+
+alike_self : (d : Doing) → AreAlike d d
+alike_self d = record { entry = refl; op = refl; noted = refl; first = refl; second = refl; read = λ h. h; words = λ h. (refl, refl) }
+
+either_if : (b : Bool) (x y : ℕ) → either b x y ≡ (if b then x else y)
+either_if true x y = refl
+either_if false x y = refl
+
+-- ---- a step by the phase of the pass
+module _ (key : Opening) (steps : List (ℕ × Step)) (words : List ℕ) (views : List View) (j n : ℕ) (v : View) (shown : ShowsPass key steps words views j n v) where
+  abbrev s : TableState ℕ View
+  s = record { words = words; homes = []; views = views }
+
+  abbrev C : Machine
+  C = machine_after key steps
+
+  abbrev Result : Phase → Step → Type 0
+  Result p step = (w : View) × (w.numbers ≡ v.numbers) × Shows key (machine_after key ((n, step) ∷ steps)) (words_after words (operation_of p step)) (set views j w)
+
+  inside_if : (e : ℕ) → in_table C e ≡ true → e < length (states_of key)
+  inside_if e h = let l = ltb-true e (length C.entries) h in let k = (kept key s steps shown.shows j n shown.others v shown.pass shown.numbers).1.size in omega arith
+
+  by_phase : (p : Phase) (step : Step) → v.actor.phase ≡ p → v.actor.live ≡ true → names_entry C step ≡ true → in_table C (entry_of p step) ≡ true → fits (entry_at C (entry_of p step)) p step ≡ true → Result p step
+  unfolding fits
+  by_phase Idle (Lock e op) is live names inside fit =
+      let l = lock_step key s steps shown.shows j n shown.others v shown.pass shown.numbers live e op (inside_if e inside) is (not_is (is_access op) fit) in (l.0, lock_numbers op e v _ l.0 l.2, l.1)
+  by_phase Idle (Look e op) is live names inside fit =
+      let l = look_step key s steps shown.shows j n shown.others v shown.pass shown.numbers live e op (inside_if e inside) is fit in (l.0, look_numbers op e v _ l.0 l.2, l.1)
+  by_phase (Held d) (LoadData second) is live names inside fit =
+      let l = load_step key s steps shown.shows j n shown.others v shown.pass shown.numbers live d second (inside_if d.entry inside) is fit in (l.0, ap (λ (z : View). z.numbers) l.2, l.1)
+  by_phase (Held d) Shut is live names inside fit =
+      let l = shut_step key s steps shown.shows j n shown.others v shown.pass shown.numbers live d (inside_if d.entry inside) is fit in (l.0, ap (λ (z : View). z.numbers) l.2.4, l.1)
+  by_phase (Held d) Release is live names inside fit =
+      let l = release_step key s steps shown.shows j n shown.others v shown.pass shown.numbers live d (inside_if d.entry inside) is fit in (l.0, ap (λ (z : View). z.numbers) l.2.4, l.1)
+  by_phase (HeldShut d) (StoreData second) is live names inside fit =
+      let l = store_step key s steps shown.shows j n shown.others v shown.pass shown.numbers live d second _ (inside_if d.entry inside) is refl in (l.0, ap (λ (z : View). z.numbers) l.2 ∙ stored_numbers second v, l.1)
+  by_phase (HeldShut d) Settle is live names inside fit =
+      let l = settle_step key s steps shown.shows j n shown.others v shown.pass shown.numbers live d _ (inside_if d.entry inside) is fit refl in (l.0, ap (λ (z : View). z.numbers) l.2.0, l.1)
+  by_phase (Looked d) (LoadData second) is live names inside fit =
+      let l = looked_load_step key s steps shown.shows j n shown.others v shown.pass shown.numbers live d second (inside_if d.entry inside) is fit in (l.0, ap (λ (z : View). z.numbers) l.2, l.1)
+  by_phase (Looked d) (Look e op) is live names inside fit =
+      let may = and_parts _ _ (and_parts _ _ fit).1 in
+      let l = look_again_step key s steps shown.shows j n shown.others v shown.pass shown.numbers live d d (inside_if d.entry inside) is (alike_self d) may.0 e op names fit (not_is _ may.1) in (l.0, second_numbers d v _ l.0 l.2, l.1)
+  by_phase (Looked d) Mark is live names inside fit =
+      let may = and_parts _ _ fit in
+      let l = mark_step key s steps shown.shows j n shown.others v shown.pass shown.numbers live d d (inside_if d.entry inside) is (alike_self d) may.0 (marked_word d) may.1 refl in
+      let found : ℕ = get_or words (control_place d.entry) 0 in
+      (l.0, mark_numbers d v _ l.0 l.2, subst (λ m. Shows key (machine_after key ((n, Mark) ∷ steps)) (set words (control_place d.entry) m) (set views j l.0)) (either_if (found == word_of d.noted) (marked_word d) found) l.1)
+  by_phase p step is live names inside fit = absurd (false≢true fit)
+
+-- ---- the laws
+pub each_is_a_step : EachOperationIsAStep
+each_is_a_step key steps words views j n v step shown on ok =
+    let m : Machine = machine_after key steps in
+    let parts = allowed_parts m n step ok in
+    let actor : actor_at m n ≡ v.actor = actor_is m n v.actor (me key (record { words = words; homes = []; views = views }) steps shown.shows j n shown.others v shown.pass shown.numbers) in
+    let live : v.actor.live ≡ true = ap (λ (a : Actor). a.live) (sym actor) ∙ sym (may_is m n step on) ∙ parts.0 in
+    let fit : (in_table m (entry_of v.actor.phase step) && fits (entry_at m (entry_of v.actor.phase step)) v.actor.phase step) ≡ true =
+    ap (λ (a : Actor). in_table m (entry_of a.phase step) && fits (entry_at m (entry_of a.phase step)) a.phase step) (sym actor) ∙ sym (phase_is m n step on) ∙ parts.2 in
+    let both = and_parts _ _ fit in
+    by_phase key steps words views j n v shown v.actor.phase step refl live parts.1 both.0 both.1
+
+pub looks_are_none : LooksThatFindGoneAreNoSteps
+looks_are_none key steps words views j n v cached noted shown idle inside seen means gone =
+    raise_shown key (record { words = words; homes = []; views = views }) steps shown.shows j n shown.others v shown.pass shown.numbers cached noted _ inside seen idle means gone refl refl refl refl refl
+
+pub splits_are : SplitsAreSteps
+splits_are key steps words views j n m v ms shows at mine idle live = shows_split key (record { words = words; homes = []; views = views }) steps shows j n v at m ms mine idle live
+
+pub joins_are : JoinsAreSteps
+joins_are key steps words views j k n m v w shown idle live other idle' live' away =
+    shows_join key (record { words = words; homes = []; views = views }) steps shown.shows j n v shown.pass shown.others shown.numbers idle live k m w other.others away other.pass other.numbers idle' live'
+
+pub tables_open : TablesOpenOnTheirStates
+tables_open = opens

@@ -1,0 +1,38 @@
+//! The laws of the table. Each function does nothing, and its contract is the law.
+//!
+//! Between any two atomic operations the words and the passes' views show a state of `lock_core`'s
+//! machine that a list of its steps reaches: that is [`crate::LockRule`]. The first five laws say
+//! that this list begins empty, and by which step it grows at each operation.
+
+ghost use Rattle.entry_lock.specs.Laws.{TablesOpenOnTheirStates, EachOperationIsAStep, LooksThatFindGoneAreNoSteps, SplitsAreSteps, JoinsAreSteps, RaisedBitsStand};
+
+/// A table that opens shows the machine that has taken no step.
+pub fn tables_open_on_their_states()
+    ensures { TablesOpenOnTheirStates }
+{}
+
+/// Each step on an entry that the machine allows is one atomic operation on one word.
+pub fn each_operation_is_a_step()
+    ensures { EachOperationIsAStep }
+{}
+
+/// A first look by a cached line that finds the entry gone is no step of the machine.
+pub fn looks_that_find_gone_are_no_steps()
+    ensures { LooksThatFindGoneAreNoSteps }
+{}
+
+/// A split of a pass is the machine's split.
+pub fn splits_are_steps()
+    ensures { SplitsAreSteps }
+{}
+
+/// A join of two passes is the machine's join.
+pub fn joins_are_steps()
+    ensures { JoinsAreSteps }
+{}
+
+/// In the histories that `LockTable::close` gives, a bit that stands after a receipt stands in each
+/// later state before, up to and with that of the first receipt that clears it.
+pub fn raised_bits_stand()
+    ensures { RaisedBitsStand }
+{}

@@ -1,0 +1,61 @@
+//! What the words of the program say.
+use std::alloc::Global;
+use std::rt::Env;
+use std::{env, io};
+
+/// A kind of table.
+#[derive(Clone, Copy, PartialEq, Eq)]
+pub enum Kind {
+    Plain,
+    Mutex,
+    Lock,
+}
+
+/// One run.
+#[derive(Clone, Copy)]
+pub struct Run {
+    pub kind: Kind,
+    pub threads: u32,
+    pub apart: bool,
+    pub order: u8,
+    pub tries: u32,
+}
+
+fn kind_of(word: &str) -> Option<Kind> {
+    match word {
+        "plain" => Some(Kind::Plain),
+        "mutex" => Some(Kind::Mutex),
+        "lock" => Some(Kind::Lock),
+        _ => None,
+    }
+}
+
+fn place_of(word: &str) -> Option<bool> {
+    match word {
+        "apart" => Some(true),
+        "shared" => Some(false),
+        _ => None,
+    }
+}
+
+fn run_of(words: &[String]) -> Option<Run> {
+    if words.len() != 5 {
+        return None;
+    }
+    Some(Run {
+        kind: kind_of(words[0].as_str())?,
+        threads: words[1].as_str().parse().ok()?,
+        apart: place_of(words[2].as_str())?,
+        order: words[3].as_str().parse().ok()?,
+        tries: words[4].as_str().parse().ok()?,
+    })
+}
+
+/// The words behind the program's name, if there are any.
+pub fn read(rt: &(impl Env + Alloc<A = Global>)) -> io::Result<(bool, Option<Run>)> {
+    let mut words = Vec::new(rt.alloc());
+    for word in env::args(rt)?.skip(1) {
+        words.push(word)?;
+    }
+    Ok((words.is_empty(), run_of(words.as_slice())))
+}

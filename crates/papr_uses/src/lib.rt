@@ -24,3 +24,6 @@ pub use resizing::resize;
 pub use segments::only_segment;
 pub use tables::{enter_and_read, enter_and_remove, entry_of_page};
 pub use traces::{text_of_bytes, text_of_seed};
+
+#[cfg(test)]
+mod tests;

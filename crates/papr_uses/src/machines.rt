@@ -13,7 +13,9 @@ use std::alloc::Global;
 /// Takes a step, or leaves it out where it isn't allowed.
 #[tactic(auto, unfolding(lock_core::specs::Steps::after_step, lock_core::specs::Steps::is_allowed))]
 fn try_step(core: &mut Core, alloc: Global, actor: u32, step: Step) -> Result<(), CoreError>
-    ensures { OnOk result (core.new ≡ after_step core.old actor step) }
+    ensures after { OnOk result (core.new ≡ after_step core.old actor step) }
+    ensures entries { length core.new.entries ≡ length core.old.entries }
+    ensures actors { length core.new.actors ≡ length core.old.actors }
 {
     match core.step(alloc, actor, step) {
         Err(CoreError::Memory) => Err(CoreError::Memory),
@@ -32,6 +34,8 @@ pub fn machine_after(
     requires { All IsFair states.now }
     ensures ran { IfOk result (λ core. core ≡ run (opening_machine states.now actors) (reverse steps.now)) }
     ensures legal { IfOk result (λ core. (e : ℕ) → e < length states.now → IsLegal (state_at states.now e) (history e (receipts_of core.actors)) (published_state core e)) }
+    ensures entries { IfOk result (λ core. length core.entries ≡ length states.now) }
+    ensures actors { IfOk result (λ core. length core.actors ≡ actors) }
 {
     every_history_is_legal();
     let mut core = Core::new(alloc, states, actors)?;

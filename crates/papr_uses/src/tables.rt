@@ -27,6 +27,7 @@ pub fn enter_and_read(table: &mut PlainTable, index: u64, dword0: u64, dword1: u
     requires fresh { (state_at table.old.states index).stamp < 2 ^ 32 - 1 }
     ensures code { result.rc ≡ Success }
     ensures words { result.words ≡ dword0 ∷ dword1 ∷ [] }
+    ensures order { table.new.order ≡ table.old.order }
 {
     let _entered = enter_words(table, EXACT, index, dword0, dword1);
     h_read(table, 0, index)
@@ -40,6 +41,7 @@ pub fn enter_and_remove(table: &mut PlainTable, index: u64, dword0: u64, dword1:
     requires fresh { (state_at table.old.states index).stamp + 1 < 2 ^ 32 - 1 }
     ensures code { result.rc ≡ Success }
     ensures words { result.words ≡ dword0 ∷ dword1 ∷ [] }
+    ensures order { table.new.order ≡ table.old.order }
     ensures again { let stamp = (state_at table.old.states index).stamp + 2 in table.new.states ≡ slice_set table.old.states index (empty_state stamp) }
 {
     let _entered = enter_words(table, EXACT, index, dword0, dword1);

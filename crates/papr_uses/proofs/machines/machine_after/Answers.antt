@@ -16,7 +16,11 @@ one_more m core new steps i d within before step =
 
 pub loop-actor-init : goal.loop-actor-init
 unfolding run
-loop-actor-init c = c.in_ok-core.ensures.ok
+loop-actor-init c = record { after = c.in_ok-core.ensures.ok; entries = c.in_ok-core.ensures.entries; actors = c.in_ok-core.ensures.actors }
 
 pub loop-actor-preserved : goal.loop-actor-preserved
-loop-actor-preserved c = one_more _ _ _ _ _ _ c.loop-actor-test.true c.loop-actor.invariant c.in_ok-try_step.ensures
+loop-actor-preserved c = record {
+  after = one_more _ _ _ _ _ _ c.loop-actor-test.true c.loop-actor.invariant.after c.in_ok-try_step.ensures.after;
+  entries = c.in_ok-try_step.ensures.entries ∙ c.loop-actor.invariant.entries;
+  actors = c.in_ok-try_step.ensures.actors ∙ c.loop-actor.invariant.actors;
+}

@@ -7,7 +7,8 @@ use papr_table::PlainTable;
 use storage_prot::Want;
 use vcpu::Cpu;
 
-/// An access of a new processor, which has no segment: it ends at once, and the table stays as it is.
+/// An access of a new processor, which has no segment: it ends at once, and the table stays as it
+/// is.
 pub fn first_access(table: &mut PlainTable, grants: &Grants, ea: u64) -> AccessReply
     ensures outcome { result.outcome ≡ NoSegment }
     ensures receipts { result.receipts ≡ [] }

@@ -32,8 +32,18 @@ pub fn machine_after(
     steps: &[(u32, Step)],
 ) -> Result<Core, CoreError>
     requires { All IsFair states.now }
-    ensures ran { IfOk result (λ core. core ≡ run (opening_machine states.now actors) (reverse steps.now)) }
-    ensures legal { IfOk result (λ core. (e : ℕ) → e < length states.now → IsLegal (state_at states.now e) (history e (receipts_of core.actors)) (published_state core e)) }
+    ensures ran { IfOk
+        result
+        (λ core. core ≡ run (opening_machine states.now actors) (reverse steps.now)) }
+    ensures legal { IfOk
+        result
+        (λ core.
+        (e : ℕ)
+        → e < length states.now
+        → IsLegal
+        (state_at states.now e)
+        (history e (receipts_of core.actors))
+        (published_state core e)) }
     ensures entries { IfOk result (λ core. length core.entries ≡ length states.now) }
     ensures actors { IfOk result (λ core. length core.actors ≡ actors) }
 {

@@ -22,7 +22,9 @@ pub fn take_pair(pool: &mut Pool, first: u8, second: u8) -> Option<(u64, u64)>
     requires first_high { first ≤ 46 }
     requires second_low { 18 ≤ second }
     requires second_high { second ≤ 46 }
-    ensures apart { IfSome result (λ places. overlap (block_at places.1 second) (block_at places.0 first) ≡ false) }
+    ensures apart { IfSome
+        result
+        (λ places. overlap (block_at places.1 second) (block_at places.0 first) ≡ false) }
     ensures first { IfSome result (λ places. Contains pool.new.taken (block_at places.0 first)) }
     ensures second { IfSome result (λ places. Contains pool.new.taken (block_at places.1 second)) }
     ensures neither { IfNone result (pool.new ≡ pool.old) }

@@ -9,8 +9,8 @@ use std::alloc::{AllocError, Global};
 /// The most calls that make the largest table ready.
 const MOST_CALLS: u32 = 16;
 
-/// Makes a table of `2^shift` bytes ready, and then the partition's own. Where a call is refused, or
-/// memory ends, the partition keeps its table.
+/// Makes a table of `2^shift` bytes ready, and then the partition's own. Where a call is refused,
+/// or memory ends, the partition keeps its table.
 pub fn resize(partition: &mut Partition, alloc: Global, shift: u64) -> Result<Rc, AllocError>
     requires has_states { HasStates partition.old }
     requires number { partition.old.memory.table.number < 2 ^ 32 - 1 }

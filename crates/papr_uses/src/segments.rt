@@ -7,7 +7,11 @@ use slb_model::{BadSlb, Segment, Slb};
 /// Writes the one segment of a buffer, and asks for the segment of an address: there is one exactly
 /// where the words describe a valid slot that covers the address.
 pub fn only_segment(slb: &mut Slb, rb: u64, rs: u64, ea: u64) -> Result<Option<Segment>, BadSlb>
-    ensures { IfOk result (λ segment. is_some segment ≡ (is_valid rb && option_map_or (covers ea) (slot_of_words rb rs) false)) }
+    ensures { IfOk
+        result
+        (λ segment.
+        is_some segment
+        ≡ (is_valid rb && option_map_or (covers ea) (slot_of_words rb rs) false)) }
 {
     slb.clear();
     slb.mte(rb, rs)?;

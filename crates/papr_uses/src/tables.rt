@@ -42,7 +42,8 @@ pub fn enter_and_remove(table: &mut PlainTable, index: u64, dword0: u64, dword1:
     ensures code { result.rc ≡ Success }
     ensures words { result.words ≡ dword0 ∷ dword1 ∷ [] }
     ensures order { table.new.order ≡ table.old.order }
-    ensures again { let stamp = (state_at table.old.states index).stamp + 2 in table.new.states ≡ slice_set table.old.states index (empty_state stamp) }
+    ensures again { let stamp = (state_at table.old.states index).stamp + 2 in
+        table.new.states ≡ slice_set table.old.states index (empty_state stamp) }
 {
     let _entered = enter_words(table, EXACT, index, dword0, dword1);
     h_remove(table, 0, index, 0)
@@ -51,7 +52,8 @@ pub fn enter_and_remove(table: &mut PlainTable, index: u64, dword0: u64, dword1:
 /// The first entry that translates a page, in the order of a walk, if one does.
 pub fn entry_of_page(table: &mut PlainTable, page: &Page) -> Option<u32>
     requires { AllByRecursion IsEntryState table.old.states }
-    ensures { let ts = translations table.old.order table.old.states in result ≡ find (is_paired ts page.now) (walk_entries table.old.order page.now) }
+    ensures { let ts = translations table.old.order table.old.states in
+        result ≡ find (is_paired ts page.now) (walk_entries table.old.order page.now) }
 {
     let _order = table.order();
     let _vsid = page.vsid();

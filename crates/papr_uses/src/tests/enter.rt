@@ -164,8 +164,8 @@ const IN_TURN: &[Row] = &[
     },
 ];
 
-/// Doubleword 1, and whether it is taken: no bit on storage; W, I and M there; W and M there; I on a
-/// device; I and M there.
+/// Doubleword 1, and whether it is taken: no bit on storage; W, I and M there; W and M there; I on
+/// a device; I and M there.
 const CONTROL_BITS: &[(u64, Rc)] = &[
     (0x3002, Rc::Parameter),
     (0x3072, Rc::Success),

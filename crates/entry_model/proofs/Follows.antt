@@ -6,7 +6,7 @@ use Rattle.entry_model.specs.declared.operation.Answer.{Answer}
 use Rattle.entry_model.specs.declared.operation.Answer.TheVariants.{Entered, Taken, Removed, Protected, Was, NotFound, NoMatch, Denied, At, Worn}
 use Rattle.entry_model.specs.declared.operation.Op.{Op}
 use Rattle.entry_model.specs.declared.operation.Op.TheVariants.{Enter, Remove, Protect, Read, ClearRef, ClearMod, Access}
-use Rattle.entry_model.specs.Reply.{reply_of, change_to, change_where, entered_state, is_found, is_match, answer_of_match, touched_state, is_store}
+use Rattle.entry_model.specs.Reply.{reply_of, change_to, change_where, entered_state, is_found, is_match, answer_of_match, touched_state, is_store, access_mode}
 use Rattle.entry_model.specs.History.{bits}
 use Rattle.hpte_fields.specs.Fields.{protected_word, pp_of, is_no_execute}
 use Rattle.storage_prot.specs.declared.want.Want.{Want}
@@ -96,4 +96,4 @@ reply_follows s Read = stays s
 reply_follows s ClearRef = where_follows s.valid s Was (record s { referenced = false })
 reply_follows s ClearMod = where_follows s.valid s Was (record s { changed = false })
 reply_follows s (Access tag base key no_execute want) =
-    either_follows (is_match s tag base) s (answer_of_match s key no_execute want) (NoMatch, s) (either_follows (allowed (pp_of s.dword1) key (no_execute || is_no_execute s.dword1) want) s (At, touched_state s want) (Denied, s) (inl (touched_further s want)) (stays s)) (stays s)
+    either_follows (is_match s tag base) s (answer_of_match s (access_mode key no_execute want)) (NoMatch, s) (either_follows (allowed (pp_of s.dword1) key (no_execute || is_no_execute s.dword1) want) s (At, touched_state s want) (Denied, s) (inl (touched_further s want)) (stays s)) (stays s)

@@ -8,6 +8,7 @@ pub mod Sorted
 pub mod RunHistory
 pub mod Regroup
 pub mod Trials
+pub mod TrialSteps
 pub mod Plans
 pub mod ReplyLaws
 pub mod FrontLaws

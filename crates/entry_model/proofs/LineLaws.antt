@@ -7,7 +7,7 @@ use Rattle.entry_model.specs.declared.line.Line.{Line}
 use Rattle.entry_model.specs.declared.operation.Op.{Op}
 use Rattle.entry_model.specs.declared.operation.Op.TheVariants.{Enter, Remove, Protect, Read, ClearRef, ClearMod, Access}
 use Rattle.entry_model.specs.declared.receipt.Receipt.{Receipt}
-use Rattle.entry_model.specs.Reply.{reply_of, compared_bits, has_base, is_match}
+use Rattle.entry_model.specs.Reply.{reply_of, compared_bits, has_base, is_match, access_mode}
 use Rattle.entry_model.specs.Receipt.{is_decided, IsReceiptOf}
 use Rattle.entry_model.specs.CachedLines.{IsCurrent, Holds, IsAccessOf, IsLineAt, ShowsLine, IsLater, AllLater}
 use Rattle.entry_model.specs.Run.{IsRun, IsStep, state_at}
@@ -64,7 +64,7 @@ match_by_line line s tag base same fits now =
 
 -- On a state at which the line is current it answers At or Denied, never NoMatch.
 pub known_is_decided : (line : Line) (s : State) (op : Op) → IsAccessOf line op → IsCurrent line s → is_decided (reply_of s op).0 ≡ true
-known_is_decided line s (Access tag base key no_execute want) h now = decided_match s tag base key no_execute want (match_by_line line s tag base h.0 h.1 now)
+known_is_decided line s (Access tag base key no_execute want) h now = decided_match s tag base (access_mode key no_execute want) (match_by_line line s tag base h.0 h.1 now)
 known_is_decided line s (Enter dword0 dword1) h now = absurd h
 known_is_decided line s (Remove test) h now = absurd h
 known_is_decided line s (Protect test flags) h now = absurd h

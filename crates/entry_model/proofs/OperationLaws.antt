@@ -13,7 +13,7 @@ use Rattle.entry_model.specs.declared.operation.Answer.{Answer}
 use Rattle.entry_model.specs.declared.operation.Answer.TheVariants.{Entered, Taken, Removed, Protected, Was, NotFound, NoMatch, Denied, At, Worn}
 use Rattle.entry_model.specs.declared.operation.Op.{Op}
 use Rattle.entry_model.specs.declared.operation.Op.TheVariants.{Enter, Remove, Protect, Read, ClearRef, ClearMod, Access}
-use Rattle.entry_model.specs.Reply.{reply_of, change_to, change_where, entered_state, is_found, is_match, answer_of_match, answer_of_access, touched_state, is_store}
+use Rattle.entry_model.specs.Reply.{reply_of, change_to, change_where, entered_state, is_found, is_match, answer_of_match, answer_of_access, touched_state, is_store, access_mode, AccessMode, is_allowed}
 use Rattle.entry_model.specs.Receipt.{is_access, is_decided, is_at}
 use Rattle.entry_model.proofs.Follows.{no_further, with_bits, with_its_bits, touched_further}
 
@@ -26,9 +26,9 @@ either_has P true p q h k = h refl
 either_has P false p q h k = k refl
 
 -- What holds of an access's reply where it holds of the three that it can be.
-accessed_has : (P : Answer × State → Type 0) (s : State) (tag base : ℕ) (key no_execute : Bool) (want : Want) → (s.valid ≡ true → P (At, touched_state s want)) → (s.valid ≡ true → P (Denied, s)) → P (NoMatch, s) → P (answer_of_access s tag base key no_execute want)
+accessed_has : (P : Answer × State → Type 0) (s : State) (tag base : ℕ) (key no_execute : Bool) (want : Want) → (s.valid ≡ true → P (At, touched_state s want)) → (s.valid ≡ true → P (Denied, s)) → P (NoMatch, s) → P (answer_of_access s tag base (access_mode key no_execute want))
 accessed_has P s tag base key no_execute want at denied other =
-    either_has P (is_match s tag base) (answer_of_match s key no_execute want) (NoMatch, s)
+    either_has P (is_match s tag base) (answer_of_match s (access_mode key no_execute want)) (NoMatch, s)
     (λ e. let valid : s.valid ≡ true = (and_parts _ _ e).0 in
     either_has P (allowed (pp_of s.dword1) key (no_execute || is_no_execute s.dword1) want) (At, touched_state s want) (Denied, s) (λ _. at valid) (λ _. denied valid))
     (λ _. other)
@@ -66,7 +66,7 @@ access_undone s ClearRef e h = cc
 access_undone s ClearMod e h = cc
 
 -- One that is At sets R, and for a store C.
-pub access_touches : (s : State) (tag base : ℕ) (key no_execute : Bool) (want : Want) → is_at (answer_of_access s tag base key no_execute want).0 ≡ true → (answer_of_access s tag base key no_execute want).1 ≡ touched_state s want
+pub access_touches : (s : State) (tag base : ℕ) (key no_execute : Bool) (want : Want) → is_at (answer_of_access s tag base (access_mode key no_execute want)).0 ≡ true → (answer_of_access s tag base (access_mode key no_execute want)).1 ≡ touched_state s want
 access_touches s tag base key no_execute want =
     accessed_has (λ p. is_at p.0 ≡ true → p.1 ≡ touched_state s want) s tag base key no_execute want (λ _ _. refl) (λ _ h. absurd (false≢true h)) (λ h. absurd (false≢true h))
 
@@ -87,12 +87,12 @@ decided_valid s ClearMod h =
     where_has (λ p. is_decided p.0 ≡ true → s.valid ≡ true) s.valid s Was (record s { changed = false }) (λ f. absurd (false≢true f)) (λ f. absurd (false≢true f)) (λ _ _ f. absurd (false≢true f)) h
 
 -- An access of an entry that translates its page is At or Denied.
-pub decided_match : (s : State) (tag base : ℕ) (key no_execute : Bool) (want : Want) → is_match s tag base ≡ true → is_decided (answer_of_access s tag base key no_execute want).0 ≡ true
-decided_match s tag base key no_execute want match =
-    rw match (either_has (λ p. is_decided p.0 ≡ true) (allowed (pp_of s.dword1) key (no_execute || is_no_execute s.dword1) want) (At, touched_state s want) (Denied, s) (λ _. refl) (λ _. refl))
+pub decided_match : (s : State) (tag base : ℕ) (mode : AccessMode) → is_match s tag base ≡ true → is_decided (answer_of_access s tag base mode).0 ≡ true
+decided_match s tag base mode match =
+    rw match (either_has (λ p. is_decided p.0 ≡ true) (is_allowed s mode) (At, touched_state s mode.want) (Denied, s) (λ _. refl) (λ _. refl))
 
 -- An access finds nothing in an entry that isn't valid.
-pub access_of_empty : (s : State) (tag base : ℕ) (key no_execute : Bool) (want : Want) → s.valid ≡ false → answer_of_access s tag base key no_execute want ≡ (NoMatch, s)
+pub access_of_empty : (s : State) (tag base : ℕ) (key no_execute : Bool) (want : Want) → s.valid ≡ false → answer_of_access s tag base (access_mode key no_execute want) ≡ (NoMatch, s)
 access_of_empty s tag base key no_execute want empty =
     accessed_has (λ p. p ≡ (NoMatch, s)) s tag base key no_execute want (λ v. absurd (false≢true (sym empty ∙ v))) (λ v. absurd (false≢true (sym empty ∙ v))) refl
 
@@ -118,17 +118,17 @@ touched_still s r c want f g e =
     let changed : (c || is_store want) ≡ c = or_absorbs s.changed c (is_store want) (ap (λ (t : State). t.changed) e) g in
     λ i. with_bits s (referenced i) (changed i)
 
-still_with_bits : (s : State) (r c : Bool) (tag base : ℕ) (key no_execute : Bool) (want : Want) → (s.referenced ≡ true → r ≡ true) → (s.changed ≡ true → c ≡ true) → StaysStill s (with_bits s r c) (answer_of_access s tag base key no_execute want) (answer_of_access (with_bits s r c) tag base key no_execute want)
+still_with_bits : (s : State) (r c : Bool) (tag base : ℕ) (key no_execute : Bool) (want : Want) → (s.referenced ≡ true → r ≡ true) → (s.changed ≡ true → c ≡ true) → StaysStill s (with_bits s r c) (answer_of_access s tag base (access_mode key no_execute want)) (answer_of_access (with_bits s r c) tag base (access_mode key no_execute want))
 still_with_bits s r c tag base key no_execute want f g =
     let t : State = with_bits s r c in
-    both_have (StaysStill s t) (is_match s tag base) (answer_of_match s key no_execute want) (NoMatch, s) (answer_of_match t key no_execute want) (NoMatch, t)
+    both_have (StaysStill s t) (is_match s tag base) (answer_of_match s (access_mode key no_execute want)) (NoMatch, s) (answer_of_match t (access_mode key no_execute want)) (NoMatch, t)
     (both_have (StaysStill s t) (allowed (pp_of s.dword1) key (no_execute || is_no_execute s.dword1) want) (At, touched_state s want) (Denied, s) (At, touched_state t want) (Denied, t) (λ e. (touched_still s r c want f g e, refl)) (λ e. (refl, refl)))
     (λ e. (refl, refl))
 
 -- An access that changes nothing on a state changes nothing, with the same answer, on the same entry with further bits.
 pub access_still : (s t : State) (op : Op) → is_access op ≡ true → OnlyRaisesBits s t → (reply_of s op).1 ≡ s → ((reply_of t op).1 ≡ t) × ((reply_of t op).0 ≡ (reply_of s op).0)
 access_still s t (Access tag base key no_execute want) e h =
-    subst (λ u. StaysStill s u (answer_of_access s tag base key no_execute want) (answer_of_access u tag base key no_execute want)) (sym (with_its_bits s t h)) (still_with_bits s t.referenced t.changed tag base key no_execute want h.referenced h.changed)
+    subst (λ u. StaysStill s u (answer_of_access s tag base (access_mode key no_execute want)) (answer_of_access u tag base (access_mode key no_execute want))) (sym (with_its_bits s t h)) (still_with_bits s t.referenced t.changed tag base key no_execute want h.referenced h.changed)
 access_still s t (Enter dword0 dword1) e h = cc
 access_still s t (Remove test) e h = cc
 access_still s t (Protect test flags) e h = cc

@@ -25,7 +25,8 @@ Holds line s = (line.stamp < s.stamp) ⊎ IsCurrent line s
 -- ---- a line and an access
 -- The operation is an access that the line's doublewords match.
 abbrev pub IsAccessOf : Line → Op → Type 0
-IsAccessOf line (Access tag base key no_execute want) = (tag ≡ compared_bits line.dword0) × IsTrue (has_base line.dword0 line.dword1 base)
+IsAccessOf line (Access tag base key no_execute want) =
+    (tag ≡ compared_bits line.dword0) × IsTrue (has_base line.dword0 line.dword1 base)
 IsAccessOf line other = ⊥
 
 -- ---- lines and receipts
@@ -49,11 +50,13 @@ pub record IsLineAt (line : Line) (e : ℕ) (s : State) : Type 0 where
 -- The line is that of a receipt's entry before, and the answer used it.
 abbrev pub ShowsLine : Line → List Receipt → Type 0
 ShowsLine line [] = ⊥
-ShowsLine line (r ∷ rs) = (IsTrue (is_decided r.answer) × IsLineAt line r.entry r.before) ⊎ ShowsLine line rs
+ShowsLine line (r ∷ rs) =
+    (IsTrue (is_decided r.answer) × IsLineAt line r.entry r.before) ⊎ ShowsLine line rs
 
 -- Each receipt of the line's entry has a stamp before that is above the line's.
 abbrev pub IsLater : Line → Receipt → Type 0
 IsLater line r = r.entry ≡ line.entry → line.stamp < r.before.stamp
 
+-- Each of these receipts comes after the line.
 abbrev pub AllLater : Line → List Receipt → Type 0
 AllLater line rs = AllByRecursion (IsLater line) rs

@@ -6,6 +6,7 @@ use Rattle.entry_model.specs.declared.receipt.Receipt.{Receipt}
 use Rattle.entry_model.specs.Receipt.{after_of}
 use Rattle.entry_model.specs.History.{pair_of}
 
+-- The front of an entry; beyond the table it is 0.
 abbrev pub front_at : List ℕ → ℕ → ℕ
 front_at fronts e = slice_index_or fronts e 0
 

@@ -13,9 +13,11 @@ bits s = (if s.referenced then 1 else 0) + (if s.changed then 1 else 0)
 unfoldable pub pair_of : State → ℕ
 pair_of s = s.stamp * 4 + bits s
 
+-- The two states have the same parts.
 unfoldable pub state_eq : State → State → Bool
 state_eq s t =
-    (bool_eq s.valid t.valid && (s.dword0 == t.dword0) && (s.dword1 == t.dword1)) && (bool_eq s.referenced t.referenced && bool_eq s.changed t.changed && (s.stamp == t.stamp))
+    (bool_eq s.valid t.valid && (s.dword0 == t.dword0) && (s.dword1 == t.dword1))
+    && (bool_eq s.referenced t.referenced && bool_eq s.changed t.changed && (s.stamp == t.stamp))
 
 -- The place: the stamp before, the number of bits before, and 0 where nothing changed, else 1; compared from the left.
 unfoldable pub place : Receipt → ℕ
@@ -31,6 +33,7 @@ abbrev pub put_in : Receipt → List Receipt → List Receipt
 put_in x [] = x ∷ []
 put_in x (y ∷ ys) = if precedes x y then x ∷ y ∷ ys else y ∷ put_in x ys
 
+-- The receipts, sorted by place.
 abbrev pub by_place : List Receipt → List Receipt
 by_place [] = []
 by_place (x ∷ xs) = put_in x (by_place xs)

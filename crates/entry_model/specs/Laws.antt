@@ -13,30 +13,46 @@ use Rattle.entry_model.specs.Fronts.{KeepsFronts, AreBelow, IsGone}
 -- ---- accesses
 -- An access leaves valid, both doublewords and the stamp, and lowers no bit.
 abbrev pub AccessesOnlyRaiseBits : Type 0
-AccessesOnlyRaiseBits = (s : State) (op : Op) → is_access op ≡ true → OnlyRaisesBits s (reply_of s op).1
+AccessesOnlyRaiseBits =
+    (s : State) (op : Op) → is_access op ≡ true → OnlyRaisesBits s (reply_of s op).1
 
 -- One that isn't At changes nothing.
 abbrev pub OnlyAtTouches : Type 0
-OnlyAtTouches = (s : State) (op : Op) → is_access op ≡ true → is_at (reply_of s op).0 ≡ false → (reply_of s op).1 ≡ s
+OnlyAtTouches =
+    (s : State) (op : Op)
+    → is_access op ≡ true
+    → is_at (reply_of s op).0 ≡ false
+    → (reply_of s op).1 ≡ s
 
 -- One that finds no valid entry changes nothing.
 abbrev pub EmptyStaysEmpty : Type 0
-EmptyStaysEmpty = (s : State) (op : Op) → is_access op ≡ true → s.valid ≡ false → (reply_of s op).1 ≡ s
+EmptyStaysEmpty =
+    (s : State) (op : Op) → is_access op ≡ true → s.valid ≡ false → (reply_of s op).1 ≡ s
 
 -- One that changes nothing changes nothing, with the same answer, where further bits are set.
 abbrev pub StillAccessesStayStill : Type 0
 StillAccessesStayStill =
-    (s t : State) (op : Op) → is_access op ≡ true → OnlyRaisesBits s t → (reply_of s op).1 ≡ s → ((reply_of t op).1 ≡ t) × ((reply_of t op).0 ≡ (reply_of s op).0)
+    (s t : State) (op : Op)
+    → is_access op ≡ true
+    → OnlyRaisesBits s t
+    → (reply_of s op).1 ≡ s
+    → ((reply_of t op).1 ≡ t) × ((reply_of t op).0 ≡ (reply_of s op).0)
 
 -- ---- the other operations
 -- Each leaves the state as it is, or raises the stamp by one.
 abbrev pub OthersRaiseStamps : Type 0
-OthersRaiseStamps = (s : State) (op : Op) → is_access op ≡ false → ((reply_of s op).1 ≡ s) ⊎ ((reply_of s op).1.stamp ≡ s.stamp + 1)
+OthersRaiseStamps =
+    (s : State) (op : Op)
+    → is_access op ≡ false
+    → ((reply_of s op).1 ≡ s) ⊎ ((reply_of s op).1.stamp ≡ s.stamp + 1)
 
 -- Whether it leaves the state doesn't depend on R and C.
 abbrev pub OthersIgnoreBits : Type 0
 OthersIgnoreBits =
-    (s : State) (referenced changed : Bool) (op : Op) → is_access op ≡ false → (reply_of s op).1 ≡ s → (reply_of (with_these_bits s referenced changed) op).1 ≡ with_these_bits s referenced changed
+    (s : State) (referenced changed : Bool) (op : Op)
+    → is_access op ≡ false
+    → (reply_of s op).1 ≡ s
+    → (reply_of (with_these_bits s referenced changed) op).1 ≡ with_these_bits s referenced changed
 
 -- ---- all operations
 -- At and Denied come only on a valid state.
@@ -45,7 +61,8 @@ DecidedIsValid = (s : State) (op : Op) → is_decided (reply_of s op).0 ≡ true
 
 -- A canonical state stays canonical: R and C stand apart, and an entry that isn't valid has nothing.
 abbrev pub RepliesStayCanonical : Type 0
-RepliesStayCanonical = (s : State) (op : Op) → IsCanonicalState s → IsCanonicalState (reply_of s op).1
+RepliesStayCanonical =
+    (s : State) (op : Op) → IsCanonicalState s → IsCanonicalState (reply_of s op).1
 
 -- Stamps stay below 2 ^ 32.
 abbrev pub StampsStayLow : Type 0
@@ -55,17 +72,31 @@ StampsStayLow = (s : State) (op : Op) → s.stamp < 2 ^ 32 → (reply_of s op).1
 -- Receipts of an entry that were made one after the other are a legal history, in whatever order all receipts are listed.
 abbrev pub LoggedHistoriesAreLegal : Type 0
 LoggedHistoriesAreLegal =
-    (e : ℕ) (a b : State) (log listed : List Receipt) → IsLegal a (filter (λ r. r.entry == e) log) b → Regrouped log listed → IsLegal a (history e listed) b
+    (e : ℕ) (a b : State) (log listed : List Receipt)
+    → IsLegal a (filter (λ r. r.entry == e) log) b
+    → Regrouped log listed
+    → IsLegal a (history e listed) b
 
 -- ---- fronts
 -- Two lists of receipts that keep fronts, one behind the other, are one.
 abbrev pub FrontsCompose : Type 0
-FrontsCompose = (fronts mid later : List ℕ) (xs ys : List Receipt) → KeepsFronts fronts xs mid → KeepsFronts mid ys later → KeepsFronts fronts (xs ++ ys) later
+FrontsCompose =
+    (fronts mid later : List ℕ) (xs ys : List Receipt)
+    → KeepsFronts fronts xs mid
+    → KeepsFronts mid ys later
+    → KeepsFronts fronts (xs ++ ys) later
 
 -- No front falls.
 abbrev pub FrontsNeverFall : Type 0
-FrontsNeverFall = (fronts later : List ℕ) (rs : List Receipt) → KeepsFronts fronts rs later → AreBelow fronts later
+FrontsNeverFall =
+    (fronts later : List ℕ) (rs : List Receipt)
+    → KeepsFronts fronts rs later
+    → AreBelow fronts later
 
 -- Receipts of an entry that had left a line's stamp come after the line.
 abbrev pub ReceiptsOfGoneLinesAreLater : Type 0
-ReceiptsOfGoneLinesAreLater = (fronts later : List ℕ) (rs : List Receipt) (line : Line) → KeepsFronts fronts rs later → IsGone fronts line → AllLater line rs
+ReceiptsOfGoneLinesAreLater =
+    (fronts later : List ℕ) (rs : List Receipt) (line : Line)
+    → KeepsFronts fronts rs later
+    → IsGone fronts line
+    → AllLater line rs

@@ -15,7 +15,13 @@ after_of r = (reply_of r.before r.op).1
 
 -- The receipt of this operation on an entry in this state.
 abbrev pub receipt_of : ℕ → State → Op → Receipt
-receipt_of e s op = record { entry = e; before = s; op = op; answer = (reply_of s op).0; lawful = refl }
+receipt_of e s op = record {
+  entry = e;
+  before = s;
+  op = op;
+  answer = (reply_of s op).0;
+  lawful = refl;
+}
 
 -- This receipt is of this entry and this operation.
 pub record IsReceiptOf (e : ℕ) (o : Op) (r : Receipt) : Type 0 where
@@ -28,14 +34,17 @@ IsNormal (Enter dword0 dword1) = normal_words dword0 dword1 ≡ Some (dword0, dw
 IsNormal other = Unit {0}
 
 -- ---- tests of answers
+-- The entry was taken already.
 abbrev pub is_taken : Answer → Bool
 is_taken Taken = true
 is_taken other = false
 
+-- The entry's stamp is at its last value.
 abbrev pub is_worn : Answer → Bool
 is_worn Worn = true
 is_worn other = false
 
+-- The entry doesn't translate the page.
 abbrev pub is_no_match : Answer → Bool
 is_no_match NoMatch = true
 is_no_match other = false
@@ -46,11 +55,13 @@ is_decided Denied = true
 is_decided At = true
 is_decided other = false
 
+-- The access was allowed.
 abbrev pub is_at : Answer → Bool
 is_at At = true
 is_at other = false
 
 -- ---- tests of operations
+-- The operation is an access of a processor.
 abbrev pub is_access : Op → Bool
 is_access (Access tag base key no_execute want) = true
 is_access other = false

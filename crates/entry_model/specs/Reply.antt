@@ -7,7 +7,7 @@ use Rattle.entry_model.specs.declared.operation.Op.TheVariants.{Enter, Remove, P
 use Rattle.entry_model.specs.declared.operation.Test.{Test}
 use Rattle.entry_model.specs.declared.operation.Answer.{Answer}
 use Rattle.entry_model.specs.declared.operation.Answer.TheVariants.{Entered, Taken, Removed, Protected, Was, Words, NotFound, NoMatch, Denied, At, Worn}
-use Rattle.hpte_fields.specs.Fields.{is_referenced, is_changed, without_rc, with_rc, protected_word, pp_of, is_no_execute}
+use Rattle.hpte_fields.specs.Fields.{is_referenced, is_changed, without_rc, with_rc, protected_word, pp_of, is_no_execute, tag_field}
 use Rattle.page_sizes.specs.Sizes.{size_of}
 use Rattle.page_sizes.specs.declared.size.PageSize.{PageSize}
 use Rattle.storage_prot.specs.declared.want.Want.{Want}
@@ -19,10 +19,10 @@ abbrev pub words_of : State → ℕ × ℕ
 words_of s = (s.dword0, with_rc s.dword1 s.referenced s.changed)
 
 -- ---- the test of H_REMOVE and H_PROTECT
--- Under H_AVPN doubleword 0 without its low seven bits has to be the given word.
+-- Under H_AVPN the given word has to be B and the abbreviated virtual page number of doubleword 0.
 abbrev pub fits_avpn : ℕ → Option ℕ → Bool
 fits_avpn dword0 None = true
-fits_avpn dword0 (Some avpn) = bit_and dword0 0xFFFFFFFFFFFFFF80 == avpn
+fits_avpn dword0 (Some avpn) = tag_field dword0 == avpn
 
 -- Under H_ANDCOND no bit of the given word may be set in doubleword 0.
 abbrev pub fits_andcond : ℕ → Option ℕ → Bool
@@ -36,7 +36,8 @@ is_found s test = s.valid && (fits_avpn s.dword0 test.avpn && fits_andcond s.dwo
 -- ---- changes
 -- A change raises the stamp by one. At the last stamp there is no further change.
 abbrev pub change_to : State → Answer → State → Answer × State
-change_to s answer next = if s.stamp == 0xFFFFFFFF then (Worn, s) else (answer, record next { stamp = s.stamp + 1 })
+change_to s answer next =
+    if s.stamp == 0xFFFFFFFF then (Worn, s) else (answer, record next { stamp = s.stamp + 1 })
 
 -- The same where there is an entry to change.
 abbrev pub change_where : Bool → State → Answer → State → Answer × State
@@ -44,21 +45,41 @@ change_where found s answer next = if found then change_to s answer next else (N
 
 -- What H_ENTER makes of an empty entry, but for the stamp: R and C are those of the given doubleword.
 abbrev pub entered_state : ℕ → ℕ → State
-entered_state dword0 dword1 = record { valid = true; dword0 = dword0; dword1 = without_rc dword1; referenced = is_referenced dword1; changed = is_changed dword1; stamp = 0 }
+entered_state dword0 dword1 = record {
+  valid = true;
+  dword0 = dword0;
+  dword1 = without_rc dword1;
+  referenced = is_referenced dword1;
+  changed = is_changed dword1;
+  stamp = 0;
+}
 
 -- ---- accesses
+-- What an access asks of protection: what it wants, by which key, and whether its segment refuses fetches.
+pub record AccessMode : Type 0 where
+  pub want : Want
+  pub key : Bool
+  pub no_execute : Bool
+
+-- The mode of these parts, in the order in which an access has them.
+abbrev pub access_mode : Bool → Bool → Want → AccessMode
+access_mode key no_execute want = record { want = want; key = key; no_execute = no_execute }
+
 -- What an access compares of doubleword 0: B, the abbreviated virtual page number, H and V.
 abbrev pub compared_bits : ℕ → ℕ
 compared_bits dword0 = bit_and dword0 0xFFFFFFFFFFFFFF83
 
 -- The page size that the doublewords encode has this base size.
 unfoldable pub has_base : ℕ → ℕ → ℕ → Bool
-has_base dword0 dword1 base = option_map_or (λ (size : PageSize). size.base == base) (size_of dword0 dword1) false
+has_base dword0 dword1 base =
+    option_map_or (λ (size : PageSize). size.base == base) (size_of dword0 dword1) false
 
 -- The entry translates pages with this tag and base size.
 abbrev pub is_match : State → ℕ → ℕ → Bool
-is_match s tag base = s.valid && ((compared_bits s.dword0 == tag) && has_base s.dword0 s.dword1 base)
+is_match s tag base =
+    s.valid && ((compared_bits s.dword0 == tag) && has_base s.dword0 s.dword1 base)
 
+-- The access is a store.
 abbrev pub is_store : Want → Bool
 is_store Load = false
 is_store Store = true
@@ -68,19 +89,30 @@ is_store Fetch = false
 abbrev pub touched_state : State → Want → State
 touched_state s want = record s { referenced = true; changed = s.changed || is_store want }
 
--- What an entry that translates the page answers: its own N or G refuses fetches as the segment's N does.
-abbrev pub answer_of_match : State → Bool → Bool → Want → Answer × State
-answer_of_match s key no_execute want = if allowed (pp_of s.dword1) key (no_execute || is_no_execute s.dword1) want then (At, touched_state s want) else (Denied, s)
+-- The mode is one that the entry's protection allows: its own N or G refuses fetches as the segment's N does.
+abbrev pub is_allowed : State → AccessMode → Bool
+is_allowed s mode =
+    allowed (pp_of s.dword1) mode.key (mode.no_execute || is_no_execute s.dword1) mode.want
 
-abbrev pub answer_of_access : State → ℕ → ℕ → Bool → Bool → Want → Answer × State
-answer_of_access s tag base key no_execute want = if is_match s tag base then answer_of_match s key no_execute want else (NoMatch, s)
+-- What an entry that translates the page answers.
+abbrev pub answer_of_match : State → AccessMode → Answer × State
+answer_of_match s mode = if is_allowed s mode then (At, touched_state s mode.want) else (Denied, s)
+
+-- What an entry answers to an access of the pages with this tag and base size.
+abbrev pub answer_of_access : State → ℕ → ℕ → AccessMode → Answer × State
+answer_of_access s tag base mode =
+    if is_match s tag base then answer_of_match s mode else (NoMatch, s)
 
 -- ---- the table of operations
+-- The answer of an entry in this state to an operation, and its next state.
 abbrev pub reply_of : State → Op → Answer × State
-reply_of s (Enter dword0 dword1) = if s.valid then (Taken, s) else change_to s Entered (entered_state dword0 dword1)
+reply_of s (Enter dword0 dword1) =
+    if s.valid then (Taken, s) else change_to s Entered (entered_state dword0 dword1)
 reply_of s (Remove test) = change_where (is_found s test) s Removed (empty_state 0)
-reply_of s (Protect test flags) = change_where (is_found s test) s Protected (record s { dword1 = protected_word s.dword1 flags })
+reply_of s (Protect test flags) =
+    change_where (is_found s test) s Protected (record s { dword1 = protected_word s.dword1 flags })
 reply_of s Read = (Words, s)
 reply_of s ClearRef = change_where s.valid s Was (record s { referenced = false })
 reply_of s ClearMod = change_where s.valid s Was (record s { changed = false })
-reply_of s (Access tag base key no_execute want) = answer_of_access s tag base key no_execute want
+reply_of s (Access tag base key no_execute want) =
+    answer_of_access s tag base (access_mode key no_execute want)

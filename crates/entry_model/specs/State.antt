@@ -1,5 +1,6 @@
 -- The state of one page table entry.
 use Rattle.std.specs.Prelude.{◌≡◌, ℕ, Bool, false, bit_and, true}
+use Rattle.hpte_fields.specs.Fields.{rc_bits}
 
 -- The two doublewords without R and C, the two bits, and the stamp: how often the entry has changed, but for R and C that accesses set.
 pub record State : Type 0 where
@@ -12,18 +13,26 @@ pub record State : Type 0 where
 
 -- R and C stand apart from doubleword 1, and an entry that isn't valid has nothing: each state is written in one way.
 pub record IsCanonical (valid : Bool) (dword0 dword1 : ℕ) (referenced changed : Bool) : Type 0 where
-  pub apart : bit_and dword1 0x180 ≡ 0
+  pub apart : bit_and dword1 rc_bits ≡ 0
   pub no_first : valid ≡ false → dword0 ≡ 0
   pub no_second : valid ≡ false → dword1 ≡ 0
   pub no_reference : valid ≡ false → referenced ≡ false
   pub no_change : valid ≡ false → changed ≡ false
 
+-- The state is written in that way.
 abbrev pub IsCanonicalState : State → Type 0
 IsCanonicalState s = IsCanonical s.valid s.dword0 s.dword1 s.referenced s.changed
 
 -- An entry with nothing in it.
 abbrev pub empty_state : ℕ → State
-empty_state stamp = record { valid = false; dword0 = 0; dword1 = 0; referenced = false; changed = false; stamp = stamp }
+empty_state stamp = record {
+  valid = false;
+  dword0 = 0;
+  dword1 = 0;
+  referenced = false;
+  changed = false;
+  stamp = stamp;
+}
 
 -- ---- R and C
 -- The second state has what the first has, and each of its bits.

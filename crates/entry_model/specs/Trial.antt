@@ -1,11 +1,13 @@
 -- Trials: the calls on entries that a hypervisor call names, made in turn as long as the answers go on, and the reply that their receipts give.
-use Rattle.std.specs.Prelude.{◌≡◌, ℕ, zero, suc, ◌+◌, List, [], ◌∷◌, Bool, true, if◌then◌else◌, MatchBool}
+use Rattle.std.specs.Prelude.{◌≡◌, ℕ, zero, suc, ◌+◌, List, [], ◌∷◌, Bool, true, if◌then◌else◌, MatchBool, Option, not, find, drop, length}
 use Rattle.entry_model.specs.State.{State}
 use Rattle.entry_model.specs.declared.operation.Op.{Op}
 use Rattle.entry_model.specs.declared.operation.Answer.{Answer}
 use Rattle.entry_model.specs.declared.receipt.Receipt.{Receipt}
 use Rattle.entry_model.specs.declared.hreply.HReply.{HReply}
-use Rattle.entry_model.specs.Receipt.{IsReceiptOf, receipt_of}
+use Rattle.entry_model.specs.Receipt.{IsReceiptOf, receipt_of, is_taken, is_no_match}
+use Rattle.entry_model.specs.declared.trial.GoesOn.{GoesOn}
+use Rattle.entry_model.specs.declared.trial.GoesOn.TheVariants.{WhileTaken, WhileNoMatch, Always}
 use Rattle.entry_model.specs.Run.{state_at, states_after}
 use Rattle.papr_codes.specs.declared.codes.Rc.{Rc}
 
@@ -14,6 +16,7 @@ pub record Call : Type 0 where
   pub entry : ℕ
   pub op : Op
 
+-- An operation on an entry.
 abbrev pub call : Op → ℕ → Call
 call op e = record { entry = e; op = op }
 
@@ -22,7 +25,22 @@ abbrev pub IsTrial : (Answer → Bool) → List Call → List Receipt → Type 0
 IsTrial goes [] [] = Unit {0}
 IsTrial goes [] (r ∷ rs) = ⊥
 IsTrial goes (c ∷ cs) [] = ⊥
-IsTrial goes (c ∷ cs) (r ∷ rs) = IsReceiptOf c.entry c.op r × MatchBool (goes r.answer) (IsTrial goes cs rs) (rs ≡ [])
+IsTrial goes (c ∷ cs) (r ∷ rs) =
+    IsReceiptOf c.entry c.op r × MatchBool (goes r.answer) (IsTrial goes cs rs) (rs ≡ [])
+
+-- After which answers a trial goes on to the next entry.
+abbrev pub goes_after : GoesOn → Answer → Bool
+goes_after WhileTaken = is_taken
+goes_after WhileNoMatch = is_no_match
+goes_after Always = λ answer. true
+
+-- The receipt that ended a trial: the first after which it doesn't go on.
+abbrev pub ending_of : (Answer → Bool) → List Receipt → Option Receipt
+ending_of goes rs = find (λ (r : Receipt). not (goes r.answer)) rs
+
+-- The receipts behind those that were there before.
+abbrev pub receipts_added : List Receipt → List Receipt → List Receipt
+receipts_added old new = drop (length old) new
 
 -- ---- on a list of states that nobody else changes
 -- The receipt of a call.
@@ -55,7 +73,9 @@ reply_by plan rs = record { rc = (plan.told rs).0; words = (plan.told rs).1; rec
 
 -- The reply on a list of states that nobody else changes, and the states after it.
 unfoldable pub plan_run : Plan → List State → HReply × List State
-plan_run plan states = (reply_by plan (trial_run plan.goes_on states plan.calls).0, (trial_run plan.goes_on states plan.calls).1)
+plan_run plan states =
+    (reply_by plan (trial_run plan.goes_on states plan.calls).0,
+     (trial_run plan.goes_on states plan.calls).1)
 
 -- A call that is answered by itself names no entry.
 abbrev pub plan_of_code : Rc → Plan

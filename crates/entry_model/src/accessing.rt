@@ -3,12 +3,12 @@ ghost use Rattle.entry_model.specs.Reply as table;
 
 use crate::operation::Answer;
 use crate::state::EntryState;
-use hpte_fields::pp;
+use hpte_fields::{SECONDARY, TAG, VALID, pp};
 use page_sizes::decode;
 use storage_prot::{Want, allows};
 
 /// B, the abbreviated virtual page number, H and V.
-const COMPARED: u64 = 0xFFFF_FFFF_FFFF_FF83;
+const COMPARED: u64 = TAG | SECONDARY | VALID;
 
 /// What an entry answers to an access, and its next state.
 pub fn accessed(
@@ -19,7 +19,9 @@ pub fn accessed(
     no_execute: bool,
     want: Want,
 ) -> (Answer, EntryState)
-    ensures { result ≡ table.answer_of_access before.now tag base key no_execute want }
+    ensures {
+        result ≡ table.answer_of_access before.now tag base (table.access_mode key no_execute want)
+    }
 {
     if before.valid && before.dword0 & COMPARED == tag && has_base(before, base) {
         matched(before, key, no_execute, want)
@@ -42,7 +44,7 @@ fn has_base(state: &EntryState, base: u8) -> bool
 /// The answer of an entry that translates the page.
 fn matched(before: &EntryState, key: bool, no_execute: bool, want: Want) -> (Answer, EntryState)
     requires { before.now.valid ≡ true }
-    ensures { result ≡ table.answer_of_match before.now key no_execute want }
+    ensures { result ≡ table.answer_of_match before.now (table.access_mode key no_execute want) }
 {
     let no_fetch = no_execute || hpte_fields::no_execute(before.dword1);
     if !allows(pp(before.dword1), key, no_fetch, want) {

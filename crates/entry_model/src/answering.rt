@@ -7,21 +7,14 @@ use crate::accessing::accessed;
 use crate::operation::{Answer, Op, Test};
 use crate::receipt::Receipt;
 use crate::state::EntryState;
-
-/// The low seven bits of doubleword 0, which the abbreviated virtual page number leaves out.
-const BELOW_TAG: u64 = 0x7F;
-
-/// R and C, in doubleword 1.
-const REFERENCED: u64 = 0x100;
-
-const CHANGED: u64 = 0x80;
+use hpte_fields::{CHANGED, REFERENCED, tag_of};
 
 /// Whether there is an entry and it passes the test.
 fn is_found(state: &EntryState, test: &Test) -> bool
     ensures { result ≡ table.is_found state.now test.now }
 {
     let fits_avpn = match test.avpn {
-        Some(avpn) => state.dword0 & !BELOW_TAG == avpn,
+        Some(avpn) => tag_of(state.dword0) == avpn,
         None => true,
     };
     let fits_andcond = match test.andcond {
@@ -105,7 +98,16 @@ pub fn reply(before: &EntryState, op: &Op) -> (Answer, EntryState)
 
 /// Clears C (`change`) or R.
 fn cleared(before: &EntryState, change: bool) -> (Answer, EntryState)
-    ensures { result ≡ table.change_where before.now.valid before.now Answer.Was (if change then record before.now { changed = false } else record before.now { referenced = false }) }
+    ensures {
+        result
+        ≡ table.change_where
+            before.now.valid
+            before.now
+            Answer.Was
+            (if change
+             then record before.now { changed = false }
+             else record before.now { referenced = false })
+    }
 {
     if !before.valid {
         return (Answer::NotFound, *before);

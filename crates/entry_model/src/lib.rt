@@ -18,6 +18,7 @@ mod operation;
 mod receipt;
 mod state;
 mod store;
+mod trial;
 
 pub use access_reply::{AccessReply, By, Outcome};
 pub use answering::reply;
@@ -34,6 +35,7 @@ pub use operation::{Answer, Op, Test};
 pub use receipt::Receipt;
 pub use state::EntryState;
 pub use store::EntryStore;
+pub use trial::{GoesOn, try_entries};
 
 #[cfg(test)]
 mod tests;

@@ -1,5 +1,6 @@
 ghost use Rattle.std.specs.Prelude.{◌≡◌};
 
+use hpte_fields::{CHANGED, REFERENCED};
 use std::marker::Model;
 
 /// The state of one page table entry. It is written in one way: R and C stand apart from
@@ -23,11 +24,31 @@ impl Model for EntryState {
 
     ghost Value = { State };
 
-    ghost view = { λ s. record { valid = s.valid; dword0 = s.dword0; dword1 = s.dword1; referenced = s.referenced; changed = s.changed; stamp = s.stamp } };
+    ghost view = {
+        λ s.
+          record {
+            valid = s.valid;
+            dword0 = s.dword0;
+            dword1 = s.dword1;
+            referenced = s.referenced;
+            changed = s.changed;
+            stamp = s.stamp;
+          }
+    };
 
     ghost invariant = { λ s. IsCanonical s.valid s.dword0 s.dword1 s.referenced s.changed };
 
-    ghost inverse = { λ s. record { valid = s.valid; dword0 = s.dword0; dword1 = s.dword1; referenced = s.referenced; changed = s.changed; stamp = s.stamp } };
+    ghost inverse = {
+        λ s.
+          record {
+            valid = s.valid;
+            dword0 = s.dword0;
+            dword1 = s.dword1;
+            referenced = s.referenced;
+            changed = s.changed;
+            stamp = s.stamp;
+          }
+    };
 }
 
 impl EntryState {
@@ -52,8 +73,8 @@ impl EntryState {
     pub fn words(&self) -> (u64, u64)
         ensures { result ≡ words_of self.now }
     {
-        let referenced = if self.referenced { 0x100 } else { 0 };
-        let changed = if self.changed { 0x80 } else { 0 };
+        let referenced = if self.referenced { REFERENCED } else { 0 };
+        let changed = if self.changed { CHANGED } else { 0 };
         (self.dword0, self.dword1 | referenced | changed)
     }
 }

@@ -1,4 +1,5 @@
 ghost use Rattle.std.specs.Prelude.{IfSome, IfNone, ◌≡◌, ◌≤◌, ◌<◌, ◌^◌, ◌-◌, ◌++◌, [], ◌∷◌, List, ℕ};
+ghost use Rattle.hpte_fields.specs.TableSize.{entry_count};
 ghost use Rattle.entry_model.specs.declared.receipt.Receipt.{Receipt};
 ghost use Rattle.entry_model.specs.declared.line.Line.{Line};
 ghost use Rattle.entry_model.specs.Receipt.{IsNormal, IsReceiptOf};
@@ -33,7 +34,7 @@ pub trait EntryStore {
 
     /// Makes an operation on an entry.
     fn apply(&mut self, entry: u32, op: Op) -> Receipt
-        requires in_table { entry < 2 ^ (table_order self.old - 4) }
+        requires in_table { entry < entry_count (table_order self.old) }
         requires normal { IsNormal op }
         ensures receipt { IsReceiptOf entry op result }
         ensures made { made self.old self.new (result ∷ []) };
@@ -53,20 +54,38 @@ pub trait EntryStore {
     ghost made_none: { (s : Self) → made s s [] };
 
     /// What was made in two stretches of time, one behind the other, was made in both together.
-    ghost made_more: { (a b c : Self) (xs ys : List Receipt) → made a b xs → made b c ys → made a c (xs ++ ys) };
+    ghost made_more: {
+        (a b c : Self) (xs ys : List Receipt) → made a b xs → made b c ys → made a c (xs ++ ys)
+    };
 
     /// No call changes the order.
-    ghost order_stays: { (a b : Self) (xs : List Receipt) → made a b xs → table_order b ≡ table_order a };
+    ghost order_stays: {
+        (a b : Self) (xs : List Receipt) → made a b xs → table_order b ≡ table_order a
+    };
 
     /// What was seen of an entry holds of it from then on.
-    ghost seen_stays: { (a b : Self) (xs : List Receipt) (line : Line) → made a b xs → seen a line → seen b line };
+    ghost seen_stays: {
+        (a b : Self) (xs : List Receipt) (line : Line) → made a b xs → seen a line → seen b line
+    };
 
     /// An answer that used an entry's translation shows the entry's line.
-    ghost shown_is_seen: { (a b : Self) (xs : List Receipt) (line : Line) → made a b xs → ShowsLine line xs → seen b line };
+    ghost shown_is_seen: {
+        (a b : Self) (xs : List Receipt) (line : Line)
+        → made a b xs
+        → ShowsLine line xs
+        → seen b line
+    };
 
     /// An entry never comes back to a stamp that it has left.
-    ghost gone_stays: { (a b : Self) (xs : List Receipt) (line : Line) → made a b xs → gone a line → gone b line };
+    ghost gone_stays: {
+        (a b : Self) (xs : List Receipt) (line : Line) → made a b xs → gone a line → gone b line
+    };
 
     /// Receipts of an entry that had left the line's stamp come after the line.
-    ghost later_than_gone: { (a b : Self) (xs : List Receipt) (line : Line) → made a b xs → gone a line → AllLater line xs };
+    ghost later_than_gone: {
+        (a b : Self) (xs : List Receipt) (line : Line)
+        → made a b xs
+        → gone a line
+        → AllLater line xs
+    };
 }

@@ -17,37 +17,48 @@ pub record GrantedMemory : Type 0 where
 
 -- No grant beside this pool.
 abbrev pub no_grants : ℕ → ℕ → GrantedMemory
-no_grants pool_base pool_order = record { pool_base = pool_base; pool_order = pool_order; grants = [] }
+no_grants pool_base pool_order = record {
+  pool_base = pool_base;
+  pool_order = pool_order;
+  grants = [];
+}
 
 -- ---- one grant
 -- No byte, at address 0.
 abbrev pub no_grant : Grant
 no_grant = record { logical = 0; machine = 0; length = 0; kind = Ram }
 
+-- The grant has no byte.
 abbrev pub is_empty : Grant → Bool
 is_empty grant = grant.length == 0
 
 -- Both addresses and the length are multiples of 4,096.
 abbrev pub is_aligned : Grant → Bool
-is_aligned grant = grant.logical % 4096 == 0 && grant.machine % 4096 == 0 && grant.length % 4096 == 0
+is_aligned grant =
+    grant.logical % 4096 == 0 && grant.machine % 4096 == 0 && grant.length % 4096 == 0
 
 -- One of the two ranges ends above 2 ^ 60.
 abbrev pub ends_past : Grant → Bool
-ends_past grant = nat_lt (2 ^ 60) (grant.logical + grant.length) || nat_lt (2 ^ 60) (grant.machine + grant.length)
+ends_past grant =
+    nat_lt (2 ^ 60) (grant.logical + grant.length) || nat_lt (2 ^ 60) (grant.machine + grant.length)
 
 -- ---- two grants
+-- The two logical ranges share an address.
 abbrev pub meets_logical : Grant → Grant → Bool
 meets_logical grant other = ranges_meet grant.logical grant.length other.logical other.length
 
+-- The two machine ranges share an address.
 abbrev pub meets_machine : Grant → Grant → Bool
 meets_machine grant other = ranges_meet grant.machine grant.length other.machine other.length
 
+-- The two share a logical or a machine address.
 abbrev pub overlaps : Grant → Grant → Bool
 overlaps grant other = meets_logical grant other || meets_machine grant other
 
 -- The machine range meets the pool.
 abbrev pub meets_pool : GrantedMemory → Grant → Bool
-meets_pool granted grant = ranges_meet grant.machine grant.length granted.pool_base (2 ^ granted.pool_order)
+meets_pool granted grant =
+    ranges_meet grant.machine grant.length granted.pool_base (2 ^ granted.pool_order)
 
 -- ---- a further grant
 -- What may be wrong with it, in the order in which it is tried.
@@ -69,10 +80,12 @@ add_refusal granted grant = first_refusal (refusals granted grant)
 abbrev pub starts_below : Grant → Grant → Bool
 starts_below grant other = nat_lt other.logical grant.logical
 
+-- The grants with a further one, in the order of their logical ranges.
 unfoldable pub with_grant : GrantedMemory → Grant → GrantedMemory
 with_grant granted grant =
     record granted {
-      grants = filter (starts_below grant) granted.grants ++ grant ∷ filter (λ (other : Grant). not (starts_below grant other)) granted.grants;
+      grants = filter (starts_below grant) granted.grants ++ grant
+      ∷ filter (λ (other : Grant). not (starts_below grant other)) granted.grants;
     }
 
 -- ---- the machine range of a logical one
@@ -86,7 +99,10 @@ machine_at logical grant = (grant.machine + (logical - grant.logical), grant.kin
 
 -- By the grant that holds the whole range; none for a range of no byte.
 unfoldable pub machine_range : List Grant → ℕ → ℕ → Option (ℕ × Kind)
-machine_range grants logical length = if length == 0 then None else option_map (machine_at logical) (find (holds logical length) grants)
+machine_range grants logical length =
+    if length == 0
+    then None
+    else option_map (machine_at logical) (find (holds logical length) grants)
 
 -- ---- what holds of the grants at all times
 -- A grant that is not empty, is aligned and ends at most at 2 ^ 60.
@@ -102,8 +118,10 @@ pub record IsPlaced (grant : Grant) : Type 0 where
 pub record AreApart (granted : GrantedMemory) : Type 0 where
   pub placed : All IsPlaced granted.grants
   pub rising : AllPairs (λ (lower higher : Grant). lower.logical < higher.logical) granted.grants
-  pub logical_apart : AllPairs (λ (lower higher : Grant). meets_logical lower higher ≡ false) granted.grants
-  pub machine_apart : AllPairs (λ (lower higher : Grant). meets_machine lower higher ≡ false) granted.grants
+  pub logical_apart :
+    AllPairs (λ (lower higher : Grant). meets_logical lower higher ≡ false) granted.grants
+  pub machine_apart :
+    AllPairs (λ (lower higher : Grant). meets_machine lower higher ≡ false) granted.grants
   pub off_pool : All (λ grant. meets_pool granted grant ≡ false) granted.grants
 
 -- The pool has 2 ^ 18 to 2 ^ 34 bytes, is aligned to its size and ends at most at 2 ^ 60.

@@ -21,9 +21,15 @@ impl Model for Grants {
 
     ghost Value = { GrantedMemory };
 
-    ghost view = { λ g. record { pool_base = g.pool_base; pool_order = g.pool_order; grants = g.items.items } };
+    ghost view = {
+        λ g. record { pool_base = g.pool_base; pool_order = g.pool_order; grants = g.items.items }
+    };
 
-    ghost invariant = { λ g. IsSound (record { pool_base = g.pool_base; pool_order = g.pool_order; grants = g.items.items }) };
+    ghost invariant = {
+        λ g.
+          IsSound
+            (record { pool_base = g.pool_base; pool_order = g.pool_order; grants = g.items.items })
+    };
 }
 
 impl Grants {
@@ -44,7 +50,12 @@ impl Grants {
 
     /// Grants a further range, or says why it can't be granted.
     pub fn add(&mut self, grant: Grant) -> Result<(), GrantError>
-        ensures told { MatchResult result (λ _. add_refusal self.old grant ≡ None) (λ e. add_refusal self.old grant ≡ Some e) }
+        ensures told {
+            MatchResult
+              result
+              (λ _. add_refusal self.old grant ≡ None)
+              (λ e. add_refusal self.old grant ≡ Some e)
+        }
         ensures ok { OnOk result (self.new ≡ with_grant self.old grant) }
         ensures err { OnErr result (self.new ≡ self.old) }
     {
@@ -92,7 +103,12 @@ impl Grants {
 
     #[tactic(auto, unfolding(crate::specs::Grants::add_refusal, crate::specs::Grants::refusals))]
     fn check(&self, grant: &Grant) -> Result<(), GrantError>
-        ensures { MatchResult result (λ _. add_refusal self.now grant.now ≡ None) (λ e. add_refusal self.now grant.now ≡ Some e) }
+        ensures {
+            MatchResult
+              result
+              (λ _. add_refusal self.now grant.now ≡ None)
+              (λ e. add_refusal self.now grant.now ≡ Some e)
+        }
     {
         if grant.length == 0 {
             return Err(GrantError::Empty);

@@ -11,9 +11,10 @@ use Rattle.entry_model.specs.Trial.{call}
 use Rattle.entry_model.proofs.Trials.{Within}
 use Rattle.h_enter.specs.Enter.{candidates}
 use Rattle.h_enter.specs.Checks.{h_enter_plan, words_plan, suits_grants}
-use Rattle.h_enter.proofs.Search.{groups_of_eight, trials_from}
+use Rattle.entry_model.proofs.TrialSteps.{calls_from}
+use Rattle.h_enter.proofs.Search.{groups_of_eight}
 
-trials_within : (n : ℕ) (op : Op) (first count : ℕ) → first + count ≤ n → Within n (trials_from op first count)
+trials_within : (n : ℕ) (op : Op) (first count : ℕ) → first + count ≤ n → Within n (calls_from op first count)
 trials_within n op first zero h = tt
 trials_within n op first (suc count) h = (omega arith, trials_within n op (first + 1) count (omega arith))
 

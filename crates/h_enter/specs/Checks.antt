@@ -1,4 +1,5 @@
 -- The checks of H_ENTER.
+use Rattle.hpte_fields.specs.TableSize.{entry_count}
 use Rattle.std.specs.Prelude.{ℕ, ◌-◌, ◌^◌, ◌==◌, ◌||◌, List, Bool, false, Option, Some, None, if◌then◌else◌, nat_lt}
 use Rattle.std.specs.Option.{option_map_or}
 use Rattle.page_sizes.specs.declared.size.PageSize.{PageSize}
@@ -19,17 +20,26 @@ suits_kind wimg Io = (wimg == 0x4) || (wimg == 0x5)
 
 -- One grant holds the whole page of this size, and the storage control bits suit it.
 abbrev pub suits_size : List Grant → ℕ → PageSize → Bool
-suits_size grants dword1 size = option_map_or (λ (x : ℕ × Kind). suits_kind (wimg_of dword1) x.1) (machine_range grants (frame_of dword1 size.actual) (2 ^ size.actual)) false
+suits_size grants dword1 size =
+    option_map_or
+      (λ (x : ℕ × Kind). suits_kind (wimg_of dword1) x.1)
+      (machine_range grants (frame_of dword1 size.actual) (2 ^ size.actual))
+      false
 
 -- The same of the page that these doublewords map.
 unfoldable pub suits_grants : List Grant → ℕ → ℕ → Bool
-suits_grants grants dword0 dword1 = option_map_or (suits_size grants dword1) (size_of dword0 dword1) false
+suits_grants grants dword0 dword1 =
+    option_map_or (suits_size grants dword1) (size_of dword0 dword1) false
 
 -- H_ENTER of the words that are stored, if there are any.
 abbrev pub words_plan : List Grant → ℕ → ℕ → Option (ℕ × ℕ) → Plan
 words_plan grants flags ptex None = plan_of_code Parameter
-words_plan grants flags ptex (Some w) = if suits_grants grants w.0 w.1 then enter_plan flags ptex w.0 w.1 else plan_of_code Parameter
+words_plan grants flags ptex (Some w) =
+    if suits_grants grants w.0 w.1 then enter_plan flags ptex w.0 w.1 else plan_of_code Parameter
 
 -- H_ENTER. H_PARAMETER comes where the index is past the table, where the doublewords can't be stored, or where no single grant holds the page with these storage control bits; nothing is tried then.
 unfoldable pub h_enter_plan : ℕ → List Grant → ℕ → ℕ → ℕ → ℕ → Plan
-h_enter_plan order grants flags ptex pteh ptel = if nat_lt ptex (2 ^ (order - 4)) then words_plan grants flags ptex (normal_words pteh ptel) else plan_of_code Parameter
+h_enter_plan order grants flags ptex pteh ptel =
+    if nat_lt ptex (entry_count order)
+    then words_plan grants flags ptex (normal_words pteh ptel)
+    else plan_of_code Parameter

@@ -5,7 +5,7 @@ ghost use Rattle.h_enter.specs.Checks.{suits_kind, suits_grants, h_enter_plan};
 use crate::words::enter_words;
 use entry_model::{EntryStore, HReply};
 use frame_grants::{Grants, Kind};
-use hpte_fields::{frame, normal, wimg};
+use hpte_fields::{entry_count, frame, normal, wimg};
 use page_sizes::decode;
 use papr_codes::Rc;
 
@@ -58,9 +58,13 @@ pub fn h_enter<T: EntryStore>(
     ptel: u64,
 ) -> HReply
     ensures made { T.made store.old store.new result.receipts }
-    ensures reply { IsReplyOf (h_enter_plan (T.table_order store.old) grants.now.grants flags ptex pteh ptel) result }
+    ensures reply {
+        IsReplyOf
+          (h_enter_plan (T.table_order store.old) grants.now.grants flags ptex pteh ptel)
+          result
+    }
 {
-    if ptex >= 1 << (store.order() - 4) {
+    if ptex >= u64::from(entry_count(store.order())) {
         return HReply::without_receipts(Rc::Parameter);
     }
     let Some((dword0, dword1)) = normal(pteh, ptel) else {

@@ -1,4 +1,5 @@
 -- H_BULK_REMOVE: four pairs of words, each a request to remove one entry.
+use Rattle.hpte_fields.specs.TableSize.{entry_count}
 use Rattle.std.specs.Prelude.{ℕ, ◌+◌, ◌-◌, ◌*◌, ◌/◌, ◌%◌, ◌^◌, ◌==◌, ◌&&◌, List, [], ◌∷◌, not, Option, Some, None, if◌then◌else◌, nat_lt}
 use Rattle.papr_codes.specs.declared.codes.Rc.{Rc}
 use Rattle.entry_model.specs.State.{State}
@@ -18,6 +19,7 @@ pub record Pair : Type 0 where
   pub request : ℕ
   pub word : ℕ
 
+-- The words in twos; a last word alone is no pair.
 abbrev pub pairs_of : List ℕ → List Pair
 pairs_of (request ∷ word ∷ rest) = record { request = request; word = word } ∷ pairs_of rest
 pairs_of other = []
@@ -44,6 +46,7 @@ test_by flags word =
     else if flags == 2 then Some (record { avpn = Some word; andcond = None })
     else None
 
+-- The entry is to be removed under this test; without a test the request is ill formed.
 abbrev pub removes_under : ℕ → Option Test → Asked
 removes_under entry None = Refused
 removes_under entry (Some test) = Remove entry test
@@ -52,7 +55,17 @@ removes_under entry (Some test) = Remove entry test
 unfoldable pub asked_by : ℕ → Pair → Asked
 asked_by order p =
     if type_of p.request == 3 then End
-    else if (type_of p.request == 1) && nat_lt (index_of p.request) (2 ^ (order - 4)) then removes_under (index_of p.request) (test_by (flags_of p.request) p.word)
+    else
+      if
+      (type_of p.request == 1)
+      &&
+      nat_lt
+      (index_of p.request)
+      (entry_count order)
+      then
+      removes_under
+      (index_of p.request)
+      (test_by (flags_of p.request) p.word)
     else Refused
 
 -- ---- what a pair's first word becomes
@@ -64,9 +77,11 @@ response status request = (status + flags_of request) * 2 ^ 56 + index_of reques
 abbrev pub removed_status : State → ℕ
 removed_status s = 0x80 + (if s.referenced then 0x08 else 0) + (if s.changed then 0x04 else 0)
 
+-- The status of a request that is ill formed.
 abbrev pub ill_formed : ℕ
 ill_formed = 0xA0
 
+-- The status of an entry whose stamp is at its last value.
 abbrev pub worn_status : ℕ
 worn_status = 0xB0
 
@@ -87,6 +102,7 @@ calls_before End rest = []
 calls_before (Remove entry test) rest = call (ops.Remove test) entry ∷ rest
 calls_before Refused rest = []
 
+-- The removals that the pairs ask for, in order.
 unfoldable pub bulk_calls : ℕ → List Pair → List Call
 bulk_calls order [] = []
 bulk_calls order (p ∷ ps) = calls_before (asked_by order p) (bulk_calls order ps)
@@ -97,12 +113,17 @@ words_before request word rest = (rest.0, request ∷ word ∷ rest.1)
 
 -- A pair whose entry answered: at the last stamp the call ends with H_HARDWARE, else it goes on.
 abbrev pub words_after_answer : Pair → Receipt → List Pair → Rc × List ℕ → Rc × List ℕ
-words_after_answer p r ps rest = if is_worn r.answer then (rc.Hardware, response worn_status p.request ∷ p.word ∷ words_of_pairs ps) else words_before (response (status_of r.answer r.before) p.request) p.word rest
+words_after_answer p r ps rest =
+    if is_worn r.answer
+    then (rc.Hardware, response worn_status p.request ∷ p.word ∷ words_of_pairs ps)
+    else words_before (response (status_of r.answer r.before) p.request) p.word rest
 
 -- One pair, with the receipts of it and of the pairs behind.
-abbrev pub pair_told : Asked → Pair → List Pair → List Receipt → (List Receipt → Rc × List ℕ) → Rc × List ℕ
+abbrev pub pair_told :
+    Asked → Pair → List Pair → List Receipt → (List Receipt → Rc × List ℕ) → Rc × List ℕ
 pair_told End p ps rs rest = (rc.Success, words_of_pairs (p ∷ ps))
-pair_told Refused p ps rs rest = (rc.Parameter, response ill_formed p.request ∷ p.word ∷ words_of_pairs ps)
+pair_told Refused p ps rs rest =
+    (rc.Parameter, response ill_formed p.request ∷ p.word ∷ words_of_pairs ps)
 pair_told (Remove entry test) p ps [] rest = (rc.Hardware, words_of_pairs (p ∷ ps))
 pair_told (Remove entry test) p ps (r ∷ rs) rest = words_after_answer p r ps (rest rs)
 
@@ -113,4 +134,8 @@ bulk_told order (p ∷ ps) rs = pair_told (asked_by order p) p ps rs (bulk_told 
 
 -- The pairs are taken in order, and each entry is removed before the next is tried.
 unfoldable pub h_bulk_remove_plan : ℕ → List ℕ → Plan
-h_bulk_remove_plan order words = record { calls = bulk_calls order (pairs_of words); goes_on = λ answer. not (is_worn answer); told = bulk_told order (pairs_of words) }
+h_bulk_remove_plan order words = record {
+  calls = bulk_calls order (pairs_of words);
+  goes_on = λ answer. not (is_worn answer);
+  told = bulk_told order (pairs_of words);
+}

@@ -1,6 +1,8 @@
 -- The hypervisor calls on one entry, or on four that are read together: what each asks of the entry, and the reply that the answer gives.
+use Rattle.hpte_fields.specs.TableSize.{entry_count}
 use Rattle.std.specs.Prelude.{ℕ, ◌+◌, ◌-◌, ◌*◌, ◌/◌, ◌^◌, List, [], ◌∷◌, true, Option, Some, None, if◌then◌else◌, nat_lt, map, flat_map}
-use Rattle.papr_codes.specs.FlagBits.{has_flag}
+use Rattle.std.specs.List.{range_with_len}
+use Rattle.papr_codes.specs.FlagBits.{has_flag, h_read_4, h_avpn, h_andcond}
 use Rattle.papr_codes.specs.declared.codes.Rc.{Rc}
 use Rattle.entry_model.specs.declared.operation.Op.{Op}
 use Rattle.entry_model.specs.declared.operation.Op.TheVariants.{Remove, Protect, Read, ClearRef, ClearMod}
@@ -19,11 +21,14 @@ where_flag flags flag word = if has_flag flags flag then Some word else None
 
 -- H_REMOVE's test: the word is compared under H_AVPN, and masks under H_ANDCOND; with both flags both apply.
 abbrev pub remove_test : ℕ → ℕ → Test
-remove_test flags avpn = record { avpn = where_flag flags 0x80000000 avpn; andcond = where_flag flags 0x40000000 avpn }
+remove_test flags avpn = record {
+  avpn = where_flag flags h_avpn avpn;
+  andcond = where_flag flags h_andcond avpn;
+}
 
 -- H_PROTECT's test: H_AVPN alone.
 abbrev pub protect_test : ℕ → ℕ → Test
-protect_test flags avpn = record { avpn = where_flag flags 0x80000000 avpn; andcond = None }
+protect_test flags avpn = record { avpn = where_flag flags h_avpn avpn; andcond = None }
 
 -- ---- replies
 -- Both doublewords of the state before.
@@ -48,25 +53,43 @@ told_by words (r ∷ rs) = code_and_words r.answer (words r)
 -- ---- plans
 -- One operation on the named entry; H_PARAMETER where the index is past the table.
 abbrev pub single_plan : ℕ → ℕ → Op → (Receipt → List ℕ) → Plan
-single_plan order ptex op words = if nat_lt ptex (2 ^ (order - 4)) then record { calls = call op ptex ∷ []; goes_on = λ answer. true; told = told_by words } else plan_of_code rc.Parameter
+single_plan order ptex op words =
+    if nat_lt ptex (entry_count order)
+    then record { calls = call op ptex ∷ []; goes_on = λ answer. true; told = told_by words }
+    else plan_of_code rc.Parameter
 
+-- H_REMOVE: the entry's doublewords as they were.
 unfoldable pub h_remove_plan : ℕ → ℕ → ℕ → ℕ → Plan
-h_remove_plan order flags ptex avpn = single_plan order ptex (Remove (remove_test flags avpn)) both_words
+h_remove_plan order flags ptex avpn =
+    single_plan order ptex (Remove (remove_test flags avpn)) both_words
 
+-- H_PROTECT: no word.
 unfoldable pub h_protect_plan : ℕ → ℕ → ℕ → ℕ → Plan
-h_protect_plan order flags ptex avpn = single_plan order ptex (Protect (protect_test flags avpn) flags) (λ r. [])
+h_protect_plan order flags ptex avpn =
+    single_plan order ptex (Protect (protect_test flags avpn) flags) (λ r. [])
 
+-- H_CLEAR_REF: doubleword 1 as it was.
 unfoldable pub h_clear_ref_plan : ℕ → ℕ → Plan
 h_clear_ref_plan order ptex = single_plan order ptex ClearRef second_word
 
+-- H_CLEAR_MOD: doubleword 1 as it was.
 unfoldable pub h_clear_mod_plan : ℕ → ℕ → Plan
 h_clear_mod_plan order ptex = single_plan order ptex ClearMod second_word
 
 -- ---- H_READ
 -- The named entry, or under H_READ_4 the four that it lies among.
 abbrev pub read_entries : ℕ → ℕ → List ℕ
-read_entries flags ptex = if has_flag flags 0x2000000000 then (let first = ptex / 4 * 4 in first ∷ (first + 1) ∷ (first + 2) ∷ (first + 3) ∷ []) else ptex ∷ []
+read_entries flags ptex =
+    if has_flag flags h_read_4 then range_with_len (ptex / 4 * 4) 4 else range_with_len ptex 1
 
 -- Each entry's doublewords, in order.
 unfoldable pub h_read_plan : ℕ → ℕ → ℕ → Plan
-h_read_plan order flags ptex = if nat_lt ptex (2 ^ (order - 4)) then record { calls = map (call Read) (read_entries flags ptex); goes_on = λ answer. true; told = λ rs. (rc.Success, flat_map both_words rs) } else plan_of_code rc.Parameter
+h_read_plan order flags ptex =
+    if nat_lt ptex (entry_count order)
+    then
+      record {
+        calls = map (call Read) (read_entries flags ptex);
+        goes_on = λ answer. true;
+        told = λ rs. (rc.Success, flat_map both_words rs);
+      }
+    else plan_of_code rc.Parameter

@@ -4,6 +4,7 @@ ghost use Rattle.entry_model.specs.Trial.{IsReplyOf};
 ghost use Rattle.h_update.specs.Bulk as plans;
 
 use entry_model::{Answer, EntryStore, HReply, Op, Receipt, Receipts, ReplyWords, Test};
+use hpte_fields::entry_count;
 use papr_codes::Rc;
 
 /// The type of a pair's first word.
@@ -85,7 +86,7 @@ fn asked_by(order: u8, request: u64, word: u64) -> Asked
         return Asked::End;
     }
     let index = request & INDEX;
-    if request & TYPE != REQUEST || index >= 1 << (order - 4) {
+    if request & TYPE != REQUEST || index >= u64::from(entry_count(order)) {
         return Asked::Refused;
     }
     match test_of(request, word) {
@@ -99,7 +100,12 @@ fn asked_by(order: u8, request: u64, word: u64) -> Asked
 
 /// The top byte of the response that a receipt gives.
 fn status(receipt: &Receipt) -> u8
-    ensures value { result ≡ (if is_worn receipt.now.answer then plans.worn_status else plans.status_of receipt.now.answer receipt.now.before) }
+    ensures value {
+        result
+        ≡ (if is_worn receipt.now.answer
+           then plans.worn_status
+           else plans.status_of receipt.now.answer receipt.now.before)
+    }
     ensures flags_clear { result % 4 ≡ 0 }
 {
     match receipt.answer {
@@ -148,7 +154,9 @@ fn ended(rc: Rc, mut words: ReplyWords, unchanged: &[u64], receipts: Receipts) -
 #[inline(never)]
 pub fn h_bulk_remove<T: EntryStore>(store: &mut T, pairs: &[u64; 8]) -> HReply
     ensures made { T.made store.old store.new result.receipts }
-    ensures reply { IsReplyOf (plans.h_bulk_remove_plan (T.table_order store.old) pairs.now) result }
+    ensures reply {
+        IsReplyOf (plans.h_bulk_remove_plan (T.table_order store.old) pairs.now) result
+    }
 {
     let order = store.order();
     let mut words = ReplyWords::new();

@@ -1,32 +1,45 @@
-ghost use Rattle.std.specs.Prelude.{◌≡◌, ◌≤◌, ◌<◌, ◌-◌, ◌^◌, All, length, true, map, flat_map};
+ghost use Rattle.std.specs.Prelude.{◌≡◌, ◌≤◌, ◌-◌, ◌+◌, ◌^◌, length, true, map, flat_map};
+ghost use Rattle.hpte_fields.specs.TableSize as table;
+ghost use Rattle.std.specs.List.{range_with_len};
 ghost use Rattle.entry_model.specs.Trial.{IsReplyOf, IsTrial, call};
 ghost use Rattle.entry_model.specs.declared.operation.Op.TheVariants.{Read};
 ghost use Rattle.h_update.specs.Single.{h_read_plan, both_words};
 
-use entry_model::{EntryStore, HReply, Op, Receipts, ReplyWords};
+use entry_model::{EntryStore, GoesOn, HReply, Op, Receipt, Receipts, ReplyWords, try_entries};
+use hpte_fields::entry_count;
 use papr_codes::{CallFlags, Rc};
 
-/// Reads these entries, and gives each one's doublewords, with R and C.
-fn read_all<T: EntryStore>(store: &mut T, entries: &[u32]) -> HReply
-    requires few { length entries.now ≤ 4 }
-    requires in_table { All (λ e. e < 2 ^ (T.table_order store.old - 4)) entries.now }
-    ensures made { T.made store.old store.new result.receipts }
-    ensures trial { IsTrial (λ answer. true) (map (call Read) entries.now) result.receipts }
-    ensures code { result.rc ≡ Rc.Success }
-    ensures words { result.words ≡ flat_map both_words result.receipts }
+/// Both doublewords of each entry that was read, with R and C.
+fn words_read(receipts: &[Receipt]) -> ReplyWords
+    requires { length receipts.now ≤ 4 }
+    ensures { result ≡ flat_map both_words receipts.now }
 {
     let mut words = ReplyWords::new();
-    let mut receipts = Receipts::new();
-    for entry in entries {
-        let receipt = store.apply(*entry, Op::Read);
+    for receipt in receipts {
         let (dword0, dword1) = receipt.before.words();
         words.push(dword0);
         words.push(dword1);
-        receipts.push(receipt);
     }
+    words
+}
+
+/// Reads entries one behind the other, and gives each one's doublewords, with R and C.
+fn read_from<T: EntryStore>(store: &mut T, first: u32, count: u32) -> HReply
+    requires few { count ≤ 4 }
+    requires in_table { first + count ≤ table.entry_count (T.table_order store.old) }
+    requires small { first + count ≤ 2 ^ 22 }
+    ensures made { T.made store.old store.new result.receipts }
+    ensures trial {
+        IsTrial (λ answer. true) (map (call Read) (range_with_len first count)) result.receipts
+    }
+    ensures code { result.rc ≡ Rc.Success }
+    ensures words { result.words ≡ flat_map both_words result.receipts }
+{
+    let mut receipts = Receipts::new();
+    let _ending = try_entries(store, Op::Read, first, count, GoesOn::Always, &mut receipts);
     HReply {
         rc: Rc::Success,
-        words,
+        words: words_read(receipts.as_slice()),
         receipts,
     }
 }
@@ -40,14 +53,13 @@ pub fn h_read<T: EntryStore>(store: &mut T, flags: u64, ptex: u64) -> HReply
     ensures made { T.made store.old store.new result.receipts }
     ensures reply { IsReplyOf (h_read_plan (T.table_order store.old) flags ptex) result }
 {
-    if ptex >= 1 << (store.order() - 4) {
+    if ptex >= u64::from(entry_count(store.order())) {
         return HReply::without_receipts(Rc::Parameter);
     }
     let index = ptex as u32;
     if CallFlags::of(flags).has(CallFlags::READ_4) {
-        let first = index / 4 * 4;
-        read_all(store, &[first, first + 1, first + 2, first + 3])
+        read_from(store, index / 4 * 4, 4)
     } else {
-        read_all(store, &[index])
+        read_from(store, index, 1)
     }
 }

@@ -5,6 +5,7 @@ ghost use Rattle.h_update.specs.ShownWords.{words_shown};
 ghost use Rattle.h_update.specs.Single as plans;
 
 use entry_model::{Answer, EntryStore, HReply, Op, Receipt, Receipts, ReplyWords, Test};
+use hpte_fields::entry_count;
 use papr_codes::{CallFlags, Rc};
 
 /// The doublewords of the entry as it was that a reply shows.
@@ -48,9 +49,11 @@ fn code_and_words(receipt: &Receipt, shown: ShownWords) -> (Rc, ReplyWords)
 fn single<T: EntryStore>(store: &mut T, ptex: u64, op: Op, shown: ShownWords) -> HReply
     requires { IsNormal op }
     ensures made { T.made store.old store.new result.receipts }
-    ensures reply { IsReplyOf (plans.single_plan (T.table_order store.old) ptex op (words_shown shown)) result }
+    ensures reply {
+        IsReplyOf (plans.single_plan (T.table_order store.old) ptex op (words_shown shown)) result
+    }
 {
-    if ptex >= 1 << (store.order() - 4) {
+    if ptex >= u64::from(entry_count(store.order())) {
         return HReply::without_receipts(Rc::Parameter);
     }
     let receipt = store.apply(ptex as u32, op);
@@ -79,7 +82,9 @@ fn where_flag(flags: CallFlags, flag: CallFlags, word: u64) -> Option<u64>
 #[tactic(auto, unfolding(crate::specs::Single::h_remove_plan))]
 pub fn h_remove<T: EntryStore>(store: &mut T, flags: u64, ptex: u64, avpn: u64) -> HReply
     ensures made { T.made store.old store.new result.receipts }
-    ensures reply { IsReplyOf (plans.h_remove_plan (T.table_order store.old) flags ptex avpn) result }
+    ensures reply {
+        IsReplyOf (plans.h_remove_plan (T.table_order store.old) flags ptex avpn) result
+    }
 {
     let known = CallFlags::of(flags);
     let test = Test {
@@ -96,7 +101,9 @@ pub fn h_remove<T: EntryStore>(store: &mut T, flags: u64, ptex: u64, avpn: u64) 
 #[tactic(auto, unfolding(crate::specs::Single::h_protect_plan))]
 pub fn h_protect<T: EntryStore>(store: &mut T, flags: u64, ptex: u64, avpn: u64) -> HReply
     ensures made { T.made store.old store.new result.receipts }
-    ensures reply { IsReplyOf (plans.h_protect_plan (T.table_order store.old) flags ptex avpn) result }
+    ensures reply {
+        IsReplyOf (plans.h_protect_plan (T.table_order store.old) flags ptex avpn) result
+    }
 {
     let test = Test {
         avpn: where_flag(CallFlags::of(flags), CallFlags::AVPN, avpn),

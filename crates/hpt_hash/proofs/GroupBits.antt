@@ -5,7 +5,8 @@ use Rattle.std.proofs.Math.Pow.{mod-mod-pow, pow-lt}
 use Rattle.std.proofs.Math.Nat.{mod-lt, mod-eq_of_lt, div-add-mod, div-lt_iff_lt-mul, add-mul, one-mul, mul_comm}
 use Rattle.std.proofs.lemmas.Nat.{pow_pos, pow-add, mod-mul-add}
 use Rattle.power_addr.specs.Pages.{VirtualPage}
-use Rattle.hpt_hash.specs.Hash.{hash_of, group_of, group_count}
+use Rattle.hpt_hash.specs.Hash.{hash_of, group_of}
+use Rattle.hpte_fields.specs.TableSize.{group_count}
 use Rattle.hpt_hash.specs.Entries.{low_hash}
 
 -- ---- complements

@@ -37,21 +37,39 @@ rebuilt_vsid one_tb number = number / 2 ^ (offset_bits one_tb - 23)
 -- The offset in the segment: its bits from weight 2 ^ 23 up are those that the tag holds, and below them stand those of the index, which is mixed into the hash with the segment's number.
 abbrev pub rebuilt_offset : Bool → ℕ → ℕ → ℕ → ℕ
 rebuilt_offset one_tb number shift low =
-    number % 2 ^ (offset_bits one_tb - 23) * 2 ^ 23 + bit_xor low (rebuilt_vsid one_tb number % 2 ^ 11) * 2 ^ shift % 2 ^ 23
+    number % 2 ^ (offset_bits one_tb - 23) * 2 ^ 23
+    + bit_xor low (rebuilt_vsid one_tb number % 2 ^ 11) * 2 ^ shift % 2 ^ 23
 
 -- The only page that can have this segment size, these address bits from weight 2 ^ 23 up, this base page size, and these low bits of its hash.
 abbrev pub rebuilt_page : Bool → ℕ → ℕ → ℕ → Option VirtualPage
-rebuilt_page one_tb number shift low = page_of_address one_tb (rebuilt_vsid one_tb number) shift (rebuilt_offset one_tb number shift low)
+rebuilt_page one_tb number shift low =
+    page_of_address
+      one_tb
+      (rebuilt_vsid one_tb number)
+      shift
+      (rebuilt_offset one_tb number shift low)
 
 -- A page, where its tag and its group are the entry's.
 abbrev pub confirmed_page : ℕ → ℕ → ℕ → VirtualPage → Option VirtualPage
-confirmed_page order index dword0 p = if (tag_of p == tag_field dword0) && (group_of p order (is_secondary dword0) == index / 8) then Some p else None
+confirmed_page order index dword0 p =
+    if (tag_of p == tag_field dword0) && (group_of p order (is_secondary dword0) == index / 8)
+    then Some p
+    else None
 
 -- The page of an entry whose doublewords encode this size.
 abbrev pub page_of_size : ℕ → ℕ → ℕ → PageSize → Option VirtualPage
 page_of_size order index dword0 size =
-    option_and_then (confirmed_page order index dword0) (rebuilt_page (is_one_tb dword0) (number_field dword0) size.base (low_hash (index / 8) (is_secondary dword0)))
+    option_and_then
+      (confirmed_page order index dword0)
+      (rebuilt_page
+         (is_one_tb dword0)
+         (number_field dword0)
+         size.base
+         (low_hash (index / 8) (is_secondary dword0)))
 
 -- The page of an entry, or none.
 unfoldable pub page_at : ℕ → ℕ → ℕ → ℕ → Option VirtualPage
-page_at order index dword0 dword1 = if is_valid dword0 then option_and_then (page_of_size order index dword0) (size_of dword0 dword1) else None
+page_at order index dword0 dword1 =
+    if is_valid dword0
+    then option_and_then (page_of_size order index dword0) (size_of dword0 dword1)
+    else None

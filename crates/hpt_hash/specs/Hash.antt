@@ -1,6 +1,7 @@
 -- The hash of a page, and the two groups of a hashed page table in which its entry may stand.
 -- Power ISA 2.07 Book III-S, virtual to real translation: the primary and the secondary hash.
 use Rattle.std.specs.Prelude.{ℕ, ◌-◌, ◌*◌, ◌%◌, ◌^◌, Bool, true, false, bit_xor}
+use Rattle.hpte_fields.specs.TableSize.{group_count}
 use Rattle.power_addr.specs.Pages.{VirtualPage}
 
 -- What the hash mixes: the segment's number and the page's index, and in a segment of 1 TB also the number shifted by 25 bits.
@@ -11,10 +12,6 @@ mixed_bits true vsid index = bit_xor (bit_xor vsid (vsid * 2 ^ 25)) index
 -- The hash has 39 bits.
 abbrev pub hash_of : VirtualPage → ℕ
 hash_of p = mixed_bits p.one_tb p.vsid p.index % 2 ^ 39
-
--- A table of 2 ^ order bytes has 2 ^ (order - 7) groups of eight entries of 16 bytes.
-abbrev pub group_count : ℕ → ℕ
-group_count order = 2 ^ (order - 7)
 
 -- The primary group is the hash under the mask of the number of groups, and the secondary group the complement of the hash under that mask.
 unfoldable pub group_of : VirtualPage → ℕ → Bool → ℕ

@@ -1,6 +1,7 @@
 ghost use Rattle.std.specs.Prelude.{◌≡◌, ◌≢◌, ◌<◌, ◌≤◌, ◌-◌, ◌^◌, true, false};
 ghost use Rattle.power_addr.specs.Pages.{vsid_bits};
-ghost use Rattle.hpt_hash.specs.Hash.{hash_of, mixed_bits, group_of, group_count};
+ghost use Rattle.hpt_hash.specs.Hash.{hash_of, mixed_bits, group_of};
+ghost use Rattle.hpte_fields.specs.TableSize.{group_count};
 
 use power_addr::Page;
 

@@ -8,13 +8,15 @@ use Rattle.std.proofs.Math.Nat.{mod-lt, div-lt_iff_lt-mul}
 use Rattle.std.proofs.lemmas.Nat.{pow_pos, pow-add, mod-mul-add, div-add-mod'}
 use Rattle.power_addr.specs.Pages.{VirtualPage}
 use Rattle.hpte_fields.specs.Fields.{is_bolted, is_secondary}
-use Rattle.hpt_hash.specs.Hash.{hash_of, group_of, group_count}
+use Rattle.hpt_hash.specs.Hash.{hash_of, group_of}
+use Rattle.hpte_fields.specs.TableSize.{group_count}
 use Rattle.hpt_hash.specs.Entries.{page_at}
 use Rattle.hpt_hash.proofs.GroupBits.{group_of-lt}
 use Rattle.hpt_hash.proofs.PageLemmas.{page_at-moved, page_at-group}
 use Rattle.entry_model.specs.State.{State}
 use Rattle.entry_model.specs.Run.{state_at}
-use Rattle.hpt_resize.specs.Rehash.{entry_count, carried_page, target_of, target_at}
+use Rattle.hpt_resize.specs.Rehash.{carried_page, target_of, target_at}
+use Rattle.hpte_fields.specs.TableSize.{entry_count}
 
 -- ---- what a value that is there says of its parts
 and_then_some : {T U : Type 0} (f : T → Option U) (o : Option T) (y : U) → option_and_then f o ≡ Some y → (x : T) × (o ≡ Some x) × (f x ≡ Some y)

@@ -2,7 +2,7 @@
 use Rattle.std.proofs.Common.{◌≡◌, ℕ, ◌+◌, ◌≤◌, ◌++◌, List, length, replicate, sym, ap, ◌∙◌, arith}
 use Rattle.std.proofs.lemmas.List.{length-append, length-replicate, replicate-append-replicate}
 use Rattle.entry_model.specs.State.{State, empty_state}
-use Rattle.hpt_resize.specs.Rehash.{entry_count}
+use Rattle.hpte_fields.specs.TableSize.{entry_count}
 use Rattle.hpt_resize.specs.Pending.{IsPreparing}
 
 pub more_prepared : (order count capacity room : ℕ) (states new : List State) → IsPreparing order states capacity → length states + count ≤ entry_count order → capacity ≤ room → new ≡ states ++ replicate count (empty_state 0) → IsPreparing order new room

@@ -8,7 +8,8 @@ use Rattle.std.proofs.lemmas.List.{get_or_past}
 use Rattle.std.proofs.lemmas.List.FromFn.{length-map-range_with_len, get_or-map-range_with_len}
 use Rattle.entry_model.specs.State.{State, empty_state}
 use Rattle.entry_model.specs.Run.{state_at}
-use Rattle.hpt_resize.specs.Rehash.{entry_count, target_at, is_target, first_with, collision_at, collision_of, entry_at, rehashed_states, at_stamp_0, AreApartBelow, IsPlacedBelow}
+use Rattle.hpt_resize.specs.Rehash.{target_at, is_target, first_with, collision_at, collision_of, entry_at, rehashed_states, at_stamp_0, AreApartBelow, IsPlacedBelow}
+use Rattle.hpte_fields.specs.TableSize.{entry_count}
 use Rattle.hpt_resize.proofs.Finds.{found_is, none_found}
 use Rattle.hpt_resize.proofs.Groups.{carried_is, target_in_table}
 use Rattle.hpt_resize.proofs.Placed.{target_is, target_true, first_is, first_none}

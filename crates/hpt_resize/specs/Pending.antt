@@ -1,7 +1,7 @@
 -- A table that is made ready.
 use Rattle.std.specs.Prelude.{◌≡◌, ℕ, ◌+◌, ◌≤◌, ◌==◌, Bool, List, length, min, replicate}
 use Rattle.entry_model.specs.State.{State, empty_state}
-use Rattle.hpt_resize.specs.Rehash.{entry_count}
+use Rattle.hpte_fields.specs.TableSize.{entry_count}
 
 -- It has 2 ^ order bytes at place in the pool, and so many of its entries are ready.
 pub record PendingTable : Type 0 where
@@ -9,9 +9,11 @@ pub record PendingTable : Type 0 where
   pub place : ℕ
   pub ready : ℕ
 
+-- A table of this order at this place, of which no entry is ready.
 abbrev pub no_entries : ℕ → ℕ → PendingTable
 no_entries order place = record { order = order; place = place; ready = 0 }
 
+-- All its entries are ready.
 abbrev pub is_ready : PendingTable → Bool
 is_ready table = table.ready == entry_count table.order
 

@@ -3,7 +3,7 @@ use Rattle.std.specs.Prelude.{ℕ, List, Option, None, unwrap_or, replicate}
 use Rattle.hpt_pool.specs.Pool.{PoolState, no_blocks, block_at, lowest_place, with_block}
 use Rattle.entry_model.specs.State.{State, empty_state}
 use Rattle.papr_codes.specs.declared.codes.Rc.{Rc}
-use Rattle.hpt_resize.specs.Rehash.{entry_count}
+use Rattle.hpte_fields.specs.TableSize.{entry_count}
 use Rattle.hpt_resize.specs.Pending.{PendingTable}
 use Rattle.hpt_resize.specs.Resize.{Table, outcome_of_prepare, outcome_of_commit}
 
@@ -46,4 +46,5 @@ prepare_result memory flags shift =
 unfoldable pub commit_result : TableMemory → ℕ → ℕ → Rc × TableMemory
 commit_result memory flags shift =
     let answer = outcome_of_commit flags shift memory.pending memory.pool memory.table in
-    (answer.rc, record memory { pool = answer.pool; pending = answer.pending; table = answer.table })
+    (answer.rc,
+     record memory { pool = answer.pool; pending = answer.pending; table = answer.table })

@@ -1,4 +1,5 @@
 ghost use Rattle.std.specs.Prelude.{◌≡◌, ◌≢◌, ℕ, ◌-◌, ◌^◌, ◌<◌, ◌≤◌, length, Option, Some, None, IsOk, IfErr, OnOk, MatchOption, MatchResult, replicate, vec_len};
+ghost use Rattle.hpte_fields.specs.TableSize.{entry_count};
 ghost use Rattle.entry_model.specs.State.{State, empty_state};
 ghost use Rattle.entry_model.specs.Run.{state_at};
 ghost use Rattle.hpt_resize.specs.Rehash.{target_of, target_at, at_stamp_0, first_with, collision_of, rehashed_states, IsCollision, IsPlacedBelow};
@@ -31,12 +32,25 @@ pub fn rehash(
     requires from_high { order_from ≤ 22 }
     requires to_low { 18 ≤ order_to }
     requires to_high { order_to ≤ 22 }
-    requires whole { length states.now ≡ 2 ^ (order_from - 4) }
-    requires empty { into.old.items ≡ replicate (2 ^ (order_to - 4)) (empty_state 0) }
-    ensures told { MatchResult result (λ _. collision_of order_from order_to states.now ≡ None) (λ collision. collision_of order_from order_to states.now ≡ Some collision) }
+    requires whole { length states.now ≡ entry_count order_from }
+    requires empty { into.old.items ≡ replicate (entry_count order_to) (empty_state 0) }
+    ensures told {
+        MatchResult
+          result
+          (λ _. collision_of order_from order_to states.now ≡ None)
+          (λ collision. collision_of order_from order_to states.now ≡ Some collision)
+    }
     ensures meet { IfErr result (IsCollision order_from order_to states.now) }
-    ensures placed { MatchResult result (λ _. IsPlacedBelow order_from order_to states.now into.new.items (length states.now)) (λ collision. IsPlacedBelow order_from order_to states.now into.new.items collision.second) }
-    ensures carried { OnOk result (into.new.items ≡ rehashed_states order_from order_to states.now) }
+    ensures placed {
+        MatchResult
+          result
+          (λ _. IsPlacedBelow order_from order_to states.now into.new.items (length states.now))
+          (λ collision.
+             IsPlacedBelow order_from order_to states.now into.new.items collision.second)
+    }
+    ensures carried {
+        OnOk result (into.new.items ≡ rehashed_states order_from order_to states.now)
+    }
     ensures never { order_from ≤ order_to → IsOk result }
     ensures length { vec_len into.new ≡ vec_len into.old }
 {
@@ -62,9 +76,9 @@ fn target_index(order_from: u8, order_to: u8, state: EntryState, index: usize) -
     requires from_high { order_from ≤ 22 }
     requires to_low { 18 ≤ order_to }
     requires to_high { order_to ≤ 22 }
-    requires in_table { index < 2 ^ (order_from - 4) }
+    requires in_table { index < entry_count order_from }
     ensures value { result ≡ target_of order_from order_to state index }
-    ensures in_new_table { MatchOption result (Unit {0}) (λ target. target < 2 ^ (order_to - 4)) }
+    ensures in_new_table { MatchOption result (Unit {0}) (λ target. target < entry_count order_to) }
 {
     if !state.valid || !bolted(state.dword0) {
         return None;
@@ -99,13 +113,20 @@ fn first(order_from: u8, order_to: u8, states: &[EntryState], second: usize, tar
     requires from_high { order_from ≤ 22 }
     requires to_low { 18 ≤ order_to }
     requires to_high { order_to ≤ 22 }
-    requires whole { length states.now ≡ 2 ^ (order_from - 4) }
+    requires whole { length states.now ≡ entry_count order_from }
     requires in_table { second < length states.now }
-    requires taken { ((index : ℕ) → index < second → target_at order_from order_to states.now index ≢ Some target) → ⊥ }
+    requires taken {
+        ((index : ℕ)
+         → index < second
+         → target_at order_from order_to states.now index ≢ Some target)
+        → ⊥
+    }
     ensures found { first_with order_from order_to states.now second target ≡ Some result }
     ensures below { result < second }
     ensures goes { target_at order_from order_to states.now result ≡ Some target }
-    ensures lowest { (index : ℕ) → index < result → target_at order_from order_to states.now index ≢ Some target }
+    ensures lowest {
+        (index : ℕ) → index < result → target_at order_from order_to states.now index ≢ Some target
+    }
 {
     for index in 0..second {
         if target_index(order_from, order_to, states[index], index) == Some(target) {

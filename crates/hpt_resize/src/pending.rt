@@ -1,4 +1,5 @@
 ghost use Rattle.std.specs.Prelude.{◌≡◌, ◌+◌, ◌-◌, ◌^◌, ◌<◌, ◌≤◌, [], ◌++◌, replicate, vec_len, vec_capacity};
+ghost use Rattle.hpte_fields.specs.TableSize.{entry_count};
 ghost use Rattle.entry_model.specs.State.{empty_state};
 ghost use Rattle.hpt_resize.specs.Pending.{no_entries, is_ready, with_more_ready};
 
@@ -22,7 +23,9 @@ impl Model for Pending {
 
     ghost Value = { PendingTable };
 
-    ghost view = { λ p. record { order = p.order; place = p.place; ready = length p.states.items } };
+    ghost view = {
+        λ p. record { order = p.order; place = p.place; ready = length p.states.items }
+    };
 
     ghost invariant = { λ p. IsPreparing p.order p.states.items (vec_capacity p.states) };
 }
@@ -33,7 +36,7 @@ impl Pending {
         requires low { 18 ≤ order }
         requires high { order ≤ 22 }
         requires none { states.items ≡ [] }
-        requires room { 2 ^ (order - 4) ≤ vec_capacity states }
+        requires room { entry_count order ≤ vec_capacity states }
         ensures { result ≡ no_entries order place }
     {
         Pending {
@@ -91,7 +94,7 @@ impl Pending {
 pub fn entry_count(order: u8) -> usize
     requires low { 18 ≤ order }
     requires high { order ≤ 22 }
-    ensures { result ≡ 2 ^ (order - 4) }
+    ensures { result ≡ entry_count order }
 {
     1 << (order - 4)
 }

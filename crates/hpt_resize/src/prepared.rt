@@ -2,7 +2,7 @@ ghost use Rattle.std.specs.Prelude.{◌≡◌, ◌≢◌, ◌+◌, ◌-◌, ◌^
 ghost use Rattle.std.specs.Option.{ForSome};
 ghost use Rattle.hpt_pool.specs.Pool.{block_at};
 ghost use Rattle.entry_model.specs.State.{empty_state};
-ghost use Rattle.hpt_resize.specs.Rehash.{entry_count};
+ghost use Rattle.hpte_fields.specs.TableSize.{entry_count};
 ghost use Rattle.hpt_resize.specs.Pending.{PendingTable, is_ready, with_more_ready};
 ghost use Rattle.hpt_resize.specs.Resize.{IsHeld, IsElsewhere, IsTable, prepare_outcome, is_prepare_request, is_commit_request, pool_without, is_pending, needs_table, start_outcome, outcome_of_prepare, table_of, commit_refusal, pending_refusal, complete_outcome, outcome_of_commit, commit_outcome, KeepsBlocks};
 
@@ -51,7 +51,13 @@ impl Resize {
         requires limit_low { 18 ≤ limit }
         requires limit_high { limit ≤ 22 }
         requires held { IsHeld self.old pool.old }
-        ensures ok { IfOk result (λ rc. prepare_outcome rc self.new pool.new ≡ outcome_of_prepare limit flags shift self.old pool.old) }
+        ensures ok {
+            IfOk
+              result
+              (λ rc.
+                 prepare_outcome rc self.new pool.new
+                 ≡ outcome_of_prepare limit flags shift self.old pool.old)
+        }
         ensures memory { OnErr result (needs_table limit flags shift self.old ≡ true) }
         ensures same_pending { OnErr result (self.new ≡ self.old) }
         ensures same_pool { OnErr result (pool.new ≡ pool.old) }
@@ -86,10 +92,16 @@ impl Resize {
         requires number { current.old.number < 2 ^ 32 - 1 }
         requires held { IsHeld self.old pool.old }
         requires taken { Contains pool.old.taken (block_at current.old.place current.old.order) }
-        ensures done { commit_outcome result self.new pool.new (table_of current.new) ≡ outcome_of_commit flags shift self.old pool.old (table_of current.old) }
+        ensures done {
+            commit_outcome result self.new pool.new (table_of current.new)
+            ≡ outcome_of_commit flags shift self.old pool.old (table_of current.old)
+        }
         ensures table { IsTable current.new }
         ensures held { IsHeld self.new pool.new }
-        ensures taken { IsElsewhere self.old (block_at current.old.place current.old.order) → Contains pool.new.taken (block_at current.new.place current.new.order) }
+        ensures taken {
+            IsElsewhere self.old (block_at current.old.place current.old.order)
+            → Contains pool.new.taken (block_at current.new.place current.new.order)
+        }
     {
         if let Err(rc) = self.check(flags, shift) {
             return CommitAnswer::of(rc);
@@ -102,8 +114,15 @@ impl Resize {
 
     // Why there is no table to commit.
     fn check(&self, flags: u64, shift: u64) -> Result<(), Rc>
-        ensures refused { MatchResult result (λ _. commit_refusal flags shift self.now ≡ None) (λ rc. commit_refusal flags shift self.now ≡ Some rc) }
-        ensures ready { OnOk result (ForSome self.now (λ table. table.ready ≡ entry_count table.order)) }
+        ensures refused {
+            MatchResult
+              result
+              (λ _. commit_refusal flags shift self.now ≡ None)
+              (λ rc. commit_refusal flags shift self.now ≡ Some rc)
+        }
+        ensures ready {
+            OnOk result (ForSome self.now (λ table. table.ready ≡ entry_count table.order))
+        }
     {
         if flags != 0 || shift < 18 || shift > 46 {
             return Err(Rc::Parameter);
@@ -125,7 +144,11 @@ impl Resize {
         requires low { 18 ≤ order }
         requires high { order ≤ 22 }
         requires held { IsHeld self.old pool.old }
-        ensures ok { IfOk result (λ rc. prepare_outcome rc self.new pool.new ≡ start_outcome order self.old pool.old) }
+        ensures ok {
+            IfOk
+              result
+              (λ rc. prepare_outcome rc self.new pool.new ≡ start_outcome order self.old pool.old)
+        }
         ensures memory { OnErr result (is_pending order self.old ≡ false) }
         ensures same_pending { OnErr result (self.new ≡ self.old) }
         ensures same_pool { OnErr result (pool.new ≡ pool.old) }
@@ -164,7 +187,15 @@ impl Resize {
 
     // Makes further entries of the pending table ready. Where there is none, the answer stays.
     fn advance(&mut self, rc: Rc) -> Rc
-        ensures { MatchOption self.old ((result ≡ rc) × (self.new ≡ None)) (λ table. (self.new ≡ Some (with_more_ready table)) × (result ≡ (if is_ready (with_more_ready table) then Rc.Success else Rc.LongBusy))) }
+        ensures {
+            MatchOption
+              self.old
+              ((result ≡ rc) × (self.new ≡ None))
+              (λ table.
+                 (self.new ≡ Some (with_more_ready table))
+                 × (result
+                    ≡ (if is_ready (with_more_ready table) then Rc.Success else Rc.LongBusy)))
+        }
     {
         let Some(pending) = &mut self.pending else {
             return rc;
@@ -191,9 +222,15 @@ fn complete(pending: Pending, pool: &mut Pool, current: &mut Current) -> CommitA
     requires ready { pending.ready ≡ entry_count pending.order }
     requires held { Contains pool.old.taken (block_at pending.place pending.order) }
     requires taken { Contains pool.old.taken (block_at current.old.place current.old.order) }
-    ensures done { commit_outcome result None pool.new (table_of current.new) ≡ complete_outcome (Some pending) pool.old (table_of current.old) }
+    ensures done {
+        commit_outcome result None pool.new (table_of current.new)
+        ≡ complete_outcome (Some pending) pool.old (table_of current.old)
+    }
     ensures table { IsTable current.new }
-    ensures taken { pending.place ≢ current.old.place → Contains pool.new.taken (block_at current.new.place current.new.order) }
+    ensures taken {
+        pending.place ≢ current.old.place
+        → Contains pool.new.taken (block_at current.new.place current.new.order)
+    }
 {
     let order = pending.order();
     let place = pending.place();

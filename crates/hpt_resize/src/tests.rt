@@ -1,6 +1,6 @@
 ghost use Rattle.std.specs.Prelude.{◌≡◌, ◌≤◌, bit_and, length, replicate, vec_len, IfOk};
 ghost use Rattle.entry_model.specs.State.{empty_state};
-ghost use Rattle.hpt_resize.specs.Rehash.{entry_count};
+ghost use Rattle.hpte_fields.specs.TableSize.{entry_count};
 
 use crate::{Collision, CommitAnswer, Current, Resize, rehash};
 use entry_model::EntryState;

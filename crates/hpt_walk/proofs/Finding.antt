@@ -5,14 +5,13 @@ use Rattle.std.specs.List.{AllByRecursion, range_with_len}
 use Rattle.std.specs.Option.{option_map_or}
 use Rattle.std.proofs.lemmas.Bool.{cases_Bool, eqb-true, eq-eqb}
 use Rattle.std.proofs.lemmas.List.{set-get_or}
-use Rattle.storage_prot.specs.declared.want.Want.{Want}
 use Rattle.power_addr.specs.Pages.{VirtualPage, IsPage, tag_of, same_page}
 use Rattle.hpt_hash.specs.Hash.{group_of}
 use Rattle.hpt_hash.specs.Entries.{IsPageOf, page_at}
 use Rattle.hpt_hash.proofs.PageLemmas.{page_at-sound, page_at-complete}
 use Rattle.entry_model.specs.State.{State, empty_state}
 use Rattle.entry_model.specs.declared.receipt.Receipt.{Receipt}
-use Rattle.entry_model.specs.Reply.{is_match, answer_of_access, reply_of}
+use Rattle.entry_model.specs.Reply.{is_match, answer_of_access, reply_of, AccessMode}
 use Rattle.entry_model.specs.Receipt.{is_no_match, is_decided, after_of, IsReceiptOf, found_of}
 use Rattle.entry_model.specs.Run.{IsRun, IsStep, state_at}
 use Rattle.entry_model.specs.Trial.{Call, IsTrial, call}
@@ -106,23 +105,23 @@ state_of (s ∷ ss) zero all h = all.0
 state_of (s ∷ ss) (suc e) all h = state_of ss e all.1 (omega arith)
 
 -- A call of a walk: on an entry of the group for its H.
-abbrev IsCallOf : ℕ → VirtualPage → Bool → Bool → Want → Call → Type 0
-IsCallOf order page key no_execute want c = (secondary : Bool) × (c.op ≡ access_op page key no_execute want secondary) × (group_of page order secondary ≡ c.entry / 8)
+abbrev IsCallOf : ℕ → VirtualPage → AccessMode → Call → Type 0
+IsCallOf order page mode c = (secondary : Bool) × (c.op ≡ access_op page mode secondary) × (group_of page order secondary ≡ c.entry / 8)
 
-answer_of : (page : VirtualPage) (key no_execute : Bool) (want : Want) (secondary : Bool) (r : Receipt) (s : State) → r.op ≡ access_op page key no_execute want secondary → r.before ≡ s → (r.answer, after_of r) ≡ answer_of_access s (tag_of page + h_bit secondary + 1) page.shift key no_execute want
-answer_of page key no_execute want secondary r s op before = ap (λ x. (x, after_of r)) r.lawful ∙ (λ i. reply_of (before i) (op i))
+answer_of : (page : VirtualPage) (mode : AccessMode) (secondary : Bool) (r : Receipt) (s : State) → r.op ≡ access_op page mode secondary → r.before ≡ s → (r.answer, after_of r) ≡ answer_of_access s (tag_of page + h_bit secondary + 1) page.shift mode
+answer_of page mode secondary r s op before = ap (λ x. (x, after_of r)) r.lawful ∙ (λ i. reply_of (before i) (op i))
 
-paired_found : (order : ℕ) (page : VirtualPage) (key no_execute : Bool) (want : Want) (a : List State) (c : Call) (r : Receipt) (mid : List State) → 18 ≤ order → IsPage page → AllByRecursion IsEntryState a → IsCallOf order page key no_execute want c → IsReceiptOf c.entry c.op r → IsStep a r mid → is_no_match r.answer ≡ false → is_paired (translations order a) page c.entry ≡ true
-paired_found order page key no_execute want a c r mid low is states of receipt step off =
+paired_found : (order : ℕ) (page : VirtualPage) (mode : AccessMode) (a : List State) (c : Call) (r : Receipt) (mid : List State) → 18 ≤ order → IsPage page → AllByRecursion IsEntryState a → IsCallOf order page mode c → IsReceiptOf c.entry c.op r → IsStep a r mid → is_no_match r.answer ≡ false → is_paired (translations order a) page c.entry ≡ true
+paired_found order page mode a c r mid low is states of receipt step off =
     let s : State = state_at a c.entry in
     let within : c.entry < length a = subst (λ e. e < length a) receipt.entry step.in_table in
     let state : IsEntryState s = state_of a c.entry states within in
-    let both = answer_of page key no_execute want of.0 r s (receipt.op ∙ of.1) (step.before ∙ ap (state_at a) receipt.entry) in
-    let matching : is_match s (tag_of page + h_bit of.0 + 1) page.shift ≡ true = match_of s _ _ key no_execute want (ap (λ x. is_no_match x.0) (sym both) ∙ off) in
+    let both = answer_of page mode of.0 r s (receipt.op ∙ of.1) (step.before ∙ ap (state_at a) receipt.entry) in
+    let matching : is_match s (tag_of page + h_bit of.0 + 1) page.shift ≡ true = match_of s _ _ mode (ap (λ x. is_no_match x.0) (sym both) ∙ off) in
     paired-in order page a c.entry within ∙ page_paired order c.entry page s low is state (match_page order c.entry page of.0 s is of.2 state matching)
 
-unpaired_none : (order : ℕ) (page : VirtualPage) (key no_execute : Bool) (want : Want) (a : List State) (c : Call) (r : Receipt) (mid : List State) → 18 ≤ order → IsPage page → AllByRecursion IsEntryState a → IsCallOf order page key no_execute want c → IsReceiptOf c.entry c.op r → IsStep a r mid → is_no_match r.answer ≡ true → (is_paired (translations order a) page c.entry ≡ false) × (mid ≡ a)
-unpaired_none order page key no_execute want a c r mid low is states of receipt step on = (unpaired (cases_Bool (is_paired (translations order a) page c.entry)), stays (cases_Bool matching)) where
+unpaired_none : (order : ℕ) (page : VirtualPage) (mode : AccessMode) (a : List State) (c : Call) (r : Receipt) (mid : List State) → 18 ≤ order → IsPage page → AllByRecursion IsEntryState a → IsCallOf order page mode c → IsReceiptOf c.entry c.op r → IsStep a r mid → is_no_match r.answer ≡ true → (is_paired (translations order a) page c.entry ≡ false) × (mid ≡ a)
+unpaired_none order page mode a c r mid low is states of receipt step on = (unpaired (cases_Bool (is_paired (translations order a) page c.entry)), stays (cases_Bool matching)) where
   s : State
   s = state_at a c.entry
 
@@ -138,11 +137,11 @@ unpaired_none order page key no_execute want a c r mid low is states of receipt 
   state : IsEntryState s
   state = state_of a c.entry states within
 
-  both : (r.answer, after_of r) ≡ answer_of_access s tag page.shift key no_execute want
-  both = answer_of page key no_execute want of.0 r s (receipt.op ∙ of.1) (step.before ∙ ap (state_at a) receipt.entry)
+  both : (r.answer, after_of r) ≡ answer_of_access s tag page.shift mode
+  both = answer_of page mode of.0 r s (receipt.op ∙ of.1) (step.before ∙ ap (state_at a) receipt.entry)
 
   clash : matching ≡ true → ⊥
-  clash same = no_match_or_decided r.answer on (ap (λ x. is_decided x.0) both ∙ decided_match s tag page.shift key no_execute want same)
+  clash same = no_match_or_decided r.answer on (ap (λ x. is_decided x.0) both ∙ decided_match s tag page.shift mode same)
 
   unpaired : (is_paired (translations order a) page c.entry ≡ true) ⊎ (is_paired (translations order a) page c.entry ≡ false) → is_paired (translations order a) page c.entry ≡ false
   unpaired (inl pairs) = absurd (clash (page_match order c.entry page of.0 s low of.2 state (paired_page order c.entry page s state (sym (paired-in order page a c.entry within) ∙ pairs))))
@@ -158,12 +157,12 @@ unpaired_none order page key no_execute want a c r mid low is states of receipt 
 Finds : ℕ → VirtualPage → List State → List Call → List Receipt → Type 0
 Finds order page a cs rs = option_map (λ (r : Receipt). r.entry) (found_of rs) ≡ find (is_paired (translations order a) page) (map (λ (c : Call). c.entry) cs)
 
-finds : (order : ℕ) (page : VirtualPage) (key no_execute : Bool) (want : Want) (a b : List State) (cs : List Call) (rs : List Receipt) → 18 ≤ order → IsPage page → AllByRecursion IsEntryState a → AllByRecursion (IsCallOf order page key no_execute want) cs → IsTrial is_no_match cs rs → IsRun a rs b → Finds order page a cs rs
+finds : (order : ℕ) (page : VirtualPage) (mode : AccessMode) (a b : List State) (cs : List Call) (rs : List Receipt) → 18 ≤ order → IsPage page → AllByRecursion IsEntryState a → AllByRecursion (IsCallOf order page mode) cs → IsTrial is_no_match cs rs → IsRun a rs b → Finds order page a cs rs
 unfolding Finds
-finds order page key no_execute want a b [] [] low is states of s run = refl
-finds order page key no_execute want a b [] (r ∷ rs) low is states of s run = absurd s
-finds order page key no_execute want a b (c ∷ cs) [] low is states of s run = absurd s
-finds order page key no_execute want a b (c ∷ cs) (r ∷ rs) low is states of s run = at (cases_Bool (is_no_match r.answer)) (λ s' run'. finds order page key no_execute want a b cs rs low is states of.1 s' run') where
+finds order page mode a b [] [] low is states of s run = refl
+finds order page mode a b [] (r ∷ rs) low is states of s run = absurd s
+finds order page mode a b (c ∷ cs) [] low is states of s run = absurd s
+finds order page mode a b (c ∷ cs) (r ∷ rs) low is states of s run = at (cases_Bool (is_no_match r.answer)) (λ s' run'. finds order page mode a b cs rs low is states of.1 s' run') where
   paired : ℕ → Bool
   paired = is_paired (translations order a) page
 
@@ -172,28 +171,28 @@ finds order page key no_execute want a b (c ∷ cs) (r ∷ rs) low is states of 
 
   at : (is_no_match r.answer ≡ true) ⊎ (is_no_match r.answer ≡ false) → (IsTrial is_no_match cs rs → IsRun a rs b → Finds order page a cs rs) → option_map (λ (x : Receipt). x.entry) (found_of (r ∷ rs)) ≡ (if paired c.entry then Some c.entry else rest)
   at (inl on) more =
-      let facts = unpaired_none order page key no_execute want a c r run.0 low is states of.0 s.0 run.1 on in
+      let facts = unpaired_none order page mode a c r run.0 low is states of.0 s.0 run.1 on in
       let after : Finds order page a cs rs = more (rw on at s.1) (subst (λ m. IsRun m rs b) facts.1 run.2) in
       ap (option_map (λ (x : Receipt). x.entry)) (found-on r rs on) ∙ after ∙ sym (ap (λ t. if t then Some c.entry else rest) facts.0)
   at (inr off) more =
-      let fact = paired_found order page key no_execute want a c r run.0 low is states of.0 s.0 run.1 off in
+      let fact = paired_found order page mode a c r run.0 low is states of.0 s.0 run.1 off in
       ap (option_map (λ (x : Receipt). x.entry)) (found-off r rs off) ∙ ap Some s.0.entry ∙ sym (ap (λ t. if t then Some c.entry else rest) fact)
 
 -- ---- the calls of a walk
-calls_of_group : (order : ℕ) (page : VirtualPage) (key no_execute : Bool) (want : Want) (secondary : Bool) (first i n : ℕ) → first ≡ group_of page order secondary * 8 + i → i + n ≤ 8 → AllByRecursion (IsCallOf order page key no_execute want) (map (call (access_op page key no_execute want secondary)) (range_with_len first n))
-calls_of_group order page key no_execute want secondary first i zero at few = tt
-calls_of_group order page key no_execute want secondary first i (suc n) at few = ((secondary, refl, omega arith), calls_of_group order page key no_execute want secondary (first + 1) (i + 1) n (omega arith) (omega arith))
+calls_of_group : (order : ℕ) (page : VirtualPage) (mode : AccessMode) (secondary : Bool) (first i n : ℕ) → first ≡ group_of page order secondary * 8 + i → i + n ≤ 8 → AllByRecursion (IsCallOf order page mode) (map (call (access_op page mode secondary)) (range_with_len first n))
+calls_of_group order page mode secondary first i zero at few = tt
+calls_of_group order page mode secondary first i (suc n) at few = ((secondary, refl, omega arith), calls_of_group order page mode secondary (first + 1) (i + 1) n (omega arith) (omega arith))
 
-calls_of_walk : (order : ℕ) (page : VirtualPage) (key no_execute : Bool) (want : Want) → AllByRecursion (IsCallOf order page key no_execute want) (walk_calls order page key no_execute want)
+calls_of_walk : (order : ℕ) (page : VirtualPage) (mode : AccessMode) → AllByRecursion (IsCallOf order page mode) (walk_calls order page mode)
 unfolding walk_calls
-calls_of_walk order page key no_execute want =
-    both_calls (IsCallOf order page key no_execute want) (map (call (access_op page key no_execute want false)) (range_with_len (group_of page order false * 8) 8)) (map (call (access_op page key no_execute want true)) (range_with_len (group_of page order true * 8) 8)) (calls_of_group order page key no_execute want false (group_of page order false * 8) 0 8 (omega arith) (omega arith)) (calls_of_group order page key no_execute want true (group_of page order true * 8) 0 8 (omega arith) (omega arith))
+calls_of_walk order page mode =
+    both_calls (IsCallOf order page mode) (map (call (access_op page mode false)) (range_with_len (group_of page order false * 8) 8)) (map (call (access_op page mode true)) (range_with_len (group_of page order true * 8) 8)) (calls_of_group order page mode false (group_of page order false * 8) 0 8 (omega arith) (omega arith)) (calls_of_group order page mode true (group_of page order true * 8) 0 8 (omega arith) (omega arith))
 
-entries_of_walk : (order : ℕ) (page : VirtualPage) (key no_execute : Bool) (want : Want) → map (λ (c : Call). c.entry) (walk_calls order page key no_execute want) ≡ walk_entries order page
+entries_of_walk : (order : ℕ) (page : VirtualPage) (mode : AccessMode) → map (λ (c : Call). c.entry) (walk_calls order page mode) ≡ walk_entries order page
 unfolding walk_calls walk_entries
-entries_of_walk order page key no_execute want = refl
+entries_of_walk order page mode = refl
 
-pub walk_finds : (order : ℕ) (page : VirtualPage) (key no_execute : Bool) (want : Want) (a b : List State) (rs : List Receipt) → 18 ≤ order → IsPage page → AllByRecursion IsEntryState a → IsTrial is_no_match (walk_calls order page key no_execute want) rs → IsRun a rs b → option_map (λ (r : Receipt). r.entry) (found_of rs) ≡ find (is_paired (translations order a) page) (walk_entries order page)
+pub walk_finds : (order : ℕ) (page : VirtualPage) (mode : AccessMode) (a b : List State) (rs : List Receipt) → 18 ≤ order → IsPage page → AllByRecursion IsEntryState a → IsTrial is_no_match (walk_calls order page mode) rs → IsRun a rs b → option_map (λ (r : Receipt). r.entry) (found_of rs) ≡ find (is_paired (translations order a) page) (walk_entries order page)
 unfolding Finds
-walk_finds order page key no_execute want a b rs low is states s run =
-    finds order page key no_execute want a b (walk_calls order page key no_execute want) rs low is states (calls_of_walk order page key no_execute want) s run ∙ ap (find (is_paired (translations order a) page)) (entries_of_walk order page key no_execute want)
+walk_finds order page mode a b rs low is states s run =
+    finds order page mode a b (walk_calls order page mode) rs low is states (calls_of_walk order page mode) s run ∙ ap (find (is_paired (translations order a) page)) (entries_of_walk order page mode)

@@ -15,7 +15,7 @@ use Rattle.frame_grants.proofs.Landing.{part_range}
 use Rattle.entry_model.specs.State.{State, empty_state}
 use Rattle.entry_model.specs.declared.operation.Answer.{Answer}
 use Rattle.entry_model.specs.declared.operation.Op.{Op}
-use Rattle.entry_model.specs.Reply.{reply_of, change_to, change_where, entered_state, is_found, is_match, answer_of_match, touched_state}
+use Rattle.entry_model.specs.Reply.{reply_of, change_to, change_where, entered_state, is_found, is_match, answer_of_match, touched_state, access_mode}
 use Rattle.entry_model.proofs.PlanBounds.{EntersOnly}
 use Rattle.hpt_walk.specs.Access.{actual_size, logical_of}
 use Rattle.entry_model.specs.declared.operation.Answer.TheVariants as answers
@@ -65,7 +65,7 @@ reply_granted grants s (ops.Protect test flags) w h = where_granted (is_found s 
 reply_granted grants s ops.Read w h = h
 reply_granted grants s ops.ClearRef w h = where_granted s.valid grants s answers.Was (record s { referenced = false }) h h
 reply_granted grants s ops.ClearMod w h = where_granted s.valid grants s answers.Was (record s { changed = false }) h h
-reply_granted grants s (ops.Access tag base key no_execute want) w h = either_granted (is_match s tag base) grants (answer_of_match s key no_execute want) (answers.NoMatch, s) (either_granted (allowed (pp_of s.dword1) key (no_execute || is_no_execute s.dword1) want) grants (answers.At, touched_state s want) (answers.Denied, s) h h) h
+reply_granted grants s (ops.Access tag base key no_execute want) w h = either_granted (is_match s tag base) grants (answer_of_match s (access_mode key no_execute want)) (answers.NoMatch, s) (either_granted (allowed (pp_of s.dword1) key (no_execute || is_no_execute s.dword1) want) grants (answers.At, touched_state s want) (answers.Denied, s) h h) h
 
 -- ---- accesses
 -- An access by a valid entry has a machine address.

@@ -1,4 +1,3 @@
-pub mod Search
 pub mod Tags
 pub mod Granted
 pub mod Found

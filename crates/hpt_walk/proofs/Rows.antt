@@ -11,7 +11,7 @@ use Rattle.hpt_hash.specs.Hash.{group_of}
 use Rattle.hpt_hash.specs.Entries.{page_at}
 use Rattle.entry_model.specs.State.{State, empty_state}
 use Rattle.entry_model.specs.declared.receipt.Receipt.{Receipt}
-use Rattle.entry_model.specs.Reply.{has_base}
+use Rattle.entry_model.specs.Reply.{has_base, access_mode}
 use Rattle.entry_model.specs.Receipt.{receipt_of}
 use Rattle.entry_model.specs.Trial.{Call}
 use Rattle.hpt_walk.specs.Walk.{access_op, walk_calls}
@@ -25,7 +25,7 @@ abbrev page : VirtualPage
 page = virtual_page false 1 12 5
 
 abbrev calls : List Call
-calls = walk_calls 18 page false false Load
+calls = walk_calls 18 page (access_mode false false Load)
 
 -- ---- the walk order
 entries : map (λ (c : Call). c.entry) calls ≡ 0x20 ∷ 0x21 ∷ 0x22 ∷ 0x23 ∷ 0x24 ∷ 0x25 ∷ 0x26 ∷ 0x27 ∷ 0x3FD8 ∷ 0x3FD9 ∷ 0x3FDA ∷ 0x3FDB ∷ 0x3FDC ∷ 0x3FDD ∷ 0x3FDE ∷ 0x3FDF ∷ []
@@ -33,11 +33,11 @@ unfolding walk_calls group_of
 entries = refl
 
 -- With the segment's number at 2 ^ 12 and V; in the secondary group with H.
-first_op : access_op page false false Load false ≡ ops.Access 0x1001 12 false false Load
+first_op : access_op page (access_mode false false Load) false ≡ ops.Access 0x1001 12 false false Load
 unfolding tag_of
 first_op = refl
 
-second_op : access_op page true true Store true ≡ ops.Access 0x1003 12 true true Store
+second_op : access_op page (access_mode true true Store) true ≡ ops.Access 0x1003 12 true true Store
 unfolding tag_of
 second_op = refl
 
@@ -58,10 +58,10 @@ abbrev grants : List Grant
 grants = record { logical = 0; machine = 0x2000000000; length = 0x40000000; kind = Ram } ∷ []
 
 abbrev load : ℕ → State → Receipt
-load e s = receipt_of e s (access_op page false false Load false)
+load e s = receipt_of e s (access_op page (access_mode false false Load) false)
 
 abbrev store : ℕ → State → Receipt
-store e s = receipt_of e s (access_op page false false Store false)
+store e s = receipt_of e s (access_op page (access_mode false false Store) false)
 
 in_small_page : logical_of 0x5678 mapped ≡ 0x3678
 in_small_page = refl

@@ -4,7 +4,6 @@ use Rattle.std.proofs.Common.{◌≡◌, ℕ, ◌+◌, ◌/◌, ◌≤◌, Bool,
 use Rattle.std.specs.Option.{option_map_or}
 use Rattle.std.proofs.lemmas.Bool.{cases_Bool, and_parts, eqb-true, eq-eqb}
 use Rattle.std.specs.Cmp.Derive.{both_true}
-use Rattle.storage_prot.specs.declared.want.Want.{Want}
 use Rattle.page_sizes.specs.declared.size.PageSize.{PageSize}
 use Rattle.page_sizes.specs.Sizes.{size_of}
 use Rattle.power_addr.specs.Pages.{VirtualPage, IsPage, tag_of}
@@ -16,7 +15,7 @@ use Rattle.hpt_hash.proofs.PageLemmas.{segment_code-tag}
 use Rattle.entry_model.specs.State.{State}
 use Rattle.entry_model.specs.declared.operation.Answer.{Answer}
 use Rattle.entry_model.specs.declared.operation.Answer.TheVariants.{NoMatch}
-use Rattle.entry_model.specs.Reply.{compared_bits, has_base, is_match, reply_of}
+use Rattle.entry_model.specs.Reply.{compared_bits, has_base, is_match, reply_of, AccessMode}
 use Rattle.entry_model.specs.Receipt.{is_no_match, is_decided}
 use Rattle.entry_model.proofs.OperationLaws.{decided_match}
 use Rattle.hpt_walk.specs.Walk.{access_op, h_bit}
@@ -79,20 +78,20 @@ no_match_is : (a : Answer) → is_no_match a ≡ true → a ≡ NoMatch
 no_match_is NoMatch h = refl
 no_match_is other h = cc
 
-pub tells_page : (order entry : ℕ) (page : VirtualPage) (key no_execute : Bool) (want : Want) (secondary : Bool) (s : State) → 18 ≤ order → IsPage page → group_of page order secondary ≡ entry / 8 → IsEntryState s → TellsPage order entry page s (reply_of s (access_op page key no_execute want secondary)).0
-tells_page order entry page key no_execute want secondary s low is group state = record { decided = (decided_to, decided_back); no_match = (no_match_to, no_match_back) } where
+pub tells_page : (order entry : ℕ) (page : VirtualPage) (mode : AccessMode) (secondary : Bool) (s : State) → 18 ≤ order → IsPage page → group_of page order secondary ≡ entry / 8 → IsEntryState s → TellsPage order entry page s (reply_of s (access_op page mode secondary)).0
+tells_page order entry page mode secondary s low is group state = record { decided = (decided_to, decided_back); no_match = (no_match_to, no_match_back) } where
   answer : Answer
-  answer = (reply_of s (access_op page key no_execute want secondary)).0
+  answer = (reply_of s (access_op page mode secondary)).0
 
   matching : Bool
   matching = is_match s (tag_of page + h_bit secondary + 1) page.shift
 
   decided_back : IsPageOf order entry s.dword0 s.dword1 page → IsTrue (is_decided answer)
-  decided_back of = decided_match s (tag_of page + h_bit secondary + 1) page.shift key no_execute want (page_match order entry page secondary s low group state of)
+  decided_back of = decided_match s (tag_of page + h_bit secondary + 1) page.shift mode (page_match order entry page secondary s low group state of)
 
   by_test : (is_decided answer ≡ true) → (matching ≡ true) ⊎ (matching ≡ false) → IsPageOf order entry s.dword0 s.dword1 page
   by_test d (inl same) = match_page order entry page secondary s is group state same
-  by_test d (inr differs) = let none : answer ≡ NoMatch = no_match_is answer (accessed_no_match s (tag_of page + h_bit secondary + 1) page.shift key no_execute want differs) in let clash : false ≡ true = sym (ap is_decided none) ∙ d in cc
+  by_test d (inr differs) = let none : answer ≡ NoMatch = no_match_is answer (accessed_no_match s (tag_of page + h_bit secondary + 1) page.shift mode differs) in let clash : false ≡ true = sym (ap is_decided none) ∙ d in cc
 
   decided_to : IsTrue (is_decided answer) → IsPageOf order entry s.dword0 s.dword1 page
   decided_to d = by_test d (cases_Bool matching)
@@ -102,7 +101,7 @@ tells_page order entry page key no_execute want secondary s low is group state =
 
   none_by_test : (IsPageOf order entry s.dword0 s.dword1 page → ⊥) → (matching ≡ true) ⊎ (matching ≡ false) → answer ≡ NoMatch
   none_by_test not_of (inl same) = absurd (not_of (match_page order entry page secondary s is group state same))
-  none_by_test not_of (inr differs) = no_match_is answer (accessed_no_match s (tag_of page + h_bit secondary + 1) page.shift key no_execute want differs)
+  none_by_test not_of (inr differs) = no_match_is answer (accessed_no_match s (tag_of page + h_bit secondary + 1) page.shift mode differs)
 
   no_match_back : (IsPageOf order entry s.dword0 s.dword1 page → ⊥) → answer ≡ NoMatch
   no_match_back not_of = none_by_test not_of (cases_Bool matching)

@@ -24,6 +24,7 @@ use Rattle.entry_model.specs.Receipt.{is_no_match, is_decided, is_at, found_of}
 use Rattle.entry_model.specs.CachedLines.{IsCurrent}
 use Rattle.entry_model.specs.Trial.{Call, IsTrial, call}
 use Rattle.hpt_walk.specs.Walk.{access_op, walk_calls}
+use Rattle.entry_model.specs.Reply.{AccessMode, access_mode}
 
 -- What the accesses of a run have in common: the table has 2 ^ order bytes, and this memory is granted.
 pub record AccessContext : Type 0 where
@@ -42,6 +43,10 @@ request want ea user = record { want = want; ea = ea; user = user }
 abbrev pub key_for : Segment → Bool → Bool
 key_for seg user = if user then seg.kp else seg.ks
 
+-- What an access of the segment asks of protection.
+abbrev pub mode_for : Segment → Request → AccessMode
+mode_for seg a = access_mode (key_for seg a.user) seg.no_execute a.want
+
 -- ---- where an access ends
 -- The binary logarithm of the size of the real page; of words that encode none, that of 4 KB.
 abbrev pub actual_size : State → ℕ
@@ -59,18 +64,30 @@ landing_at (Some x) logical = At x.0
 -- By the receipt that was found.
 abbrev pub outcome_by : List Grant → ℕ → Option Receipt → Outcome
 outcome_by grants ea None = NoPage
-outcome_by grants ea (Some r) = if is_at r.answer then landing_at (machine_range grants (logical_of ea r.before) 1) (logical_of ea r.before) else Denied
+outcome_by grants ea (Some r) =
+    if is_at r.answer
+    then landing_at (machine_range grants (logical_of ea r.before) 1) (logical_of ea r.before)
+    else Denied
 
+-- Where an access with these receipts ends.
 unfoldable pub outcome_of : List Grant → ℕ → List Receipt → Outcome
 outcome_of grants ea rs = outcome_by grants ea (found_of rs)
 
 -- ---- by a cached line
 -- The access of the line's entry, with H as the line has it.
 abbrev pub hit_calls : Segment → Request → Line → List Call
-hit_calls seg a line = call (access_op seg.page (key_for seg a.user) seg.no_execute a.want (is_secondary line.dword0)) line.entry ∷ []
+hit_calls seg a line =
+    call (access_op seg.page (mode_for seg a) (is_secondary line.dword0)) line.entry ∷ []
 
 -- One receipt, of the line's entry, on a state at which the line is current, which says At or Denied.
-pub record IsHit (context : AccessContext) (seg : Segment) (a : Request) (line : Line) (r : AccessReply) : Type 0 where
+pub record IsHit
+  (context : AccessContext)
+  (seg : Segment)
+  (a : Request)
+  (line : Line)
+  (r : AccessReply)
+  : Type 0
+  where
   pub trial : IsTrial is_no_match (hit_calls seg a line) r.receipts
   pub current : AllByRecursion (λ (x : Receipt). IsCurrent line x.before) r.receipts
   pub decided : AllByRecursion (λ (x : Receipt). is_decided x.answer ≡ true) r.receipts
@@ -78,8 +95,14 @@ pub record IsHit (context : AccessContext) (seg : Segment) (a : Request) (line :
 
 -- ---- by a walk
 -- The receipts are those of a walk of the page.
-pub record IsWalk (context : AccessContext) (seg : Segment) (a : Request) (r : AccessReply) : Type 0 where
-  pub trial : IsTrial is_no_match (walk_calls context.order seg.page (key_for seg a.user) seg.no_execute a.want) r.receipts
+pub record IsWalk
+  (context : AccessContext)
+  (seg : Segment)
+  (a : Request)
+  (r : AccessReply)
+  : Type 0
+  where
+  pub trial : IsTrial is_no_match (walk_calls context.order seg.page (mode_for seg a)) r.receipts
   pub outcome : r.outcome ≡ outcome_of context.grants a.ea r.receipts
 
 -- ---- replies

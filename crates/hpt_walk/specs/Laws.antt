@@ -1,7 +1,6 @@
 -- What is proved of the accesses of a page.
 use Rattle.std.specs.Prelude.{◌≡◌, ℕ, ◌/◌, ◌^◌, ◌<◌, ◌≤◌, ◌↔◌, Bool, IsTrue, List, find, option_map}
 use Rattle.std.specs.List.{AllByRecursion}
-use Rattle.storage_prot.specs.declared.want.Want.{Want}
 use Rattle.power_addr.specs.Pages.{VirtualPage, IsPage}
 use Rattle.hpte_fields.specs.Fields.{is_secondary}
 use Rattle.hpt_hash.specs.Hash.{group_of}
@@ -12,7 +11,7 @@ use Rattle.entry_model.specs.declared.operation.Answer.{Answer}
 use Rattle.entry_model.specs.declared.operation.Answer.TheVariants.{NoMatch}
 use Rattle.entry_model.specs.declared.operation.Op.{Op}
 use Rattle.entry_model.specs.declared.receipt.Receipt.{Receipt}
-use Rattle.entry_model.specs.Reply.{reply_of}
+use Rattle.entry_model.specs.Reply.{reply_of, AccessMode}
 use Rattle.entry_model.specs.Receipt.{is_no_match, is_decided, found_of}
 use Rattle.entry_model.specs.CachedLines.{IsAccessOf, IsCurrent, line_of}
 use Rattle.entry_model.specs.Run.{IsRun}
@@ -27,32 +26,60 @@ pub record IsEntryState (s : State) : Type 0 where
   pub fits : s.dword0 < 2 ^ 64
 
 -- The answer used the entry's translation exactly where the entry is one of the page, and is NoMatch exactly where it isn't.
-pub record TellsPage (order entry : ℕ) (page : VirtualPage) (s : State) (answer : Answer) : Type 0 where
+pub record TellsPage
+  (order entry : ℕ)
+  (page : VirtualPage)
+  (s : State)
+  (answer : Answer)
+  : Type 0
+  where
   pub decided : IsTrue (is_decided answer) ↔ IsPageOf order entry s.dword0 s.dword1 page
   pub no_match : (answer ≡ NoMatch) ↔ ¬ IsPageOf order entry s.dword0 s.dword1 page
 
 -- So does an access of the page by an entry of the page's group for the access's H.
 abbrev pub AccessTellsPage : Type 0
 AccessTellsPage =
-    (order entry : ℕ) (page : VirtualPage) (key no_execute : Bool) (want : Want) (secondary : Bool) (s : State) → 18 ≤ order → IsPage page → group_of page order secondary ≡ entry / 8 → IsEntryState s → TellsPage order entry page s (reply_of s (access_op page key no_execute want secondary)).0
+    (order entry : ℕ) (page : VirtualPage) (mode : AccessMode) (secondary : Bool) (s : State)
+    → 18 ≤ order
+    → IsPage page
+    → group_of page order secondary ≡ entry / 8
+    → IsEntryState s
+    → TellsPage order entry page s (reply_of s (access_op page mode secondary)).0
 
 -- ---- a walk and the translations of a table
 -- On states that nobody else changes, a walk of the page finds the first entry, in walk order, that the list of translations pairs with the page, and none where it pairs none.
 abbrev pub WalkFindsFirst : Type 0
 WalkFindsFirst =
-    (order : ℕ) (page : VirtualPage) (key no_execute : Bool) (want : Want) (a b : List State) (rs : List Receipt) → 18 ≤ order → IsPage page → AllByRecursion IsEntryState a → IsTrial is_no_match (walk_calls order page key no_execute want) rs → IsRun a rs b → option_map (λ (r : Receipt). r.entry) (found_of rs) ≡ find (is_paired (translations order a) page) (walk_entries order page)
+    (order : ℕ) (page : VirtualPage) (mode : AccessMode) (a b : List State) (rs : List Receipt)
+    → 18 ≤ order
+    → IsPage page
+    → AllByRecursion IsEntryState a
+    → IsTrial is_no_match (walk_calls order page mode) rs
+    → IsRun a rs b
+    → option_map (λ (r : Receipt). r.entry) (found_of rs)
+      ≡ find (is_paired (translations order a) page) (walk_entries order page)
 
 -- ---- lines of a cache
 -- In a walk of the page, a receipt that says Denied or At gives a line that translates the page.
 abbrev pub WalksGiveLines : Type 0
 WalksGiveLines =
-    (order : ℕ) (page : VirtualPage) (key no_execute : Bool) (want : Want) (rs : List Receipt) → IsTrial is_no_match (walk_calls order page key no_execute want) rs → AllByRecursion (λ (r : Receipt). IsTrue (is_decided r.answer) → TranslatesItsPage (line_of page r)) rs
+    (order : ℕ) (page : VirtualPage) (mode : AccessMode) (rs : List Receipt)
+    → IsTrial is_no_match (walk_calls order page mode) rs
+    → AllByRecursion
+        (λ (r : Receipt). IsTrue (is_decided r.answer) → TranslatesItsPage (line_of page r))
+        rs
 
 -- An access of its page by such a line, with H as the line has it, matches the line.
 abbrev pub LinesMatchAccesses : Type 0
 LinesMatchAccesses =
-    (line : Line) (key no_execute : Bool) (want : Want) → TranslatesItsPage line → IsAccessOf line (access_op line.page key no_execute want (is_secondary line.dword0))
+    (line : Line) (mode : AccessMode)
+    → TranslatesItsPage line
+    → IsAccessOf line (access_op line.page mode (is_secondary line.dword0))
 
 -- An access that matches a line is answered Denied or At on a state at which the line is current.
 abbrev pub CurrentLinesDecide : Type 0
-CurrentLinesDecide = (line : Line) (op : Op) (s : State) → IsAccessOf line op → IsCurrent line s → IsTrue (is_decided (reply_of s op).0)
+CurrentLinesDecide =
+    (line : Line) (op : Op) (s : State)
+    → IsAccessOf line op
+    → IsCurrent line s
+    → IsTrue (is_decided (reply_of s op).0)

@@ -1,7 +1,7 @@
 -- The translations of a table: the page of each entry that has one. No hash is searched.
-use Rattle.hpte_fields.specs.Fields.{is_secondary}
 use Rattle.std.specs.Prelude.{◌==◌, ◌&&◌, Bool, ℕ, ◌+◌, List, [], ◌∷◌, Option, Some, None, if◌then◌else◌, IsTrue, ◌≡◌}
 use Rattle.std.specs.List.{list_any}
+use Rattle.hpte_fields.specs.Fields.{is_secondary}
 use Rattle.power_addr.specs.Pages.{VirtualPage, same_page, tag_of}
 use Rattle.hpt_hash.specs.Entries.{page_at}
 use Rattle.hpt_walk.specs.Walk.{h_bit}
@@ -26,7 +26,8 @@ put_first entry (Some page) rest = record { page = page; entry = entry } ∷ res
 -- Those of the entries from one on, in rising index.
 abbrev pub translations_from : ℕ → ℕ → List State → List Translation
 translations_from order entry [] = []
-translations_from order entry (s ∷ ss) = put_first entry (page_in order entry s) (translations_from order (entry + 1) ss)
+translations_from order entry (s ∷ ss) =
+    put_first entry (page_in order entry s) (translations_from order (entry + 1) ss)
 
 -- Those of a table of 2 ^ order bytes.
 unfoldable pub translations : ℕ → List State → List Translation
@@ -34,7 +35,8 @@ translations order states = translations_from order 0 states
 
 -- The list pairs the page with this entry.
 abbrev pub is_paired : List Translation → VirtualPage → ℕ → Bool
-is_paired ts page entry = list_any (λ (t : Translation). same_page t.page page && (t.entry == entry)) ts
+is_paired ts page entry =
+    list_any (λ (t : Translation). same_page t.page page && (t.entry == entry)) ts
 
 -- ---- a cached line
 -- The line's doublewords translate its page: they have the page's tag and base size, with V, and H as it is.

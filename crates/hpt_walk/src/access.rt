@@ -1,22 +1,18 @@
 ghost use Rattle.std.specs.Prelude.{◌≡◌};
 ghost use Rattle.entry_model.specs.Receipt.{IsNormal};
 ghost use Rattle.hpt_walk.specs.Walk as table;
+ghost use Rattle.entry_model.specs.Reply.{access_mode};
 
 use entry_model::Op;
+use hpte_fields::{SECONDARY, VALID};
 use power_addr::Page;
 use storage_prot::Want;
-
-/// V, in doubleword 0: the entry is valid.
-const VALID: u64 = 0x01;
-
-/// H, in doubleword 0: the entry stands in its page's secondary group.
-const SECONDARY: u64 = 0x02;
 
 /// The access of a page by one of its entries: `secondary` says whether the entry stands in the
 /// page's secondary group, `key` is the segment's key for the state of the processor, and
 /// `no_execute` says whether the segment refuses instruction fetches.
 pub fn access_op(page: &Page, key: bool, no_execute: bool, want: Want, secondary: bool) -> Op
-    ensures op { result ≡ table.access_op page.now key no_execute want secondary }
+    ensures op { result ≡ table.access_op page.now (access_mode key no_execute want) secondary }
     ensures normal { IsNormal result }
 {
     let hash = if secondary { SECONDARY } else { 0 };

@@ -1,18 +1,18 @@
 ghost use Rattle.std.specs.Prelude.{◌≡◌, ◌≤◌, ◌<◌, ◌-◌, ◌+◌, ◌*◌, ◌^◌, ◌++◌, ◌↔◌, length, IsNone, IfSome};
+ghost use Rattle.hpte_fields.specs.TableSize.{entry_count};
+ghost use Rattle.entry_model.specs.Reply.{access_mode};
 ghost use Rattle.entry_model.specs.Receipt.{IsNormal, is_no_match, found_of};
-ghost use Rattle.entry_model.specs.Trial.{IsTrial};
+ghost use Rattle.entry_model.specs.Trial.{IsTrial, receipts_added};
 ghost use Rattle.entry_model.specs.CachedLines.{ShowsLine, line_of};
-ghost use Rattle.hpt_walk.specs.Walk.{walk_calls, group_calls, receipts_added, AreAllNoMatch};
+ghost use Rattle.hpt_walk.specs.Walk.{walk_calls, group_calls, AreAllNoMatch};
 ghost use Rattle.hpt_walk.specs.Translations.{TranslatesItsPage};
 
 use crate::access::access_op;
-use entry_model::{Answer, EntryStore, Op, Receipt, Receipts};
+use entry_model::{EntryStore, GoesOn, Op, Receipt, Receipts, try_entries};
 use hpt_hash::groups;
+use hpte_fields::GROUP_SIZE;
 use power_addr::Page;
 use storage_prot::Want;
-
-/// The entries of a page table entry group.
-const GROUP: u32 = 8;
 
 /// What a walk found, and the receipts that it made, in their order.
 #[derive(Drop)]
@@ -35,7 +35,12 @@ pub fn walk<T: EntryStore>(
     no_execute: bool,
 ) -> WalkAnswer
     ensures made { T.made store.old store.new result.receipts }
-    ensures trial { IsTrial is_no_match (walk_calls (T.table_order store.old) page.now key no_execute want) result.receipts }
+    ensures trial {
+        IsTrial
+          is_no_match
+          (walk_calls (T.table_order store.old) page.now (access_mode key no_execute want))
+          result.receipts
+    }
     ensures found { result.found ≡ found_of result.receipts }
     ensures none { IsNone result.found ↔ AreAllNoMatch result.receipts }
 
@@ -65,24 +70,24 @@ fn search<T: EntryStore>(
     op: Op,
     receipts: &mut Receipts,
 ) -> Option<Receipt>
-    requires in_table { group * 8 + 8 ≤ 2 ^ (T.table_order store.old - 4) }
+    requires in_table { group * 8 + 8 ≤ entry_count (T.table_order store.old) }
     requires small { group < 2 ^ 15 }
     requires normal { IsNormal op }
     requires room { length receipts.old ≤ 8 }
     ensures behind { receipts.new ≡ receipts.old ++ receipts_added receipts.old receipts.new }
     ensures few { length receipts.new ≤ length receipts.old + 8 }
     ensures made { T.made store.old store.new (receipts_added receipts.old receipts.new) }
-    ensures trial { IsTrial is_no_match (group_calls op group) (receipts_added receipts.old receipts.new) }
+    ensures trial {
+        IsTrial is_no_match (group_calls op group) (receipts_added receipts.old receipts.new)
+    }
     ensures found { result ≡ found_of (receipts_added receipts.old receipts.new) }
 {
-    for i in 0..GROUP {
-        let made = store.apply(group * GROUP + i, op);
-        let receipt = &made;
-        receipts.push(*receipt);
-        match receipt.answer {
-            Answer::NoMatch => {}
-            _ => return Some(*receipt),
-        }
-    }
-    None
+    try_entries(
+        store,
+        op,
+        group * GROUP_SIZE,
+        GROUP_SIZE,
+        GoesOn::WhileNoMatch,
+        receipts,
+    )
 }

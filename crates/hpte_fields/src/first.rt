@@ -1,17 +1,13 @@
 ghost use Rattle.std.specs.Prelude.{◌≡◌};
 ghost use Rattle.hpte_fields.specs.Fields.{tag_field, is_secondary, is_bolted, is_one_tb};
 
-/// H: the entry stands in its page's secondary group.
-const SECONDARY: u64 = 0x02;
-
-/// The software bit by which a guest marks an entry that is to stay.
-const BOLTED: u64 = 0x10;
+use crate::bits::{BOLTED, SECONDARY, TAG};
 
 /// B and the abbreviated virtual page number, with the low seven bits 0.
 pub fn tag_of(dword0: u64) -> u64
     ensures { result ≡ tag_field dword0 }
 {
-    dword0 & !0x7F
+    dword0 & TAG
 }
 
 /// Whether the entry stands in its page's secondary group (H).

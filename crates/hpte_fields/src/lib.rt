@@ -1,14 +1,19 @@
 //! The fields of the two doublewords of a page table entry, in the layout of
-//! Power ISA 2.07 Book III-S, section 5.7.7.1, which the hypervisor calls of LoPAR use.
+//! Power ISA 2.07 Book III-S, section 5.7.7.1, which the hypervisor calls of LoPAR use, and the size of
+//! a table of such entries.
 #![tactic(auto)]
 
+mod bits;
 mod first;
 mod second;
 mod stored;
+mod table_size;
 
+pub use bits::{BOLTED, CHANGED, REFERENCED, SECONDARY, TAG, VALID};
 pub use first::{bolted, one_tb, secondary, tag_of};
 pub use second::{frame, key, no_execute, pp, protected, wimg};
 pub use stored::normal;
+pub use table_size::{GROUP_SIZE, entry_count};
 
 #[cfg(test)]
 mod tests;

@@ -1,10 +1,8 @@
 ghost use Rattle.std.specs.Prelude.{◌≡◌, Some, IfSome};
 ghost use Rattle.hpte_fields.specs.Fields.{normal_words};
 
+use crate::bits::VALID;
 use page_sizes::decode;
-
-/// V, in doubleword 0: the entry is valid.
-const VALID: u64 = 0x01;
 
 /// The bits of doubleword 0 that belong to the hypervisor.
 const HYPERVISOR: u64 = 0x60;

@@ -8,6 +8,7 @@ use Rattle.lock_core.specs.Machine.{Machine}
 use Rattle.lock_core.specs.Steps.{is_allowed, made_by}
 use Rattle.lock_core.specs.Runs.{run}
 
+-- The fronts of one actor.
 abbrev pub fronts_of : List (List ℕ) → ℕ → List ℕ
 fronts_of fronts i = slice_index_or fronts i []
 
@@ -18,8 +19,12 @@ fronts_raised_by fronts i (Some r) = slice_set fronts i (fronts_after (fronts_of
 
 -- After a step: a split gives the other actor its parent's fronts, and after a join the larger one of each entry counts.
 unfoldable pub fronts_after_step : Machine → List (List ℕ) → ℕ → Step → List (List ℕ)
-fronts_after_step m fronts i (Split to) = if is_allowed m i (Split to) then slice_set fronts to (fronts_of fronts i) else fronts
-fronts_after_step m fronts i (Join from) = if is_allowed m i (Join from) then slice_set fronts i (larger (fronts_of fronts i) (fronts_of fronts from)) else fronts
+fronts_after_step m fronts i (Split to) =
+    if is_allowed m i (Split to) then slice_set fronts to (fronts_of fronts i) else fronts
+fronts_after_step m fronts i (Join from) =
+    if is_allowed m i (Join from)
+    then slice_set fronts i (larger (fronts_of fronts i) (fronts_of fronts from))
+    else fronts
 fronts_after_step m fronts i step = fronts_raised_by fronts i (made_by m i step)
 
 -- After steps, of which the newest stands first. Before all steps they are those of the opening states.

@@ -21,6 +21,7 @@ pub record IsFair (s : State) : Type 0 where
   pub canonical : IsCanonicalState s
   pub low : s.stamp < 2 ^ 32
 
+-- The state that an entry counts with.
 abbrev pub published_state : Machine → ℕ → State
 published_state m e = (entry_at m e).published
 
@@ -32,44 +33,79 @@ published_states m = map (λ (x : Entry). x.published) m.entries
 -- The state that an entry counts with is that of its words, unless it is shut.
 abbrev pub StatesAreInWords : Type 0
 StatesAreInWords =
-    (states : List State) (actors : ℕ) (steps : List (ℕ × Step)) → All IsFair states → (e : ℕ) → e < length states
-    → (let x : Entry = entry_at (run (opening_machine states actors) steps) e in x.control.shut ≡ false → x.published ≡ state_of x.control x.dword0 x.dword1)
+    (states : List State) (actors : ℕ) (steps : List (ℕ × Step))
+    → All IsFair states
+    → (e : ℕ)
+    → e < length states
+    
+    → (let x : Entry = entry_at (run (opening_machine states actors) steps) e in
+       x.control.shut ≡ false → x.published ≡ state_of x.control x.dword0 x.dword1)
 
 -- A step that makes a receipt leaves the state after in place of the state before, and every other state as it is; a step that makes none leaves all states.
 abbrev pub StatesChangeByReceipts : Type 0
 StatesChangeByReceipts =
-    (states : List State) (actors : ℕ) (older : List (ℕ × Step)) → All IsFair states → (i : ℕ) (step : Step)
-    → (let m : Machine = run (opening_machine states actors) older in MatchOption (made_by m i step) (published_states (after_step m i step) ≡ published_states m) (λ r. IsStep (published_states m) r (published_states (after_step m i step))))
+    (states : List State) (actors : ℕ) (older : List (ℕ × Step))
+    → All IsFair states
+    → (i : ℕ) (step : Step)
+    
+    → (let m : Machine = run (opening_machine states actors) older in
+       MatchOption
+         (made_by m i step)
+         (published_states (after_step m i step) ≡ published_states m)
+         (λ r. IsStep (published_states m) r (published_states (after_step m i step))))
 
 -- ---- histories
 -- Each entry's history over the receipts of all actors leads from its opening state to the state that it counts with.
 abbrev pub EveryHistoryIsLegal : Type 0
 EveryHistoryIsLegal =
-    (states : List State) (actors : ℕ) (steps : List (ℕ × Step)) → All IsFair states → (e : ℕ) → e < length states
-    → IsLegal (slice_index_or states e (empty_state 0)) (history e (receipts_of (run (opening_machine states actors) steps).actors)) (published_state (run (opening_machine states actors) steps) e)
+    (states : List State) (actors : ℕ) (steps : List (ℕ × Step))
+    → All IsFair states
+    → (e : ℕ)
+    → e < length states
+    
+    → IsLegal
+        (slice_index_or states e (empty_state 0))
+        (history e (receipts_of (run (opening_machine states actors) steps).actors))
+        (published_state (run (opening_machine states actors) steps) e)
 
 -- ---- fronts
 -- A receipt that a step makes isn't before the front of its actor.
 abbrev pub EveryReceiptKeepsItsFront : Type 0
 EveryReceiptKeepsItsFront =
-    (states : List State) (actors : ℕ) (older : List (ℕ × Step)) → All IsFair states → (i : ℕ) (step : Step) (r : Receipt) → made_by (run (opening_machine states actors) older) i step ≡ Some r
+    (states : List State) (actors : ℕ) (older : List (ℕ × Step))
+    → All IsFair states
+    → (i : ℕ) (step : Step) (r : Receipt)
+    → made_by (run (opening_machine states actors) older) i step ≡ Some r
     → IsAhead (fronts_of (run_fronts (opening_machine states actors) older) i) r
 
 -- And it stands behind the receipts that the actor has made.
 abbrev pub EveryReceiptIsListed : Type 0
-EveryReceiptIsListed = (m : Machine) (i : ℕ) (step : Step) (r : Receipt) → made_by m i step ≡ Some r → (actor_at (after_step m i step) i).receipts ≡ (actor_at m i).receipts ++ r ∷ []
+EveryReceiptIsListed =
+    (m : Machine) (i : ℕ) (step : Step) (r : Receipt)
+    → made_by m i step ≡ Some r
+    → (actor_at (after_step m i step) i).receipts ≡ (actor_at m i).receipts ++ r ∷ []
 
 -- ---- lines
 -- The line without its page.
 abbrev pub sighting_by : Line → Sighting
-sighting_by line = record { entry = line.entry; stamp = line.stamp; dword0 = line.dword0; dword1 = line.dword1 }
+sighting_by line = record {
+  entry = line.entry;
+  stamp = line.stamp;
+  dword0 = line.dword0;
+  dword1 = line.dword1;
+}
 
 -- The actor has seen the line: it stands in its list, or holds of its entry's opening state.
 abbrev pub HasSeen : Machine → ℕ → Line → Type 0
-HasSeen m i line = Contains (actor_at m i).lines (sighting_by line) ⊎ Holds line (opening_at m line.entry)
+HasSeen m i line =
+    Contains (actor_at m i).lines (sighting_by line) ⊎ Holds line (opening_at m line.entry)
 
 -- Each line that an actor has seen holds of its entry.
 abbrev pub SeenLinesHold : Type 0
 SeenLinesHold =
-    (states : List State) (actors : ℕ) (steps : List (ℕ × Step)) → All IsFair states → (i : ℕ) (line : Line) → line.entry < length states → HasSeen (run (opening_machine states actors) steps) i line
+    (states : List State) (actors : ℕ) (steps : List (ℕ × Step))
+    → All IsFair states
+    → (i : ℕ) (line : Line)
+    → line.entry < length states
+    → HasSeen (run (opening_machine states actors) steps) i line
     → Holds line (published_state (run (opening_machine states actors) steps) line.entry)

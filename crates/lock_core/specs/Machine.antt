@@ -11,6 +11,7 @@ use Rattle.lock_core.specs.declared.phase.Phase.TheVariants.{Idle}
 use Rattle.lock_core.specs.declared.sighting.Sighting.{Sighting}
 use Rattle.lock_core.specs.Words.{unheld_entry}
 
+-- An actor: whether it is live, where it stands in its operation, the receipts that it made, and the lines that it has seen.
 pub record Actor : Type 0 where
   pub live : Bool
   pub phase : Phase
@@ -18,6 +19,7 @@ pub record Actor : Type 0 where
   pub receipts : List Receipt
   pub lines : List Sighting
 
+-- The machine: the opening states, the entries, and the actors.
 pub record Machine : Type 0 where
   -- the state of each entry before all steps
   pub opening : List State
@@ -34,19 +36,26 @@ newcomer lines = record { live = true; phase = Idle; receipts = []; lines = line
 
 -- Actor 0 is live and the others are not.
 unfoldable pub opening_machine : List State → ℕ → Machine
-opening_machine states actors = record { opening = states; entries = map unheld_entry states; actors = slice_set (replicate actors nobody) 0 (newcomer []) }
+opening_machine states actors = record {
+  opening = states;
+  entries = map unheld_entry states;
+  actors = slice_set (replicate actors nobody) 0 (newcomer []);
+}
 
 -- ---- parts
 -- Beyond the last actor there is nobody.
 abbrev pub actor_at : Machine → ℕ → Actor
 actor_at m i = slice_index_or m.actors i nobody
 
+-- The entry at an index; beyond the table an empty one.
 abbrev pub entry_at : Machine → ℕ → Entry
 entry_at m e = slice_index_or m.entries e (unheld_entry (empty_state 0))
 
+-- The opening state of an entry.
 abbrev pub opening_at : Machine → ℕ → State
 opening_at m e = slice_index_or m.opening e (empty_state 0)
 
+-- There is such an entry.
 abbrev pub in_table : Machine → ℕ → Bool
 in_table m e = nat_lt e (length m.entries)
 
@@ -59,9 +68,11 @@ sighting_of e s = record { entry = e; stamp = s.stamp; dword0 = s.dword0; dword1
 abbrev pub shown_sightings : Receipt → List Sighting
 shown_sightings r = if is_decided r.answer then sighting_of r.entry r.before ∷ [] else []
 
+-- The line is of this entry at this stamp.
 abbrev pub is_at : ℕ → ℕ → Sighting → Bool
 is_at e stamp line = (line.entry == e) && (line.stamp == stamp)
 
+-- The line's doublewords.
 abbrev pub words_in : Sighting → ℕ × ℕ
 words_in line = (line.dword0, line.dword1)
 
@@ -71,7 +82,8 @@ words_at s stamp = if s.valid && (s.stamp == stamp) then Some (s.dword0, s.dword
 
 -- The doublewords at this stamp of an entry with this opening state, as an actor with these lines has seen them: in a line of its list, or in the opening state.
 unfoldable pub words_seen_in : List Sighting → State → ℕ → ℕ → Option (ℕ × ℕ)
-words_seen_in lines start e stamp = option_or (option_map words_in (find (is_at e stamp) lines)) (words_at start stamp)
+words_seen_in lines start e stamp =
+    option_or (option_map words_in (find (is_at e stamp) lines)) (words_at start stamp)
 
 -- What an actor that finds a control word has seen of its entry at its stamp.
 unfoldable pub words_seen : Machine → Actor → ℕ → Control → Option (ℕ × ℕ)

@@ -38,7 +38,8 @@ fits x (Held d) Release = is_read d && not (changes d)
 fits x (HeldShut d) (StoreData second) = true
 fits x (HeldShut d) Settle = is_stored x (next_state d)
 fits x (Looked d) (LoadData second) = d.noted.valid
-fits x (Looked d) (Look e op) = ((e == d.entry) && same_access op d.op) && (is_read d && not (changes d))
+fits x (Looked d) (Look e op) =
+    ((e == d.entry) && same_access op d.op) && (is_read d && not (changes d))
 fits x (Looked d) Mark = is_read d && changes d
 fits x phase step = false
 
@@ -53,52 +54,96 @@ result_with_receipt x r = record { entry = x; phase = Idle; made = Some r }
 
 -- An operation that an actor begins.
 abbrev pub new_doing : ℕ → Op → Control → Option (ℕ × ℕ) → Doing
-new_doing e op k seen = record { entry = e; op = op; noted = k; first = None; second = None; seen = seen }
+new_doing e op k seen = record {
+  entry = e;
+  op = op;
+  noted = k;
+  first = None;
+  second = None;
+  seen = seen;
+}
 
 -- The same operation by another control word.
 abbrev pub with_noted : Doing → Control → Doing
 with_noted d k = record d { noted = k }
 
+-- The operation with a data word of the entry loaded, the second or the first.
 abbrev pub with_loaded : Bool → Entry → Doing → Doing
-with_loaded second x d = if second then record d { second = Some x.dword1 } else record d { first = Some x.dword0 }
+with_loaded second x d =
+    if second then record d { second = Some x.dword1 } else record d { first = Some x.dword0 }
 
+-- The entry with a data word of this state stored, the second or the first.
 abbrev pub with_stored : Bool → State → Entry → Entry
-with_stored second s x = if second then record x { dword1 = s.dword1 } else record x { dword0 = s.dword0 }
+with_stored second s x =
+    if second then record x { dword1 = s.dword1 } else record x { dword0 = s.dword0 }
 
+-- The entry with its lock bit set so.
 abbrev pub locked_entry : Entry → Bool → Entry
 locked_entry x locked = record x { control = record x.control { locked = locked } }
 
+-- The entry with its shut bit set.
 abbrev pub shut_entry : Entry → Entry
 shut_entry x = record x { control = record x.control { shut = true } }
 
+-- The entry settled on this state: nobody holds it, and it counts with the state.
 abbrev pub settled_entry : Entry → State → Entry
 settled_entry x s = record x { control = settled_word s; published = s }
 
+-- The entry with R and C as in this state, with which it counts.
 abbrev pub marked_entry : Entry → State → Entry
-marked_entry x s = record x { control = record x.control { referenced = s.referenced; changed = s.changed }; published = s }
+marked_entry x s = record x {
+  control = record x.control { referenced = s.referenced; changed = s.changed };
+  published = s;
+}
 
 -- A second look decides where it finds the very word that was noted, and where the data words were seen and the entry is still at the noted stamp: the bits found are then those before.
 unfoldable pub second_look : Entry → Doing → StepResult
-second_look x d = if is_noted x.control d.noted then result_with_receipt x (receipt d) else (if is_still x.control d then result_with_receipt x (receipt (with_noted d x.control)) else result_without_receipt x Idle)
+second_look x d =
+    if is_noted x.control d.noted
+    then result_with_receipt x (receipt d)
+    else
+      (if is_still x.control d
+       then result_with_receipt x (receipt (with_noted d x.control))
+       else result_without_receipt x Idle)
 
 -- A step on an entry, of an actor that has seen these doublewords of it. A lock that is taken and an entry that is shut leave the actor idle.
 unfoldable pub step_result : Option (ℕ × ℕ) → Entry → Phase → Step → StepResult
-step_result seen x Idle (Lock e op) = if x.control.locked then result_without_receipt x Idle else result_without_receipt (locked_entry x true) (Held (new_doing e op x.control None))
-step_result seen x Idle (Look e op) = if x.control.shut then result_without_receipt x Idle else result_without_receipt x (Looked (new_doing e op x.control seen))
-step_result seen x (Held d) (LoadData second) = result_without_receipt x (Held (with_loaded second x d))
-step_result seen x (Held d) Shut = result_without_receipt (shut_entry x) (HeldShut (with_noted d x.control))
-step_result seen x (Held d) Release = result_with_receipt (locked_entry x false) (receipt (with_noted d x.control))
-step_result seen x (HeldShut d) (StoreData second) = result_without_receipt (with_stored second (next_state d) x) (HeldShut d)
-step_result seen x (HeldShut d) Settle = result_with_receipt (settled_entry x (next_state d)) (receipt d)
-step_result seen x (Looked d) (LoadData second) = result_without_receipt x (Looked (with_loaded second x d))
+step_result seen x Idle (Lock e op) =
+    if x.control.locked
+    then result_without_receipt x Idle
+    else result_without_receipt (locked_entry x true) (Held (new_doing e op x.control None))
+step_result seen x Idle (Look e op) =
+    if x.control.shut
+    then result_without_receipt x Idle
+    else result_without_receipt x (Looked (new_doing e op x.control seen))
+step_result seen x (Held d) (LoadData second) =
+    result_without_receipt x (Held (with_loaded second x d))
+step_result seen x (Held d) Shut =
+    result_without_receipt (shut_entry x) (HeldShut (with_noted d x.control))
+step_result seen x (Held d) Release =
+    result_with_receipt (locked_entry x false) (receipt (with_noted d x.control))
+step_result seen x (HeldShut d) (StoreData second) =
+    result_without_receipt (with_stored second (next_state d) x) (HeldShut d)
+step_result seen x (HeldShut d) Settle =
+    result_with_receipt (settled_entry x (next_state d)) (receipt d)
+step_result seen x (Looked d) (LoadData second) =
+    result_without_receipt x (Looked (with_loaded second x d))
 step_result seen x (Looked d) (Look e op) = second_look x d
-step_result seen x (Looked d) Mark = if is_noted x.control d.noted then result_with_receipt (marked_entry x (next_state d)) (receipt d) else result_without_receipt x Idle
+step_result seen x (Looked d) Mark =
+    if is_noted x.control d.noted
+    then result_with_receipt (marked_entry x (next_state d)) (receipt d)
+    else result_without_receipt x Idle
 step_result seen x phase step = result_without_receipt x phase
 
 -- The actor after a step that leaves this phase and makes this receipt.
 abbrev pub actor_after : Actor → Phase → Option Receipt → Actor
 actor_after a phase None = record a { phase = phase }
-actor_after a phase (Some r) = record { live = a.live; phase = phase; receipts = a.receipts ++ r ∷ []; lines = a.lines ++ shown_sightings r }
+actor_after a phase (Some r) = record {
+  live = a.live;
+  phase = phase;
+  receipts = a.receipts ++ r ∷ [];
+  lines = a.lines ++ shown_sightings r;
+}
 
 -- ---- on the machine
 -- What a step on an entry leaves.
@@ -108,8 +153,13 @@ step_result_of m i step =
     let e : ℕ = entry_of a.phase step in
     step_result (words_seen m a e (entry_at m e).control) (entry_at m e) a.phase step
 
+-- The machine in which an actor's step on an entry left this.
 abbrev pub with_result : Machine → ℕ → ℕ → StepResult → Machine
-with_result m e i t = record { opening = m.opening; entries = slice_set m.entries e t.entry; actors = slice_set m.actors i (actor_after (actor_at m i) t.phase t.made) }
+with_result m e i t = record {
+  opening = m.opening;
+  entries = slice_set m.entries e t.entry;
+  actors = slice_set m.actors i (actor_after (actor_at m i) t.phase t.made);
+}
 
 -- A split makes a live actor that has seen what its parent has.
 abbrev pub split_off : Machine → ℕ → ℕ → Machine
@@ -117,19 +167,30 @@ split_off m i to = record m { actors = slice_set m.actors to (newcomer (actor_at
 
 -- A join brings the other's receipts and lines.
 abbrev pub joined_actor : Actor → Actor → Actor
-joined_actor a b = record { live = a.live; phase = a.phase; receipts = a.receipts ++ b.receipts; lines = a.lines ++ b.lines }
+joined_actor a b = record {
+  live = a.live;
+  phase = a.phase;
+  receipts = a.receipts ++ b.receipts;
+  lines = a.lines ++ b.lines;
+}
 
+-- The machine after a join: the other actor is nobody.
 abbrev pub join_in : Machine → ℕ → ℕ → Machine
-join_in m i from = record m { actors = slice_set (slice_set m.actors i (joined_actor (actor_at m i) (actor_at m from))) from nobody }
+join_in m i from = record m {
+  actors =
+    slice_set (slice_set m.actors i (joined_actor (actor_at m i) (actor_at m from))) from nobody;
+}
 
 -- ---- which steps are taken
+-- The actor has no operation under way.
 abbrev pub is_idle : Phase → Bool
 is_idle Idle = true
 is_idle phase = false
 
 -- The actor is live. The other one of a split is there and isn't live; that of a join is another one, and live.
 unfoldable pub may_act : Machine → ℕ → Step → Bool
-may_act m i (Split to) = (actor_at m i).live && (nat_lt to (length m.actors) && not (actor_at m to).live)
+may_act m i (Split to) =
+    (actor_at m i).live && (nat_lt to (length m.actors) && not (actor_at m to).live)
 may_act m i (Join from) = (actor_at m i).live && ((actor_at m from).live && not (from == i))
 may_act m i step = (actor_at m i).live
 
@@ -142,7 +203,8 @@ names_entry m step = true
 -- The phase of the actor allows a step on an entry.
 abbrev pub fits_entry : Machine → ℕ → Step → Bool
 fits_entry m i step =
-    in_table m (entry_of (actor_at m i).phase step) && fits (entry_at m (entry_of (actor_at m i).phase step)) (actor_at m i).phase step
+    in_table m (entry_of (actor_at m i).phase step)
+    && fits (entry_at m (entry_of (actor_at m i).phase step)) (actor_at m i).phase step
 
 -- The phase allows the step. Actors that split or join are idle.
 unfoldable pub fits_phase : Machine → ℕ → Step → Bool
@@ -152,12 +214,17 @@ fits_phase m i step = fits_entry m i step
 
 -- What may be wrong with a step, in the order in which it is tried.
 unfoldable pub refusals : Machine → ℕ → Step → List (Bool × CoreError)
-refusals m i step = (not (may_act m i step), ActorFault) ∷ (not (names_entry m step), EntryFault) ∷ (not (fits_phase m i step), PhaseFault) ∷ []
+refusals m i step =
+    (not (may_act m i step), ActorFault)
+    ∷ (not (names_entry m step), EntryFault)
+    ∷ (not (fits_phase m i step), PhaseFault)
+    ∷ []
 
 -- The first that is wrong, or none.
 unfoldable pub refusal : Machine → ℕ → Step → Option CoreError
 refusal m i step = first_refusal (refusals m i step)
 
+-- Nothing is wrong with the step.
 unfoldable pub is_allowed : Machine → ℕ → Step → Bool
 is_allowed m i step = is_none (refusal m i step)
 
@@ -171,7 +238,8 @@ made_by m i step = if is_allowed m i step then (step_result_of m i step).made el
 unfoldable pub after_allowed_step : Machine → ℕ → Step → Machine
 after_allowed_step m i (Split to) = split_off m i to
 after_allowed_step m i (Join from) = join_in m i from
-after_allowed_step m i step = with_result m (entry_of (actor_at m i).phase step) i (step_result_of m i step)
+after_allowed_step m i step =
+    with_result m (entry_of (actor_at m i).phase step) i (step_result_of m i step)
 
 -- The machine after a step: a step that isn't allowed changes nothing.
 unfoldable pub after_step : Machine → ℕ → Step → Machine

@@ -17,7 +17,7 @@ use Rattle.lock_core.specs.declared.entry.Entry.{Entry}
 -- ---- the state of words
 -- A second data word without R and C, which stand in the control word.
 abbrev pub without_bits : ℕ → ℕ
-without_bits dword1 = bit_xor dword1 (bit_and dword1 0x180)
+without_bits dword1 = bit_xor dword1 (bit_and dword1 rc_bits)
 
 -- The state that a control word and two data words stand for. Where valid is clear it has nothing, whatever the data words are.
 abbrev pub state_of : Control → ℕ → ℕ → State
@@ -32,11 +32,23 @@ state_of k dword0 dword1 = record {
 
 -- The control word of a state, while nobody holds the entry.
 abbrev pub settled_word : State → Control
-settled_word s = record { locked = false; shut = false; valid = s.valid; referenced = s.referenced; changed = s.changed; stamp = s.stamp }
+settled_word s = record {
+  locked = false;
+  shut = false;
+  valid = s.valid;
+  referenced = s.referenced;
+  changed = s.changed;
+  stamp = s.stamp;
+}
 
 -- An entry in a state, which nobody holds.
 abbrev pub unheld_entry : State → Entry
-unheld_entry s = record { control = settled_word s; dword0 = s.dword0; dword1 = s.dword1; published = s }
+unheld_entry s = record {
+  control = settled_word s;
+  dword0 = s.dword0;
+  dword1 = s.dword1;
+  published = s;
+}
 
 -- ---- what an actor knows
 -- The data words that it loaded, or where it loaded none those that it has seen.
@@ -46,6 +58,7 @@ known_of None (Some second) seen = None
 known_of (Some first) None seen = None
 known_of (Some first) (Some second) seen = Some (first, second)
 
+-- The data words that an operation knows.
 abbrev pub known_words : Doing → Option (ℕ × ℕ)
 known_words d = known_of d.first d.second d.seen
 
@@ -59,7 +72,8 @@ is_read d = not d.noted.valid || is_some (known_words d)
 
 -- The state before, by what it knows.
 unfoldable pub noted_state : Doing → State
-noted_state d = state_of d.noted (unwrap_or (known_words d) (0, 0)).0 (unwrap_or (known_words d) (0, 0)).1
+noted_state d =
+    state_of d.noted (unwrap_or (known_words d) (0, 0)).0 (unwrap_or (known_words d) (0, 0)).1
 
 -- The state after, by what it knows.
 unfoldable pub next_state : Doing → State
@@ -69,6 +83,7 @@ next_state d = (reply_of (noted_state d) d.op).1
 unfoldable pub changes : Doing → Bool
 changes d = not (state_eq (next_state d) (noted_state d))
 
+-- The receipt of an operation on the state that it noted.
 unfoldable pub receipt : Doing → Receipt
 receipt d = receipt_of d.entry (noted_state d) d.op
 
@@ -76,12 +91,14 @@ receipt d = receipt_of d.entry (noted_state d) d.op
 -- The two control words are the same.
 unfoldable pub is_noted : Control → Control → Bool
 is_noted k l =
-    (bool_eq k.locked l.locked && bool_eq k.shut l.shut && bool_eq k.valid l.valid) && (bool_eq k.referenced l.referenced && bool_eq k.changed l.changed && (k.stamp == l.stamp))
+    (bool_eq k.locked l.locked && bool_eq k.shut l.shut && bool_eq k.valid l.valid)
+    && (bool_eq k.referenced l.referenced && bool_eq k.changed l.changed && (k.stamp == l.stamp))
 
 -- The data words were seen and not loaded, and the entry is still at the noted stamp.
 unfoldable pub is_still : Control → Doing → Bool
 is_still k d = has_loaded_none d && k.valid && not k.shut && (k.stamp == d.noted.stamp)
 
+-- The two are the same kind of access.
 abbrev pub want_eq : Want → Want → Bool
 want_eq Load Load = true
 want_eq Store Store = true
@@ -91,7 +108,11 @@ want_eq a b = false
 -- The two are the same access.
 unfoldable pub same_access : Op → Op → Bool
 same_access (Access tag base key no_execute want) (Access tag' base' key' no_execute' want') =
-    (tag == tag') && (base == base') && bool_eq key key' && bool_eq no_execute no_execute' && want_eq want want'
+    (tag == tag')
+    && (base == base')
+    && bool_eq key key'
+    && bool_eq no_execute no_execute'
+    && want_eq want want'
 same_access a b = false
 
 -- The data words are those of the state, or the state is empty.

@@ -25,7 +25,15 @@ impl Model for Actor {
 
     ghost Value = { Actor };
 
-    ghost view = { λ a. record { live = a.live; phase = a.phase; receipts = a.receipts.items; lines = a.lines.items } };
+    ghost view = {
+        λ a.
+          record {
+            live = a.live;
+            phase = a.phase;
+            receipts = a.receipts.items;
+            lines = a.lines.items;
+          }
+    };
 }
 
 /// The line of an entry in a state.
@@ -124,7 +132,15 @@ impl Actor {
 
     /// Appends a receipt and the line that it shows.
     fn record(&mut self, receipt: Receipt) -> Result<(), CoreError>
-        ensures ok { OnOk result (self.new ≡ record self.old { receipts = self.old.receipts ++ receipt ∷ []; lines = self.old.lines ++ shown_sightings receipt }) }
+        ensures ok {
+            OnOk
+              result
+              (self.new
+               ≡ record self.old {
+                   receipts = self.old.receipts ++ receipt ∷ [];
+                   lines = self.old.lines ++ shown_sightings receipt;
+                 })
+        }
         ensures err { OnErr result (self.new ≡ self.old) }
         ensures memory { IsOkUnless result CoreError.Memory }
     {

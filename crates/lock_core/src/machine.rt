@@ -36,7 +36,10 @@ impl Model for Core {
 
     ghost Value = { Machine };
 
-    ghost view = { λ c. record { opening = c.opening.items; entries = c.entries.items; actors = c.actors.items } };
+    ghost view = {
+        λ c.
+          record { opening = c.opening.items; entries = c.entries.items; actors = c.actors.items }
+    };
 }
 
 /// Whether an actor in this phase is at no operation.
@@ -83,7 +86,12 @@ impl Core {
     /// A table of entries in these states, and this many actors, of which actor 0 is live and the others
     /// are not. `Actors` where there are none or more than 64.
     pub fn new(alloc: Global, states: &[EntryState], actors: u32) -> Result<Core, CoreError>
-        ensures refused { MatchBool (actors == 0 || nat_lt 64 actors) (result ≡ Err CoreError.Actors) (IsOkUnless result CoreError.Memory) }
+        ensures refused {
+            MatchBool
+              (actors == 0 || nat_lt 64 actors)
+              (result ≡ Err CoreError.Actors)
+              (IsOkUnless result CoreError.Memory)
+        }
         ensures ok { IfOk result (λ core. core ≡ opening_machine states.now actors) }
         ensures entries { IfOk result (λ core. length core.entries ≡ length states.now) }
         ensures actors { IfOk result (λ core. length core.actors ≡ actors) }
@@ -247,7 +255,16 @@ impl Core {
     fn take_step(&mut self, actor: u32, step: &Step) -> Result<(), CoreError>
         requires live { (actor_at self.old actor).live ≡ true }
         requires fits { fits_entry_of self.old actor step.now ≡ true }
-        ensures ok { OnOk result (self.new ≡ with_result self.old (entry_by (actor_at self.old actor).phase step.now) actor (step_result_of self.old actor step.now)) }
+        ensures ok {
+            OnOk
+              result
+              (self.new
+               ≡ with_result
+                   self.old
+                   (entry_by (actor_at self.old actor).phase step.now)
+                   actor
+                   (step_result_of self.old actor step.now))
+        }
         ensures err { OnErr result (self.new ≡ self.old) }
         ensures memory { IsOkUnless result CoreError.Memory }
     {
@@ -310,7 +327,12 @@ impl Core {
     /// Takes a step of an actor. A step that is refused changes nothing, and so does one for which there
     /// is not enough memory.
     pub fn step(&mut self, alloc: Global, actor: u32, step: Step) -> Result<(), CoreError>
-        ensures refused { MatchOption (refusal_of self.old actor step) (IsOkUnless result CoreError.Memory) (λ e. result ≡ Err e) }
+        ensures refused {
+            MatchOption
+              (refusal_of self.old actor step)
+              (IsOkUnless result CoreError.Memory)
+              (λ e. result ≡ Err e)
+        }
         ensures ok { OnOk result (self.new ≡ after_step self.old actor step) }
         ensures err { OnErr result (self.new ≡ self.old) }
         ensures entries { length self.new.entries ≡ length self.old.entries }

@@ -125,7 +125,13 @@ fn begun(entry: u32, op: Op, noted: Control, seen: Option<(u64, u64)>) -> Doing
 
 /// The lock step: it takes the entry where nobody holds it.
 fn lock(entry: &Entry, e: u32, op: Op) -> StepResult
-    ensures { result ≡ (if entry.now.control.locked then going_on entry.now Idle else going_on (locked_entry entry.now true) (Held (begun_by e op entry.now.control None))) }
+    ensures {
+        result
+        ≡ (if entry.now.control.locked
+           then going_on entry.now Idle
+           else
+             going_on (locked_entry entry.now true) (Held (begun_by e op entry.now.control None)))
+    }
 {
     if entry.control.locked {
         return goes_on(*entry, Phase::Idle);
@@ -137,7 +143,12 @@ fn lock(entry: &Entry, e: u32, op: Op) -> StepResult
 
 /// The first look: an entry that is shut is left.
 fn look(entry: &Entry, e: u32, op: Op, seen: Option<(u64, u64)>) -> StepResult
-    ensures { result ≡ (if entry.now.control.shut then going_on entry.now Idle else going_on entry.now (Looked (begun_by e op entry.now.control seen))) }
+    ensures {
+        result
+        ≡ (if entry.now.control.shut
+           then going_on entry.now Idle
+           else going_on entry.now (Looked (begun_by e op entry.now.control seen)))
+    }
 {
     if entry.control.shut {
         return goes_on(*entry, Phase::Idle);
@@ -156,7 +167,9 @@ fn noting(doing: Doing, found: Control) -> Doing
 
 /// The shut step: the word found has the R and C that count.
 fn shut(entry: &Entry, doing: Doing) -> StepResult
-    ensures { result ≡ going_on (shut_entry entry.now) (HeldShut (noting_of doing entry.now.control)) }
+    ensures {
+        result ≡ going_on (shut_entry entry.now) (HeldShut (noting_of doing entry.now.control))
+    }
 {
     let mut next = *entry;
     next.control.shut = true;
@@ -165,7 +178,10 @@ fn shut(entry: &Entry, doing: Doing) -> StepResult
 
 /// The release step: the word found has the R and C before.
 fn release(entry: &Entry, doing: Doing) -> StepResult
-    ensures { result ≡ ending (locked_entry entry.now false) (receipt_of (noting_of doing entry.now.control)) }
+    ensures {
+        result
+        ≡ ending (locked_entry entry.now false) (receipt_of (noting_of doing entry.now.control))
+    }
 {
     let mut next = *entry;
     next.control.locked = false;
@@ -199,7 +215,12 @@ fn second_look(entry: &Entry, doing: Doing) -> StepResult
 
 /// The mark: it sets the bits where it finds the very word that was noted.
 fn mark(entry: &Entry, doing: Doing) -> StepResult
-    ensures { result ≡ (if is_noted_of entry.now.control doing.noted then ending (marked_entry entry.now (next_of doing)) (receipt_of doing) else going_on entry.now Idle) }
+    ensures {
+        result
+        ≡ (if is_noted_of entry.now.control doing.noted
+           then ending (marked_entry entry.now (next_of doing)) (receipt_of doing)
+           else going_on entry.now Idle)
+    }
 {
     if !is_noted(&entry.control, &doing.noted) {
         return goes_on(*entry, Phase::Idle);

@@ -8,10 +8,11 @@ use crate::control::Control;
 use crate::doing::Doing;
 use crate::entry::Entry;
 use entry_model::{EntryState, Op, Receipt, reply};
+use hpte_fields::{CHANGED, REFERENCED};
 use storage_prot::Want;
 
 /// R and C, in a second doubleword.
-const BITS: u64 = 0x180;
+const BITS: u64 = REFERENCED | CHANGED;
 
 /// Whether the two are the same.
 fn same_bit(a: bool, b: bool) -> bool

@@ -11,19 +11,28 @@ pub record Row : Type 0 where
 
 -- The rows of a page larger than 4 KB: 64 KB, 16 MB and 16 GB, the base page as large as the actual one.
 abbrev pub large_rows : List Row
-large_rows = record { base = 16; actual = 16; low = 1 } ∷ record { base = 24; actual = 24; low = 0 } ∷ record { base = 34; actual = 34; low = 3 } ∷ []
+large_rows =
+    record { base = 16; actual = 16; low = 1 }
+    ∷ record { base = 24; actual = 24; low = 0 }
+    ∷ record { base = 34; actual = 34; low = 3 }
+    ∷ []
 
 -- The part of the real page number below the actual page size, in units of 4 KB.
 abbrev pub low_of : ℕ → ℕ → ℕ
 low_of dword1 actual = dword1 / 2 ^ 12 % 2 ^ (actual - 12)
 
+-- The doubleword's low part is the row's.
 abbrev pub row_fits : ℕ → Row → Bool
 row_fits dword1 row = low_of dword1 row.actual == row.low
 
 -- The row of a large page that fits, or none.
 abbrev pub large_size : ℕ → Option PageSize
-large_size dword1 = option_map (λ (row : Row). record { base = row.base; actual = row.actual }) (find (row_fits dword1) large_rows)
+large_size dword1 =
+    option_map
+      (λ (row : Row). record { base = row.base; actual = row.actual })
+      (find (row_fits dword1) large_rows)
 
 -- With L clear the page is 4 KB; with L set the row that fits says its size.
 abbrev pub size_of : ℕ → ℕ → Option PageSize
-size_of dword0 dword1 = if bit_and dword0 0x04 == 0 then Some (record { base = 12; actual = 12 }) else large_size dword1
+size_of dword0 dword1 =
+    if bit_and dword0 0x04 == 0 then Some (record { base = 12; actual = 12 }) else large_size dword1

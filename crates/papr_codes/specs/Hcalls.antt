@@ -7,7 +7,16 @@ use Rattle.papr_codes.specs.declared.calls.Hcall.TheVariants.{Remove, Enter, Rea
 -- Each number of the table, with its call.
 abbrev pub hcall_rows : List (ℕ × Hcall)
 hcall_rows =
-    (0x04, Remove) ∷ (0x08, Enter) ∷ (0x0C, Read) ∷ (0x10, ClearMod) ∷ (0x14, ClearRef) ∷ (0x18, Protect) ∷ (0x124, BulkRemove) ∷ (0x36C, Prepare) ∷ (0x370, Commit) ∷ []
+    (0x04, Remove)
+    ∷ (0x08, Enter)
+    ∷ (0x0C, Read)
+    ∷ (0x10, ClearMod)
+    ∷ (0x14, ClearRef)
+    ∷ (0x18, Protect)
+    ∷ (0x124, BulkRemove)
+    ∷ (0x36C, Prepare)
+    ∷ (0x370, Commit)
+    ∷ []
 
 -- The row of a number, or none.
 unfoldable pub row_of : ℕ → Option (ℕ × Hcall)

@@ -1,4 +1,5 @@
 ghost use Rattle.std.specs.Prelude.{◌≡◌, ◌≤◌, ◌<◌, ◌-◌, ◌^◌, vec_len};
+ghost use Rattle.hpte_fields.specs.TableSize.{entry_count};
 ghost use Rattle.entry_model.specs.Run.{state_at};
 
 use entry_model::{EntryState, EntryStore, Line, Op, Receipt, reply};
@@ -13,14 +14,17 @@ pub struct PlainTable {
 }
 
 impl Model for PlainTable {
-    ghost use Rattle.std.specs.Prelude.{◌≡◌, ◌≤◌, ◌-◌, ◌^◌, vec_len};
+    ghost use Rattle.std.specs.Prelude.{◌≡◌, ◌≤◌, vec_len};
+    ghost use Rattle.hpte_fields.specs.TableSize.{entry_count};
     ghost use Rattle.papr_table.specs.TableState.{TableState};
 
     ghost Value = { TableState };
 
     ghost view = { λ t. record { states = t.states.items; order = t.order } };
 
-    ghost invariant = { λ t. (18 ≤ t.order) × (t.order ≤ 22) × (vec_len t.states ≡ 2 ^ (t.order - 4)) };
+    ghost invariant = {
+        λ t. (18 ≤ t.order) × (t.order ≤ 22) × (vec_len t.states ≡ entry_count t.order)
+    };
 }
 
 impl PlainTable {
@@ -28,7 +32,7 @@ impl PlainTable {
     pub fn open(states: Vec<EntryState>, order: u8) -> PlainTable
         requires low { 18 ≤ order }
         requires high { order ≤ 22 }
-        requires whole { vec_len states ≡ 2 ^ (order - 4) }
+        requires whole { vec_len states ≡ entry_count order }
         ensures states { result.states ≡ states.items }
         ensures order { result.order ≡ order }
     {
@@ -37,7 +41,7 @@ impl PlainTable {
 
     /// The state of an entry.
     pub fn state(&self, entry: u32) -> EntryState
-        requires { entry < 2 ^ (self.now.order - 4) }
+        requires { entry < entry_count self.now.order }
         ensures { result ≡ state_at self.now.states entry }
     {
         self.states[entry as usize]
@@ -95,13 +99,21 @@ impl EntryStore for PlainTable {
 
     ghost made_none = { λ s. record { run = refl; order = refl } };
 
-    ghost made_more = { λ a b c xs ys h k. record { run = run_more a.states b.states c.states xs ys h.run k.run; order = k.order ∙ h.order } };
+    ghost made_more = {
+        λ a b c xs ys h k.
+          record {
+            run = run_more a.states b.states c.states xs ys h.run k.run;
+            order = k.order ∙ h.order;
+          }
+    };
 
     ghost order_stays = { λ a b xs h. h.order };
 
     ghost seen_stays = { λ a b xs line h seen. run_holds a.states b.states xs line h.run seen };
 
-    ghost shown_is_seen = { λ a b xs line h shows. run_shows a.states b.states xs line h.run shows };
+    ghost shown_is_seen = {
+        λ a b xs line h shows. run_shows a.states b.states xs line h.run shows
+    };
 
     ghost gone_stays = { λ a b xs line h gone. run_leaves a.states b.states xs line h.run gone };
 

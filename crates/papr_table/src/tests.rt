@@ -1,4 +1,5 @@
 ghost use Rattle.std.specs.Prelude.{◌≡◌, ◌<◌, ◌-◌, ◌^◌, IfOk, IfSome};
+ghost use Rattle.hpte_fields.specs.TableSize.{entry_count};
 ghost use Rattle.entry_model.specs.Receipt.{IsNormal};
 ghost use Rattle.entry_model.specs.CachedLines.{IsAccessOf, IsCurrent};
 
@@ -24,7 +25,7 @@ fn empty_table(alloc: Global) -> Result<PlainTable, AllocError>
 
 /// An operation on an entry of any store.
 fn apply_once<T: EntryStore>(store: &mut T, entry: u32, op: Op) -> Receipt
-    requires in_table { entry < 2 ^ (T.table_order store.old - 4) }
+    requires in_table { entry < entry_count (T.table_order store.old) }
     requires normal { IsNormal op }
     ensures { T.table_order store.new ≡ T.table_order store.old }
 {
@@ -105,7 +106,7 @@ fn access_twice<T: EntryStore>(
 ) -> (Option<Receipt>, Option<Receipt>)
     requires seen { T.seen store.old known.now }
     requires access { IsAccessOf known.now op }
-    requires in_table { known.now.entry < 2 ^ (T.table_order store.old - 4) }
+    requires in_table { known.now.entry < entry_count (T.table_order store.old) }
     requires normal { IsNormal between }
     ensures { T.table_order store.new ≡ T.table_order store.old }
 {

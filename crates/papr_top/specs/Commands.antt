@@ -11,15 +11,20 @@ abbrev pub drill_by : Option ℕ → Option ℕ → Option Command
 drill_by (Some seed) (Some lines) = if nat_le lines 100000 then Some (Drill seed lines) else None
 drill_by seed lines = None
 
+-- The drill that two words ask for, if both are numbers in range.
 unfoldable pub drill_of : List ℕ → List ℕ → Option Command
 drill_of seed lines = drill_by (number_of seed) (number_of lines)
 
 -- `run`, or `drill SEED LINES`.
 unfoldable pub command_of : List (String Global) → Option Command
 command_of (word ∷ []) = if bytes_eq (string_bytes word) (codes "run") then Some Run else None
-command_of (word ∷ seed ∷ lines ∷ []) = if bytes_eq (string_bytes word) (codes "drill") then drill_of (string_bytes seed) (string_bytes lines) else None
+command_of (word ∷ seed ∷ lines ∷ []) =
+    if bytes_eq (string_bytes word) (codes "drill")
+    then drill_of (string_bytes seed) (string_bytes lines)
+    else None
 command_of other = None
 
+-- A drill has at most 100,000 lines.
 abbrev pub IsInRange : Command → Type 0
 IsInRange Run = Unit {0}
 IsInRange (Drill seed lines) = lines ≤ 100000

@@ -8,4 +8,10 @@ use Rattle.papr_top.specs.declared.status.Status.TheVariants.{WriteFault}
 abbrev pub Finishes : Status → List ℕ → Option (List ℕ) → Option (List ℕ) → ℕ → ℕ → Status → Type 0
 Finishes status text taken taken_after faults faults_after result =
     ((result ≡ status) × Put taken text taken_after)
-    ⊎ ((result ≡ WriteFault) × Rose faults faults_after × ((front : List ℕ) × (rest : List ℕ) × (text ≡ front ++ rest) × Put taken front taken_after))
+    
+    ⊎ ((result ≡ WriteFault)
+       × Rose faults faults_after
+       × ((front : List ℕ)
+          × (rest : List ℕ)
+          × (text ≡ front ++ rest)
+          × Put taken front taken_after))

@@ -19,9 +19,12 @@ use Rattle.papr_top.specs.declared.status.Status.TheVariants.{Done, Usage, Refus
 use Rattle.papr_top.specs.declared.command.Command.TheVariants as commands
 
 -- ---- texts
+-- The line that says which line of the input is refused, and why.
 abbrev pub refusal_text : ℕ → Why → List ℕ
-refusal_text line why = codes "papr: line " ++ decimal line ++ codes ": " ++ why_word why ++ codes "\n"
+refusal_text line why =
+    codes "papr: line " ++ decimal line ++ codes ": " ++ why_word why ++ codes "\n"
 
+-- The line that answers wrong words.
 abbrev pub usage_text : List ℕ
 usage_text = codes "papr: usage\n"
 
@@ -32,7 +35,11 @@ output_of (Err refusal) = refusal_text refusal.0 refusal.1
 
 -- The summary of the serial run of a trace, with the valid entries of the table at its end.
 unfoldable pub drill_text : AcceptedTrace → List ℕ
-drill_text t = summary_text (length t.lines) (serial_replies t) (shown_of (state_after_lines (opening_run t.config) t.lines).memory).states
+drill_text t =
+    summary_text
+      (length t.lines)
+      (serial_replies t)
+      (shown_of (state_after_lines (opening_run t.config) t.lines).memory).states
 
 -- ---- answers
 -- A run that is good, and what it assures.
@@ -42,8 +49,10 @@ pub record IsAssured (t : AcceptedTrace) : Type 0 where
 
 -- The status and the text of an input. The serial run of a trace is a good run.
 abbrev pub IsAnswered : Result AcceptedTrace (ℕ × Why) → Status → List ℕ → Type 0
-IsAnswered (Ok t) status text = (status ≡ Done) × (text ≡ text_of t (serial_replies t)) × IsAssured t
-IsAnswered (Err refusal) status text = (status ≡ Refused) × (text ≡ refusal_text refusal.0 refusal.1)
+IsAnswered (Ok t) status text =
+    (status ≡ Done) × (text ≡ text_of t (serial_replies t)) × IsAssured t
+IsAnswered (Err refusal) status text =
+    (status ≡ Refused) × (text ≡ refusal_text refusal.0 refusal.1)
 
 -- ---- what a call leaves
 -- The bytes left in the source and those taken by the sink, before and after, where they are told.
@@ -58,15 +67,18 @@ pub record Reads (run : Run) (bytes : List ℕ) : Type 0 where
   pub took : Took run.left bytes run.left_after
   pub end : length bytes ≤ 2 ^ 24 → AtEnd run.left_after
 
+-- No byte was read.
 abbrev pub ReadsNothing : Run → Type 0
 ReadsNothing run = Took run.left [] run.left_after
 
+-- The sink took just this text.
 abbrev pub Writes : Run → List ℕ → Type 0
 Writes run text = Put run.taken text run.taken_after
 
 -- A front of this text was written.
 abbrev pub WritesPrefix : Run → List ℕ → Type 0
-WritesPrefix run text = (front : List ℕ) × (rest : List ℕ) × (text ≡ front ++ rest) × Writes run front
+WritesPrefix run text =
+    (front : List ℕ) × (rest : List ℕ) × (text ≡ front ++ rest) × Writes run front
 
 -- The input is a trace, and the text of its serial run was written, which is a good run.
 pub record Answers (run : Run) : Type 0 where
@@ -111,9 +123,12 @@ UnderRun other fact = ⊥
 -- The sink failed behind a front of the text.
 abbrev pub Stops : Option Command → Run → Type 0
 Stops None run = ReadsNothing run × WritesPrefix run usage_text
-Stops (Some commands.Run) run = (bytes : List ℕ) × Reads run bytes × WritesPrefix run (output_of (trace_of bytes))
-Stops (Some (commands.Drill seed lines)) run = ReadsNothing run × WritesPrefix run (drill_text (generated_trace seed lines))
+Stops (Some commands.Run) run =
+    (bytes : List ℕ) × Reads run bytes × WritesPrefix run (output_of (trace_of bytes))
+Stops (Some (commands.Drill seed lines)) run =
+    ReadsNothing run × WritesPrefix run (drill_text (generated_trace seed lines))
 
+-- The words are one of the listed forms.
 abbrev pub IsListed : Option Command → Type 0
 IsListed None = ⊥
 IsListed (Some command) = Unit {0}
@@ -130,7 +145,12 @@ IsOutcome command run Memory = IsListed command × Writes run []
 -- ---- drills
 -- How a drill ends: the summary was written whole, or the sink failed behind a front of it, or memory ran out.
 abbrev pub EndsDrill : AcceptedTrace → Option (List ℕ) → Option (List ℕ) → Status → Type 0
-EndsDrill t taken taken_after Done = IsGoodRun t (serial_replies t) × Put taken (drill_text t) taken_after
-EndsDrill t taken taken_after WriteFault = (front : List ℕ) × (rest : List ℕ) × (drill_text t ≡ front ++ rest) × Put taken front taken_after
+EndsDrill t taken taken_after Done =
+    IsGoodRun t (serial_replies t) × Put taken (drill_text t) taken_after
+EndsDrill t taken taken_after WriteFault =
+    (front : List ℕ)
+    × (rest : List ℕ)
+    × (drill_text t ≡ front ++ rest)
+    × Put taken front taken_after
 EndsDrill t taken taken_after Memory = Put taken [] taken_after
 EndsDrill t taken taken_after other = ⊥

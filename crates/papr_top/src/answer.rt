@@ -39,7 +39,12 @@ pub fn answer(alloc: Global, bytes: &[u8]) -> Result<(Status, String), AllocErro
 pub fn summary(alloc: Global, seed: u64, lines: u32) -> Result<String, AllocError>
     requires { lines ≤ 100000 }
     ensures text { IfOk result (λ s. string_bytes s ≡ drill_text (generated_trace seed lines)) }
-    ensures good { IfOk result (λ _. IsGoodRun (generated_trace seed lines) (serial_replies (generated_trace seed lines))) }
+    ensures good {
+        IfOk
+          result
+          (λ _.
+             IsGoodRun (generated_trace seed lines) (serial_replies (generated_trace seed lines)))
+    }
 {
     let trace = generate(alloc, seed, lines)?;
     let ran = run_with_table(alloc, &trace)?;

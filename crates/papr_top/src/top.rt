@@ -17,7 +17,16 @@ const MOST_BYTES: usize = 16_777_216;
 
 /// Writes the text, and answers the status unless the sink fails.
 fn finish<K: Sink>(sink: &mut K, text: &[u8], status: Status) -> Status
-    ensures end { Finishes status text.now (K.taken sink.old) (K.taken sink.new) (K.faults sink.old) (K.faults sink.new) result }
+    ensures end {
+        Finishes
+          status
+          text.now
+          (K.taken sink.old)
+          (K.taken sink.new)
+          (K.faults sink.old)
+          (K.faults sink.new)
+          result
+    }
     ensures faults { K.faults sink.old ≤ K.faults sink.new }
 {
     match write_all(sink, text) {
@@ -28,9 +37,23 @@ fn finish<K: Sink>(sink: &mut K, text: &[u8], status: Status) -> Status
 
 /// `run`: reads the source to its end, and writes the replies or the refusal.
 fn run<S: Source, K: Sink>(alloc: Global, source: &mut S, sink: &mut K) -> Status
-    ensures outcome { IsOutcome (Some Command.Run) (record { left = S.left source.old; left_after = S.left source.new; taken = K.taken sink.old; taken_after = K.taken sink.new }) result }
-    ensures read_fault { result ≡ Status.ReadFault → Rose (S.faults source.old) (S.faults source.new) }
-    ensures write_fault { result ≡ Status.WriteFault → Rose (K.faults sink.old) (K.faults sink.new) }
+    ensures outcome {
+        IsOutcome
+          (Some Command.Run)
+          (record {
+             left = S.left source.old;
+             left_after = S.left source.new;
+             taken = K.taken sink.old;
+             taken_after = K.taken sink.new;
+           })
+          result
+    }
+    ensures read_fault {
+        result ≡ Status.ReadFault → Rose (S.faults source.old) (S.faults source.new)
+    }
+    ensures write_fault {
+        result ≡ Status.WriteFault → Rose (K.faults sink.old) (K.faults sink.new)
+    }
     ensures source_faults { S.faults source.old ≤ S.faults source.new }
     ensures sink_faults { K.faults sink.old ≤ K.faults sink.new }
 {
@@ -51,8 +74,12 @@ fn run<S: Source, K: Sink>(alloc: Global, source: &mut S, sink: &mut K) -> Statu
 /// `drill`: writes the summary of a generated trace.
 fn drill<K: Sink>(alloc: Global, seed: u64, lines: u32, sink: &mut K) -> Status
     requires { lines ≤ 100000 }
-    ensures end { EndsDrill (generated_trace seed lines) (K.taken sink.old) (K.taken sink.new) result }
-    ensures write_fault { result ≡ Status.WriteFault → Rose (K.faults sink.old) (K.faults sink.new) }
+    ensures end {
+        EndsDrill (generated_trace seed lines) (K.taken sink.old) (K.taken sink.new) result
+    }
+    ensures write_fault {
+        result ≡ Status.WriteFault → Rose (K.faults sink.old) (K.faults sink.new)
+    }
     ensures sink_faults { K.faults sink.old ≤ K.faults sink.new }
 {
     match summary(alloc, seed, lines) {
@@ -75,12 +102,29 @@ pub fn papr<S: Source, K: Sink>(
     sink: &mut K,
 ) -> Status
     // What was read and written.
-    ensures outcome { IsOutcome (words_of.command_of words.now) (record { left = S.left source.old; left_after = S.left source.new; taken = K.taken sink.old; taken_after = K.taken sink.new }) result }
+    ensures outcome {
+        IsOutcome
+          (words_of.command_of words.now)
+          (record {
+             left = S.left source.old;
+             left_after = S.left source.new;
+             taken = K.taken sink.old;
+             taken_after = K.taken sink.new;
+           })
+          result
+    }
     // The words alone decide whether they are used rightly.
-    ensures usage { words_of.command_of words.now ≡ None → (result ≡ Status.Usage) ⊎ (result ≡ Status.WriteFault) }
+    ensures usage {
+        words_of.command_of words.now ≡ None
+        → (result ≡ Status.Usage) ⊎ (result ≡ Status.WriteFault)
+    }
     // A fault is one of the source's or of the sink's own.
-    ensures read_fault { result ≡ Status.ReadFault → Rose (S.faults source.old) (S.faults source.new) }
-    ensures write_fault { result ≡ Status.WriteFault → Rose (K.faults sink.old) (K.faults sink.new) }
+    ensures read_fault {
+        result ≡ Status.ReadFault → Rose (S.faults source.old) (S.faults source.new)
+    }
+    ensures write_fault {
+        result ≡ Status.WriteFault → Rose (K.faults sink.old) (K.faults sink.new)
+    }
     ensures source_faults { S.faults source.old ≤ S.faults source.new }
     ensures sink_faults { K.faults sink.old ≤ K.faults sink.new }
 {

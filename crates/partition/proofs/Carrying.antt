@@ -18,7 +18,8 @@ use Rattle.power_addr.proofs.SamePages.{page_self}
 use Rattle.hpt_walk.specs.Laws.{IsEntryState}
 use Rattle.hpt_walk.specs.Translations.{page_in}
 use Rattle.hpt_walk.proofs.Finding.{is_this, paired-in, this_is, state_of}
-use Rattle.hpt_resize.specs.Rehash.{entry_count, carried_page, target_of, target_at, is_target, first_with, collision_at, collision_of, entry_at, rehashed_states, at_stamp_0}
+use Rattle.hpt_resize.specs.Rehash.{carried_page, target_of, target_at, is_target, first_with, collision_at, collision_of, entry_at, rehashed_states, at_stamp_0}
+use Rattle.hpte_fields.specs.TableSize.{entry_count}
 use Rattle.hpt_resize.specs.Resize.{Table}
 use Rattle.hpt_resize.proofs.Finds.{found_is, none_found}
 use Rattle.hpt_resize.proofs.Placed.{target_true, target_is, first_is, some_at}

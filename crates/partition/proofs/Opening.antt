@@ -16,7 +16,7 @@ use Rattle.hpt_pool.proofs.Kept.{with_contains}
 use Rattle.frame_grants.specs.Grants.{GrantedMemory}
 use Rattle.trace_read.specs.Configuration.{Configuration}
 use Rattle.entry_model.specs.State.{State, empty_state}
-use Rattle.hpt_resize.specs.Rehash.{entry_count}
+use Rattle.hpte_fields.specs.TableSize.{entry_count}
 use Rattle.hpt_resize.specs.TableMemory.{empty_states, opening_memory}
 use Rattle.partition.specs.PartitionState.{PartitionState, IsPartition, opening_partition}
 use Rattle.partition.proofs.Resizing.{partition, memory_or}

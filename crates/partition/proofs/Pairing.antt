@@ -6,7 +6,8 @@ use Rattle.hpt_hash.specs.Hash.{group_of}
 use Rattle.hpt_hash.specs.Entries.{page_at}
 use Rattle.entry_model.specs.State.{State}
 use Rattle.entry_model.specs.Run.{state_at}
-use Rattle.hpt_resize.specs.Rehash.{entry_count, at_stamp_0}
+use Rattle.hpt_resize.specs.Rehash.{at_stamp_0}
+use Rattle.hpte_fields.specs.TableSize.{entry_count}
 use Rattle.hpt_resize.specs.Resize.{Table}
 use Rattle.hpt_resize.specs.Translations.{KeepsTranslations, StandsThere}
 use Rattle.hpt_resize.proofs.Groups.{carried_is}

@@ -12,7 +12,8 @@ use Rattle.papr_codes.specs.declared.codes.Rc.TheVariants.{Success, Busy, Closed
 use Rattle.hpt_resize.specs.declared.carry.Collision.{Collision}
 use Rattle.hpt_resize.specs.declared.current.Current.{Current}
 use Rattle.hpt_resize.specs.declared.current.CommitAnswer.{CommitAnswer}
-use Rattle.hpt_resize.specs.Rehash.{entry_count, collision_of}
+use Rattle.hpt_resize.specs.Rehash.{collision_of}
+use Rattle.hpte_fields.specs.TableSize.{entry_count}
 use Rattle.hpt_resize.specs.Pending.{PendingTable, is_ready}
 use Rattle.hpt_resize.specs.Resize.{IsHeld, IsElsewhere, IsTable, KeepsBlocks, PrepareOutcome, Table, CommitOutcome, prepare_outcome, outcome_of_prepare, commit_outcome, is_commit_request, pending_refusal, commit_refusal, carry_outcome, complete_outcome, answer_outcome, outcome_of_commit, table_of}
 use Rattle.hpt_resize.specs.TableMemory.{TableMemory, prepare_result, commit_result}

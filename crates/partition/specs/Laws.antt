@@ -8,7 +8,8 @@ use Rattle.entry_model.specs.Run.{state_at}
 use Rattle.hpt_walk.specs.Laws.{IsEntryState}
 use Rattle.hpt_walk.specs.Translations.{translations, is_paired}
 use Rattle.papr_codes.specs.declared.codes.Rc.TheVariants.{Success}
-use Rattle.hpt_resize.specs.Rehash.{entry_count, at_stamp_0}
+use Rattle.hpt_resize.specs.Rehash.{at_stamp_0}
+use Rattle.hpte_fields.specs.TableSize.{entry_count}
 use Rattle.hpt_resize.specs.Translations.{KeepsTranslations}
 use Rattle.hpt_resize.specs.Resize.{Table}
 use Rattle.hpt_resize.specs.TableMemory.{TableMemory, commit_result}
@@ -28,14 +29,25 @@ pub record IsSource (table : Table) (order : ℕ) (page : VirtualPage) (target :
 
 -- The new table pairs a page with an entry exactly where one of the old table's bolted entries of the page goes there, and that entry has its doublewords, R and C.
 pub record PairsCarriedPages (old new : Table) : Type 0 where
-  pub pairs : (page : VirtualPage) (target : ℕ) → target < length new.states → Translates new page target ↔ IsSource old new.order page target
-  pub kept : (page : VirtualPage) (target : ℕ) (source : IsSource old new.order page target) → state_at new.states target ≡ at_stamp_0 (state_at old.states source.entry)
-  pub in_table : (page : VirtualPage) (target : ℕ) → IsSource old new.order page target → target < length new.states
+  pub pairs :
+    (page : VirtualPage) (target : ℕ)
+    → target < length new.states
+    → Translates new page target ↔ IsSource old new.order page target
+  pub kept :
+    (page : VirtualPage) (target : ℕ) (source : IsSource old new.order page target)
+    → state_at new.states target ≡ at_stamp_0 (state_at old.states source.entry)
+  pub in_table :
+    (page : VirtualPage) (target : ℕ)
+    → IsSource old new.order page target
+    → target < length new.states
 
 -- So does each commit that succeeds, on entries as tables have them.
 abbrev pub CommitPairsCarriedPages : Type 0
 CommitPairsCarriedPages =
-    (memory : TableMemory) (flags shift : ℕ) → AllByRecursion IsEntryState memory.table.states → (commit_result memory flags shift).0 ≡ Success → PairsCarriedPages memory.table (commit_result memory flags shift).1.table
+    (memory : TableMemory) (flags shift : ℕ)
+    → AllByRecursion IsEntryState memory.table.states
+    → (commit_result memory flags shift).0 ≡ Success
+    → PairsCarriedPages memory.table (commit_result memory flags shift).1.table
 
 -- ---- two ways to say what is kept
 -- A new table that keeps each bolted page's translation pairs the carried pages.

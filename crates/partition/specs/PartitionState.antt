@@ -7,7 +7,7 @@ use Rattle.entry_model.specs.Trial.{reply_by, plan_of_code}
 use Rattle.entry_model.specs.declared.hreply.HReply.{HReply}
 use Rattle.papr_codes.specs.declared.codes.Rc.{Rc}
 use Rattle.papr_codes.specs.declared.codes.Rc.TheVariants.{Success}
-use Rattle.hpt_resize.specs.Rehash.{entry_count}
+use Rattle.hpte_fields.specs.TableSize.{entry_count}
 use Rattle.hpt_resize.specs.Resize.{IsHeld, IsElsewhere, Table}
 use Rattle.hpt_resize.specs.TableMemory.{TableMemory, opening_memory}
 
@@ -18,7 +18,8 @@ pub record PartitionState : Type 0 where
 
 -- The table has a state for each of its entries.
 abbrev pub HasStates : PartitionState → Type 0
-HasStates partition = length partition.memory.table.states ≡ entry_count partition.memory.table.order
+HasStates partition =
+    length partition.memory.table.states ≡ entry_count partition.memory.table.order
 
 -- The states are out.
 abbrev pub HasNoStates : PartitionState → Type 0
@@ -32,7 +33,14 @@ with_memory partition memory = record partition { memory = memory }
 -- An empty table of the configured order in a pool that is empty but for it, beside the configured grants.
 unfoldable pub opening_partition : Configuration → PartitionState
 opening_partition config = record {
-  memory = opening_memory config.limit config.order config.granted.pool_base config.granted.pool_order;
+  memory
+    =
+    opening_memory
+    config.limit
+    config.order
+    config.granted.pool_base
+    config.granted.pool_order
+    ;
   granted = config.granted;
 }
 
@@ -64,4 +72,7 @@ pub record IsPartition (partition : PartitionState) : Type 0 where
   pub held : IsHeld partition.memory.pending partition.memory.pool
   pub taken : Contains partition.memory.pool.taken (block_of partition.memory.table)
   pub elsewhere : IsElsewhere partition.memory.pending (block_of partition.memory.table)
-  pub in_or_out : IsTrue ((length partition.memory.table.states == 0) || (length partition.memory.table.states == entry_count partition.memory.table.order))
+  pub in_or_out :
+    IsTrue
+      ((length partition.memory.table.states == 0)
+       || (length partition.memory.table.states == entry_count partition.memory.table.order))

@@ -1,6 +1,6 @@
 ghost use Rattle.std.specs.Prelude.{◌≡◌, ◌-◌, ◌^◌, ◌<◌, ◌≤◌, [], length, true, None, IfOk, OnOk, OnErr};
 ghost use Rattle.hpt_pool.specs.Pool.{no_blocks, pool_refusal};
-ghost use Rattle.hpt_resize.specs.Rehash.{entry_count};
+ghost use Rattle.hpte_fields.specs.TableSize.{entry_count};
 ghost use Rattle.hpt_resize.specs.Resize.{needs_table};
 ghost use Rattle.hpt_resize.specs.TableMemory.{prepare_result, commit_result, with_states};
 ghost use Rattle.partition.specs.PartitionState.{HasStates, HasNoStates, IsPartition, CountsTables, opening_partition, with_memory, reply_of_code};
@@ -39,9 +39,34 @@ impl Model for Partition {
 
     ghost Value = { PartitionState };
 
-    ghost view = { λ p. record { memory = record { limit = p.limit; pool = p.pool; pending = p.resize; table = table_of p.current }; granted = p.grants } };
+    ghost view = {
+        λ p.
+          record {
+            memory =
+              record {
+                limit = p.limit;
+                pool = p.pool;
+                pending = p.resize;
+                table = table_of p.current;
+              };
+            granted = p.grants;
+          }
+    };
 
-    ghost invariant = { λ p. IsPartition (record { memory = record { limit = p.limit; pool = p.pool; pending = p.resize; table = table_of p.current }; granted = p.grants }) };
+    ghost invariant = {
+        λ p.
+          IsPartition
+            (record {
+               memory =
+                 record {
+                   limit = p.limit;
+                   pool = p.pool;
+                   pending = p.resize;
+                   table = table_of p.current;
+                 };
+               granted = p.grants;
+             })
+    };
 }
 
 impl Partition {
@@ -132,9 +157,21 @@ impl Partition {
     /// ends, nothing changes.
     pub fn prepare(&mut self, alloc: Global, flags: u64, shift: u64) -> Result<HReply, AllocError>
         requires { HasStates self.old }
-        ensures reply { IfOk result (λ reply. reply ≡ reply_of_code (prepare_result self.old.memory flags shift).0) }
-        ensures after { OnOk result (self.new ≡ with_memory self.old (prepare_result self.old.memory flags shift).1) }
-        ensures memory { OnErr result (needs_table self.old.memory.limit flags shift self.old.memory.pending ≡ true) }
+        ensures reply {
+            IfOk
+              result
+              (λ reply. reply ≡ reply_of_code (prepare_result self.old.memory flags shift).0)
+        }
+        ensures after {
+            OnOk
+              result
+              (self.new ≡ with_memory self.old (prepare_result self.old.memory flags shift).1)
+        }
+        ensures memory {
+            OnErr
+              result
+              (needs_table self.old.memory.limit flags shift self.old.memory.pending ≡ true)
+        }
         ensures same { OnErr result (self.new ≡ self.old) }
         ensures has_states { HasStates self.new }
         ensures sound { IsPartition self.new }
@@ -152,7 +189,9 @@ impl Partition {
         requires has_states { HasStates self.old }
         requires number { self.old.memory.table.number < 2 ^ 32 - 1 }
         ensures reply { result ≡ reply_of_code (commit_result self.old.memory flags shift).0 }
-        ensures after { self.new ≡ with_memory self.old (commit_result self.old.memory flags shift).1 }
+        ensures after {
+            self.new ≡ with_memory self.old (commit_result self.old.memory flags shift).1
+        }
         ensures has_states { HasStates self.new }
         ensures sound { IsPartition self.new }
         ensures number { CountsTables result.rc self.old self.new }

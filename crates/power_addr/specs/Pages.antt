@@ -13,7 +13,12 @@ pub record VirtualPage : Type 0 where
 
 -- The page with these parts, in range or not.
 abbrev pub virtual_page : Bool → ℕ → ℕ → ℕ → VirtualPage
-virtual_page one_tb vsid shift index = record { one_tb = one_tb; vsid = vsid; shift = shift; index = index }
+virtual_page one_tb vsid shift index = record {
+  one_tb = one_tb;
+  vsid = vsid;
+  shift = shift;
+  index = index;
+}
 
 -- ---- the ranges
 -- The bits of an offset in a segment.
@@ -47,20 +52,30 @@ pub record IsPage (p : VirtualPage) : Type 0 where
 
 -- The same as a test.
 abbrev pub is_page : VirtualPage → Bool
-is_page p = is_vsid p.one_tb p.vsid && is_base_shift p.one_tb p.shift && nat_lt p.index (2 ^ (offset_bits p.one_tb - p.shift))
+is_page p =
+    is_vsid p.one_tb p.vsid
+    && is_base_shift p.one_tb p.shift
+    && nat_lt p.index (2 ^ (offset_bits p.one_tb - p.shift))
 
 -- The page with these parts, where each is in its range.
 abbrev pub page_of_parts : Bool → ℕ → ℕ → ℕ → Option VirtualPage
-page_of_parts one_tb vsid shift index = if is_page (virtual_page one_tb vsid shift index) then Some (virtual_page one_tb vsid shift index) else None
+page_of_parts one_tb vsid shift index =
+    if is_page (virtual_page one_tb vsid shift index)
+    then Some (virtual_page one_tb vsid shift index)
+    else None
 
 -- ---- addresses
 -- The page of a segment that holds the segment offset of an effective address.
 abbrev pub page_at_address : Bool → ℕ → ℕ → ℕ → VirtualPage
-page_at_address one_tb vsid shift ea = virtual_page one_tb vsid shift (ea % 2 ^ offset_bits one_tb / 2 ^ shift)
+page_at_address one_tb vsid shift ea =
+    virtual_page one_tb vsid shift (ea % 2 ^ offset_bits one_tb / 2 ^ shift)
 
 -- That page, where the segment's number and the base page size are in range.
 abbrev pub page_of_address : Bool → ℕ → ℕ → ℕ → Option VirtualPage
-page_of_address one_tb vsid shift ea = if is_vsid one_tb vsid && is_base_shift one_tb shift then Some (page_at_address one_tb vsid shift ea) else None
+page_of_address one_tb vsid shift ea =
+    if is_vsid one_tb vsid && is_base_shift one_tb shift
+    then Some (page_at_address one_tb vsid shift ea)
+    else None
 
 -- The virtual address of the page's first byte.
 abbrev pub virtual_address : VirtualPage → ℕ
@@ -73,7 +88,8 @@ segment_code_of true = 1
 
 -- The tag of the page's entries, as in doubleword 0: B in the top two bits, and the abbreviated virtual page number, which holds the address bits from weight 2 ^ 23 up.
 unfoldable pub tag_of : VirtualPage → ℕ
-tag_of p = segment_code_of p.one_tb * 2 ^ 62 + bit_and (virtual_address p / 2 ^ 16) 0x3FFFFFFFFFFFFF80
+tag_of p =
+    segment_code_of p.one_tb * 2 ^ 62 + bit_and (virtual_address p / 2 ^ 16) 0x3FFFFFFFFFFFFF80
 
 -- ---- comparing
 -- The two pages have the same parts.

@@ -29,11 +29,17 @@ impl Model for Page {
 
     ghost Value = { VirtualPage };
 
-    ghost view = { λ p. record { one_tb = p.one_tb; vsid = p.vsid; shift = p.shift; index = p.index } };
+    ghost view = {
+        λ p. record { one_tb = p.one_tb; vsid = p.vsid; shift = p.shift; index = p.index }
+    };
 
-    ghost invariant = { λ p. IsPage (record { one_tb = p.one_tb; vsid = p.vsid; shift = p.shift; index = p.index }) };
+    ghost invariant = {
+        λ p. IsPage (record { one_tb = p.one_tb; vsid = p.vsid; shift = p.shift; index = p.index })
+    };
 
-    ghost inverse = { λ p. record { one_tb = p.one_tb; vsid = p.vsid; shift = p.shift; index = p.index } };
+    ghost inverse = {
+        λ p. record { one_tb = p.one_tb; vsid = p.vsid; shift = p.shift; index = p.index }
+    };
 }
 
 impl Page {

@@ -44,6 +44,7 @@ counts_end counts.NoPage outcomes.NoPage by = true
 counts_end counts.Hits outcome (Some ways.Hit) = true
 counts_end counted outcome by = false
 
+-- The reply is one of those that are counted here.
 abbrev pub is_counted : Counted → Reply → Bool
 is_counted counted (replies.Hcall h) = counts_code counted h.rc
 is_counted counted (replies.Access r) = counts_end counted r.outcome r.by
@@ -54,19 +55,35 @@ is_counted counted other = false
 unfoldable pub row_text : List ℕ → ℕ → List ℕ
 row_text word number = word ++ codes " " ++ decimal number ++ codes "\n"
 
+-- All that a summary counts, in the order of its rows.
 abbrev pub all_counted : List Counted
-all_counted = counts.Hcalls ∷ counts.Success ∷ counts.Full ∷ counts.NotFound ∷ counts.Accesses ∷ counts.At ∷ counts.Denied ∷ counts.NoPage ∷ counts.Hits ∷ []
+all_counted =
+    counts.Hcalls
+    ∷ counts.Success
+    ∷ counts.Full
+    ∷ counts.NotFound
+    ∷ counts.Accesses
+    ∷ counts.At
+    ∷ counts.Denied
+    ∷ counts.NoPage
+    ∷ counts.Hits
+    ∷ []
 
+-- The row of one count.
 abbrev pub counted_text : List Reply → Counted → List ℕ
 counted_text rs counted = row_text (counted_word counted) (count_by (is_counted counted) rs)
 
+-- C is set in the entry.
 abbrev pub has_change : ℕ × State → Bool
 has_change x = x.1.changed
 
 -- How many valid entries there are, and how many have C.
 unfoldable pub entries_text : List (ℕ × State) → List ℕ
-entries_text entries = row_text (codes "entries") (length entries) ++ row_text (codes "changed") (count_by has_change entries)
+entries_text entries =
+    row_text (codes "entries") (length entries)
+    ++ row_text (codes "changed") (count_by has_change entries)
 
 -- Of so many run lines, their replies, and the valid entries of the table at the end.
 unfoldable pub summary_text : ℕ → List Reply → List (ℕ × State) → List ℕ
-summary_text lines rs entries = row_text (codes "lines") lines ++ flat_map (counted_text rs) all_counted ++ entries_text entries
+summary_text lines rs entries =
+    row_text (codes "lines") lines ++ flat_map (counted_text rs) all_counted ++ entries_text entries

@@ -30,6 +30,7 @@ abbrev pub hex : ℕ → List ℕ
 hex n = codes "0x" ++ digits 16 false n
 
 -- ---- receipts
+-- The word of an answer.
 abbrev pub answer_word : Answer → List ℕ
 answer_word Entered = codes "entered"
 answer_word Taken = codes "taken"
@@ -49,13 +50,23 @@ bits_digit s = (if s.referenced then 2 else 0) + (if s.changed then 1 else 0)
 
 -- ENTRY.STAMP.BITS.ANSWER behind a space; stamp and bits are those before.
 abbrev pub receipt_text : Receipt → List ℕ
-receipt_text r = codes " " ++ hex r.entry ++ codes "." ++ decimal r.before.stamp ++ codes "." ++ decimal (bits_digit r.before) ++ codes "." ++ answer_word r.answer
+receipt_text r =
+    codes " "
+    ++ hex r.entry
+    ++ codes "."
+    ++ decimal r.before.stamp
+    ++ codes "."
+    ++ decimal (bits_digit r.before)
+    ++ codes "."
+    ++ answer_word r.answer
 
+-- The receipts of a reply, behind a bar; nothing where there are none.
 abbrev pub receipts_text : List Receipt → List ℕ
 receipts_text [] = []
 receipts_text (r ∷ rs) = codes " |" ++ flat_map receipt_text (r ∷ rs)
 
 -- ---- lines
+-- The word of an access.
 abbrev pub want_word : Want → List ℕ
 want_word wants.Load = codes "load"
 want_word wants.Store = codes "store"
@@ -63,7 +74,8 @@ want_word wants.Fetch = codes "fetch"
 
 -- The word behind the processor: a call's name where the line spelt it, else `hcall`.
 abbrev pub name_of : Act → List ℕ
-name_of (acts.Call number args spelt) = if spelt then hcall_name (hcall_of number) else codes "hcall"
+name_of (acts.Call number args spelt) =
+    if spelt then hcall_name (hcall_of number) else codes "hcall"
 name_of (acts.Access want ea user) = want_word want
 name_of (acts.SlbMte rb rs) = codes "slbmte"
 name_of acts.SlbClear = codes "slbclear"
@@ -74,17 +86,21 @@ unfoldable pub head_text : ℕ → ℕ → List ℕ → List ℕ
 head_text number cpu name = decimal number ++ codes " " ++ decimal cpu ++ codes " " ++ name
 
 -- ---- hypervisor calls
+-- A word of a reply, behind a space.
 abbrev pub word_text : ℕ → List ℕ
 word_text w = codes " " ++ hex w
 
+-- A return code, behind a space.
 unfoldable pub code_text : ℤ → List ℕ
 code_text code = codes " " ++ signed_decimal code
 
 -- The code, the words, and the receipts.
 abbrev pub hcall_text : HReply → List ℕ
-hcall_text h = code_text (rc_code h.rc) ++ flat_map word_text h.words ++ receipts_text h.receipts ++ codes "\n"
+hcall_text h =
+    code_text (rc_code h.rc) ++ flat_map word_text h.words ++ receipts_text h.receipts ++ codes "\n"
 
 -- ---- accesses
+-- Where an access ended.
 abbrev pub outcome_text : Outcome → List ℕ
 outcome_text (outcomes.At address) = codes " at " ++ hex address
 outcome_text outcomes.Denied = codes " denied"
@@ -92,6 +108,7 @@ outcome_text outcomes.NoPage = codes " nopage"
 outcome_text outcomes.NoSegment = codes " nosegment"
 outcome_text (outcomes.Ungranted address) = codes " ungranted " ++ hex address
 
+-- By what it ended: by a cached line, or by a walk.
 abbrev pub way_text : Option By → List ℕ
 way_text (Some ways.Hit) = codes " hit"
 way_text (Some ways.Walk) = codes " walk"
@@ -102,29 +119,55 @@ abbrev pub access_text : AccessReply → List ℕ
 access_text r = outcome_text r.outcome ++ way_text r.by ++ receipts_text r.receipts ++ codes "\n"
 
 -- ---- the segment lookaside buffer
+-- Whether a change of the segment lookaside buffer was accepted.
 abbrev pub verdict_text : Bool → List ℕ
 verdict_text accepted = if accepted then codes " ok\n" else codes " refused\n"
 
 -- ---- dumps
 -- Index, both doublewords with R and C, and stamp, each behind a space.
 unfoldable pub entry_text : ℕ × State → List ℕ
-entry_text x = codes " " ++ hex x.0 ++ codes " " ++ hex (words_of x.1).0 ++ codes " " ++ hex (words_of x.1).1 ++ codes " " ++ decimal x.1.stamp ++ codes "\n"
+entry_text x =
+    codes " "
+    ++ hex x.0
+    ++ codes " "
+    ++ hex (words_of x.1).0
+    ++ codes " "
+    ++ hex (words_of x.1).1
+    ++ codes " "
+    ++ decimal x.1.stamp
+    ++ codes "\n"
 
+-- The number of a dump's line.
 unfoldable pub dump_head : ℕ → List ℕ
 dump_head line = decimal line ++ codes " dump"
 
 -- table T order S place P entries K
 unfoldable pub table_text : ℕ → ℕ → ℕ → ℕ → List ℕ
-table_text number order place count = codes " table " ++ decimal number ++ codes " order " ++ decimal order ++ codes " place " ++ hex place ++ codes " entries " ++ decimal count ++ codes "\n"
+table_text number order place count =
+    codes " table "
+    ++ decimal number
+    ++ codes " order "
+    ++ decimal order
+    ++ codes " place "
+    ++ hex place
+    ++ codes " entries "
+    ++ decimal count
+    ++ codes "\n"
 
+-- The table, then a line for each valid entry.
 abbrev pub dump_text : ℕ → Shown → List ℕ
-dump_text line shown = dump_head line ++ table_text shown.number shown.order shown.place (length shown.states) ++ flat_map entry_text shown.states
+dump_text line shown =
+    dump_head line
+    ++ table_text shown.number shown.order shown.place (length shown.states)
+    ++ flat_map entry_text shown.states
 
 -- ---- all lines
+-- The text of one reply.
 abbrev pub reply_text : TraceLine → Reply → List ℕ
 reply_text l (replies.Hcall h) = head_text l.number l.cpu (name_of l.act) ++ hcall_text h
 reply_text l (replies.Access r) = head_text l.number l.cpu (name_of l.act) ++ access_text r
-reply_text l (replies.Segment accepted) = head_text l.number l.cpu (name_of l.act) ++ verdict_text accepted
+reply_text l (replies.Segment accepted) =
+    head_text l.number l.cpu (name_of l.act) ++ verdict_text accepted
 reply_text l (replies.Dump shown) = dump_text l.number shown
 
 -- The replies of all run lines, in file order.
@@ -133,5 +176,6 @@ text_from [] rs = []
 text_from (l ∷ ls) [] = []
 text_from (l ∷ ls) (r ∷ rs) = reply_text l r ++ text_from ls rs
 
+-- The text of a run with these replies.
 abbrev pub text_of : AcceptedTrace → List Reply → List ℕ
 text_of t rs = text_from t.lines rs

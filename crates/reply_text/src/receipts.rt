@@ -32,7 +32,9 @@ fn bits(state: &EntryState) -> u8
 }
 
 fn put_receipt(out: &mut String, receipt: &Receipt) -> Result<(), AllocError>
-    ensures { OnOk result (string_bytes out.new ≡ string_bytes out.old ++ receipt_text receipt.now) }
+    ensures {
+        OnOk result (string_bytes out.new ≡ string_bytes out.old ++ receipt_text receipt.now)
+    }
 {
     let entry = receipt.entry;
     let stamp = receipt.before.stamp;
@@ -43,7 +45,9 @@ fn put_receipt(out: &mut String, receipt: &Receipt) -> Result<(), AllocError>
 
 /// The receipts of a reply, each behind a space, and a bar before the first.
 pub fn put_receipts(out: &mut String, receipts: &[Receipt]) -> Result<(), AllocError>
-    ensures { OnOk result (string_bytes out.new ≡ string_bytes out.old ++ receipts_text receipts.now) }
+    ensures {
+        OnOk result (string_bytes out.new ≡ string_bytes out.old ++ receipts_text receipts.now)
+    }
 {
     if receipts.is_empty() {
         return Ok(());

@@ -11,7 +11,9 @@ use trace_reply::{Replies, Reply, Shown};
 
 #[tactic(auto, unfolding(crate::specs::Summary::row_text))]
 fn put_row(out: &mut String, word: &str, number: usize) -> Result<(), AllocError>
-    ensures { OnOk result (string_bytes out.new ≡ string_bytes out.old ++ row_text word.now number) }
+    ensures {
+        OnOk result (string_bytes out.new ≡ string_bytes out.old ++ row_text word.now number)
+    }
 {
     write!(out, "{word} {number}\n")
 }
@@ -23,7 +25,12 @@ fn count_of(replies: &[Reply], counted: Counted) -> usize
 }
 
 fn put_counts(out: &mut String, replies: &[Reply], all: &[Counted]) -> Result<(), AllocError>
-    ensures { OnOk result (string_bytes out.new ≡ string_bytes out.old ++ flat_map (counted_text replies.now) all.now) }
+    ensures {
+        OnOk
+          result
+          (string_bytes out.new
+           ≡ string_bytes out.old ++ flat_map (counted_text replies.now) all.now)
+    }
 {
     for counted in all {
         put_row(out, counted.word(), count_of(replies, *counted))?;
@@ -39,7 +46,9 @@ fn changed_count(entries: &[(u32, EntryState)]) -> usize
 
 #[tactic(auto, unfolding(crate::specs::Summary::entries_text))]
 fn put_table(out: &mut String, entries: &[(u32, EntryState)]) -> Result<(), AllocError>
-    ensures { OnOk result (string_bytes out.new ≡ string_bytes out.old ++ entries_text entries.now) }
+    ensures {
+        OnOk result (string_bytes out.new ≡ string_bytes out.old ++ entries_text entries.now)
+    }
 {
     put_row(out, "entries", entries.len())?;
     put_row(out, "changed", changed_count(entries))
@@ -54,7 +63,13 @@ pub fn summary_of(
     replies: &Replies,
     table: &Shown,
 ) -> Result<String, AllocError>
-    ensures { IfOk result (λ s. string_bytes s ≡ summary_text (length trace.now.lines) replies.now.items table.now.states) }
+    ensures {
+        IfOk
+          result
+          (λ s.
+             string_bytes s
+             ≡ summary_text (length trace.now.lines) replies.now.items table.now.states)
+    }
 {
     let mut out = String::new(alloc);
     put_row(&mut out, "lines", trace.lines.as_slice().len())?;

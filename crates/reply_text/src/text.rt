@@ -43,7 +43,12 @@ fn name(act: &Act) -> &'static str
 /// The line's number, its processor, and its name.
 #[tactic(auto, unfolding(crate::specs::Text::head_text))]
 fn put_head(out: &mut String, line: &TraceLine) -> Result<(), AllocError>
-    ensures { OnOk result (string_bytes out.new ≡ string_bytes out.old ++ head_text line.now.number line.now.cpu (name_of line.now.act)) }
+    ensures {
+        OnOk
+          result
+          (string_bytes out.new
+           ≡ string_bytes out.old ++ head_text line.now.number line.now.cpu (name_of line.now.act))
+    }
 {
     let number = line.number;
     let cpu = line.cpu;
@@ -52,7 +57,9 @@ fn put_head(out: &mut String, line: &TraceLine) -> Result<(), AllocError>
 }
 
 fn put_words(out: &mut String, words: &[u64]) -> Result<(), AllocError>
-    ensures { OnOk result (string_bytes out.new ≡ string_bytes out.old ++ flat_map word_text words.now) }
+    ensures {
+        OnOk result (string_bytes out.new ≡ string_bytes out.old ++ flat_map word_text words.now)
+    }
 {
     for word in words {
         write!(out, " 0x{word:x}")?;
@@ -117,7 +124,9 @@ fn put_verdict(out: &mut String, accepted: bool) -> Result<(), AllocError>
 
 #[tactic(auto, unfolding(crate::specs::Text::entry_text))]
 fn put_entry(out: &mut String, entry: u32, state: &EntryState) -> Result<(), AllocError>
-    ensures { OnOk result (string_bytes out.new ≡ string_bytes out.old ++ entry_text (entry, state.now)) }
+    ensures {
+        OnOk result (string_bytes out.new ≡ string_bytes out.old ++ entry_text (entry, state.now))
+    }
 {
     let (first, second) = state.words();
     let stamp = state.stamp;
@@ -135,7 +144,13 @@ fn put_dump_head(out: &mut String, line: u32) -> Result<(), AllocError>
 /// The table's number, order and place, and how many entries it has.
 #[tactic(auto, unfolding(crate::specs::Text::table_text))]
 fn put_table(out: &mut String, shown: &Shown, count: usize) -> Result<(), AllocError>
-    ensures { OnOk result (string_bytes out.new ≡ string_bytes out.old ++ table_text shown.now.number shown.now.order shown.now.place count) }
+    ensures {
+        OnOk
+          result
+          (string_bytes out.new
+           ≡ string_bytes out.old
+             ++ table_text shown.now.number shown.now.order shown.now.place count)
+    }
 {
     let number = shown.number;
     let order = shown.order;
@@ -147,7 +162,9 @@ fn put_table(out: &mut String, shown: &Shown, count: usize) -> Result<(), AllocE
 }
 
 fn put_entries(out: &mut String, entries: &[(u32, EntryState)]) -> Result<(), AllocError>
-    ensures { OnOk result (string_bytes out.new ≡ string_bytes out.old ++ flat_map entry_text entries.now) }
+    ensures {
+        OnOk result (string_bytes out.new ≡ string_bytes out.old ++ flat_map entry_text entries.now)
+    }
 {
     for (entry, state) in entries {
         put_entry(out, *entry, state)?;
@@ -156,7 +173,9 @@ fn put_entries(out: &mut String, entries: &[(u32, EntryState)]) -> Result<(), Al
 }
 
 fn put_dump(out: &mut String, line: u32, shown: &Shown) -> Result<(), AllocError>
-    ensures { OnOk result (string_bytes out.new ≡ string_bytes out.old ++ dump_text line shown.now) }
+    ensures {
+        OnOk result (string_bytes out.new ≡ string_bytes out.old ++ dump_text line shown.now)
+    }
 {
     let entries = shown.states.as_slice();
     put_dump_head(out, line)?;
@@ -167,7 +186,9 @@ fn put_dump(out: &mut String, line: u32, shown: &Shown) -> Result<(), AllocError
 /// Appends the text of the reply to a line. Where memory ends, it isn't told how much of it was
 /// appended.
 pub fn put_reply(out: &mut String, line: &TraceLine, reply: &Reply) -> Result<(), AllocError>
-    ensures { OnOk result (string_bytes out.new ≡ string_bytes out.old ++ reply_text line.now reply.now) }
+    ensures {
+        OnOk result (string_bytes out.new ≡ string_bytes out.old ++ reply_text line.now reply.now)
+    }
 {
     match reply {
         Reply::Hcall(reply) => {
@@ -188,7 +209,9 @@ pub fn put_reply(out: &mut String, line: &TraceLine, reply: &Reply) -> Result<()
 
 fn put_replies(out: &mut String, lines: &[TraceLine], replies: &[Reply]) -> Result<(), AllocError>
     requires { length lines.now ≡ length replies.now }
-    ensures { OnOk result (string_bytes out.new ≡ string_bytes out.old ++ text_from lines.now replies.now) }
+    ensures {
+        OnOk result (string_bytes out.new ≡ string_bytes out.old ++ text_from lines.now replies.now)
+    }
 {
     for i in 0..lines.len() {
         put_reply(out, &lines[i], &replies[i])?;
@@ -200,7 +223,11 @@ fn put_replies(out: &mut String, lines: &[TraceLine], replies: &[Reply]) -> Resu
 /// a further one for each valid entry.
 pub fn text_of(alloc: Global, trace: &Trace, replies: &Replies) -> Result<String, AllocError>
     requires { length trace.now.lines ≡ length replies.now.items }
-    ensures { IfOk result (λ s. string_bytes s ≡ Rattle.reply_text.specs.Text.text_of trace.now replies.now.items) }
+    ensures {
+        IfOk
+          result
+          (λ s. string_bytes s ≡ Rattle.reply_text.specs.Text.text_of trace.now replies.now.items)
+    }
 {
     let mut out = String::new(alloc);
     put_replies(&mut out, trace.lines.as_slice(), replies.as_slice())?;

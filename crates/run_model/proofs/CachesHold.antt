@@ -4,7 +4,6 @@ use Rattle.std.proofs.Common.{◌≡◌, ℕ, ◌<◌, ◌≤◌, ◌-◌, ◌^�
 use Rattle.std.specs.List.{AllByRecursion}
 use Rattle.std.proofs.lemmas.Bool.{cases_Bool}
 use Rattle.power_addr.specs.Pages.{VirtualPage}
-use Rattle.storage_prot.specs.declared.want.Want.{Want}
 use Rattle.slb_model.specs.declared.segment.Segment.{Segment}
 use Rattle.slb_model.specs.Buffer.{segment_of}
 use Rattle.entry_model.specs.State.{State}
@@ -24,7 +23,7 @@ use Rattle.entry_model.proofs.LineLaws.{run_holds, run_shows}
 use Rattle.tlb_model.proofs.CachedPages.{all_filter, all_put_last, all_in_set_of, all_written, all_cached_weaker, all_empty}
 use Rattle.hpt_walk.specs.Walk.{walk_calls}
 use Rattle.hpt_walk.specs.Translations.{TranslatesItsPage}
-use Rattle.hpt_walk.specs.Access.{AccessContext, key_for, IsWalk, IsByWay, IsAccessReply, request}
+use Rattle.hpt_walk.specs.Access.{AccessContext, IsWalk, IsByWay, IsAccessReply, request, mode_for}
 use Rattle.hpt_walk.specs.declared.request.Request.{Request}
 use Rattle.tlb_model.specs.CacheAfter.{kept_line, set_with, after_walk, cache_after}
 use Rattle.tlb_model.specs.Processor.{Processor, new_processor}
@@ -37,6 +36,7 @@ use Rattle.run_model.specs.Processors.{processor_at, processor_after, processors
 use Rattle.run_model.specs.LineReplies.{IsReplyToAccess}
 use Rattle.run_model.proofs.Undisturbed.{IsUndisturbed}
 use Rattle.run_model.proofs.Each.{each_map, each_set, each_at}
+use Rattle.entry_model.specs.Reply.{AccessMode}
 use Rattle.entry_model.specs.declared.access_reply.Outcome.TheVariants as outcomes
 use Rattle.trace_read.specs.declared.trace.Act.TheVariants as acts
 use Rattle.trace_reply.specs.declared.reply.Reply.TheVariants as replies
@@ -72,8 +72,8 @@ found_within a b (r ∷ rs) run = at (cases_Bool (is_no_match r.answer)) (found_
   at (inl on) rest = rw (found-on r rs on) rest
   at (inr off) rest = rw (found-off r rs off) (subst (λ n. r.entry < n) (sym (run-length a b (r ∷ rs) run)) run.1.in_table)
 
-found_fresh : (order : ℕ) (page : VirtualPage) (key no_execute : Bool) (want : Want) (a b : List State) (rs : List Receipt) → IsTrial is_no_match (walk_calls order page key no_execute want) rs → IsRun a rs b → IfSome (found_of rs) (λ r. IsFresh b (line_of page r))
-found_fresh order page key no_execute want a b rs trial run = at (found_of rs) (found_within a b rs run) (walk_shown order page key no_execute want rs (found_of rs) trial refl) (walk_translates order page key no_execute want rs (found_of rs) trial refl) where
+found_fresh : (order : ℕ) (page : VirtualPage) (mode : AccessMode) (a b : List State) (rs : List Receipt) → IsTrial is_no_match (walk_calls order page mode) rs → IsRun a rs b → IfSome (found_of rs) (λ r. IsFresh b (line_of page r))
+found_fresh order page mode a b rs trial run = at (found_of rs) (found_within a b rs run) (walk_shown order page mode rs (found_of rs) trial refl) (walk_translates order page mode rs (found_of rs) trial refl) where
   at : (o : Option Receipt) → IfSome o (λ r. r.entry < length b) → IfSome o (λ r. ShowsLine (line_of page r) rs) → IfSome o (λ r. TranslatesItsPage (line_of page r)) → IfSome o (λ r. IsFresh b (line_of page r))
   at None h k m = tt
   at (Some r) h k m = record { translates = m; in_table = h; holds = run_shows a b rs (line_of page r) run k }
@@ -90,7 +90,7 @@ walk_fresh : (set : AccessContext) (seg : Segment) (x : Request) (r : AccessRepl
 unfolding after_walk
 walk_fresh set seg x r a b cache w run h =
     let kept : AllInSet (IsFresh b) (without_page seg.page (set_of cache seg.page)) = all_filter (IsFresh b) (λ line. not (is_of seg.page line)) (set_of cache seg.page) (all_in_set_of (IsFresh b) cache seg.page h) in
-    all_written (IsFresh b) cache (set_number seg.page) _ h (kept_fresh b seg.page r.outcome (found_of r.receipts) (without_page seg.page (set_of cache seg.page)) (found_fresh set.order seg.page (key_for seg x.user) seg.no_execute x.want a b r.receipts w.trial run) kept)
+    all_written (IsFresh b) cache (set_number seg.page) _ h (kept_fresh b seg.page r.outcome (found_of r.receipts) (without_page seg.page (set_of cache seg.page)) (found_fresh set.order seg.page (mode_for seg x) a b r.receipts w.trial run) kept)
 
 -- ---- a processor after its line
 way_fresh : (set : AccessContext) (seg : Segment) (x : Request) (c : Option Line) (by : Option By) (r : AccessReply) (a b : List State) (cache : List (List Line)) → IsByWay set seg x c by r → IsRun a r.receipts b → AllCached (IsFresh b) cache → AllCached (IsFresh b) (cache_after cache (Some seg) by r)

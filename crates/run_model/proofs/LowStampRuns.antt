@@ -14,7 +14,8 @@ use Rattle.entry_model.specs.State.{State, empty_state}
 use Rattle.entry_model.specs.Run.{state_at}
 use Rattle.entry_model.proofs.Heights.{height}
 use Rattle.hpt_resize.specs.declared.carry.Collision.{Collision}
-use Rattle.hpt_resize.specs.Rehash.{entry_count, at_stamp_0, first_with, entry_at, collision_of, rehashed_states}
+use Rattle.hpt_resize.specs.Rehash.{at_stamp_0, first_with, entry_at, collision_of, rehashed_states}
+use Rattle.hpte_fields.specs.TableSize.{entry_count}
 use Rattle.hpt_resize.specs.Pending.{PendingTable, is_ready, with_more_ready}
 use Rattle.hpt_resize.specs.Resize.{Table, PrepareOutcome, prepare_outcome, is_prepare_request, is_commit_request, pool_without, is_pending, new_table_outcome, start_outcome, advance_outcome, outcome_of_prepare, CommitOutcome, pending_refusal, commit_refusal, carry_outcome, complete_outcome, answer_outcome, outcome_of_commit}
 use Rattle.hpt_resize.specs.TableMemory.{TableMemory, opening_memory, empty_states, prepare_result, commit_result}

@@ -20,7 +20,7 @@ use Rattle.entry_model.proofs.Plans.{plan_is}
 use Rattle.slb_model.specs.declared.segment.Segment.{Segment}
 use Rattle.slb_model.specs.Buffer.{segment_of}
 use Rattle.hpt_walk.specs.Walk.{walk_calls}
-use Rattle.hpt_walk.specs.Access.{AccessContext, key_for, outcome_of, hit_calls, IsByWay, IsAccessReply, request}
+use Rattle.hpt_walk.specs.Access.{AccessContext, outcome_of, hit_calls, IsByWay, IsAccessReply, request, mode_for}
 use Rattle.hpt_walk.specs.declared.request.Request.{Request}
 use Rattle.tlb_model.specs.CacheAfter.{gone_by_way, gone_line}
 use Rattle.tlb_model.specs.Processor.{Processor}
@@ -73,7 +73,7 @@ hit_current seg a line [] states b trial all run = absurd trial
 hit_current seg a line (r ∷ rs) states b trial all run = subst (IsCurrent line) (run.1.before ∙ ap (state_at states) trial.0.entry) all.0
 
 abbrev calls_by_walk : AccessContext → Segment → Request → List Call
-calls_by_walk set seg a = walk_calls set.order seg.page (key_for seg a.user) seg.no_execute a.want
+calls_by_walk set seg a = walk_calls set.order seg.page (mode_for seg a)
 
 way_is : (set : AccessContext) (seg : Segment) (a : Request) (c : Option Line) (by : Option By) (r : AccessReply) (states b : List State) → r.by ≡ by → IsByWay set seg a c by r → IsPassed states (gone_by_way by c) → IsRun states r.receipts b → (replies.Access r, b) ≡ result_by_line set states seg a (current_line states c)
 way_is set seg a (Some line) (Some Hit) r states b e h gone run =

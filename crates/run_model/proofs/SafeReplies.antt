@@ -1,10 +1,10 @@
 -- What each reply enters, how far it raises stamps, and that it is safe where its receipts were made on low_stamp states.
-use Rattle.power_addr.specs.Pages.{VirtualPage}
 use Rattle.std.specs.Prelude.{IfSome}
 use Rattle.std.proofs.Common.{◌≡◌, ℕ, ◌*◌, ◌≤◌, ◌^◌, List, [], ◌∷◌, true, false, ap, sym, ◌∙◌, refl, subst, ◌⊎◌, inl, inr, arith, Option, Some, None}
 use Rattle.std.specs.List.{AllByRecursion, range_with_len}
 use Rattle.std.specs.Option.{option_map_or}
 use Rattle.std.proofs.lemmas.Bool.{cases_Bool}
+use Rattle.power_addr.specs.Pages.{VirtualPage}
 use Rattle.papr_codes.specs.declared.calls.Hcall.{Hcall}
 use Rattle.papr_codes.specs.Hcalls.{hcall_of}
 use Rattle.page_sizes.specs.declared.size.PageSize.{PageSize}
@@ -35,7 +35,7 @@ use Rattle.h_update.proofs.Tame.{h_remove_tame, h_protect_tame, h_read_tame, h_c
 use Rattle.slb_model.specs.declared.segment.Segment.{Segment}
 use Rattle.slb_model.specs.Buffer.{segment_of}
 use Rattle.hpt_walk.specs.Walk.{access_op, group_calls, walk_calls}
-use Rattle.hpt_walk.specs.Access.{AccessContext, key_for, logical_of, landing_at, outcome_by, outcome_of, hit_calls, IsByWay, IsAccessReply, request}
+use Rattle.hpt_walk.specs.Access.{AccessContext, logical_of, landing_at, outcome_by, outcome_of, hit_calls, IsByWay, IsAccessReply, request, mode_for}
 use Rattle.hpt_walk.specs.declared.request.Request.{Request}
 use Rattle.tlb_model.specs.Processor.{Processor}
 use Rattle.hpt_walk.proofs.Found.{found-on, found-off}
@@ -131,24 +131,24 @@ access_line granted set ea r cs apart same enters low trial outcome = record {
   safe = outcome_lands granted ea r.outcome r.receipts apart (subst (λ g. r.outcome ≡ outcome_of g ea r.receipts) same outcome);
 }
 
-walk_cost : (order : ℕ) (seg : Segment) (a : Request) → calls_cost (walk_calls order seg.page (key_for seg a.user) seg.no_execute a.want) ≤ 32
+walk_cost : (order : ℕ) (seg : Segment) (a : Request) → calls_cost (walk_calls order seg.page (mode_for seg a)) ≤ 32
 unfolding walk_calls
 walk_cost order seg a =
-    let first = access_op seg.page (key_for seg a.user) seg.no_execute a.want false in
-    let second = access_op seg.page (key_for seg a.user) seg.no_execute a.want true in
+    let first = access_op seg.page (mode_for seg a) false in
+    let second = access_op seg.page (mode_for seg a) true in
     omega (arith, cost_append (group_calls first (group_of seg.page order false)) (group_calls second (group_of seg.page order true)), entries_cost first (group_of seg.page order false * 8) 8, entries_cost second (group_of seg.page order true * 8) 8)
 
-walk_enters : (W : ℕ → ℕ → Type 0) (order : ℕ) (seg : Segment) (a : Request) → AllByRecursion (λ (c : Call). EntersOnly W c.op) (walk_calls order seg.page (key_for seg a.user) seg.no_execute a.want)
+walk_enters : (W : ℕ → ℕ → Type 0) (order : ℕ) (seg : Segment) (a : Request) → AllByRecursion (λ (c : Call). EntersOnly W c.op) (walk_calls order seg.page (mode_for seg a))
 unfolding walk_calls
 walk_enters W order seg a =
-    let first = access_op seg.page (key_for seg a.user) seg.no_execute a.want false in
-    let second = access_op seg.page (key_for seg a.user) seg.no_execute a.want true in
+    let first = access_op seg.page (mode_for seg a) false in
+    let second = access_op seg.page (mode_for seg a) true in
     each_append (λ (c : Call). EntersOnly W c.op) (group_calls first (group_of seg.page order false)) (group_calls second (group_of seg.page order true)) (each_call (EntersOnly W) first (range_with_len (group_of seg.page order false * 8) 8) tt) (each_call (EntersOnly W) second (range_with_len (group_of seg.page order true * 8) 8) tt)
 
 way_line : (granted : GrantedMemory) (set : AccessContext) (seg : Segment) (a : Request) (c : Option Line) (by : Option By) (r : AccessReply) → AreApart granted → set.grants ≡ granted.grants → IsByWay set seg a c by r → IsTameLine granted (replies.Access r)
 way_line granted set seg a (Some line) (Some Hit) r apart same h = access_line granted set a.ea r (hit_calls seg a line) apart same (tt, tt) (omega arith) h.trial h.outcome
-way_line granted set seg a (Some line) (Some Walk) r apart same h = access_line granted set a.ea r (walk_calls set.order seg.page (key_for seg a.user) seg.no_execute a.want) apart same (walk_enters (IsGrantedWords granted.grants) set.order seg a) (walk_cost set.order seg a) h.trial h.outcome
-way_line granted set seg a None (Some Walk) r apart same h = access_line granted set a.ea r (walk_calls set.order seg.page (key_for seg a.user) seg.no_execute a.want) apart same (walk_enters (IsGrantedWords granted.grants) set.order seg a) (walk_cost set.order seg a) h.trial h.outcome
+way_line granted set seg a (Some line) (Some Walk) r apart same h = access_line granted set a.ea r (walk_calls set.order seg.page (mode_for seg a)) apart same (walk_enters (IsGrantedWords granted.grants) set.order seg a) (walk_cost set.order seg a) h.trial h.outcome
+way_line granted set seg a None (Some Walk) r apart same h = access_line granted set a.ea r (walk_calls set.order seg.page (mode_for seg a)) apart same (walk_enters (IsGrantedWords granted.grants) set.order seg a) (walk_cost set.order seg a) h.trial h.outcome
 way_line granted set seg a None (Some Hit) r apart same h = absurd h
 way_line granted set seg a None None r apart same h = absurd h
 way_line granted set seg a (Some line) None r apart same h = absurd h

@@ -3,7 +3,6 @@ use Rattle.std.specs.Prelude.{IfSome, ◌==◌}
 use Rattle.std.proofs.Common.{◌≡◌, ℕ, zero, suc, ◌<◌, ◌≤◌, ◌+◌, ◌*◌, ◌-◌, ◌^◌, List, [], ◌∷◌, Bool, true, false, sym, ◌∙◌, refl, subst, ◌⊎◌, inl, inr, map, length, get_or, arith, Option, Some, None}
 use Rattle.std.specs.List.{AllByRecursion, range_with_len}
 use Rattle.std.proofs.lemmas.Bool.{cases_Bool, eq-eqb, eqb-true, and_parts}
-use Rattle.storage_prot.specs.declared.want.Want.{Want}
 use Rattle.power_addr.specs.Pages.{VirtualPage}
 use Rattle.papr_codes.specs.declared.calls.Hcall.{Hcall}
 use Rattle.papr_codes.specs.Hcalls.{hcall_of}
@@ -16,7 +15,7 @@ use Rattle.entry_model.specs.declared.access_reply.AccessReply.{AccessReply}
 use Rattle.entry_model.specs.declared.access_reply.By.TheVariants.{Walk}
 use Rattle.entry_model.specs.declared.receipt.Receipt.{Receipt}
 use Rattle.entry_model.specs.Receipt.{is_no_match, is_decided}
-use Rattle.entry_model.specs.Reply.{reply_of}
+use Rattle.entry_model.specs.Reply.{reply_of, AccessMode}
 use Rattle.entry_model.specs.CachedLines.{IsCurrent, Holds}
 use Rattle.tlb_model.specs.Cache.{cached_line}
 use Rattle.entry_model.specs.Run.{state_at, IsRun}
@@ -32,7 +31,7 @@ use Rattle.h_update.proofs.InTable.{h_remove_within, h_protect_within, h_read_wi
 use Rattle.hpte_fields.specs.Fields.{is_secondary}
 use Rattle.hpt_walk.specs.Walk.{access_op, group_calls, walk_calls}
 use Rattle.hpt_walk.specs.Translations.{TranslatesItsPage}
-use Rattle.hpt_walk.specs.Access.{AccessContext, key_for, outcome_of, hit_calls, no_segment_reply, IsWalk, IsByWay, IsAccessReply, request}
+use Rattle.hpt_walk.specs.Access.{AccessContext, outcome_of, hit_calls, no_segment_reply, IsWalk, IsByWay, IsAccessReply, request, mode_for}
 use Rattle.hpt_walk.specs.declared.request.Request.{Request}
 use Rattle.tlb_model.specs.CacheAfter.{gone_by_way, gone_line}
 use Rattle.tlb_model.specs.Processor.{Processor}
@@ -75,10 +74,10 @@ entries_within op first (suc n) m h = (omega arith, entries_within op (first + 1
 group_within : (op : Op) (order : ℕ) (page : VirtualPage) (secondary : Bool) → 18 ≤ order → Within (2 ^ (order - 4)) (group_calls op (group_of page order secondary))
 group_within op order page secondary low = entries_within op (group_of page order secondary * 8) 8 (2 ^ (order - 4)) (group_in_table order (group_of page order secondary) low (group_of-lt page order secondary))
 
-walk_within : (order : ℕ) (page : VirtualPage) (key no_execute : Bool) (want : Want) → 18 ≤ order → Within (2 ^ (order - 4)) (walk_calls order page key no_execute want)
+walk_within : (order : ℕ) (page : VirtualPage) (mode : AccessMode) → 18 ≤ order → Within (2 ^ (order - 4)) (walk_calls order page mode)
 unfolding walk_calls
-walk_within order page key no_execute want low =
-    each_append (λ (c : Call). c.entry < 2 ^ (order - 4)) (group_calls (access_op page key no_execute want false) (group_of page order false)) (group_calls (access_op page key no_execute want true) (group_of page order true)) (group_within (access_op page key no_execute want false) order page false low) (group_within (access_op page key no_execute want true) order page true low)
+walk_within order page mode low =
+    each_append (λ (c : Call). c.entry < 2 ^ (order - 4)) (group_calls (access_op page mode false) (group_of page order false)) (group_calls (access_op page mode true) (group_of page order true)) (group_within (access_op page mode false) order page false low) (group_within (access_op page mode true) order page true low)
 
 -- ---- lines that are current
 -- A line that holds of a state and is current has the state's words.
@@ -105,9 +104,9 @@ one_receipt P states c h = at (cases_Bool (is_no_match (receipt_at states c).ans
   at (inr off) = rw off (h, tt)
 
 -- An access by a current line of the segment's page is decided.
-hit_decided : (seg : Segment) (a : Request) (line : Line) (s : State) → line.page ≡ seg.page → IsCurrent line s → TranslatesItsPage line → is_decided (reply_of s (access_op seg.page (key_for seg a.user) seg.no_execute a.want (is_secondary line.dword0))).0 ≡ true
+hit_decided : (seg : Segment) (a : Request) (line : Line) (s : State) → line.page ≡ seg.page → IsCurrent line s → TranslatesItsPage line → is_decided (reply_of s (access_op seg.page (mode_for seg a) (is_secondary line.dword0))).0 ≡ true
 hit_decided seg a line s of now words =
-    subst (λ p. is_decided (reply_of s (access_op p (key_for seg a.user) seg.no_execute a.want (is_secondary line.dword0))).0 ≡ true) of (known_is_decided line s (access_op line.page (key_for seg a.user) seg.no_execute a.want (is_secondary line.dword0)) (line_matches line (key_for seg a.user) seg.no_execute a.want words) now)
+    subst (λ p. is_decided (reply_of s (access_op p (mode_for seg a) (is_secondary line.dword0))).0 ≡ true) of (known_is_decided line s (access_op line.page (mode_for seg a) (is_secondary line.dword0)) (line_matches line (mode_for seg a) words) now)
 
 -- ---- accesses
 -- An access that was answered on these states.
@@ -117,9 +116,9 @@ pub record Reached (set : AccessContext) (processor : Processor) (a : Request) (
   pub run : IsRun states (receipts_in x.0) x.1
 
 module _ (set : AccessContext) (a : Request) (states : List State) (seg : Segment) (size : length states ≡ 2 ^ (set.order - 4)) (low : 18 ≤ set.order) where
-  walk_meets : IsWalk set seg a (record { outcome = outcome_of set.grants a.ea (trial_run is_no_match states (walk_calls set.order seg.page (key_for seg a.user) seg.no_execute a.want)).0; by = Some Walk; receipts = (trial_run is_no_match states (walk_calls set.order seg.page (key_for seg a.user) seg.no_execute a.want)).0 }) × IsRun states (trial_run is_no_match states (walk_calls set.order seg.page (key_for seg a.user) seg.no_execute a.want)).0 (trial_run is_no_match states (walk_calls set.order seg.page (key_for seg a.user) seg.no_execute a.want)).1
+  walk_meets : IsWalk set seg a (record { outcome = outcome_of set.grants a.ea (trial_run is_no_match states (walk_calls set.order seg.page (mode_for seg a))).0; by = Some Walk; receipts = (trial_run is_no_match states (walk_calls set.order seg.page (mode_for seg a))).0 }) × IsRun states (trial_run is_no_match states (walk_calls set.order seg.page (mode_for seg a))).0 (trial_run is_no_match states (walk_calls set.order seg.page (mode_for seg a))).1
   walk_meets =
-      let m = trial_meets is_no_match states (walk_calls set.order seg.page (key_for seg a.user) seg.no_execute a.want) (subst (λ n. Within n (walk_calls set.order seg.page (key_for seg a.user) seg.no_execute a.want)) (sym size) (walk_within set.order seg.page (key_for seg a.user) seg.no_execute a.want low)) in
+      let m = trial_meets is_no_match states (walk_calls set.order seg.page (mode_for seg a)) (subst (λ n. Within n (walk_calls set.order seg.page (mode_for seg a))) (sym size) (walk_within set.order seg.page (mode_for seg a) low)) in
       (record { trial = m.0; outcome = refl }, m.1)
 
 -- By the segment and the cached line that there are.

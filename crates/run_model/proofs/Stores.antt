@@ -10,7 +10,7 @@ use Rattle.entry_model.specs.declared.operation.Op.{Op}
 use Rattle.entry_model.specs.declared.operation.Answer.{Answer}
 use Rattle.entry_model.specs.declared.receipt.Receipt.{Receipt}
 use Rattle.entry_model.specs.Receipt.{after_of, is_at}
-use Rattle.entry_model.specs.Reply.{reply_of, change_to, change_where, is_found, is_match, answer_of_match, touched_state, is_store}
+use Rattle.entry_model.specs.Reply.{reply_of, change_to, change_where, is_found, is_match, answer_of_match, touched_state, is_store, access_mode}
 use Rattle.entry_model.specs.History.{IsLegal}
 use Rattle.run_model.specs.ShownStores.{clears_by, clears, stores_by, stores, ShowsChange, StoresAreShown}
 use Rattle.storage_prot.specs.declared.want.Want.TheVariants as wants
@@ -42,7 +42,7 @@ op_keeps s ops.Read d c = d
 op_keeps s ops.ClearRef d c = where_dirty s.valid s answers.Was (record s { referenced = false }) (λ a. Unit {0}) d (λ e. record { valid = d.valid; changed = d.changed }) tt
 op_keeps s ops.ClearMod d c = where_dirty s.valid s answers.Was (record s { changed = false }) (λ a. clears_by ops.ClearMod a ≡ false) d (λ e. absurd (let no : true ≡ false = e in cc)) c
 op_keeps s (ops.Access tag base key no_execute want) d c =
-    either_dirty (is_match s tag base) (answer_of_match s key no_execute want) (answers.NoMatch, s) (λ a. Unit {0})
+    either_dirty (is_match s tag base) (answer_of_match s (access_mode key no_execute want)) (answers.NoMatch, s) (λ a. Unit {0})
     (either_dirty (allowed (pp_of s.dword1) key (no_execute || is_no_execute s.dword1) want) (answers.At, touched_state s want) (answers.Denied, s) (λ a. Unit {0}) (λ e. record { valid = d.valid; changed = rw d.changed refl }) (λ e. d))
     (λ e. d) tt
 
@@ -68,7 +68,7 @@ access_stores s tag base key no_execute want h = at (cases_Bool (is_match s tag 
 
   at : (is_match s tag base ≡ true) ⊎ (is_match s tag base ≡ false) → IsDirty (reply_of s (ops.Access tag base key no_execute want)).1
   at (inl m) =
-      either_dirty (is_match s tag base) (answer_of_match s key no_execute want) (answers.NoMatch, s) P
+      either_dirty (is_match s tag base) (answer_of_match s (access_mode key no_execute want)) (answers.NoMatch, s) P
       (either_dirty (allowed (pp_of s.dword1) key (no_execute || is_no_execute s.dword1) want) (answers.At, touched_state s want) (answers.Denied, s) P (λ e. record { valid = (and_parts _ _ m).0; changed = store_changes want s e }) (λ e. absurd (not_at want (is_at answers.Denied) refl e)))
       (λ e. absurd (not_at want (is_at answers.NoMatch) refl e)) h
   at (inr m) =

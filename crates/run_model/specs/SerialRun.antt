@@ -15,7 +15,7 @@ use Rattle.slb_model.specs.declared.segment.Segment.{Segment}
 use Rattle.slb_model.specs.Refusals.{mte_refusal}
 use Rattle.slb_model.specs.Buffer.{segment_of}
 use Rattle.hpt_walk.specs.Walk.{walk_calls}
-use Rattle.hpt_walk.specs.Access.{AccessContext, key_for, outcome_of, hit_calls, no_segment_reply, request}
+use Rattle.hpt_walk.specs.Access.{AccessContext, outcome_of, hit_calls, no_segment_reply, request, mode_for}
 use Rattle.hpt_walk.specs.declared.request.Request.{Request}
 use Rattle.tlb_model.specs.Processor.{Processor}
 use Rattle.trace_read.specs.declared.trace.Act.{Act}
@@ -53,7 +53,7 @@ abbrev pub result_by_line :
 result_by_line context states seg a (Some line) =
     access_result context a Hit (trial_run is_no_match states (hit_calls seg a line))
 result_by_line context states seg a None =
-    let calls = walk_calls context.order seg.page (key_for seg a.user) seg.no_execute a.want in
+    let calls = walk_calls context.order seg.page (mode_for seg a) in
     access_result context a Walk (trial_run is_no_match states calls)
 
 -- By the segment of the address, if there is one.

@@ -15,7 +15,8 @@ valid_slots slots = filter_map (λ (slot : Option Slot). slot) slots
 -- ---- slbmte
 -- The slot that the first word names holds what the words describe; without V it is invalid.
 unfoldable pub slots_after : List (Option Slot) → ℕ → ℕ → List (Option Slot)
-slots_after slots rb rs = slice_set slots (slot_number rb) (if is_valid rb then slot_of_words rb rs else None)
+slots_after slots rb rs =
+    slice_set slots (slot_number rb) (if is_valid rb then slot_of_words rb rs else None)
 
 -- ---- the segment of an address
 -- By the lowest valid slot whose ESID the address has.

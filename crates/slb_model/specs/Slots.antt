@@ -6,6 +6,7 @@ use Rattle.slb_model.specs.declared.segment.Segment.{Segment}
 use Rattle.slb_model.specs.declared.slot.Slot.{Slot}
 
 -- ---- the first word, rb
+-- The slot that the words name.
 abbrev pub slot_number : ℕ → ℕ
 slot_number rb = rb % 2 ^ 12
 
@@ -22,6 +23,7 @@ esid_of rb = rb / 2 ^ 28
 abbrev pub segment_code : ℕ → ℕ
 segment_code rs = rs / 2 ^ 62
 
+-- The segment is one of 1 TB.
 abbrev pub is_one_tb : ℕ → Bool
 is_one_tb rs = segment_code rs == 1
 
@@ -33,9 +35,11 @@ vsid_of rs = rs % 2 ^ 62 / 2 ^ (if is_one_tb rs then 24 else 12)
 abbrev pub is_ks : ℕ → Bool
 is_ks rs = bit_and rs 0x800 == 0x800
 
+-- Kp.
 abbrev pub is_kp : ℕ → Bool
 is_kp rs = bit_and rs 0x400 == 0x400
 
+-- N.
 abbrev pub is_no_execute : ℕ → Bool
 is_no_execute rs = bit_and rs 0x200 == 0x200
 
@@ -53,8 +57,12 @@ base_pages =
     ∷ record { code = 0x120; shift = 34 }
     ∷ []
 
+-- The base page size that the words encode, if it is one.
 abbrev pub base_shift_of : ℕ → Option ℕ
-base_shift_of rs = option_map (λ (page : BasePage). page.shift) (find (λ (page : BasePage). page.code == bit_and rs 0x130) base_pages)
+base_shift_of rs =
+    option_map
+      (λ (page : BasePage). page.shift)
+      (find (λ (page : BasePage). page.code == bit_and rs 0x130) base_pages)
 
 -- The words encode a base page size that a segment of their size can have.
 abbrev pub has_base_page : ℕ → Bool
@@ -89,9 +97,16 @@ pub record IsSlot (slot : Slot) : Type 0 where
 abbrev pub covers : ℕ → Slot → Bool
 covers ea slot = if slot.one_tb then ea / 2 ^ 40 == slot.esid / 2 ^ 12 else ea / 2 ^ 28 == slot.esid
 
+-- The slot's segment, with this page.
 abbrev pub segment_with : Slot → VirtualPage → Segment
-segment_with slot page = record { page = page; ks = slot.ks; kp = slot.kp; no_execute = slot.no_execute }
+segment_with slot page = record {
+  page = page;
+  ks = slot.ks;
+  kp = slot.kp;
+  no_execute = slot.no_execute;
+}
 
 -- The segment, with the page that holds the address.
 abbrev pub segment_by : ℕ → Slot → Option Segment
-segment_by ea slot = option_map (segment_with slot) (page_of_address slot.one_tb slot.vsid slot.shift ea)
+segment_by ea slot =
+    option_map (segment_with slot) (page_of_address slot.one_tb slot.vsid slot.shift ea)

@@ -40,7 +40,12 @@ impl Slot {
     pub fn of_words(rb: u64, rs: u64) -> Result<Slot, BadSlb>
         ensures slot { IfOk result (λ slot. slot_of_words rb rs ≡ Some slot) }
         ensures in_range { IfOk result IsSlot }
-        ensures told { MatchResult result (λ _. first_refusal (tests_of_words rs) ≡ None) (λ e. first_refusal (tests_of_words rs) ≡ Some e) }
+        ensures told {
+            MatchResult
+              result
+              (λ _. first_refusal (tests_of_words rs) ≡ None)
+              (λ e. first_refusal (tests_of_words rs) ≡ Some e)
+        }
     {
         let one_tb = match rs >> 62 {
             0 => false,

@@ -4,6 +4,7 @@ use Rattle.std.specs.Option.{option_map_or}
 use Rattle.storage_prot.specs.declared.want.Want.{Want}
 use Rattle.storage_prot.specs.declared.want.Want.TheVariants.{Load, Store, Fetch}
 
+-- What an access may do.
 pub data Permission : Type 0 where
   Nothing : Permission
   ReadOnly : Permission
@@ -25,6 +26,7 @@ rows =
     ∷ record { bits = 6; key_0 = ReadOnly; key_1 = Nothing }
     ∷ []
 
+-- The row's entry for this key.
 abbrev pub by_key : Bool → Row → Permission
 by_key key row = if key then row.key_1 else row.key_0
 
@@ -32,11 +34,13 @@ by_key key row = if key then row.key_1 else row.key_0
 unfoldable pub permission : ℕ → Bool → Permission
 permission pp key = option_map_or (by_key key) (find (λ (row : Row). row.bits == pp) rows) Nothing
 
+-- Loads are allowed, and fetches where nothing else refuses them.
 abbrev pub may_read : Permission → Bool
 may_read Nothing = false
 may_read ReadOnly = true
 may_read ReadWrite = true
 
+-- Stores are allowed.
 abbrev pub may_write : Permission → Bool
 may_write Nothing = false
 may_write ReadOnly = false

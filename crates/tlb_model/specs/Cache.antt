@@ -19,13 +19,17 @@ without_page page lines = filter (λ (line : Line). not (is_of page line)) lines
 
 -- One line put last; of more than four the first goes.
 abbrev pub put_last : Line → List Line → List Line
-put_last line lines = if nat_lt 4 (length (lines ++ line ∷ [])) then drop 1 (lines ++ line ∷ []) else lines ++ line ∷ []
+put_last line lines =
+    if nat_lt 4 (length (lines ++ line ∷ []))
+    then drop 1 (lines ++ line ∷ [])
+    else lines ++ line ∷ []
 
 -- ---- all sets
 -- The number of the page's set.
 abbrev pub set_number : VirtualPage → ℕ
 set_number page = page.index % 32
 
+-- The lines of the page's set.
 abbrev pub set_of : List (List Line) → VirtualPage → List Line
 set_of cache page = slice_index_or cache (set_number page) []
 
@@ -38,8 +42,10 @@ unfoldable pub empty_cache : List (List Line)
 empty_cache = replicate 32 []
 
 -- ---- facts of each line
+-- A fact of each line of a set.
 abbrev pub AllInSet : (Line → Type 0) → List Line → Type 0
 AllInSet P lines = AllByRecursion P lines
 
+-- A fact of each cached line.
 abbrev pub AllCached : (Line → Type 0) → List (List Line) → Type 0
 AllCached P cache = AllByRecursion (AllInSet P) cache

@@ -28,7 +28,8 @@ set_with (Some line) lines = put_last line lines
 -- The cache with this line, if there is one, put last in its set.
 abbrev pub with_kept : Option Line → List (List Line) → List (List Line)
 with_kept None cache = cache
-with_kept (Some line) cache = with_set line.page (set_with (Some line) (set_of cache line.page)) cache
+with_kept (Some line) cache =
+    with_set line.page (set_with (Some line) (set_of cache line.page)) cache
 
 -- ---- the cache after an access
 -- After a walk of the page: its line is taken out, and the one that the walk gives is put last.

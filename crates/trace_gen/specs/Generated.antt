@@ -31,9 +31,11 @@ generated_config = record {
 }
 
 -- ---- the parts of a word
+-- The processor of a line.
 abbrev pub cpu_of : ℕ → ℕ
 cpu_of word = word % 4
 
+-- What kind of line it is.
 abbrev pub kind_of : ℕ → ℕ
 kind_of word = word / 2 ^ 8 % 8
 
@@ -41,6 +43,7 @@ kind_of word = word / 2 ^ 8 % 8
 abbrev pub page_of : ℕ → ℕ
 page_of word = word / 2 ^ 16 % 256
 
+-- The slot in a group.
 abbrev pub slot_of : ℕ → ℕ
 slot_of word = word / 2 ^ 24 % 8
 
@@ -52,6 +55,7 @@ frame_of word = word / 2 ^ 32 % 2 ^ 18
 abbrev pub group_start : ℕ → ℕ
 group_start word = bit_xor 1 (page_of word) * 8
 
+-- The entry that a line is about.
 abbrev pub entry_of : ℕ → ℕ
 entry_of word = group_start word + slot_of word
 
@@ -73,9 +77,11 @@ acts_of_word word =
     ∷ named_call Read (0 ∷ entry_of word ∷ [])
     ∷ []
 
+-- What a line asks for.
 unfoldable pub act_of : ℕ → Act
 act_of word = slice_index_or (acts_of_word word) (kind_of word) acts.Dump
 
+-- The run line of this number.
 abbrev pub line_of : ℕ → ℕ → TraceLine
 line_of number word = record { number = number; cpu = cpu_of word; act = act_of word }
 
@@ -83,6 +89,7 @@ line_of number word = record { number = number; cpu = cpu_of word; act = act_of 
 abbrev pub segment_line : ℕ → TraceLine
 segment_line cpu = record { number = cpu + 1; cpu = cpu; act = acts.SlbMte 0x8000000 0x1000 }
 
+-- The first lines, which give each processor its segment.
 unfoldable pub segment_lines : List TraceLine
 segment_lines = map segment_line (range_with_len 0 4)
 
@@ -95,5 +102,9 @@ lines_from number words = map (λ (x : ℕ × ℕ). line_of x.0 x.1) (enumerate_
 unfoldable pub words_of_seed : ℕ → ℕ → List ℕ
 words_of_seed seed count = first_words plus_plus count (of_seed (splitmix_seed 32 seed))
 
+-- The trace of a seed.
 unfoldable pub generated_trace : ℕ → ℕ → AcceptedTrace
-generated_trace seed lines = record { config = generated_config; lines = segment_lines ++ lines_from 5 (words_of_seed seed lines) }
+generated_trace seed lines = record {
+  config = generated_config;
+  lines = segment_lines ++ lines_from 5 (words_of_seed seed lines);
+}

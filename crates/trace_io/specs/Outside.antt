@@ -34,22 +34,31 @@ TookWithin limit old new = (bytes : List ℕ) × (length bytes ≤ limit) × Too
 
 -- More than this many bytes were taken: one more.
 abbrev pub TookPast : ℕ → Option (List ℕ) → Option (List ℕ) → Type 0
-TookPast limit old new = (bytes : List ℕ) × (limit < length bytes) × Took old bytes new × (length bytes ≡ limit + 1)
+TookPast limit old new =
+    (bytes : List ℕ) × (limit < length bytes) × Took old bytes new × (length bytes ≡ limit + 1)
 
 -- A front of the text was put, and not the whole.
 abbrev pub PutPrefix : List ℕ → Option (List ℕ) → Option (List ℕ) → Type 0
-PutPrefix text old new = (front : List ℕ) × (rest : List ℕ) × (text ≡ front ++ rest) × Put old front new × (0 < length rest)
+PutPrefix text old new =
+    (front : List ℕ)
+    × (rest : List ℕ)
+    × (text ≡ front ++ rest)
+    × Put old front new
+    × (0 < length rest)
 
 -- ---- laws
-pub took_more : (a b c : Option (List ℕ)) (xs ys : List ℕ) → Took a xs b → Took b ys c → Took a (xs ++ ys) c
+pub took_more :
+    (a b c : Option (List ℕ)) (xs ys : List ℕ) → Took a xs b → Took b ys c → Took a (xs ++ ys) c
 took_more None None None xs ys h k = tt
 took_more None None (Some c) xs ys h k = absurd k
 took_more None (Some b) c xs ys h k = absurd h
 took_more (Some a) None c xs ys h k = absurd h
 took_more (Some a) (Some b) None xs ys h k = absurd k
-took_more (Some a) (Some b) (Some c) xs ys h k = h ∙ ap (λ z. xs ++ z) k ∙ sym (append_assoc xs ys c)
+took_more (Some a) (Some b) (Some c) xs ys h k =
+    h ∙ ap (λ z. xs ++ z) k ∙ sym (append_assoc xs ys c)
 
-pub put_more : (a b c : Option (List ℕ)) (xs ys : List ℕ) → Put a xs b → Put b ys c → Put a (xs ++ ys) c
+pub put_more :
+    (a b c : Option (List ℕ)) (xs ys : List ℕ) → Put a xs b → Put b ys c → Put a (xs ++ ys) c
 put_more a b None xs ys h k = tt
 put_more a None (Some c) xs ys h k = absurd k
 put_more None (Some b) (Some c) xs ys h k = absurd h

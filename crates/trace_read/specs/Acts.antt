@@ -22,7 +22,8 @@ takes verbs.SlbClear count = count == 2
 
 -- The word at an index as a number; a missing one is 0.
 unfoldable pub number_at : List (List ℕ) → ℕ → Result ℕ Why
-number_at ws i = if nat_lt i (length ws) then required (number_of (slice_index_or ws i [])) Number else Ok 0
+number_at ws i =
+    if nat_lt i (length ws) then required (number_of (slice_index_or ws i [])) Number else Ok 0
 
 -- The eight arguments of a call, from this index on.
 unfoldable pub arguments_from : List (List ℕ) → ℕ → Result (List ℕ) Why

@@ -10,7 +10,11 @@ pub record Configuration : Type 0 where
   pub granted : GrantedMemory
 
 -- Orders are from 18 to 22, there are 1 to 64 processors, the pool is the one that the grants stand beside, and it has room for the opening table.
-pub record IsConfigured (order limit cpus pool_base pool_order : ℕ) (granted : GrantedMemory) : Type 0 where
+pub record IsConfigured
+  (order limit cpus pool_base pool_order : ℕ)
+  (granted : GrantedMemory)
+  : Type 0
+  where
   pub at_least : 18 ≤ order
   pub within : order ≤ limit
   pub at_most : limit ≤ 22

@@ -7,9 +7,11 @@ use Rattle.trace_read.specs.declared.why.Why.TheVariants.{Dumps, Quiet}
 use Rattle.trace_read.specs.Trace.{is_quiet, is_dump}
 use Rattle.trace_read.specs.Whys.{◌>>=◌, guard}
 
+-- How many of the lines are quiet.
 abbrev pub quiet_count : List TraceLine → ℕ
 quiet_count lines = count_by (λ (l : TraceLine). is_quiet l.act) lines
 
+-- How many of them are dumps.
 abbrev pub dump_count : List TraceLine → ℕ
 dump_count lines = count_by (λ (l : TraceLine). is_dump l.act) lines
 

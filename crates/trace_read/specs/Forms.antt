@@ -17,7 +17,17 @@ use Rattle.trace_read.specs.Whys.{◌>>=◌, required}
 -- ---- the word behind the processor
 -- The calls that have a name, and how many arguments each has.
 abbrev pub call_rows : List (Hcall × ℕ)
-call_rows = (calls.Enter, 4) ∷ (calls.Remove, 3) ∷ (calls.Protect, 3) ∷ (calls.Read, 2) ∷ (calls.ClearRef, 2) ∷ (calls.ClearMod, 2) ∷ (calls.BulkRemove, 8) ∷ (calls.Prepare, 2) ∷ (calls.Commit, 2) ∷ []
+call_rows =
+    (calls.Enter, 4)
+    ∷ (calls.Remove, 3)
+    ∷ (calls.Protect, 3)
+    ∷ (calls.Read, 2)
+    ∷ (calls.ClearRef, 2)
+    ∷ (calls.ClearMod, 2)
+    ∷ (calls.BulkRemove, 8)
+    ∷ (calls.Prepare, 2)
+    ∷ (calls.Commit, 2)
+    ∷ []
 
 -- The call that a word names.
 unfoldable pub call_named : List ℕ → Option (Hcall × ℕ)
@@ -34,14 +44,17 @@ other_verb word =
     else if bytes_eq (codes "slbclear") word then Some verbs.SlbClear
     else None
 
+-- The call, or else the other verb.
 abbrev pub call_or : Option (Hcall × ℕ) → Option Verb → Option Verb
 call_or (Some row) other = Some (verbs.Named row.0 row.1)
 call_or None other = other
 
+-- What a word behind the processor asks for.
 unfoldable pub verb_of : List ℕ → Option Verb
 verb_of word = call_or (call_named word) (other_verb word)
 
 -- ---- the first word
+-- The word begins with a decimal digit.
 abbrev pub begins_with_digit : List ℕ → Bool
 begins_with_digit word = nat_le 48 (slice_index word 0) && nat_le (slice_index word 0) 57
 
@@ -75,10 +88,12 @@ form_of (w ∷ ws) = if begins_with_digit w then run_form ws else required (form
 abbrev pub IsNamedRow : Hcall × ℕ → Type 0
 IsNamedRow row = IsTrue (is_named row.0)
 
+-- The verb names a call that has a name, if it names one.
 abbrev pub IsNamedVerb : Verb → Type 0
 IsNamedVerb (verbs.Named hcall args) = IsTrue (is_named hcall)
 IsNamedVerb other = Unit {0}
 
+-- So does the form.
 abbrev pub IsNamedForm : Form → Type 0
 IsNamedForm (forms.Run (Some verb)) = IsNamedVerb verb
 IsNamedForm other = Unit {0}

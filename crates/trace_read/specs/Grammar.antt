@@ -49,6 +49,7 @@ after_act r said = do
   x ← said
   with_run_line r x.0 x.1
 
+-- The reading after a line of this form.
 unfoldable pub after_form : Form → Reading → List (List ℕ) → Result Reading Why
 after_form forms.Order r ws = set_to r stages.Limit (with_order r.config ws)
 after_form forms.Limit r ws = set_to r stages.Cpus (with_limit r.config ws)
@@ -79,13 +80,20 @@ after_line r line = do
 
 -- ---- all lines
 -- A refusal is told with the number of its line.
-abbrev pub go_on : ℕ → Result Reading Why → (Reading → Result AcceptedTrace (ℕ × Why)) → Result AcceptedTrace (ℕ × Why)
+abbrev pub go_on :
+    ℕ
+    → Result Reading Why
+    → (Reading → Result AcceptedTrace (ℕ × Why))
+    → Result AcceptedTrace (ℕ × Why)
 go_on n (Ok r) f = f r
 go_on n (Err why) f = Err (n, why)
 
 -- At the end of the input `begin` has to have come.
 abbrev pub trace_at_end : Reading → Result AcceptedTrace (ℕ × Why)
-trace_at_end r = if is_running r.stage then Ok (record { config = r.config; lines = r.lines }) else Err (r.taken + 1, whys.Begin)
+trace_at_end r =
+    if is_running r.stage
+    then Ok (record { config = r.config; lines = r.lines })
+    else Err (r.taken + 1, whys.Begin)
 
 -- The trace after these lines, or the first line that is refused.
 unfoldable pub after_lines : Reading → List (List ℕ) → Result AcceptedTrace (ℕ × Why)
@@ -94,7 +102,10 @@ after_lines r (l ∷ ls) = go_on (r.taken + 1) (after_line r l) (λ s. after_lin
 
 -- The accepted trace, or the first refused line and the reason. More than 2 ^ 24 bytes are refused as line 0.
 unfoldable pub trace_of : List ℕ → Result AcceptedTrace (ℕ × Why)
-trace_of bytes = if nat_lt (2 ^ 24) (length bytes) then Err (0, whys.Long) else after_lines opening_reading (raw_lines bytes)
+trace_of bytes =
+    if nat_lt (2 ^ 24) (length bytes)
+    then Err (0, whys.Long)
+    else after_lines opening_reading (raw_lines bytes)
 
 -- ---- what holds of a reading at all times
 -- Before the first line the limit is the highest. Run lines come behind `begin` alone, where the pool has room for the table; they are a trace's, and no more than the lines that were read.

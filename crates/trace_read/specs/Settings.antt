@@ -16,6 +16,7 @@ abbrev pub default_settings : Configuration
 default_settings = record { order = 18; limit = 22; cpus = 1; granted = no_grants 0x1000000000 24 }
 
 -- ---- one line each
+-- `order`: the order of the opening table.
 unfoldable pub with_order : Configuration → List (List ℕ) → Result Configuration Why
 with_order c ws = do
   counted ← guard (length ws == 2) Count
@@ -31,6 +32,7 @@ with_limit c ws = do
   within ← guard (nat_le c.order limit && nat_le limit 22) Range
   Ok (record c { limit = limit })
 
+-- `cpus`: the number of processors.
 unfoldable pub with_cpus : Configuration → List (List ℕ) → Result Configuration Why
 with_cpus c ws = do
   counted ← guard (length ws == 2) Count
@@ -52,6 +54,7 @@ abbrev pub with_checked_grant : Configuration → Grant → Option GrantError �
 with_checked_grant c grant (Some error) = Err (why_of_grant error)
 with_checked_grant c grant None = Ok (record c { granted = with_grant c.granted grant })
 
+-- `ram` and `io`: one more grant.
 unfoldable pub with_granted : Configuration → Kind → List (List ℕ) → Result Configuration Why
 with_granted c kind ws = do
   counted ← guard (length ws == 4) Count
@@ -70,7 +73,11 @@ with_begin c ws = do
 
 -- ---- what holds of the settings at all times
 -- As of a configuration, but that the pool may still be too small.
-pub record AreSettings (order limit cpus pool_base pool_order : ℕ) (granted : GrantedMemory) : Type 0 where
+pub record AreSettings
+  (order limit cpus pool_base pool_order : ℕ)
+  (granted : GrantedMemory)
+  : Type 0
+  where
   pub at_least : 18 ≤ order
   pub within : order ≤ limit
   pub at_most : limit ≤ 22
@@ -80,6 +87,7 @@ pub record AreSettings (order limit cpus pool_base pool_order : ℕ) (granted : 
   pub size : granted.pool_order ≡ pool_order
 
 -- The settings after a line are as it says, or it is refused and they stay.
-abbrev pub SetsTo : Result Configuration Why → Result (Unit {0}) Why → Configuration → Configuration → Type 0
+abbrev pub SetsTo :
+    Result Configuration Why → Result (Unit { 0 }) Why → Configuration → Configuration → Type 0
 SetsTo said (Ok done) old new = said ≡ Ok new
 SetsTo said (Err why) old new = (said ≡ Err why) × (new ≡ old)

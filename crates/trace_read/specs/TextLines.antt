@@ -3,12 +3,14 @@ use Rattle.std.specs.Prelude.{ℕ, ◌-◌, ◌==◌, ◌&&◌, ◌||◌, Bool, 
 use Rattle.std.specs.List.{slice_split}
 use Rattle.std.specs.Borrow.{Bor}
 
+-- The byte ends a line.
 abbrev pub is_lf : ℕ → Bool
 is_lf c = c == 10
 
 -- A list without its last element, where that is the given one.
 abbrev pub without_last : ℕ → List ℕ → List ℕ
-without_last c bytes = if slice_index bytes (length bytes - 1) == c then take (length bytes - 1) bytes else bytes
+without_last c bytes =
+    if slice_index bytes (length bytes - 1) == c then take (length bytes - 1) bytes else bytes
 
 -- A line ends at LF or at the end of the input, and behind the last LF there is none.
 abbrev pub raw_lines : List ℕ → List (List ℕ)

@@ -28,6 +28,7 @@ is_quiet (acts.Call number args spelt) = is_resize (hcall_of number)
 is_quiet acts.Dump = true
 is_quiet other = false
 
+-- The line is a dump.
 abbrev pub is_dump : Act → Bool
 is_dump acts.Dump = true
 is_dump other = false

@@ -5,6 +5,7 @@ use Rattle.frame_grants.specs.declared.error.GrantError.TheVariants as grants
 use Rattle.trace_read.specs.declared.why.Why.{Why}
 use Rattle.trace_read.specs.declared.why.Why.TheVariants as whys
 
+-- The word of a reason.
 abbrev pub why_word : Why → List ℕ
 why_word whys.Long = codes "long"
 why_word whys.Lines = codes "lines"
@@ -39,6 +40,7 @@ why_of_grant grants.PoolOverlap = whys.Tables
 -- ---- steps that may be refused
 -- The next step, where the one before was not refused.
 infixl 10 ◌>>=◌
+-- Goes on with what was read, or ends with the reason.
 abbrev pub ◌>>=◌ : {A B : Type 0} → Result A Why → (A → Result B Why) → Result B Why
 (Ok x) >>= f = f x
 (Err why) >>= f = Err why

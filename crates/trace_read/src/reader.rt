@@ -40,9 +40,15 @@ impl Model for Reader {
 
     ghost Value = { Reading };
 
-    ghost view = { λ r. record { taken = r.taken; stage = r.stage; config = r.settings; lines = r.lines } };
+    ghost view = {
+        λ r. record { taken = r.taken; stage = r.stage; config = r.settings; lines = r.lines }
+    };
 
-    ghost invariant = { λ r. IsReading (record { taken = r.taken; stage = r.stage; config = r.settings; lines = r.lines }) };
+    ghost invariant = {
+        λ r.
+          IsReading
+            (record { taken = r.taken; stage = r.stage; config = r.settings; lines = r.lines })
+    };
 }
 
 impl Reader {
@@ -143,7 +149,12 @@ impl Reader {
 
     fn take_order(&mut self, words: &[&[u8]]) -> Result<(), Stop>
         requires { is_first self.old.stage ≡ true }
-        ensures { ReadsTo (set_to self.old Stage.Limit (with_order self.old.config (texts words.now))) result self.new }
+        ensures {
+            ReadsTo
+              (set_to self.old Stage.Limit (with_order self.old.config (texts words.now)))
+              result
+              self.new
+        }
     {
         self.settings.take_order(words)?;
         self.stage = Stage::Limit;
@@ -152,7 +163,12 @@ impl Reader {
 
     fn take_limit(&mut self, words: &[&[u8]]) -> Result<(), Stop>
         requires { is_running self.old.stage ≡ false }
-        ensures { ReadsTo (set_to self.old Stage.Cpus (with_limit self.old.config (texts words.now))) result self.new }
+        ensures {
+            ReadsTo
+              (set_to self.old Stage.Cpus (with_limit self.old.config (texts words.now)))
+              result
+              self.new
+        }
     {
         self.settings.take_limit(words)?;
         self.stage = Stage::Cpus;
@@ -161,7 +177,12 @@ impl Reader {
 
     fn take_cpus(&mut self, words: &[&[u8]]) -> Result<(), Stop>
         requires { is_running self.old.stage ≡ false }
-        ensures { ReadsTo (set_to self.old Stage.Pool (with_cpus self.old.config (texts words.now))) result self.new }
+        ensures {
+            ReadsTo
+              (set_to self.old Stage.Pool (with_cpus self.old.config (texts words.now)))
+              result
+              self.new
+        }
     {
         self.settings.take_cpus(words)?;
         self.stage = Stage::Pool;
@@ -170,7 +191,12 @@ impl Reader {
 
     fn take_pool(&mut self, words: &[&[u8]]) -> Result<(), Stop>
         requires { is_running self.old.stage ≡ false }
-        ensures { ReadsTo (set_to self.old Stage.Grants (with_pool self.old.config (texts words.now))) result self.new }
+        ensures {
+            ReadsTo
+              (set_to self.old Stage.Grants (with_pool self.old.config (texts words.now)))
+              result
+              self.new
+        }
     {
         self.settings.take_pool(words)?;
         self.stage = Stage::Grants;
@@ -179,7 +205,12 @@ impl Reader {
 
     fn take_grant(&mut self, kind: Kind, words: &[&[u8]]) -> Result<(), Stop>
         requires { is_running self.old.stage ≡ false }
-        ensures { ReadsTo (set_to self.old Stage.Grants (with_granted self.old.config kind (texts words.now))) result self.new }
+        ensures {
+            ReadsTo
+              (set_to self.old Stage.Grants (with_granted self.old.config kind (texts words.now)))
+              result
+              self.new
+        }
     {
         self.settings.take_grant(kind, words)?;
         self.stage = Stage::Grants;
@@ -188,7 +219,12 @@ impl Reader {
 
     fn take_begin(&mut self, words: &[&[u8]]) -> Result<(), Stop>
         requires { is_running self.old.stage ≡ false }
-        ensures { ReadsTo (set_to self.old Stage.Lines (with_begin self.old.config (texts words.now))) result self.new }
+        ensures {
+            ReadsTo
+              (set_to self.old Stage.Lines (with_begin self.old.config (texts words.now)))
+              result
+              self.new
+        }
     {
         self.settings.take_begin(words)?;
         self.stage = Stage::Lines;
@@ -200,7 +236,12 @@ impl Reader {
         requires few { length self.old.lines < self.old.taken }
         requires place { is_running self.old.stage ≡ true }
         requires named { IsNamedForm (Form.Run verb) }
-        ensures { ReadsTo (after_act self.old (run_act self.old.config.cpus verb (texts words.now))) result self.new }
+        ensures {
+            ReadsTo
+              (after_act self.old (run_act self.old.config.cpus verb (texts words.now)))
+              result
+              self.new
+        }
     {
         let (cpu, act) = run_act(self.settings.cpus(), verb, words)?;
         self.add(cpu, act)

@@ -23,7 +23,12 @@ fn keeps_limits(trace: &Trace)
 /// The machine of a trace, before its first line. The serial run of each trace is a good run.
 pub fn open_machine(alloc: Global, trace: &Trace) -> Result<Machine, AllocError>
     ensures run_state { IfOk result (λ machine. machine ≡ opening_run trace.now.config) }
-    ensures cpus { IfOk result (λ machine. AllByRecursion (λ (l : TraceLine). l.cpu < length machine.processors) trace.now.lines) }
+    ensures cpus {
+        IfOk
+          result
+          (λ machine.
+             AllByRecursion (λ (l : TraceLine). l.cpu < length machine.processors) trace.now.lines)
+    }
     ensures number { IfOk result (λ machine. machine.memory.table.number ≡ 0) }
     ensures good { IsGoodRun trace.now (serial_replies trace.now) }
     ensures assured { Assures trace.now (serial_replies trace.now) }

@@ -1,4 +1,5 @@
 -- Worked values, which the checker computes.
+use Rattle.entry_model.specs.Reply.{access_mode}
 use Rattle.std.proofs.Common.{◌≡◌, ℕ, true, false, refl}
 use Rattle.power_addr.specs.Pages.{virtual_page, tag_of}
 use Rattle.entry_model.specs.State.{State}
@@ -28,10 +29,10 @@ unfolding state_of
 in_16_gb = refl
 
 -- ---- the operation: page 5 of 4 KB in the segment 1 of 256 MB
-primary : access_op (virtual_page false 1 12 5) true false Load false ≡ Access 0x1001 12 true false Load
+primary : access_op (virtual_page false 1 12 5) (access_mode true false Load) false ≡ Access 0x1001 12 true false Load
 unfolding tag_of
 primary = refl
 
-secondary : access_op (virtual_page false 1 12 5) true false Load true ≡ Access 0x1003 12 true false Load
+secondary : access_op (virtual_page false 1 12 5) (access_mode true false Load) true ≡ Access 0x1003 12 true false Load
 unfolding tag_of
 secondary = refl

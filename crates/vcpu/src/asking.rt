@@ -1,6 +1,6 @@
 ghost use Rattle.std.specs.Prelude.{◌≡◌};
 ghost use Rattle.entry_model.specs.Receipt.{IsNormal};
-ghost use Rattle.hpt_walk.specs.Access.{key_for};
+ghost use Rattle.hpt_walk.specs.Access.{key_for, mode_for};
 ghost use Rattle.hpt_walk.specs.Walk as table;
 
 use entry_model::Op;
@@ -17,7 +17,9 @@ pub fn key(segment: &Segment, user: bool) -> bool
 /// The access as an operation on an entry of the page, which stands in the page's secondary group
 /// where `secondary` says so.
 pub fn operation(segment: &Segment, request: &Request, secondary: bool) -> Op
-    ensures op { result ≡ table.access_op segment.now.page (key_for segment.now request.now.user) segment.now.no_execute request.now.want secondary }
+    ensures op {
+        result ≡ table.access_op segment.now.page (mode_for segment.now request.now) secondary
+    }
     ensures normal { IsNormal result }
 {
     access_op(

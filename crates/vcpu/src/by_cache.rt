@@ -23,7 +23,18 @@ pub fn by_cache<T: EntryStore>(
     requires seen { IfSome cached.now (T.seen store.old) }
     requires translates { IfSome cached.now TranslatesItsPage }
     requires page { IfSome cached.now (λ line. line.page ≡ segment.now.page) }
-    ensures reply { IfSome result (λ r. IsByWay (access_context (T.table_order store.old) grants.now.grants) segment.now request.now cached.now r.by r) }
+    ensures reply {
+        IfSome
+          result
+          (λ r.
+             IsByWay
+               (access_context (T.table_order store.old) grants.now.grants)
+               segment.now
+               request.now
+               cached.now
+               r.by
+               r)
+    }
     ensures by { IfSome result (λ r. r.by ≡ Some Hit) }
     ensures made { IfSome result (λ r. T.made store.old store.new r.receipts) }
     ensures nothing { IfNone result (T.made store.old store.new []) }
@@ -45,7 +56,17 @@ fn by_line<T: EntryStore>(
     requires seen { T.seen store.old line.now }
     requires translates { TranslatesItsPage line.now }
     requires page { line.now.page ≡ segment.now.page }
-    ensures hit { IfSome result (λ r. IsHit (access_context (T.table_order store.old) grants.now.grants) segment.now request.now line.now r) }
+    ensures hit {
+        IfSome
+          result
+          (λ r.
+             IsHit
+               (access_context (T.table_order store.old) grants.now.grants)
+               segment.now
+               request.now
+               line.now
+               r)
+    }
     ensures by { IfSome result (λ r. r.by ≡ Some Hit) }
     ensures made { IfSome result (λ r. T.made store.old store.new r.receipts) }
     ensures nothing { IfNone result (T.made store.old store.new []) }

@@ -28,10 +28,19 @@ pub fn by_walk<T: EntryStore>(
     segment: &Segment,
     request: &Request,
 ) -> Walked
-    ensures walk { IsWalk (access_context (T.table_order store.old) grants.now.grants) segment.now request.now result.reply }
+    ensures walk {
+        IsWalk
+          (access_context (T.table_order store.old) grants.now.grants)
+          segment.now
+          request.now
+          result.reply
+    }
     ensures by { result.reply.by ≡ Some Walk }
     ensures made { T.made store.old store.new result.reply.receipts }
-    ensures line { result.line ≡ cache.kept_line segment.now.page result.reply.outcome (found_of result.reply.receipts) }
+    ensures line {
+        result.line
+        ≡ cache.kept_line segment.now.page result.reply.outcome (found_of result.reply.receipts)
+    }
     ensures seen { IfSome result.line (T.seen store.new) }
     ensures translates { IfSome result.line TranslatesItsPage }
 {

@@ -48,8 +48,12 @@ impl Cpu {
 
     /// The instruction `slbmte`.
     pub fn mte(&mut self, rb: u64, rs: u64) -> Result<(), BadSlb>
-        ensures told { MatchResult result (λ _. mte_refusal rb rs ≡ None) (λ e. mte_refusal rb rs ≡ Some e) }
-        ensures ok { OnOk result (self.new ≡ record self.old { slots = slots_after self.old.slots rb rs }) }
+        ensures told {
+            MatchResult result (λ _. mte_refusal rb rs ≡ None) (λ e. mte_refusal rb rs ≡ Some e)
+        }
+        ensures ok {
+            OnOk result (self.new ≡ record self.old { slots = slots_after self.old.slots rb rs })
+        }
         ensures err { OnErr result (self.new ≡ self.old) }
     {
         self.slb.mte(rb, rs)
@@ -87,14 +91,32 @@ impl Cpu {
     ) -> AccessReply
         requires seen { AllCached (T.seen store.old) self.old.cache }
         ensures made { T.made store.old store.new result.receipts }
-        ensures reply { IsAccessReply (access_context (T.table_order store.old) grants.now.grants) (cached_line self.old.cache) (request want ea user) (segment_of self.old.slots ea) result }
+        ensures reply {
+            IsAccessReply
+              (access_context (T.table_order store.old) grants.now.grants)
+              (cached_line self.old.cache)
+              (request want ea user)
+              (segment_of self.old.slots ea)
+              result
+        }
         ensures slots { self.new.slots ≡ self.old.slots }
-        ensures cache { self.new.cache ≡ cache_after self.old.cache (segment_of self.old.slots ea) result.by result }
+        ensures cache {
+            self.new.cache
+            ≡ cache_after self.old.cache (segment_of self.old.slots ea) result.by result
+        }
         ensures seen { AllCached (T.seen store.new) self.new.cache }
 
         // Where it was by Walk, the line of the page that was cached had left its stamp.
-        ensures comes_later { IfSome (gone_line self.old.cache (segment_of self.old.slots ea) result) (λ line. AllLater line result.receipts) }
-        ensures gone { IfSome (gone_line self.old.cache (segment_of self.old.slots ea) result) (T.gone store.new) }
+        ensures comes_later {
+            IfSome
+              (gone_line self.old.cache (segment_of self.old.slots ea) result)
+              (λ line. AllLater line result.receipts)
+        }
+        ensures gone {
+            IfSome
+              (gone_line self.old.cache (segment_of self.old.slots ea) result)
+              (T.gone store.new)
+        }
     {
         match self.slb.segment(ea) {
             None => AccessReply {

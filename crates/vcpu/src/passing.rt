@@ -24,12 +24,26 @@ pub fn in_segment<T: EntryStore>(
     requires seen { AllCached (T.seen store.old) tlb.old }
     requires translate { AllCached TranslatesItsPage tlb.old }
     ensures made { T.made store.old store.new result.receipts }
-    ensures reply { IsByWay (access_context (T.table_order store.old) grants.now.grants) segment.now request.now (cached_line tlb.old segment.now.page) result.by result }
+    ensures reply {
+        IsByWay
+          (access_context (T.table_order store.old) grants.now.grants)
+          segment.now
+          request.now
+          (cached_line tlb.old segment.now.page)
+          result.by
+          result
+    }
     ensures cache { tlb.new ≡ cache_after tlb.old (Some segment.now) result.by result }
     ensures seen { AllCached (T.seen store.new) tlb.new }
     ensures translate { AllCached TranslatesItsPage tlb.new }
-    ensures comes_later { IfSome (gone_by_way result.by (cached_line tlb.old segment.now.page)) (λ line. AllLater line result.receipts) }
-    ensures gone { IfSome (gone_by_way result.by (cached_line tlb.old segment.now.page)) (T.gone store.new) }
+    ensures comes_later {
+        IfSome
+          (gone_by_way result.by (cached_line tlb.old segment.now.page))
+          (λ line. AllLater line result.receipts)
+    }
+    ensures gone {
+        IfSome (gone_by_way result.by (cached_line tlb.old segment.now.page)) (T.gone store.new)
+    }
 {
     let line = tlb.find(&segment.page);
     if let Some(reply) = by_cache(store, grants, segment, request, &line) {

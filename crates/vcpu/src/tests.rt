@@ -1,4 +1,5 @@
 ghost use Rattle.std.specs.Prelude.{◌≡◌, ◌<◌, ◌-◌, ◌^◌, IfOk};
+ghost use Rattle.hpte_fields.specs.TableSize.{entry_count};
 ghost use Rattle.tlb_model.specs.Cache.{AllCached, empty_cache};
 ghost use Rattle.entry_model.specs.Receipt.{IsNormal};
 
@@ -28,7 +29,7 @@ const MEMORY: Grant = Grant {
 /// Of a store whose lines are seen, one operation beside the accesses.
 fn apply_beside<T: EntryStore>(cpu: &Cpu, store: &mut T, entry: u32, op: Op) -> Answer
     requires seen { AllCached (T.seen store.old) cpu.now.cache }
-    requires in_table { entry < 2 ^ (T.table_order store.old - 4) }
+    requires in_table { entry < entry_count (T.table_order store.old) }
     requires normal { IsNormal op }
     ensures { AllCached (T.seen store.new) cpu.now.cache }
 {
@@ -45,7 +46,7 @@ fn three_accesses<T: EntryStore>(
     between: Op,
 ) -> (AccessReply, AccessReply, AccessReply)
     requires empty { cpu.old.cache ≡ empty_cache }
-    requires in_table { 0x20 < 2 ^ (T.table_order store.old - 4) }
+    requires in_table { 0x20 < entry_count (T.table_order store.old) }
     requires normal { IsNormal between }
 {
     let first = cpu.access(store, grants, 0x5000, want, false);
@@ -87,7 +88,7 @@ fn empty_table(alloc: Global) -> Result<PlainTable, AllocError>
 
 /// Fills an entry of any store.
 fn enter<T: EntryStore>(store: &mut T, entry: u32, dword0: u64, dword1: u64)
-    requires in_table { entry < 2 ^ (T.table_order store.old - 4) }
+    requires in_table { entry < entry_count (T.table_order store.old) }
     requires normal { IsNormal (Op.Enter dword0 dword1) }
     ensures { T.table_order store.new ≡ T.table_order store.old }
 {

@@ -1,5 +1,5 @@
 use Rattle.std.proofs.Common.{◌<◌, arith}
-use Rattle.hpt_hash.specs.Hash.{group_count}
+use Rattle.hpte_fields.specs.TableSize.{group_count}
 use Rattle.hpt_resize.proofs.Groups.{slot_in_table}
 use Rattle.hpt_resize.proofs.carry.target_index.Goals as goal
 use Rattle.hpt_resize.proofs.carry.target_index.Goals.{then-secondary, else-secondary}

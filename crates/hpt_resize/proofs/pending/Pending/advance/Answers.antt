@@ -1,6 +1,6 @@
 use Rattle.std.proofs.Common.{◌≡◌, ◌+◌, ◌≤◌, length, sym, arith}
 use Rattle.std.specs.Prelude.{vec_capacity}
-use Rattle.hpt_resize.specs.Rehash.{entry_count}
+use Rattle.hpte_fields.specs.TableSize.{entry_count}
 use Rattle.hpt_resize.proofs.Preparing.{more_prepared}
 use Rattle.hpt_resize.proofs.pending.Pending.advance.Goals as goal
 

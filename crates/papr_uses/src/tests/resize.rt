@@ -1,10 +1,11 @@
-ghost use Rattle.std.specs.Prelude.{◌≡◌, ◌≤◌, ◌%◌, ◌^◌, bit_and, IfOk};
+ghost use Rattle.std.specs.Prelude.{◌≡◌, ◌≤◌, ◌%◌, ◌^◌, IfOk};
 ghost use Rattle.partition.specs.PartitionState.{HasStates};
 
-use crate::Partition;
-use entry_model::EntryState;
+use super::entry;
+use crate::resize;
 use frame_grants::Grants;
 use papr_codes::Rc;
+use partition::Partition;
 use std::alloc::{AllocError, Global};
 use std::test::Fail;
 use trace_read::Config;
@@ -29,19 +30,6 @@ fn smallest(alloc: Global, limit: u8, pool_order: u8) -> Result<Partition, Alloc
         grants: Grants::new(0x10_0000_0000, pool_order),
     };
     Partition::open(alloc, &config)
-}
-
-fn entry(dword0: u64, dword1: u64) -> EntryState
-    requires { bit_and dword1 0x180 ≡ 0 }
-{
-    EntryState {
-        valid: true,
-        dword0,
-        dword1,
-        referenced: true,
-        changed: false,
-        stamp: 7,
-    }
 }
 
 #[test]
@@ -81,11 +69,11 @@ fn only_bolted_entries_of_a_page_are_in_the_new_table(rt: HostRuntime) -> Result
     let mut partition = smallest(rt.alloc(), 22, 24)?;
     let mut states = partition.take_states();
     // the page of VSID 0x801 and index 5, in its group
-    states[0x20] = entry(0x80_1011, 0x3012);
+    states[0x20] = entry(0x80_1011, 0x3012, (true, false), 7);
     // bolted, and not in the group of its page
-    states[0x400] = entry(0x1015, 0x1_1012);
+    states[0x400] = entry(0x1015, 0x1_1012, (true, false), 7);
     // not bolted
-    states[0x21] = entry(0x1001, 0x4012);
+    states[0x21] = entry(0x1001, 0x4012, (true, false), 7);
     partition.put_states(states);
     assert_eq!(rt; partition.prepare(rt.alloc(), 0, 19)?.rc, Rc::LongBusy);
     assert_eq!(rt; partition.prepare(rt.alloc(), 0, 19)?.rc, Rc::Success);
@@ -108,14 +96,14 @@ fn only_bolted_entries_of_a_page_are_in_the_new_table(rt: HostRuntime) -> Result
 fn a_collision_leaves_the_old_table(rt: HostRuntime) -> Result<(), Fail> {
     let mut partition = smallest(rt.alloc(), 22, 24)?;
     let mut states = partition.take_states();
-    states[0x20] = entry(0x80_1011, 0x3012);
+    states[0x20] = entry(0x80_1011, 0x3012, (true, false), 7);
     partition.put_states(states);
     assert_eq!(rt; partition.prepare(rt.alloc(), 0, 19)?.rc, Rc::LongBusy);
     assert_eq!(rt; partition.prepare(rt.alloc(), 0, 19)?.rc, Rc::Success);
     assert_eq!(rt; partition.commit(0, 19).rc, Rc::Success);
     let mut states = partition.take_states();
     if let Some(state) = states.get_mut(0x20) {
-        *state = entry(0x1011, 0x4012);
+        *state = entry(0x1011, 0x4012, (true, false), 7);
     }
     partition.put_states(states);
     assert_eq!(rt; partition.prepare(rt.alloc(), 0, 18)?.rc, Rc::Success);
@@ -130,5 +118,16 @@ fn a_collision_leaves_the_old_table(rt: HostRuntime) -> Result<(), Fail> {
         2
     );
     assert_eq!(rt; partition.commit(0, 18).rc, Rc::Closed);
+    Ok(())
+}
+
+#[test]
+fn the_largest_table_in_one_go(rt: HostRuntime) -> Result<(), Fail> {
+    let mut partition = smallest(rt.alloc(), 22, 24)?;
+    assert_eq!(rt; resize(&mut partition, rt.alloc(), 22), Ok(Rc::Success));
+    assert_eq!(rt; (partition.table(), partition.order()), (1, 22));
+    let mut small = smallest(rt.alloc(), 20, 19)?;
+    assert_eq!(rt; resize(&mut small, rt.alloc(), 19), Ok(Rc::NoMem));
+    assert_eq!(rt; (small.table(), small.order()), (0, 18));
     Ok(())
 }

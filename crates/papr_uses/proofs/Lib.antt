@@ -1,0 +1,8 @@
+pub mod Taken
+pub mod Committed
+pub mod OneSegment
+pub mod OneLine
+pub mod Granted
+pub mod Bits
+pub mod Entered
+pub mod NoSegment

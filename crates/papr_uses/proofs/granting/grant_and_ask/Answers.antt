@@ -1,0 +1,16 @@
+use Rattle.std.proofs.Common.{◌+◌, ◌∙◌, ap, arith}
+use Rattle.frame_grants.specs.Grants.{GrantedMemory, machine_range}
+use Rattle.papr_uses.proofs.Granted.{accepted, byte_of}
+use Rattle.papr_uses.proofs.granting.grant_and_ask.Goals as goal
+
+pub overflow_add-grant : goal.overflow_add-grant
+overflow_add-grant c =
+    let fits = (accepted _ _ c.in_ok-add.ensures.told).fits in
+    let within = c.requires in
+    omega arith
+
+pub returns : goal.returns
+returns c =
+    c.machine_of.ensures
+    ∙ ap (λ (granted : GrantedMemory). machine_range granted.grants (c.args.grant.logical + c.args.offset) 1) c.in_ok-add.ensures.ok
+    ∙ byte_of c.args.grants.now c.args.grant c.args.offset c.requires (accepted _ _ c.in_ok-add.ensures.told)

@@ -1,0 +1,19 @@
+-- The text of a run of a trace.
+use Rattle.std.specs.Prelude.{◌≡◌, ℕ, List, Ok}
+use Rattle.trace_read.specs.Trace.{AcceptedTrace}
+use Rattle.trace_read.specs.Grammar.{trace_of}
+use Rattle.trace_reply.specs.declared.reply.Reply.{Reply}
+use Rattle.run_model.specs.GoodRun.{IsGoodRun}
+use Rattle.reply_text.specs.Text.{text_of}
+
+-- The text is that of the replies of a good run of the trace.
+pub record IsTextOf (trace : AcceptedTrace) (text : List ℕ) : Type 0 where
+  pub replies : List Reply
+  pub good : IsGoodRun trace replies
+  pub told : text ≡ text_of trace replies
+
+-- The bytes are a trace, and the text is that of a good run of it.
+pub record IsTextOfBytes (bytes text : List ℕ) : Type 0 where
+  pub trace : AcceptedTrace
+  pub accepted : trace_of bytes ≡ Ok trace
+  pub told : IsTextOf trace text

@@ -1,0 +1,29 @@
+//! Callers of the crates, each proved from their public clauses alone.
+#![tactic(auto)]
+
+mod accesses;
+mod caching;
+mod codes;
+mod granting;
+mod machines;
+mod pages;
+mod pools;
+mod resizing;
+mod segments;
+mod tables;
+mod traces;
+
+pub use accesses::first_access;
+pub use caching::fill_and_drop;
+pub use codes::{call_again, number_again};
+pub use granting::grant_and_ask;
+pub use machines::machine_after;
+pub use pages::group_of_entry;
+pub use pools::{take_and_give, take_pair};
+pub use resizing::resize;
+pub use segments::only_segment;
+pub use tables::{enter_and_read, enter_and_remove, entry_of_page};
+pub use traces::{text_of_bytes, text_of_seed};
+
+#[cfg(test)]
+mod tests;

@@ -1,0 +1,17 @@
+ghost use Rattle.std.specs.Prelude.{◌≡◌, ◌<◌, ◌≤◌, ◌-◌, ◌/◌, ◌^◌, IfSome};
+
+use hpt_hash::{groups, page_of};
+use hpte_fields::secondary;
+
+/// The group to which the page of an entry hashes, for the entry's H: the group that the entry
+/// stands in.
+pub fn group_of_entry(order: u8, index: u32, dword0: u64, dword1: u64) -> Option<u64>
+    requires order_low { 18 ≤ order }
+    requires order_high { order ≤ 22 }
+    requires in_table { index < 2 ^ (order - 4) }
+    ensures { IfSome result (λ group. group ≡ index / 8) }
+{
+    let page = page_of(order, index, dword0, dword1)?;
+    let (first, second) = groups(&page, order);
+    Some(if secondary(dword0) { second } else { first })
+}

@@ -10,6 +10,8 @@ pub fn take_and_give(pool: &mut Pool, order: u8) -> Option<u64>
     ensures place { result ≡ lowest_place pool.old order }
     ensures same { pool.new ≡ pool.old }
 {
+    // Each call of a pool tells that its blocks are sound, and giving back needs that of the pool before.
+    let _order = pool.order();
     let place = pool.take(order)?;
     pool.give(place, order);
     Some(place)
@@ -28,6 +30,8 @@ pub fn take_pair(pool: &mut Pool, first: u8, second: u8) -> Option<(u64, u64)>
     ensures second { IfSome result (λ places. Contains pool.new.taken (block_at places.1 second)) }
     ensures neither { IfNone result (pool.new ≡ pool.old) }
 {
+    // Each call of a pool tells that its blocks are sound, and giving back needs that of the pool before.
+    let _order = pool.order();
     let place = pool.take(first)?;
     match pool.take(second) {
         Some(other) => Some((place, other)),

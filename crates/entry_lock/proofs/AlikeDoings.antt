@@ -4,17 +4,13 @@ use Rattle.std.proofs.Common.{◌≡◌, ◌==◌, ◌&&◌, not, Bool, true, fa
 use Rattle.entry_model.specs.Reply.{reply_of}
 use Rattle.entry_model.specs.Receipt.{receipt_of}
 use Rattle.entry_model.specs.History.{state_eq}
-use Rattle.basics.specs.Words.{bool_eq}
+use Rattle.basics.proofs.Bools.{bool_self}
 use Rattle.lock_core.specs.declared.control.Control.{Control}
 use Rattle.lock_core.specs.declared.doing.Doing.{Doing}
 use Rattle.lock_core.specs.Words.{state_of, without_bits, known_words, noted_state, next_state, changes, receipt, is_noted, is_still}
 use Rattle.lock_core.specs.Steps.{with_noted}
 use Rattle.lock_core.proofs.Noted.{same_words}
 use Rattle.entry_lock.specs.AccessSteps.{AreAlike}
-
-bool_self : (b : Bool) → bool_eq b b ≡ true
-bool_self true = refl
-bool_self false = refl
 
 pub noted_self : (k : Control) → is_noted k k ≡ true
 unfolding is_noted

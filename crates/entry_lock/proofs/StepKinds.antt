@@ -7,7 +7,7 @@ use Rattle.storage_prot.specs.declared.want.Want.TheVariants.{Load, Store, Fetch
 use Rattle.entry_model.specs.declared.operation.Op.{Op}
 use Rattle.entry_model.specs.declared.operation.Op.TheVariants.{Enter, Remove, Protect, Read, ClearRef, ClearMod, Access}
 use Rattle.entry_model.specs.Receipt.{is_access}
-use Rattle.basics.specs.Words.{bool_eq}
+use Rattle.basics.proofs.Bools.{bool_self}
 use Rattle.lock_core.specs.declared.doing.Doing.{Doing}
 use Rattle.lock_core.specs.declared.entry.Entry.{Entry}
 use Rattle.lock_core.specs.declared.phase.Phase.TheVariants.{Idle, Held, HeldShut, Looked}
@@ -111,10 +111,6 @@ fits_looked_load x d second h = h
 pub fits_mark : (x : Entry) (d : Doing) → (is_read d && changes d) ≡ true → fits x (Looked d) Mark ≡ true
 unfolding fits
 fits_mark x d h = h
-
-bool_self : (b : Bool) → bool_eq b b ≡ true
-bool_self true = refl
-bool_self false = refl
 
 want_self : (w : Want) → want_eq w w ≡ true
 want_self Load = refl

@@ -43,7 +43,8 @@ pub record AreAlike (a d : Doing) : Type 0 where
   pub words :
       d.noted.valid ≡ true
       → ((unwrap_or (known_words d) (0, 0)).0 ≡ (unwrap_or (known_words a) (0, 0)).0)
-      × (without_bits (unwrap_or (known_words d) (0, 0)).1 ≡ without_bits (unwrap_or (known_words a) (0, 0)).1)
+      × (without_bits (unwrap_or (known_words d) (0, 0)).1
+      ≡ without_bits (unwrap_or (known_words a) (0, 0)).1)
 
 -- The pass has looked, for what the code has as this operation.
 abbrev pub IsLooking : View → Doing → Type 0

@@ -29,7 +29,12 @@ use lib.ListN.{get_elem?}
 -- Words and views show the machine after these steps, and the pass j, with the view v, acts as its
 -- actor n.
 pub record ShowsPass
-    (key : Opening) (steps : List (ℕ × Step)) (words : List ℕ) (views : List View) (j n : ℕ) (v : View)
+    (key : Opening)
+    (steps : List (ℕ × Step))
+    (words : List ℕ)
+    (views : List View)
+    (j n : ℕ)
+    (v : View)
     : Type 0 where
   pub shows : Shows key (machine_after key steps) words views
   pub pass : get_elem? views j ≡ some v

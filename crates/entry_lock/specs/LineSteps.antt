@@ -21,7 +21,8 @@ is_gone_from k stamp = k.shut || (not k.valid || not (k.stamp == stamp))
 
 -- The operation with the line's doublewords, which need no load.
 abbrev pub doing_by_line : Line → Op → Control → Doing
-doing_by_line cached op noted = new_doing cached.entry op noted (Some (cached.dword0, cached.dword1))
+doing_by_line cached op noted =
+    new_doing cached.entry op noted (Some (cached.dword0, cached.dword1))
 
 -- The line is gone for the pass, by the word that its step on the entry e found.
 abbrev pub GoesPast : Line → View → ℕ → ℕ → ℕ → View → Type 0

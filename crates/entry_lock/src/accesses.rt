@@ -17,7 +17,6 @@ ghost use Rattle.entry_lock.specs.Progress.{LookedAtEntry, IsSameDoing};
 use crate::access_steps::{load_looked, look, look_again, mark};
 use crate::busy::Busy;
 use crate::control_word::{control_of, word_from};
-use crate::doings::{begin, with_noted, with_words};
 use crate::outcome::{Outcome, outcome_of};
 use crate::rule::{PassSeat, Words};
 use entry_model::{EntryState, Op, Receipt};
@@ -62,7 +61,7 @@ fn look_first(table: &Words, seat: &mut PassSeat, entry: u32, op: Op) -> Result<
             found,
         });
     }
-    Ok(begin(entry, op, control))
+    Ok(Doing::new(entry, op, control, None))
 }
 
 /// Loads the data words of an entry that was looked at. An empty entry's say nothing.
@@ -85,7 +84,7 @@ fn load_words(table: &Words, seat: &mut PassSeat, doing: &Doing) -> Doing
     }
     let first = load_looked(table, seat, doing.entry, false);
     let second = load_looked(table, seat, doing.entry, true);
-    with_words(doing, first, second)
+    doing.with_words(first, second)
 }
 
 /// The second look, for an access that raises no bit: what was read holds where the word is still
@@ -121,7 +120,7 @@ fn decide(
     }
     let control = control_of(found);
     if is_still(&control, doing) {
-        return Ok(receipt(&with_noted(doing, control)));
+        return Ok(receipt(&doing.with_noted(control)));
     }
     Err(Busy {
         entry: doing.entry,

@@ -13,7 +13,6 @@ ghost use Rattle.entry_lock.specs.Progress.{TookEntry, IsSameDoing};
 
 use crate::busy::Busy;
 use crate::control_word::{control_of, word_from};
-use crate::doings::{begin, with_noted, with_words};
 use crate::holder_steps::{load_data, lock, release, settle, shut, store_data};
 use crate::outcome::{Outcome, outcome_by, outcome_of};
 use crate::pause::Pause;
@@ -46,7 +45,7 @@ fn take_entry(table: &Words, seat: &mut PassSeat, entry: u32, op: Op) -> Result<
             found,
         });
     }
-    Ok(begin(entry, op, control))
+    Ok(Doing::new(entry, op, control, None))
 }
 
 /// Loads the data words of an entry that is held. An empty entry's say nothing.
@@ -68,7 +67,7 @@ fn load_held(table: &Words, seat: &mut PassSeat, doing: &Doing) -> Doing
     let mut half = *doing;
     half.first = Some(first);
     let second = load_data(table, seat, &half, true);
-    with_words(doing, first, second)
+    doing.with_words(first, second)
 }
 
 /// Lets the entry go, which the operation doesn't change. The receipt has the R and C that the
@@ -108,7 +107,7 @@ fn change_entry(table: &Words, seat: &mut PassSeat, doing: &Doing, known: Outcom
     // sees one old and one new, and the R and C found here are those of the receipt.
     let found = shut(table, seat, doing);
     let control = control_of(found);
-    let last = with_noted(doing, control);
+    let last = doing.with_noted(control);
     let Outcome {
         receipt,
         after,

@@ -18,7 +18,6 @@ mod busy;
 mod calls;
 mod closing;
 mod control_word;
-mod doings;
 mod holder_steps;
 mod laws;
 mod layout;

@@ -16,7 +16,6 @@ ghost use Rattle.entry_lock.specs.Progress.{IsByLine};
 use crate::accesses::marked_control;
 use crate::busy::Busy;
 use crate::control_word::{control_of, word_from};
-use crate::doings::with_noted;
 use crate::line_steps::{look_line, look_line_again, mark_line};
 use crate::outcome::{Outcome, outcome_of};
 use crate::rule::{PassSeat, Words};
@@ -35,14 +34,7 @@ fn is_gone_from(control: &Control, stamp: u32) -> bool
 fn begin_by_line(known: &Line, op: Op, noted: Control) -> Doing
     ensures { result ≡ doing_by_line known.now op noted }
 {
-    Doing {
-        entry: known.entry,
-        op,
-        noted,
-        first: None,
-        second: None,
-        seen: Some((known.dword0, known.dword1)),
-    }
+    Doing::new(known.entry, op, noted, Some((known.dword0, known.dword1)))
 }
 
 /// Notes the control word. `None` where the entry is gone from the line's stamp.
@@ -99,7 +91,7 @@ fn decide(
     // A lock, or a bit that another access raised, leaves the entry at the line's stamp.
     let control = control_of(found);
     if is_still(&control, doing) {
-        return Some(receipt(&with_noted(doing, control)));
+        return Some(receipt(&doing.with_noted(control)));
     }
     None
 }

@@ -1,14 +1,11 @@
 //! What an operation does, by what is known of its entry. It is computed once for a try, and again
 //! only where R or C were raised in between.
 ghost use Rattle.std.specs.Prelude.{◌≡◌};
-ghost use Rattle.basics.specs.Words.{bool_eq};
-ghost use Rattle.entry_model.specs.History.{state_eq};
 ghost use Rattle.lock_core.specs.Steps.{with_noted};
 ghost use Rattle.lock_core.specs.Words.{changes as changes_of, next_state as next_of, receipt as receipt_of};
 
-use crate::doings::with_noted;
 use entry_model::{EntryState, Receipt, reply};
-use lock_core::{Control, Doing, noted_state};
+use lock_core::{Control, Doing, noted_state, same_state};
 
 /// What an operation does.
 #[derive(Drop)]
@@ -19,23 +16,6 @@ pub struct Outcome {
     pub after: EntryState,
     /// It changes the entry.
     pub changes: bool,
-}
-
-/// Whether the two are the same.
-fn same_bit(a: bool, b: bool) -> bool
-    ensures { result ≡ bool_eq a b }
-{
-    if a { b } else { !b }
-}
-
-/// Whether the two states are the same.
-#[tactic(auto, unfolding(entry_model::specs::History::state_eq))]
-fn same_state(a: &EntryState, b: &EntryState) -> bool
-    ensures { result ≡ state_eq a.now b.now }
-{
-    let words = same_bit(a.valid, b.valid) && a.dword0 == b.dword0 && a.dword1 == b.dword1;
-    let bits = same_bit(a.referenced, b.referenced) && same_bit(a.changed, b.changed);
-    words && bits && a.stamp == b.stamp
 }
 
 /// What the operation does.
@@ -74,5 +54,5 @@ pub fn outcome_by(doing: &Doing, known: Outcome, found: Control) -> Outcome
     if found.referenced == doing.noted.referenced && found.changed == doing.noted.changed {
         return known;
     }
-    outcome_of(&with_noted(doing, found))
+    outcome_of(&doing.with_noted(found))
 }

@@ -36,7 +36,7 @@ pub use phase::Phase;
 pub use sighting::Sighting;
 pub use step::Step;
 pub use words::{
-    changes, is_noted, is_read, is_still, next_state, noted_state, receipt, settled_word, state_of,
+    is_noted, is_read, is_still, noted_state, receipt, same_state, settled_word, state_of,
 };
 
 #[cfg(test)]

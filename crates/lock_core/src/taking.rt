@@ -110,20 +110,6 @@ fn stored(second: bool, state: &EntryState, entry: &Entry) -> Entry
     next
 }
 
-/// An operation that begins at this control word.
-fn begun(entry: u32, op: Op, noted: Control, seen: Option<(u64, u64)>) -> Doing
-    ensures { result ≡ begun_by entry op noted seen }
-{
-    Doing {
-        entry,
-        op,
-        noted,
-        first: None,
-        second: None,
-        seen,
-    }
-}
-
 /// The lock step: it takes the entry where nobody holds it.
 fn lock(entry: &Entry, e: u32, op: Op) -> StepResult
     ensures { result
@@ -137,7 +123,7 @@ fn lock(entry: &Entry, e: u32, op: Op) -> StepResult
     }
     let mut next = *entry;
     next.control.locked = true;
-    goes_on(next, Phase::Held(begun(e, op, entry.control, None)))
+    goes_on(next, Phase::Held(Doing::new(e, op, entry.control, None)))
 }
 
 /// The first look: an entry that is shut is left.
@@ -150,16 +136,10 @@ fn look(entry: &Entry, e: u32, op: Op, seen: Option<(u64, u64)>) -> StepResult
     if entry.control.shut {
         return goes_on(*entry, Phase::Idle);
     }
-    goes_on(*entry, Phase::Looked(begun(e, op, entry.control, seen)))
-}
-
-/// The operation by the control word that was found.
-fn noting(doing: Doing, found: Control) -> Doing
-    ensures { result ≡ noting_of doing found }
-{
-    let mut next = doing;
-    next.noted = found;
-    next
+    goes_on(
+        *entry,
+        Phase::Looked(Doing::new(e, op, entry.control, seen)),
+    )
 }
 
 /// The shut step: the word found has the R and C that count.
@@ -168,7 +148,7 @@ fn shut(entry: &Entry, doing: Doing) -> StepResult
 {
     let mut next = *entry;
     next.control.shut = true;
-    goes_on(next, Phase::HeldShut(noting(doing, entry.control)))
+    goes_on(next, Phase::HeldShut(doing.with_noted(entry.control)))
 }
 
 /// The release step: the word found has the R and C before.
@@ -178,7 +158,7 @@ fn release(entry: &Entry, doing: Doing) -> StepResult
 {
     let mut next = *entry;
     next.control.locked = false;
-    ends(next, receipt(&noting(doing, entry.control)))
+    ends(next, receipt(&doing.with_noted(entry.control)))
 }
 
 /// The settle step.
@@ -201,7 +181,7 @@ fn second_look(entry: &Entry, doing: Doing) -> StepResult
         return ends(*entry, receipt(&doing));
     }
     if is_still(&entry.control, &doing) {
-        return ends(*entry, receipt(&noting(doing, entry.control)));
+        return ends(*entry, receipt(&doing.with_noted(entry.control)));
     }
     goes_on(*entry, Phase::Idle)
 }

@@ -101,7 +101,7 @@ pub fn next_state(doing: &Doing) -> EntryState
 
 /// Whether the two states are the same.
 #[tactic(auto, unfolding(entry_model::specs::History::state_eq))]
-fn same_state(a: &EntryState, b: &EntryState) -> bool
+pub fn same_state(a: &EntryState, b: &EntryState) -> bool
     ensures { result ≡ state_eq a.now b.now }
 {
     let words = same_bit(a.valid, b.valid) && a.dword0 == b.dword0 && a.dword1 == b.dword1;

@@ -5,6 +5,7 @@ pub mod RunFollows
 pub mod OperationLaws
 pub mod LineLaws
 pub mod Sorted
+pub mod Places
 pub mod RunHistory
 pub mod Regroup
 pub mod Trials

@@ -1,8 +1,8 @@
 -- The laws of replies, of histories and of fronts. Whoever changes the words of an entry one at a time rests on these, and on nothing else of the table of operations.
-use Rattle.std.specs.Prelude.{ℕ, ◌==◌, List, filter, ◌≡◌, ◌+◌, ◌*◌, ◌≤◌, max, [], ◌∷◌, ◌++◌, length, map, slice_set, slice_index_or, ◌⊎◌, ◌<◌, ◌^◌, Bool, true, false}
+use Rattle.std.specs.Prelude.{ℕ, ◌==◌, ◌&&◌, ◌||◌, nat_lt, nat_le, if◌then◌else◌, List, filter, ◌≡◌, ◌+◌, ◌*◌, ◌≤◌, max, [], ◌∷◌, ◌++◌, length, map, slice_set, slice_index_or, ◌⊎◌, ◌<◌, ◌^◌, Bool, true, false}
 use Rattle.entry_model.specs.CachedLines.{AllLater}
-use Rattle.entry_model.specs.History.{IsLegal, history, Regrouped}
-use Rattle.entry_model.specs.Receipt.{is_access, is_decided, is_at}
+use Rattle.entry_model.specs.History.{IsLegal, bits, state_eq, precedes, history, Regrouped}
+use Rattle.entry_model.specs.Receipt.{is_access, is_decided, is_at, after_of}
 use Rattle.entry_model.specs.Reply.{reply_of}
 use Rattle.entry_model.specs.State.{State, IsCanonicalState, OnlyRaisesBits, with_these_bits}
 use Rattle.entry_model.specs.declared.line.Line.{Line}
@@ -67,6 +67,23 @@ RepliesStayCanonical =
 -- Stamps stay below 2 ^ 32.
 abbrev pub StampsStayLow : Type 0
 StampsStayLow = (s : State) (op : Op) → s.stamp < 2 ^ 32 → (reply_of s op).1.stamp < 2 ^ 32
+
+-- ---- places
+-- 1 where the operation changes the entry, else 0.
+abbrev pub change_of : Receipt → ℕ
+change_of r = if state_eq (after_of r) r.before then 0 else 1
+
+-- By the stamp before; of one stamp by the number of bits before; of one number, what changes nothing comes first.
+abbrev pub compares_before : Receipt → Receipt → Bool
+compares_before x y =
+    nat_lt x.before.stamp y.before.stamp
+    || ((x.before.stamp == y.before.stamp)
+    && (nat_lt (bits x.before) (bits y.before)
+    || ((bits x.before == bits y.before) && nat_le (change_of x) (change_of y))))
+
+-- Places compare as these three do from the left.
+abbrev pub PlacesCompareFromTheLeft : Type 0
+PlacesCompareFromTheLeft = (x y : Receipt) → precedes x y ≡ compares_before x y
 
 -- ---- histories
 -- Receipts of an entry that were made one after the other are a legal history, in whatever order all receipts are listed.

@@ -1,7 +1,7 @@
 //! Laws of replies, and of receipts in histories. Each function does nothing, and its contract is the
 //! law.
 
-ghost use Rattle.entry_model.specs.Laws.{AccessesOnlyRaiseBits, OnlyAtTouches, EmptyStaysEmpty, StillAccessesStayStill, OthersRaiseStamps, OthersIgnoreBits, DecidedIsValid, RepliesStayCanonical, StampsStayLow, LoggedHistoriesAreLegal, FrontsCompose, FrontsNeverFall, ReceiptsOfGoneLinesAreLater};
+ghost use Rattle.entry_model.specs.Laws.{AccessesOnlyRaiseBits, OnlyAtTouches, EmptyStaysEmpty, StillAccessesStayStill, OthersRaiseStamps, OthersIgnoreBits, DecidedIsValid, RepliesStayCanonical, StampsStayLow, PlacesCompareFromTheLeft, LoggedHistoriesAreLegal, FrontsCompose, FrontsNeverFall, ReceiptsOfGoneLinesAreLater};
 
 /// An access leaves an entry's doublewords and its stamp, and lowers no bit.
 pub fn accesses_only_raise_bits()
@@ -47,6 +47,12 @@ pub fn replies_stay_canonical()
 /// Stamps stay below `2^32`.
 pub fn stamps_stay_low()
     ensures { StampsStayLow }
+{}
+
+/// Places of receipts compare by the stamp before, then by the number of bits before, and then what
+/// changes nothing comes first.
+pub fn places_compare_from_the_left()
+    ensures { PlacesCompareFromTheLeft }
 {}
 
 /// Receipts of an entry that were made one after the other are a legal history, however all receipts

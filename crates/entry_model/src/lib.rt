@@ -26,8 +26,8 @@ pub use hreply::HReply;
 pub use laws::{
     accesses_only_raise_bits, decided_is_valid, empty_stays_empty, fronts_compose,
     fronts_never_fall, logged_histories_are_legal, only_at_touches, others_ignore_bits,
-    others_raise_stamps, receipts_of_gone_lines_are_later, replies_stay_canonical, stamps_stay_low,
-    still_accesses_stay_still,
+    others_raise_stamps, places_compare_from_the_left, receipts_of_gone_lines_are_later,
+    replies_stay_canonical, stamps_stay_low, still_accesses_stay_still,
 };
 pub use line::Line;
 pub use lists::{Receipts, ReplyWords};

@@ -60,7 +60,13 @@ impl ForLineLook for Brand {
     ghost use Rattle.power_addr.specs.Pages.{virtual_page};
     ghost use Rattle.entry_model.specs.declared.operation.Op.TheVariants.{Read};
 
-    ghost cached = { record { page = virtual_page false 0 0 0; entry = 0; stamp = 0; dword0 = 0; dword1 = 0 } };
+    ghost cached = { record {
+      page = virtual_page false 0 0 0;
+      entry = 0;
+      stamp = 0;
+      dword0 = 0;
+      dword1 = 0;
+    } };
 
     ghost op = { Read };
 }
@@ -81,7 +87,13 @@ impl ForLineDoing for Brand {
     ghost use Rattle.power_addr.specs.Pages.{virtual_page};
     ghost use Rattle.entry_model.specs.declared.operation.Op.TheVariants.{Read};
 
-    ghost cached = { record { page = virtual_page false 0 0 0; entry = 0; stamp = 0; dword0 = 0; dword1 = 0 } };
+    ghost cached = { record {
+      page = virtual_page false 0 0 0;
+      entry = 0;
+      stamp = 0;
+      dword0 = 0;
+      dword1 = 0;
+    } };
 
     ghost doing = { record {
       entry = 0;

@@ -54,26 +54,37 @@ pub trait EntryStore {
     ghost made_none: { (s : Self) → made s s [] };
 
     /// What was made in two stretches of time, one behind the other, was made in both together.
-    ghost made_more: { (a b c : Self) (xs ys : List Receipt) → made a b xs → made b c ys → made a c (xs ++ ys) };
+    ghost made_more: { (first between last : Self) (early late : List Receipt)
+        → made first between early
+        → made between last late
+        → made first last (early ++ late) };
 
     /// No call changes the order.
-    ghost order_stays: { (a b : Self) (xs : List Receipt) → made a b xs → table_order b ≡ table_order a };
+    ghost order_stays: { (before after : Self) (receipts : List Receipt)
+        → made before after receipts
+        → table_order after ≡ table_order before };
 
     /// What was seen of an entry holds of it from then on.
-    ghost seen_stays: { (a b : Self) (xs : List Receipt) (line : Line) → made a b xs → seen a line → seen b line };
+    ghost seen_stays: { (before after : Self) (receipts : List Receipt) (line : Line)
+        → made before after receipts
+        → seen before line
+        → seen after line };
 
     /// An answer that used an entry's translation shows the entry's line.
-    ghost shown_is_seen: { (a b : Self) (xs : List Receipt) (line : Line)
-        → made a b xs
-        → ShowsLine line xs
-        → seen b line };
+    ghost shown_is_seen: { (before after : Self) (receipts : List Receipt) (line : Line)
+        → made before after receipts
+        → ShowsLine line receipts
+        → seen after line };
 
     /// An entry never comes back to a stamp that it has left.
-    ghost gone_stays: { (a b : Self) (xs : List Receipt) (line : Line) → made a b xs → gone a line → gone b line };
+    ghost gone_stays: { (before after : Self) (receipts : List Receipt) (line : Line)
+        → made before after receipts
+        → gone before line
+        → gone after line };
 
     /// Receipts of an entry that had left the line's stamp come after the line.
-    ghost later_than_gone: { (a b : Self) (xs : List Receipt) (line : Line)
-        → made a b xs
-        → gone a line
-        → AllLater line xs };
+    ghost later_than_gone: { (before after : Self) (receipts : List Receipt) (line : Line)
+        → made before after receipts
+        → gone before line
+        → AllLater line receipts };
 }

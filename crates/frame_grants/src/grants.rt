@@ -22,11 +22,17 @@ impl Model for Grants {
 
     ghost Value = { GrantedMemory };
 
-    ghost view = { λ g. record { pool_base = g.pool_base; pool_order = g.pool_order; grants = g.items.items } };
+    ghost view = { λ g. record {
+      pool_base = g.pool_base;
+      pool_order = g.pool_order;
+      grants = g.items.items;
+    } };
 
-    ghost invariant = { λ g.
-        IsSound
-        (record { pool_base = g.pool_base; pool_order = g.pool_order; grants = g.items.items }) };
+    ghost invariant = { λ g. IsSound (record {
+      pool_base = g.pool_base;
+      pool_order = g.pool_order;
+      grants = g.items.items;
+    }) };
 }
 
 impl Grants {

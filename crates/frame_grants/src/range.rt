@@ -14,7 +14,9 @@ fn is_below_end(address: u64, start: u64, length: u64) -> bool
 /// Whether two ranges meet, each given by its start and its length.
 pub fn ranges_meet(start: u64, length: u64, other: u64, other_length: u64) -> bool
     ensures value { result ≡ ranges_meet start length other other_length }
-    ensures share { 0 < length → 0 < other_length → IsTrue result ↔ ShareAddress start length other other_length }
+    ensures share { 0 < length
+        → 0 < other_length
+        → (IsTrue result ↔ ShareAddress start length other other_length) }
 {
     is_below_end(start, other, other_length) && is_below_end(other, start, length)
 }

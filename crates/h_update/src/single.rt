@@ -49,7 +49,8 @@ fn code_and_words(receipt: &Receipt, shown: ShownWords) -> (Rc, ReplyWords)
 fn single<T: EntryStore>(store: &mut T, ptex: u64, op: Op, shown: ShownWords) -> HReply
     requires { IsNormal op }
     ensures made { T.made store.old store.new result.receipts }
-    ensures reply { IsReplyOf (plans.single_plan (T.table_order store.old) ptex op (words_shown shown)) result }
+    ensures reply { let order = T.table_order store.old in
+        IsReplyOf (plans.single_plan order ptex op (words_shown shown)) result }
 {
     if ptex >= u64::from(entry_count(store.order())) {
         return HReply::without_receipts(Rc::Parameter);

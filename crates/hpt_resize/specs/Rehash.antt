@@ -77,6 +77,11 @@ unfoldable pub rehashed_states : ℕ → ℕ → List State → List State
 rehashed_states from to states = map (entry_at from to states) (range_with_len 0 (entry_count to))
 
 -- ---- the same as relations
+-- No entry before an index goes to this target.
+abbrev pub NoneBefore : ℕ → ℕ → List State → ℕ → ℕ → Type 0
+NoneBefore from to states second target =
+    (index : ℕ) → index < second → target_at from to states index ≢ Some target
+
 -- Before an index no two entries go to one target.
 abbrev pub AreApartBelow : ℕ → ℕ → List State → ℕ → Type 0
 AreApartBelow from to states index =
@@ -92,8 +97,7 @@ pub record IsCollision (from to : ℕ) (states : List State) (collision : Collis
   pub in_table : collision.second < length states
   pub first_goes : target_at from to states collision.first ≡ Some collision.target
   pub second_goes : target_at from to states collision.second ≡ Some collision.target
-  pub first_is_lowest :
-      (k : ℕ) → k < collision.first → target_at from to states k ≢ Some collision.target
+  pub first_is_lowest : NoneBefore from to states collision.first collision.target
   pub second_is_lowest : AreApartBelow from to states collision.second
 
 -- The entries before an index are carried: no two of them go to one target, each is at its target with its doublewords, R and C, at stamp 0, and every other entry of the new table is empty at stamp 0.
@@ -106,6 +110,6 @@ pub record IsPlacedBelow (from to : ℕ) (states new : List State) (index : ℕ)
       → state_at new target ≡ at_stamp_0 (state_at states k)
   pub others :
       (target : ℕ)
-      → ((k : ℕ) → k < index → target_at from to states k ≢ Some target)
+      → NoneBefore from to states index target
       → state_at new target ≡ empty_state 0
   pub differ : AreApartBelow from to states index

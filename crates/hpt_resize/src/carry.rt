@@ -1,8 +1,8 @@
-ghost use Rattle.std.specs.Prelude.{◌≡◌, ◌≢◌, ℕ, ◌-◌, ◌^◌, ◌<◌, ◌≤◌, length, Option, Some, None, IsOk, IfErr, OnOk, MatchOption, MatchResult, replicate, vec_len};
+ghost use Rattle.std.specs.Prelude.{◌≡◌, ◌-◌, ◌^◌, ◌<◌, ◌≤◌, length, Option, Some, None, IsOk, IfErr, OnOk, MatchOption, MatchResult, replicate, vec_len};
 ghost use Rattle.hpte_fields.specs.TableSize.{entry_count};
 ghost use Rattle.entry_model.specs.State.{State, empty_state};
 ghost use Rattle.entry_model.specs.Run.{state_at};
-ghost use Rattle.hpt_resize.specs.Rehash.{target_of, target_at, at_stamp_0, first_with, collision_of, rehashed_states, IsCollision, IsPlacedBelow};
+ghost use Rattle.hpt_resize.specs.Rehash.{target_of, target_at, at_stamp_0, first_with, collision_of, rehashed_states, NoneBefore, IsCollision, IsPlacedBelow};
 
 use entry_model::EntryState;
 use hpt_hash::{groups, page_of};
@@ -109,14 +109,11 @@ fn first(order_from: u8, order_to: u8, states: &[EntryState], second: usize, tar
     requires to_high { order_to ≤ 22 }
     requires whole { length states.now ≡ entry_count order_from }
     requires in_table { second < length states.now }
-    requires taken { ((index : ℕ)
-        → index < second
-        → target_at order_from order_to states.now index ≢ Some target)
-        → ⊥ }
+    requires taken { NoneBefore order_from order_to states.now second target → ⊥ }
     ensures found { first_with order_from order_to states.now second target ≡ Some result }
     ensures below { result < second }
     ensures goes { target_at order_from order_to states.now result ≡ Some target }
-    ensures lowest { (index : ℕ) → index < result → target_at order_from order_to states.now index ≢ Some target }
+    ensures lowest { NoneBefore order_from order_to states.now result target }
 {
     for index in 0..second {
         if target_index(order_from, order_to, states[index], index) == Some(target) {

@@ -29,11 +29,26 @@ impl Model for Page {
 
     ghost Value = { VirtualPage };
 
-    ghost view = { λ p. record { one_tb = p.one_tb; vsid = p.vsid; shift = p.shift; index = p.index } };
+    ghost view = { λ page. record {
+      one_tb = page.one_tb;
+      vsid = page.vsid;
+      shift = page.shift;
+      index = page.index;
+    } };
 
-    ghost invariant = { λ p. IsPage (record { one_tb = p.one_tb; vsid = p.vsid; shift = p.shift; index = p.index }) };
+    ghost invariant = { λ page. IsPage (record {
+      one_tb = page.one_tb;
+      vsid = page.vsid;
+      shift = page.shift;
+      index = page.index;
+    }) };
 
-    ghost inverse = { λ p. record { one_tb = p.one_tb; vsid = p.vsid; shift = p.shift; index = p.index } };
+    ghost inverse = { λ page. record {
+      one_tb = page.one_tb;
+      vsid = page.vsid;
+      shift = page.shift;
+      index = page.index;
+    } };
 }
 
 impl Page {

@@ -1,12 +1,13 @@
 -- What tries of `Waiting` leave.
-use Rattle.std.proofs.Common.{◌≡◌, ℕ, zero, suc, ◌+◌, ◌*◌, ◌≤◌, List, [], ◌∷◌, ◌++◌, length, refl, sym, ap, ◌∙◌, subst, arith, append-nil}
+use Rattle.std.proofs.Common.{◌≡◌, ℕ, zero, suc, ◌+◌, ◌*◌, ◌≤◌, List, [], ◌∷◌, ◌++◌, flat_map, length, refl, sym, ap, ◌∙◌, subst, arith, append-nil}
 use Rattle.entry_model.specs.declared.line.Line.{Line}
 use Rattle.entry_model.specs.declared.receipt.Receipt.{Receipt}
 use Rattle.entry_model.specs.Fronts.{front_at, AreBelow, KeepsFronts}
+use Rattle.lock_core.specs.Machine.{shown_sightings}
 use Rattle.entry_lock.specs.declared.rule.View.{View}
 use Rattle.entry_lock.specs.StepViews.{raised_fronts}
 use Rattle.entry_lock.specs.PassChanges.{FindsGone}
-use Rattle.entry_lock.specs.WaitingStore.{lines_of, MadeReceipts}
+use Rattle.entry_lock.specs.WaitingStore.{MadeReceipts}
 
 raised_size : (f : List ℕ) (e n : ℕ) → length (raised_fronts f e n) ≡ length f
 raised_size [] e n = refl
@@ -30,4 +31,4 @@ receipts_gone v w line l = record {
 
 -- From a view with the same receipts, lines and fronts.
 pub receipts_from : (u v w : View) (rs : List Receipt) → v.actor.receipts ≡ u.actor.receipts → v.actor.lines ≡ u.actor.lines → v.fronts ≡ u.fronts → v.numbers ≡ u.numbers → MadeReceipts v w rs → MadeReceipts u w rs
-receipts_from u v w rs receipts lines fronts numbers g = record { numbers = g.numbers ∙ numbers; receipts = g.receipts ∙ ap (λ l. l ++ rs) receipts; lines = g.lines ∙ ap (λ l. l ++ lines_of rs) lines; fronts = subst (λ f. KeepsFronts f rs w.fronts) fronts g.fronts }
+receipts_from u v w rs receipts lines fronts numbers g = record { numbers = g.numbers ∙ numbers; receipts = g.receipts ∙ ap (λ l. l ++ rs) receipts; lines = g.lines ∙ ap (λ l. l ++ flat_map shown_sightings rs) lines; fronts = subst (λ f. KeepsFronts f rs w.fronts) fronts g.fronts }

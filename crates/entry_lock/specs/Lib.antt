@@ -15,6 +15,5 @@ pub mod Progress
 pub mod PassOfTable
 pub mod Closing
 pub mod WaitingStore
-pub mod WaitingLaws
 pub mod Operations
 pub mod Laws

@@ -1,5 +1,6 @@
 -- What holds of a table and of a pass between calls, and of a pass that takes a step.
 use Rattle.std.specs.Prelude.{◌≡◌, ℕ, ◌+◌, ◌-◌, ◌*◌, ◌^◌, ◌<◌, ◌≤◌, true, List, [], length}
+use Rattle.hpte_fields.specs.TableSize.{entry_count}
 use Rattle.atomic_table.specs.Table.{Me}
 use Rattle.atomic_table.specs.Seated.{TableId}
 use Rattle.entry_model.specs.State.{State}
@@ -30,7 +31,7 @@ pub record IsAt (table seat : TableId) (key : Opening) (me : Me ℕ View) : Type
 pub record IsSized (table : TableId) (key : Opening) (order : ℕ) : Type 0 where
   pub none : table.slots ≡ 0
   pub words : table.words ≡ 3 * length (states_of key) + 1
-  pub size : length (states_of key) ≡ 2 ^ (order - 4)
+  pub size : length (states_of key) ≡ entry_count order
   pub low : 18 ≤ order
   pub high : order ≤ 22
 

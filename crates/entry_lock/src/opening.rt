@@ -1,5 +1,6 @@
 //! Opening a table.
 ghost use Rattle.std.specs.Prelude.{◌≡◌, ◌+◌, ◌-◌, ◌*◌, ◌<◌, ◌≤◌, ◌^◌, [], ◌∷◌, length, All, IfOk, IfErr, vec_len, vec_capacity};
+ghost use Rattle.hpte_fields.specs.TableSize.{entry_count};
 ghost use Rattle.entry_model.specs.Fronts.{opening_fronts};
 ghost use Rattle.lock_core.specs.Laws.{IsFair};
 ghost use Rattle.entry_lock.specs.Layout.{entry_words};
@@ -94,7 +95,7 @@ impl LockTable {
     ) -> Result<(LockTable, Pass), OpenRefused>
         requires low { 18 ≤ order }
         requires high { order ≤ 22 }
-        requires whole { vec_len states ≡ 2 ^ (order - 4) }
+        requires whole { vec_len states ≡ entry_count order }
         requires some_pass { 0 < passes }
         requires few { passes ≤ 64 }
         ensures table { IfOk result (λ r. IsOf r.0 r.1) }

@@ -1,5 +1,6 @@
 //! What a pass does: tries of operations, splits and joins.
 ghost use Rattle.std.specs.Prelude.{◌≡◌, ◌⊎◌, ℕ, ◌+◌, ◌-◌, ◌<◌, ◌≤◌, ◌^◌, [], ◌++◌, length, IfOk, IfErr, IfSome, IfNone, IsOk, MatchBool};
+ghost use Rattle.hpte_fields.specs.TableSize.{entry_count};
 ghost use Rattle.entry_model.specs.declared.line.Line.{Line as LineOf};
 ghost use Rattle.entry_model.specs.Receipt.{is_access as is_access_of, IsReceiptOf};
 ghost use Rattle.entry_model.specs.CachedLines.{IsAccessOf, IsCurrent};
@@ -43,7 +44,7 @@ impl Pass {
         pause: &P,
     ) -> Result<Receipt, Busy>
         requires table { IsOf table.now self.old }
-        requires in_table { entry < 2 ^ (table.now.order - 4) }
+        requires in_table { entry < entry_count table.now.order }
         ensures table { IsOf table.now self.new }
         ensures shares { self.new.shares ≡ self.old.shares }
         ensures receipt { IfOk result (λ r. IsReceiptOf entry op r) }
@@ -67,7 +68,7 @@ impl Pass {
     /// changing the control word. Then nothing was made. A pass with all shares is never busy.
     pub fn try_apply(&mut self, table: &LockTable, entry: u32, op: Op) -> Result<Receipt, Busy>
         requires table { IsOf table.now self.old }
-        requires in_table { entry < 2 ^ (table.now.order - 4) }
+        requires in_table { entry < entry_count table.now.order }
         ensures table { IsOf table.now self.new }
         ensures shares { self.new.shares ≡ self.old.shares }
         ensures receipt { IfOk result (λ r. IsReceiptOf entry op r) }
@@ -93,7 +94,7 @@ impl Pass {
         op: Op,
     ) -> Result<Option<Receipt>, Busy>
         requires table { IsOf table.now self.old }
-        requires in_table { known.now.entry < 2 ^ (table.now.order - 4) }
+        requires in_table { known.now.entry < entry_count table.now.order }
         requires seen { IsSeen (view_of self.old).actor.lines table.now.opening.items known.now }
         requires access { IsAccessOf known.now op }
         ensures table { IsOf table.now self.new }

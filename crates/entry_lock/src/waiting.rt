@@ -48,12 +48,20 @@ impl<'a, R, P> Waiting<'a, R, P> {
 }
 
 impl<'a, R: Wait, P: Pause> EntryStore for Waiting<'a, R, P> {
-    ghost use Rattle.std.specs.Prelude.{◌≡◌};
-    ghost use Rattle.std.proofs.Common.{refl, sym, ap, ◌∙◌, subst};
+    ghost use Rattle.std.specs.Prelude.{◌≡◌, ◌<◌, [], ◌++◌, flat_map, Contains};
+    ghost use Rattle.std.proofs.Common.{refl, sym, ap, ◌∙◌, subst, inl, append_assoc, append-nil};
+    ghost use Rattle.std.proofs.Math.Logic.{⊎_map};
+    ghost use Rattle.std.proofs.lemmas.Grind.{flat_map-append};
+    ghost use Rattle.std.proofs.lemmas.List.Elements.{All-nil, All-append, Contains-append_left, Contains-append_right};
+    ghost use Rattle.hpte_fields.specs.TableSize.{entry_count};
     ghost use Rattle.entry_model.specs.Fronts.{IsGone};
+    ghost use Rattle.entry_model.proofs.FrontLaws.{below_self, keeps_more, keeps_below, gone_on, gone_past};
+    ghost use Rattle.entry_model.proofs.LineLaws.{shown_entry};
+    ghost use Rattle.lock_core.specs.Machine.{shown_sightings};
+    ghost use Rattle.lock_core.specs.Laws.{sighting_by};
+    ghost use Rattle.lock_core.proofs.Shown.{shown_line};
     ghost use Rattle.entry_lock.specs.PassOfTable.{view_of};
-    ghost use Rattle.entry_lock.specs.WaitingStore.{MadeInTable, IsSeenInTable};
-    ghost use Rattle.entry_lock.specs.WaitingLaws.{made_none_by, made_more_by, seen_stays_by, shown_seen_by, gone_later, past_gone};
+    ghost use Rattle.entry_lock.specs.WaitingStore.{IsInTable, MadeReceipts, MadeInTable, IsSeenInTable};
 
     // The pass made just these receipts, on entries of the same table.
     ghost made = { λ a b rs.
@@ -92,32 +100,77 @@ impl<'a, R: Wait, P: Pause> EntryStore for Waiting<'a, R, P> {
         unreachable!()
     }
 
-    ghost made_none = { λ s. (made_none_by s.table.now.order (view_of s.pass), refl) };
+    ghost made_none = { λ s.
+        let v = view_of s.pass in
+        let made : MadeReceipts v v [] = record {
+          receipts = sym (append-nil v.actor.receipts);
+          lines = sym (append-nil v.actor.lines);
+          fronts = below_self v.fronts;
+          numbers = refl;
+        } in
+        (record { made = made; inside = All-nil (IsInTable s.table.now.order) }, refl) };
 
-    ghost made_more = { λ a b c xs ys h k. (
-      made_more_by a.table.now.order (view_of a.pass) (view_of b.pass) (view_of c.pass)
-          xs ys h.0
-          (subst (λ t. MadeInTable t.order (view_of b.pass) (view_of c.pass) ys) h.1 k.0),
-      k.1 ∙ h.1,
-    ) };
+    ghost made_more = { λ first between last early late before after.
+        let u = view_of first.pass in
+        let v = view_of between.pass in
+        let w = view_of last.pass in
+        let inside = IsInTable first.table.now.order in
+        let a = before.0 in
+        let b : MadeInTable first.table.now.order v w late =
+        subst (λ t. MadeInTable t.order v w late) before.1 after.0 in
+        let made : MadeReceipts u w (early ++ late) = record {
+          receipts =
+              b.made.receipts ∙ ap (λ l. l ++ late) a.made.receipts
+              ∙ append_assoc u.actor.receipts early late;
+          lines =
+              b.made.lines ∙ ap (λ l. l ++ flat_map shown_sightings late) a.made.lines
+              ∙ append_assoc u.actor.lines (flat_map shown_sightings early)
+              (flat_map shown_sightings late)
+              ∙ ap (λ l. u.actor.lines ++ l) (sym (flat_map-append shown_sightings early late));
+          fronts = keeps_more u.fronts v.fronts w.fronts early late a.made.fronts b.made.fronts;
+          numbers = b.made.numbers ∙ a.made.numbers;
+        } in (
+          record { made = made; inside = All-append inside early late a.inside b.inside },
+          after.1 ∙ before.1,
+        ) };
 
-    ghost order_stays = { λ a b xs h. ap (λ t. t.order) h.1 };
+    ghost order_stays = { λ before after receipts made. ap (λ t. t.order) made.1 };
 
-    ghost seen_stays = { λ a b xs cached h seen.
-        subst
-        (λ t. IsSeenInTable t.order (view_of b.pass).actor.lines t.opening.items cached)
-        (sym h.1)
-        (seen_stays_by a.table.now.order (view_of a.pass) (view_of b.pass) xs
-        a.table.now.opening.items cached h.0 seen) };
+    ghost seen_stays = { λ before after receipts cached made seen.
+        let v = view_of before.pass in
+        let w = view_of after.pass in
+        let table = before.table.now in
+        let longer = λ had.
+        subst (λ l. Contains l (sighting_by cached)) (sym made.0.made.lines)
+        (Contains-append_left v.actor.lines (flat_map shown_sightings receipts)
+        (sighting_by cached) had) in
+        let now : IsSeenInTable table.order w.actor.lines table.opening.items cached =
+        record { inside = seen.inside; seen = ⊎_map longer (λ holds. holds) seen.seen } in
+        subst (λ t. IsSeenInTable t.order w.actor.lines t.opening.items cached) (sym made.1) now };
 
-    ghost shown_is_seen = { λ a b xs cached h shows.
-        subst
-        (λ t. IsSeenInTable t.order (view_of b.pass).actor.lines t.opening.items cached)
-        (sym h.1)
-        (shown_seen_by a.table.now.order (view_of a.pass) (view_of b.pass) xs
-        a.table.now.opening.items cached h.0 shows) };
+    ghost shown_is_seen = { λ before after receipts cached made shows.
+        let v = view_of before.pass in
+        let w = view_of after.pass in
+        let table = before.table.now in
+        let listed =
+        subst (λ l. Contains l (sighting_by cached)) (sym made.0.made.lines)
+        (Contains-append_right v.actor.lines (flat_map shown_sightings receipts)
+        (sighting_by cached) (shown_line receipts cached shows)) in
+        let now : IsSeenInTable table.order w.actor.lines table.opening.items cached = record {
+          inside =
+              shown_entry (λ entry. entry < entry_count table.order) receipts cached
+              made.0.inside shows;
+          seen = inl listed;
+        } in
+        subst (λ t. IsSeenInTable t.order w.actor.lines t.opening.items cached) (sym made.1) now };
 
-    ghost gone_stays = { λ a b xs cached h gone. gone_later (view_of a.pass) (view_of b.pass) xs cached h.0.made gone };
+    ghost gone_stays = { λ before after receipts cached made gone.
+        let old = (view_of before.pass).fronts in
+        let new = (view_of after.pass).fronts in
+        gone_on old new cached (keeps_below old new receipts made.0.made.fronts) gone };
 
-    ghost later_than_gone = { λ a b xs cached h gone. past_gone (view_of a.pass) (view_of b.pass) xs cached h.0.made gone };
+    ghost later_than_gone = { λ before after receipts cached made gone.
+        let old = (view_of before.pass).fronts in
+        let new = (view_of after.pass).fronts in
+        gone_past old new receipts cached made.0.made.fronts gone };
 }

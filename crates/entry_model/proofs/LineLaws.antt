@@ -1,7 +1,8 @@
 -- What operations leave of lines: a line that holds of its entry's state holds from then on, and what has left its stamp never comes back.
 use Rattle.std.specs.Prelude.{IsTrue, ◌==◌}
-use Rattle.std.proofs.Common.{◌≡◌, ℕ, ◌<◌, List, [], ◌∷◌, true, ap, sym, ◌∙◌, refl, subst, inl, inr, arith}
+use Rattle.std.proofs.Common.{◌≡◌, ℕ, ◌<◌, List, [], ◌∷◌, All, true, ap, sym, ◌∙◌, refl, subst, inl, inr, arith}
 use Rattle.std.proofs.lemmas.Bool.{eq-eqb}
+use Rattle.std.proofs.lemmas.List.Elements.{All-head, All-tail}
 use Rattle.entry_model.specs.State.{State}
 use Rattle.entry_model.specs.declared.line.Line.{Line}
 use Rattle.entry_model.specs.declared.operation.Op.{Op}
@@ -38,6 +39,12 @@ pub run_shows : (a b : List State) (rs : List Receipt) (line : Line) → IsRun a
 run_shows a b [] line h shows = absurd shows
 run_shows a b (r ∷ rs) line h (inl here) = holds_on line _ _ (run_follows h.0 b rs line.entry h.2) (shown_here a h.0 r line h.1 here.0 here.1)
 run_shows a b (r ∷ rs) line h (inr there) = run_shows h.0 b rs line h.2 there
+
+-- What holds of the entry of each receipt holds of the entry of a line that they show.
+pub shown_entry : (P : ℕ → Type 0) (rs : List Receipt) (line : Line) → All (λ (r : Receipt). P r.entry) rs → ShowsLine line rs → P line.entry
+shown_entry P [] line all shows = absurd shows
+shown_entry P (r ∷ rs) line all (inl here) = subst P (sym here.1.entry) (All-head (λ (r : Receipt). P r.entry) r rs all)
+shown_entry P (r ∷ rs) line all (inr there) = shown_entry P rs line (All-tail (λ (r : Receipt). P r.entry) r rs all) there
 
 -- ---- a line that is past
 past_on : (s t : State) (n : ℕ) → Follows s t → n < s.stamp → n < t.stamp

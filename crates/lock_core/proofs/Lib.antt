@@ -12,6 +12,7 @@ pub mod FrontsKept
 pub mod Listed
 pub mod Joining
 pub mod Telling
+pub mod Shown
 pub mod StateSteps
 mod FrontRows
 mod Rows

@@ -2,6 +2,7 @@
 use Rattle.std.proofs.Common.{◌≡◌, ℕ, ◌<◌, ◌+◌, ◌-◌, ◌^◌, ◌==◌, Bool, true, false, List, [], ◌∷◌, length, slice_set, nat_lt, flat_map, refl, ap, ◌∙◌, subst, inl, inr, ◌⊎◌, arith}
 use Rattle.std.proofs.lemmas.Bool.{cases_Bool, MatchBool-at_true, MatchBool-at_false, lt-ltb, ne_eqb}
 use Rattle.std.proofs.lemmas.List.{get_or-set_same, set-set}
+use Rattle.hpte_fields.specs.TableSize.{entry_count}
 use Rattle.papr_codes.specs.declared.codes.Rc.{Rc}
 use Rattle.papr_codes.specs.declared.codes.Rc.TheVariants.{Success}
 use Rattle.entry_model.specs.State.{State, empty_state}
@@ -77,16 +78,16 @@ stands states index dword0 dword1 mid made = ap (λ (xs : List State). state_at 
 abbrev read_plan : ℕ → Plan
 read_plan index = record { calls = call Read index ∷ []; goes_on = λ answer. true; told = λ rs. (Success, flat_map both_words rs) }
 
-plan_of_read : (order index : ℕ) → index < 2 ^ (order - 4) → h_read_plan order 0 index ≡ read_plan index
+plan_of_read : (order index : ℕ) → index < entry_count order → h_read_plan order 0 index ≡ read_plan index
 unfolding h_read_plan
-plan_of_read order index within = let here : nat_lt index (2 ^ (order - 4)) ≡ true = lt-ltb index (2 ^ (order - 4)) within in rw here refl
+plan_of_read order index within = let here : nat_lt index (entry_count order) ≡ true = lt-ltb index (entry_count order) within in rw here refl
 
 -- The words of a receipt of the entry that was entered.
 words_shown : (s : State) (dword0 dword1 : ℕ) (rs : List Receipt) (r : Receipt) → rs ≡ r ∷ [] → r.before ≡ state_by s dword0 dword1 → dword1 < 2 ^ 64 → both_words r ≡ dword0 ∷ dword1 ∷ []
 words_shown s dword0 dword1 rs r alone before low =
     ap (λ (t : State). (words_of t).0 ∷ (words_of t).1 ∷ []) before ∙ ap (λ word. dword0 ∷ word ∷ []) (put_back dword1 low)
 
-pub read_back : (order index dword0 dword1 : ℕ) (states mid new : List State) (reply : HReply) → index < 2 ^ (order - 4) → dword1 < 2 ^ 64 → IsEntered states index dword0 dword1 mid → IsReplyOf (h_read_plan order 0 index) reply → IsRun mid reply.receipts new → (reply.rc ≡ Success) × (reply.words ≡ dword0 ∷ dword1 ∷ [])
+pub read_back : (order index dword0 dword1 : ℕ) (states mid new : List State) (reply : HReply) → index < entry_count order → dword1 < 2 ^ 64 → IsEntered states index dword0 dword1 mid → IsReplyOf (h_read_plan order 0 index) reply → IsRun mid reply.receipts new → (reply.rc ≡ Success) × (reply.words ≡ dword0 ∷ dword1 ∷ [])
 read_back order index dword0 dword1 states mid new reply within low made is run =
     let by_plan : IsReplyOf (read_plan index) reply = subst (λ (plan : Plan). IsReplyOf plan reply) (plan_of_read order index within) is in
     let one = one_call (λ answer. true) mid (call Read index) reply.receipts new by_plan.trial run in
@@ -97,9 +98,9 @@ read_back order index dword0 dword1 states mid new reply within low made is run 
 abbrev remove_plan : ℕ → Plan
 remove_plan index = record { calls = call (Remove (remove_test 0 0)) index ∷ []; goes_on = λ answer. true; told = told_by both_words }
 
-plan_of_remove : (order index : ℕ) → index < 2 ^ (order - 4) → h_remove_plan order 0 index 0 ≡ remove_plan index
+plan_of_remove : (order index : ℕ) → index < entry_count order → h_remove_plan order 0 index 0 ≡ remove_plan index
 unfolding h_remove_plan
-plan_of_remove order index within = let here : nat_lt index (2 ^ (order - 4)) ≡ true = lt-ltb index (2 ^ (order - 4)) within in rw here refl
+plan_of_remove order index within = let here : nat_lt index (entry_count order) ≡ true = lt-ltb index (entry_count order) within in rw here refl
 
 remove_reply : (s : State) (dword0 dword1 : ℕ) → s.stamp + 1 < 2 ^ 32 - 1 → reply_of (state_by s dword0 dword1) (Remove (remove_test 0 0)) ≡ (Removed, empty_state (s.stamp + 1 + 1))
 remove_reply s dword0 dword1 low =
@@ -112,7 +113,7 @@ pub record IsRemoved (states : List State) (index dword0 dword1 : ℕ) (reply : 
   pub words : reply.words ≡ dword0 ∷ dword1 ∷ []
   pub again : new ≡ slice_set states index (empty_state ((state_at states index).stamp + 2))
 
-pub removed : (order index dword0 dword1 : ℕ) (states mid new : List State) (reply : HReply) → index < 2 ^ (order - 4) → dword1 < 2 ^ 64 → (state_at states index).stamp + 1 < 2 ^ 32 - 1 → IsEntered states index dword0 dword1 mid → IsReplyOf (h_remove_plan order 0 index 0) reply → IsRun mid reply.receipts new → IsRemoved states index dword0 dword1 reply new
+pub removed : (order index dword0 dword1 : ℕ) (states mid new : List State) (reply : HReply) → index < entry_count order → dword1 < 2 ^ 64 → (state_at states index).stamp + 1 < 2 ^ 32 - 1 → IsEntered states index dword0 dword1 mid → IsReplyOf (h_remove_plan order 0 index 0) reply → IsRun mid reply.receipts new → IsRemoved states index dword0 dword1 reply new
 removed order index dword0 dword1 states mid new reply within low fresh made is run =
     let by_plan : IsReplyOf (remove_plan index) reply = subst (λ (plan : Plan). IsReplyOf plan reply) (plan_of_remove order index within) is in
     let one = one_call (λ answer. true) mid (call (Remove (remove_test 0 0)) index) reply.receipts new by_plan.trial run in

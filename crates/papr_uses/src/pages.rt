@@ -1,4 +1,5 @@
 ghost use Rattle.std.specs.Prelude.{◌≡◌, ◌<◌, ◌≤◌, ◌-◌, ◌/◌, ◌^◌, IfSome};
+ghost use Rattle.hpte_fields.specs.TableSize.{entry_count};
 
 use hpt_hash::{groups, page_of};
 use hpte_fields::secondary;
@@ -8,7 +9,7 @@ use hpte_fields::secondary;
 pub fn group_of_entry(order: u8, index: u32, dword0: u64, dword1: u64) -> Option<u64>
     requires order_low { 18 ≤ order }
     requires order_high { order ≤ 22 }
-    requires in_table { index < 2 ^ (order - 4) }
+    requires in_table { index < entry_count order }
     ensures { IfSome result (λ group. group ≡ index / 8) }
 {
     let page = page_of(order, index, dword0, dword1)?;

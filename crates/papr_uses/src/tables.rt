@@ -1,4 +1,5 @@
 ghost use Rattle.std.specs.Prelude.{◌≡◌, ◌<◌, ◌+◌, ◌-◌, ◌^◌, false, Some, [], ◌∷◌, find, slice_set};
+ghost use Rattle.hpte_fields.specs.TableSize.{entry_count};
 ghost use Rattle.std.specs.List.{AllByRecursion};
 ghost use Rattle.papr_codes.specs.declared.codes.Rc.TheVariants.{Success};
 ghost use Rattle.hpte_fields.specs.Fields.{normal_words};
@@ -21,7 +22,7 @@ const EXACT: u64 = 0x80_0000_0000;
 
 /// Enters words into an empty entry, and reads it: what is read is what was entered.
 pub fn enter_and_read(table: &mut PlainTable, index: u64, dword0: u64, dword1: u64) -> HReply
-    requires in_table { index < 2 ^ (table.old.order - 4) }
+    requires in_table { index < entry_count table.old.order }
     requires normal { normal_words dword0 dword1 ≡ Some (dword0, dword1) }
     requires empty { (state_at table.old.states index).valid ≡ false }
     requires fresh { (state_at table.old.states index).stamp < 2 ^ 32 - 1 }
@@ -35,7 +36,7 @@ pub fn enter_and_read(table: &mut PlainTable, index: u64, dword0: u64, dword1: u
 
 /// Enters words into an empty entry, and removes them: the entry is empty again, two stamps later.
 pub fn enter_and_remove(table: &mut PlainTable, index: u64, dword0: u64, dword1: u64) -> HReply
-    requires in_table { index < 2 ^ (table.old.order - 4) }
+    requires in_table { index < entry_count table.old.order }
     requires normal { normal_words dword0 dword1 ≡ Some (dword0, dword1) }
     requires empty { (state_at table.old.states index).valid ≡ false }
     requires fresh { (state_at table.old.states index).stamp + 1 < 2 ^ 32 - 1 }

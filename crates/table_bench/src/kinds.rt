@@ -1,5 +1,6 @@
 //! A run over each kind of table.
 ghost use Rattle.std.specs.Prelude.{◌≡◌, ◌<◌, ◌≤◌, ◌-◌, ◌^◌, IfSome, vec_len};
+ghost use Rattle.hpte_fields.specs.TableSize.{entry_count};
 ghost use Rattle.entry_model.specs.Receipt.{IsNormal};
 ghost use Rattle.entry_lock.specs.PassOfTable.{IsOf};
 
@@ -63,7 +64,7 @@ fn part_of(run: &Run, thread: u32) -> Part {
 /// The states of an empty table.
 fn states_of(alloc: Global, order: u8) -> Option<Vec<EntryState>>
     requires { 18 ≤ order × (order ≤ 22) }
-    ensures { IfSome result (λ v. vec_len v ≡ 2 ^ (order - 4)) }
+    ensures { IfSome result (λ v. vec_len v ≡ entry_count order) }
 {
     Vec::from_elem(alloc, EntryState::empty(0), 1 << (order - 4)).ok()
 }

@@ -27,13 +27,15 @@ config_with granted = record { order = 18; limit = 22; cpus = 4; granted = grant
 pub configured : (granted : GrantedMemory) → granted ≡ generated_config.granted → IsConfigured 18 22 4 0x1000000000 24 granted
 unfolding generated_config
 configured granted is = record {
-  at_least = omega arith;
-  within = omega arith;
-  at_most = omega arith;
-  some = omega arith;
-  few = omega arith;
-  base = ap (λ (g : GrantedMemory). g.pool_base) is;
-  size = ap (λ (g : GrantedMemory). g.pool_order) is;
+  settings = record {
+    at_least = omega arith;
+    within = omega arith;
+    at_most = omega arith;
+    some = omega arith;
+    few = omega arith;
+    base = ap (λ (g : GrantedMemory). g.pool_base) is;
+    size = ap (λ (g : GrantedMemory). g.pool_order) is;
+  };
   room = omega arith;
 }
 

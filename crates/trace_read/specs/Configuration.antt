@@ -9,8 +9,8 @@ pub record Configuration : Type 0 where
   pub cpus : ℕ
   pub granted : GrantedMemory
 
--- Orders are from 18 to 22, there are 1 to 64 processors, the pool is the one that the grants stand beside, and it has room for the opening table.
-pub record IsConfigured
+-- Orders are from 18 to 22, there are 1 to 64 processors, and the pool is the one that the grants stand beside.
+pub record AreSettings
     (order limit cpus pool_base pool_order : ℕ)
     (granted : GrantedMemory)
     : Type 0
@@ -22,4 +22,12 @@ pub record IsConfigured
     pub few : cpus ≤ 64
     pub base : granted.pool_base ≡ pool_base
     pub size : granted.pool_order ≡ pool_order
+
+-- And the pool has room for the opening table.
+pub record IsConfigured
+    (order limit cpus pool_base pool_order : ℕ)
+    (granted : GrantedMemory)
+    : Type 0
+  where
+    pub settings : AreSettings order limit cpus pool_base pool_order granted
     pub room : order ≤ pool_order

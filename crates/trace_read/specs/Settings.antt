@@ -16,28 +16,30 @@ abbrev pub default_settings : Configuration
 default_settings = record { order = 18; limit = 22; cpus = 1; granted = no_grants 0x1000000000 24 }
 
 -- ---- one line each
+-- The number of a line that has one, between these bounds, which are among the numbers allowed.
+unfoldable pub number_within : List (List ℕ) → ℕ → ℕ → Result ℕ Why
+number_within ws low high = do
+  counted ← guard (length ws == 2) Count
+  number ← number_at ws 1
+  within ← guard (nat_le low number && nat_le number high) Range
+  Ok number
+
 -- `order`: the order of the opening table.
 unfoldable pub with_order : Configuration → List (List ℕ) → Result Configuration Why
 with_order c ws = do
-  counted ← guard (length ws == 2) Count
-  order ← number_at ws 1
-  within ← guard (nat_le 18 order && nat_le order 22) Range
+  order ← number_within ws 18 22
   Ok (record c { order = order })
 
 -- The limit is not below the order that stands by now.
 unfoldable pub with_limit : Configuration → List (List ℕ) → Result Configuration Why
 with_limit c ws = do
-  counted ← guard (length ws == 2) Count
-  limit ← number_at ws 1
-  within ← guard (nat_le c.order limit && nat_le limit 22) Range
+  limit ← number_within ws c.order 22
   Ok (record c { limit = limit })
 
 -- `cpus`: the number of processors.
 unfoldable pub with_cpus : Configuration → List (List ℕ) → Result Configuration Why
 with_cpus c ws = do
-  counted ← guard (length ws == 2) Count
-  cpus ← number_at ws 1
-  within ← guard (nat_le 1 cpus && nat_le cpus 64) Range
+  cpus ← number_within ws 1 64
   Ok (record c { cpus = cpus })
 
 -- The grants are still to come.
@@ -70,21 +72,6 @@ with_begin c ws = do
   counted ← guard (length ws == 1) Count
   room ← guard (nat_le c.order c.granted.pool_order) Small
   Ok c
-
--- ---- what holds of the settings at all times
--- As of a configuration, but that the pool may still be too small.
-pub record AreSettings
-    (order limit cpus pool_base pool_order : ℕ)
-    (granted : GrantedMemory)
-    : Type 0
-  where
-    pub at_least : 18 ≤ order
-    pub within : order ≤ limit
-    pub at_most : limit ≤ 22
-    pub some : 1 ≤ cpus
-    pub few : cpus ≤ 64
-    pub base : granted.pool_base ≡ pool_base
-    pub size : granted.pool_order ≡ pool_order
 
 -- The settings after a line are as it says, or it is refused and they stay.
 abbrev pub SetsTo :

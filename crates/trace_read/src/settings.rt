@@ -1,6 +1,6 @@
-ghost use Rattle.std.specs.Prelude.{◌≡◌, ◌≤◌, OnOk};
+ghost use Rattle.std.specs.Prelude.{◌≡◌, ◌≤◌, IfOk, OnOk};
 ghost use Rattle.trace_read.specs.TextLines.{texts};
-ghost use Rattle.trace_read.specs.Settings.{default_settings, with_order, with_limit, with_cpus, with_pool, with_granted, with_begin, SetsTo};
+ghost use Rattle.trace_read.specs.Settings.{default_settings, number_within, with_order, with_limit, with_cpus, with_pool, with_granted, with_begin, SetsTo};
 
 use crate::acts::number_at;
 use crate::config::Config;
@@ -15,6 +15,23 @@ const POOL_BASE: u64 = 0x10_0000_0000;
 
 const POOL_ORDER: u8 = 24;
 
+// The number of a line that has one, within these bounds.
+#[tactic(auto, unfolding(crate::specs::Settings::number_within))]
+fn number_within(words: &[&[u8]], low: u64, high: u64) -> Result<u64, Why>
+    ensures value { result ≡ number_within (texts words.now) low high }
+    ensures low { IfOk result (λ number. low ≤ number) }
+    ensures high { IfOk result (λ number. number ≤ high) }
+{
+    if words.len() != 2 {
+        return Err(Why::Count);
+    }
+    let number = number_at(words, 1)?;
+    if number < low || number > high {
+        return Err(Why::Range);
+    }
+    Ok(number)
+}
+
 /// What the configuration lines so far have given.
 #[derive(Drop)]
 pub struct Settings {
@@ -27,8 +44,7 @@ pub struct Settings {
 }
 
 impl Model for Settings {
-    ghost use Rattle.trace_read.specs.Configuration.{Configuration};
-    ghost use Rattle.trace_read.specs.Settings.{AreSettings};
+    ghost use Rattle.trace_read.specs.Configuration.{Configuration, AreSettings};
 
     ghost Value = { Configuration };
 
@@ -58,14 +74,7 @@ impl Settings {
         requires { self.old.limit ≡ 22 }
         ensures { SetsTo (with_order self.old (texts words.now)) result self.old self.new }
     {
-        if words.len() != 2 {
-            return Err(Why::Count);
-        }
-        let order = number_at(words, 1)?;
-        if order < 18 || order > 22 {
-            return Err(Why::Range);
-        }
-        self.order = order as u8;
+        self.order = number_within(words, 18, 22)? as u8;
         Ok(())
     }
 
@@ -74,14 +83,7 @@ impl Settings {
     pub fn take_limit(&mut self, words: &[&[u8]]) -> Result<(), Why>
         ensures { SetsTo (with_limit self.old (texts words.now)) result self.old self.new }
     {
-        if words.len() != 2 {
-            return Err(Why::Count);
-        }
-        let limit = number_at(words, 1)?;
-        if limit < u64::from(self.order) || limit > 22 {
-            return Err(Why::Range);
-        }
-        self.limit = limit as u8;
+        self.limit = number_within(words, u64::from(self.order), 22)? as u8;
         Ok(())
     }
 
@@ -90,14 +92,7 @@ impl Settings {
     pub fn take_cpus(&mut self, words: &[&[u8]]) -> Result<(), Why>
         ensures { SetsTo (with_cpus self.old (texts words.now)) result self.old self.new }
     {
-        if words.len() != 2 {
-            return Err(Why::Count);
-        }
-        let cpus = number_at(words, 1)?;
-        if cpus < 1 || cpus > 64 {
-            return Err(Why::Range);
-        }
-        self.cpus = cpus as u32;
+        self.cpus = number_within(words, 1, 64)? as u32;
         Ok(())
     }
 

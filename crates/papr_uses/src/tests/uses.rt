@@ -1,4 +1,5 @@
 ghost use Rattle.std.specs.Prelude.{◌≡◌, ◌≤◌, ◌<◌, ◌+◌, ◌-◌, ◌^◌, false, replicate, vec_len, IfOk, IsTrue};
+ghost use Rattle.hpte_fields.specs.TableSize.{entry_count};
 ghost use Rattle.entry_model.specs.State.{empty_state};
 ghost use Rattle.entry_model.specs.Run.{state_at};
 
@@ -54,8 +55,8 @@ fn blocks(rt: HostRuntime) -> Result<(), Fail> {
 fn new_states(alloc: Global, order: u8) -> Result<Vec<EntryState>, AllocError>
     requires low { 18 ≤ order }
     requires high { order ≤ 22 }
-    ensures empty { IfOk result (λ states. states.items ≡ replicate (2 ^ (order - 4)) (empty_state 0)) }
-    ensures whole { IfOk result (λ states. vec_len states ≡ 2 ^ (order - 4)) }
+    ensures empty { IfOk result (λ states. states.items ≡ replicate (entry_count order) (empty_state 0)) }
+    ensures whole { IfOk result (λ states. vec_len states ≡ entry_count order) }
 {
     vec![in alloc; EntryState::empty(0); 1 << (order - 4)]
 }
@@ -73,7 +74,7 @@ fn entry_in_new_table(alloc: Global, order: u8) -> Result<Option<u32>, Fail>
 
 /// Whether an entry of the table is empty, and may change.
 fn is_fresh(table: &PlainTable, entry: u32) -> bool
-    requires { entry < 2 ^ (table.now.order - 4) }
+    requires { entry < entry_count table.now.order }
     ensures empty { IsTrue result → (state_at table.now.states entry).valid ≡ false }
     ensures low { IsTrue result → (state_at table.now.states entry).stamp + 1 < 2 ^ 32 - 1 }
 {

@@ -9,22 +9,22 @@ use Rattle.partition.proofs.partition_state.Partition.open.Goals as goal
 
 pub accepted-range-requires : goal.accepted-range-requires
 accepted-range-requires c =
-    sound_pool c.copy-grants.result c.config.inside.grants c.config.inside.pool_base c.config.inside.pool_order c.copy-grants.ensures.sound c.copy-grants.ensures.value c.config.invariant.base c.config.invariant.size
+    sound_pool c.copy-grants.result c.config.inside.grants c.config.inside.pool_base c.config.inside.pool_order c.copy-grants.ensures.sound c.copy-grants.ensures.value c.config.invariant.settings.base c.config.invariant.settings.size
 
 -- The pool is the configured one, with nothing taken.
 pub unwrap-place-requires : goal.unwrap-place-requires
 unwrap-place-requires c =
-    let pool = sound_pool c.copy-grants.result c.config.inside.grants c.config.inside.pool_base c.config.inside.pool_order c.copy-grants.ensures.sound c.copy-grants.ensures.value c.config.invariant.base c.config.invariant.size in
-    has_place c.in_ok-pool.pool c.config.inside.pool_base c.config.inside.pool_order c.config.inside.order c.take.result (c.in_ok-pool.ensures ∙ (λ i. no_blocks (c.accepted-range.ensures.base i) (c.accepted-range.ensures.order i))) pool c.config.invariant.at_least c.config.invariant.room c.take.ensures.lowest
+    let pool = sound_pool c.copy-grants.result c.config.inside.grants c.config.inside.pool_base c.config.inside.pool_order c.copy-grants.ensures.sound c.copy-grants.ensures.value c.config.invariant.settings.base c.config.invariant.settings.size in
+    has_place c.in_ok-pool.pool c.config.inside.pool_base c.config.inside.pool_order c.config.inside.order c.take.result (c.in_ok-pool.ensures ∙ (λ i. no_blocks (c.accepted-range.ensures.base i) (c.accepted-range.ensures.order i))) pool c.config.invariant.settings.at_least c.config.invariant.room c.take.ensures.lowest
 
 abbrev config : goal.After-none → Configuration
 config c = record { order = c.config.inside.order; limit = c.config.inside.limit; cpus = c.config.inside.cpus; granted = c.config.inside.grants }
 
 made : (c : goal.After-none) → IsOpened (config c) c.take.new.self c.unwrap-place.result c.in_ok-states.states.items c.copy-grants.result
 made c =
-    let small = c.config.invariant.at_most in
-    is_opened (config c) c.in_ok-pool.pool c.take.new.self c.take.result c.unwrap-place.result c.in_ok-states.states.items c.copy-grants.result c.config.invariant.at_least c.config.invariant.within small c.copy-grants.ensures.value (beside c.in_ok-pool.pool c.config.inside.grants c.config.inside.pool_base c.config.inside.pool_order (c.in_ok-pool.ensures ∙ (λ i. no_blocks (c.accepted-range.ensures.base i) (c.accepted-range.ensures.order i))) c.config.invariant.base c.config.invariant.size) c.take.ensures.place c.unwrap-place.ensures c.take.ensures.taken c.take.ensures.sound
-    (all_empty c.in_ok-states.states.items c.config.inside.order _ c.empty.result (omega (arith, c.config.invariant.within, c.config.invariant.at_most)) (c.in_ok-states.ensures.items_if_clones_equal (λ y h. h)) refl c.empty.ensures)
+    let small = c.config.invariant.settings.at_most in
+    is_opened (config c) c.in_ok-pool.pool c.take.new.self c.take.result c.unwrap-place.result c.in_ok-states.states.items c.copy-grants.result c.config.invariant.settings.at_least c.config.invariant.settings.within small c.copy-grants.ensures.value (beside c.in_ok-pool.pool c.config.inside.grants c.config.inside.pool_base c.config.inside.pool_order (c.in_ok-pool.ensures ∙ (λ i. no_blocks (c.accepted-range.ensures.base i) (c.accepted-range.ensures.order i))) c.config.invariant.settings.base c.config.invariant.settings.size) c.take.ensures.place c.unwrap-place.ensures c.take.ensures.taken c.take.ensures.sound
+    (all_empty c.in_ok-states.states.items c.config.inside.order _ c.empty.result (omega (arith, c.config.invariant.settings.within, c.config.invariant.settings.at_most)) (c.in_ok-states.ensures.items_if_clones_equal (λ y h. h)) refl c.empty.ensures)
 
 pub invariant_of-result : goal.invariant_of-result
 invariant_of-result c =

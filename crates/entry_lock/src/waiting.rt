@@ -140,19 +140,20 @@ impl<'a, R: Wait, P: Pause> EntryStore for Waiting<'a, R, P> {
         let v = view_of before.pass in
         let w = view_of after.pass in
         let table = before.table.now in
-        let longer = λ had.
+        let stays : Contains v.actor.lines (sighting_by cached)
+        → Contains w.actor.lines (sighting_by cached) = λ had.
         subst (λ l. Contains l (sighting_by cached)) (sym made.0.made.lines)
         (Contains-append_left v.actor.lines (flat_map shown_sightings receipts)
         (sighting_by cached) had) in
         let now : IsSeenInTable table.order w.actor.lines table.opening.items cached =
-        record { inside = seen.inside; seen = ⊎_map longer (λ holds. holds) seen.seen } in
+        record { inside = seen.inside; seen = ⊎_map stays (λ holds. holds) seen.seen } in
         subst (λ t. IsSeenInTable t.order w.actor.lines t.opening.items cached) (sym made.1) now };
 
     ghost shown_is_seen = { λ before after receipts cached made shows.
         let v = view_of before.pass in
         let w = view_of after.pass in
         let table = before.table.now in
-        let listed =
+        let listed : Contains w.actor.lines (sighting_by cached) =
         subst (λ l. Contains l (sighting_by cached)) (sym made.0.made.lines)
         (Contains-append_right v.actor.lines (flat_map shown_sightings receipts)
         (sighting_by cached) (shown_line receipts cached shows)) in

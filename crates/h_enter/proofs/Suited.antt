@@ -1,9 +1,10 @@
 -- What H_ENTER enters, and when it gives H_HARDWARE.
-use Rattle.std.specs.Prelude.{map, ◌≢◌}
-use Rattle.std.proofs.Common.{◌≡◌, ℕ, ◌-◌, ◌*◌, ◌/◌, ◌^◌, ◌≤◌, List, [], ◌∷◌, true, false, Option, Some, None, ◌⊎◌, inl, inr, nat_lt, arith}
+use Rattle.std.specs.Prelude.{map, ◌≢◌, bit_and, if◌then◌else◌}
+use Rattle.std.proofs.Common.{◌≡◌, ℕ, ◌-◌, ◌*◌, ◌/◌, ◌^◌, ◌<◌, ◌≤◌, Bool, refl, subst, List, [], ◌∷◌, true, false, Option, Some, None, ◌⊎◌, inl, inr, nat_lt, arith}
 use Rattle.std.proofs.lemmas.Bool.{cases_Bool}
+use Rattle.std.proofs.lemmas.Nat.{and_le_r, or_lt}
 use Rattle.std.specs.List.{range_with_len}
-use Rattle.hpte_fields.specs.Fields.{normal_words}
+use Rattle.hpte_fields.specs.Fields.{stored_first, stored_second, normal_words}
 use Rattle.papr_codes.specs.FlagBits.{has_flag}
 use Rattle.papr_codes.specs.declared.codes.Rc.TheVariants.{Parameter, Hardware}
 use Rattle.frame_grants.specs.declared.grant.Grant.{Grant}
@@ -17,9 +18,25 @@ use Rattle.entry_model.proofs.PlanBounds.{EntersOnly, IsTame, NoneWorn, answered
 use Rattle.h_enter.specs.Enter.{candidates, enter_told, enter_plan}
 use Rattle.h_enter.specs.Checks.{h_enter_plan, words_plan, suits_grants}
 
--- Words whose page is granted with these storage control bits.
-abbrev pub IsSuited : List Grant → ℕ → ℕ → Type 0
-IsSuited grants dword0 dword1 = suits_grants grants dword0 dword1 ≡ true
+-- Words whose page is granted with these storage control bits, the first of them a doubleword.
+pub record IsSuited (grants : List Grant) (dword0 dword1 : ℕ) : Type 0 where
+  pub suits : suits_grants grants dword0 dword1 ≡ true
+  pub fits : dword0 < 2 ^ 64
+
+-- The first word that H_ENTER stores is a doubleword, whatever it is made of.
+stored-fits : (pteh : ℕ) → stored_first pteh < 2 ^ 64
+stored-fits pteh =
+    let masked : bit_and pteh 0xFFFFFFFFFFFFFF9F ≤ 0xFFFFFFFFFFFFFF9F = and_le_r pteh 0xFFFFFFFFFFFFFF9F in
+    or_lt 64 (bit_and pteh 0xFFFFFFFFFFFFFF9F) 0x01 (omega arith) (omega arith)
+
+if_some : (b : Bool) (v w : ℕ × ℕ) → (if b then None else Some v) ≡ Some w → v ≡ w
+if_some true v w e = cc
+if_some false v w e = cc
+
+normal-fits : (pteh ptel : ℕ) (w : ℕ × ℕ) → normal_words pteh ptel ≡ Some w → w.0 < 2 ^ 64
+normal-fits pteh ptel w e =
+    let same = if_some _ (stored_first pteh, stored_second ptel) w e in
+    subst (λ (v : ℕ × ℕ). v.0 < 2 ^ 64) same (stored-fits pteh)
 
 candidates_cost : (op : Op) (flags ptex : ℕ) → calls_cost (map (call op) (candidates flags ptex)) ≤ 32
 unfolding candidates
@@ -41,19 +58,19 @@ told_fine (r ∷ rs) fine = told_one r rs fine.0 (told_fine rs fine.1)
 refused_tame : (grants : List Grant) → IsTame (IsSuited grants) (plan_of_code Parameter)
 refused_tame grants = answered_tame (IsSuited grants) Parameter (λ e. cc)
 
-words_tame : (grants : List Grant) (flags ptex : ℕ) (words : Option (ℕ × ℕ)) → IsTame (IsSuited grants) (words_plan grants flags ptex words)
-words_tame grants flags ptex None = refused_tame grants
-words_tame grants flags ptex (Some w) = at (cases_Bool (suits_grants grants w.0 w.1)) where
+words_tame : (grants : List Grant) (flags ptex : ℕ) (words : Option (ℕ × ℕ)) → ((w : ℕ × ℕ) → words ≡ Some w → w.0 < 2 ^ 64) → IsTame (IsSuited grants) (words_plan grants flags ptex words)
+words_tame grants flags ptex None fits = refused_tame grants
+words_tame grants flags ptex (Some w) fits = at (cases_Bool (suits_grants grants w.0 w.1)) where
   made : IsSuited grants w.0 w.1 → IsTame (IsSuited grants) (enter_plan flags ptex w.0 w.1)
   made suits = record { enters = each_call (EntersOnly (IsSuited grants)) (Enter w.0 w.1) (candidates flags ptex) suits; few = candidates_cost (Enter w.0 w.1) flags ptex; code = λ rs trial fine. told_fine rs fine }
 
   at : (suits_grants grants w.0 w.1 ≡ true) ⊎ (suits_grants grants w.0 w.1 ≡ false) → IsTame (IsSuited grants) (words_plan grants flags ptex (Some w))
-  at (inl suits) = rw suits (made suits)
+  at (inl suits) = rw suits (made (record { suits = suits; fits = fits w refl }))
   at (inr refused) = rw refused (refused_tame grants)
 
 pub h_enter_tame : (order : ℕ) (grants : List Grant) (flags ptex pteh ptel : ℕ) → IsTame (IsSuited grants) (h_enter_plan order grants flags ptex pteh ptel)
 unfolding h_enter_plan
 h_enter_tame order grants flags ptex pteh ptel = at (cases_Bool (nat_lt ptex (2 ^ (order - 4)))) where
   at : (nat_lt ptex (2 ^ (order - 4)) ≡ true) ⊎ (nat_lt ptex (2 ^ (order - 4)) ≡ false) → IsTame (IsSuited grants) (h_enter_plan order grants flags ptex pteh ptel)
-  at (inl inside) = rw inside (words_tame grants flags ptex (normal_words pteh ptel))
+  at (inl inside) = rw inside (words_tame grants flags ptex (normal_words pteh ptel) (normal-fits pteh ptel))
   at (inr outside) = rw outside (refused_tame grants)

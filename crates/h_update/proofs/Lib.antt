@@ -4,3 +4,4 @@ pub mod BulkSteps
 pub mod InTable
 pub mod Tame
 mod Rows
+pub mod Shown

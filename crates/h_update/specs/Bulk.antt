@@ -1,6 +1,7 @@
 -- H_BULK_REMOVE: four pairs of words, each a request to remove one entry.
 use Rattle.hpte_fields.specs.TableSize.{entry_count}
-use Rattle.std.specs.Prelude.{ℕ, ◌+◌, ◌-◌, ◌*◌, ◌/◌, ◌%◌, ◌^◌, ◌==◌, ◌&&◌, List, [], ◌∷◌, not, Option, Some, None, if◌then◌else◌, nat_lt}
+use Rattle.std.specs.List.{list_any}
+use Rattle.std.specs.Prelude.{Bool, ℕ, ◌+◌, ◌-◌, ◌*◌, ◌/◌, ◌%◌, ◌^◌, ◌==◌, ◌&&◌, List, [], ◌∷◌, not, Option, Some, None, if◌then◌else◌, nat_lt}
 use Rattle.papr_codes.specs.declared.codes.Rc.{Rc}
 use Rattle.entry_model.specs.State.{State}
 use Rattle.entry_model.specs.declared.operation.Test.{Test}
@@ -89,6 +90,18 @@ worn_status = 0xB0
 abbrev pub status_of : Answer → State → ℕ
 status_of NotFound s = 0x90
 status_of other s = removed_status s
+
+-- ---- what a response shows
+-- C of the entry that was removed, in the top byte.
+abbrev pub is_removed_changed : ℕ → Bool
+is_removed_changed word = word / 2 ^ 58 % 2 == 1
+
+-- A pair of these words has the entry's index, and C.
+abbrev pub pairs_show : List ℕ → ℕ → Bool
+pairs_show words entry =
+    list_any
+    (λ (p : Pair). (index_of p.request == entry) && is_removed_changed p.request)
+    (pairs_of words)
 
 -- ---- the call
 -- Pairs as they were given.

@@ -1,5 +1,5 @@
 -- The page of an entry: at most one page is, and `page_at` finds it.
-use Rattle.std.specs.Prelude.{IfSome, if◌then◌else◌, IsSomeAnd, ◌==◌, ◌&&◌}
+use Rattle.std.specs.Prelude.{◌↔◌, IfSome, if◌then◌else◌, IsSomeAnd, ◌==◌, ◌&&◌}
 use Rattle.std.proofs.lemmas.Bool.{eqb-true, eq-eqb}
 use Rattle.std.specs.Int.Bits.{and_high}
 use Rattle.std.specs.Option.{option_and_then}
@@ -11,7 +11,7 @@ use Rattle.power_addr.specs.Pages.{VirtualPage, IsPage, virtual_address, tag_of,
 use Rattle.power_addr.proofs.Ranges.{both_true, virtual_address-lt, page_of_address-some}
 use Rattle.power_addr.proofs.Tags.{same_from_tag, tag_of-parts, segment_code-le}
 use Rattle.hpt_hash.specs.Hash.{hash_of, group_of}
-use Rattle.hpt_hash.specs.Entries.{IsPageOf, low_hash, number_field, rebuilt_page, confirmed_page, page_of_size, page_at}
+use Rattle.hpt_hash.specs.Entries.{IsPageOf, SuitsPage, low_hash, number_field, rebuilt_page, confirmed_page, page_of_size, page_at}
 use Rattle.hpt_hash.proofs.GroupBits.{low_hash-group}
 use Rattle.hpt_hash.proofs.RebuiltPage.{rebuilt_page-is}
 
@@ -107,6 +107,11 @@ page_at-complete order index dword0 dword1 p low is entry =
     (λ i. rebuilt_page (one_tb i) (number i) (sized.2 i) (hash i)) ∙ rebuilt_page-is p is in
     page_at-made order index dword0 dword1 p (record { valid = entry.valid; size = sized.0; sized = sized.1; rebuilt = rebuilt; tag = entry.tag; group = entry.group })
 
+-- Of four facts the fifth follows: the tag holds B.
+suited-page : (order index dword0 dword1 : ℕ) (p : VirtualPage) → IsPage p → dword0 < 2 ^ 64 → SuitsPage order index dword0 dword1 p → IsPageOf order index dword0 dword1 p
+suited-page order index dword0 dword1 p is range suits =
+    record { valid = suits.valid; tag = suits.tag; size = suits.size; segment = segment_code-tag p dword0 is range suits.tag; group = suits.group }
+
 -- What is found is a page, and the page of the entry.
 pub page_at-sound : (order index dword0 dword1 : ℕ) (p : VirtualPage) → dword0 < 2 ^ 64 → page_at order index dword0 dword1 ≡ Some p → IsPage p × IsPageOf order index dword0 dword1 p
 page_at-sound order index dword0 dword1 p range e =
@@ -122,6 +127,17 @@ page_at-sound order index dword0 dword1 p range e =
         group = made.group;
       },
     )
+
+-- What is found is this page exactly where the four facts hold of it.
+pub page_at-exact : (order index dword0 dword1 : ℕ) (found : Option VirtualPage) → 18 ≤ order → dword0 < 2 ^ 64 → found ≡ page_at order index dword0 dword1 → (p : VirtualPage) → IsPage p → (found ≡ Some p) ↔ SuitsPage order index dword0 dword1 p
+page_at-exact order index dword0 dword1 found low range same p is = (to, back) where
+  to : found ≡ Some p → SuitsPage order index dword0 dword1 p
+  to e =
+      let of = (page_at-sound order index dword0 dword1 p range (sym same ∙ e)).1 in
+      record { valid = of.valid; tag = of.tag; size = of.size; group = of.group }
+
+  back : SuitsPage order index dword0 dword1 p → found ≡ Some p
+  back suits = same ∙ page_at-complete order index dword0 dword1 p low is (suited-page order index dword0 dword1 p is range suits)
 
 -- Doublewords of a page are those of the same page in each group of that page, in a table of any size.
 pub page_at-moved : (from to index target dword0 dword1 : ℕ) (p : VirtualPage) → 18 ≤ from → 18 ≤ to → page_at from index dword0 dword1 ≡ Some p → group_of p to (is_secondary dword0) ≡ target / 8 → page_at to target dword0 dword1 ≡ Some p

@@ -20,6 +20,13 @@ pub record IsPageOf (order index dword0 dword1 : ℕ) (p : VirtualPage) : Type 0
   -- The entry stands in the page's primary group, or with H set in its secondary group.
   pub group : group_of p order (is_secondary dword0) ≡ index / 8
 
+-- Four of these, which say as much of a page: its tag holds the size of its segment.
+pub record SuitsPage (order index dword0 dword1 : ℕ) (p : VirtualPage) : Type 0 where
+  pub valid : IsTrue (is_valid dword0)
+  pub tag : tag_of p ≡ tag_field dword0
+  pub size : IsSomeAnd (size_of dword0 dword1) (λ size. size.base ≡ p.shift)
+  pub group : group_of p order (is_secondary dword0) ≡ index / 8
+
 -- ---- the same page as a function, for definitions that list pages
 -- The address bits that a doubleword 0 holds: those from weight 2 ^ 23 up.
 abbrev pub number_field : ℕ → ℕ

@@ -1,8 +1,8 @@
-ghost use Rattle.std.specs.Prelude.{◌≡◌, ◌<◌, ◌≤◌, ◌-◌, ◌/◌, ◌^◌, IfSome, Some, None};
+ghost use Rattle.std.specs.Prelude.{◌≡◌, ◌<◌, ◌≤◌, ◌↔◌, ◌-◌, ◌/◌, ◌^◌, IfSome, Some, None};
 ghost use Rattle.hpte_fields.specs.TableSize.{entry_count};
 ghost use Rattle.hpte_fields.specs.Fields.{is_secondary};
 ghost use Rattle.power_addr.specs.Pages.{VirtualPage, IsPage, offset_bits};
-ghost use Rattle.hpt_hash.specs.Entries.{IsPageOf, confirmed_page, low_hash, number_field, page_at, rebuilt_page};
+ghost use Rattle.hpt_hash.specs.Entries.{IsPageOf, SuitsPage, confirmed_page, low_hash, number_field, page_at, rebuilt_page};
 
 use crate::hash::groups;
 use hpte_fields::{one_tb, secondary, tag_of};
@@ -39,7 +39,9 @@ pub fn page_of(order: u8, index: u32, dword0: u64, dword1: u64) -> Option<Page>
     requires in_table { index < entry_count order }
     ensures value { result ≡ page_at order index dword0 dword1 }
     ensures found { IfSome result (λ p. IsPage p × IsPageOf order index dword0 dword1 p) }
-    ensures exact { (p : VirtualPage) → IsPage p → IsPageOf order index dword0 dword1 p → result ≡ Some p }
+    ensures exact { (p : VirtualPage)
+        → IsPage p
+        → ((result ≡ Some p) ↔ SuitsPage order index dword0 dword1 p) }
 {
     if dword0 & VALID != VALID {
         return None;

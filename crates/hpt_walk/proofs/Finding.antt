@@ -118,7 +118,7 @@ paired_found order page mode a c r mid low is states of receipt step off =
     let state : IsEntryState s = state_of a c.entry states within in
     let both = answer_of page mode of.0 r s (receipt.op ∙ of.1) (step.before ∙ ap (state_at a) receipt.entry) in
     let matching : is_match s (tag_of page + h_bit of.0 + 1) page.shift ≡ true = match_of s _ _ mode (ap (λ x. is_no_match x.0) (sym both) ∙ off) in
-    paired-in order page a c.entry within ∙ page_paired order c.entry page s low is state (match_page order c.entry page of.0 s is of.2 state matching)
+    paired-in order page a c.entry within ∙ page_paired order c.entry page s low is state (match_page order c.entry page of.0 s is of.2 state.fits matching)
 
 unpaired_none : (order : ℕ) (page : VirtualPage) (mode : AccessMode) (a : List State) (c : Call) (r : Receipt) (mid : List State) → 18 ≤ order → IsPage page → AllByRecursion IsEntryState a → IsCallOf order page mode c → IsReceiptOf c.entry c.op r → IsStep a r mid → is_no_match r.answer ≡ true → (is_paired (translations order a) page c.entry ≡ false) × (mid ≡ a)
 unpaired_none order page mode a c r mid low is states of receipt step on = (unpaired (cases_Bool (is_paired (translations order a) page c.entry)), stays (cases_Bool matching)) where

@@ -96,18 +96,22 @@ found_shows page (r ∷ rs) x found decided = at (cases_Bool (is_no_match r.answ
       let same : x ≡ r = cc in
       inl (subst (λ y. IsTrue (is_decided y.answer)) same decided, record { entry = ap (λ y. y.entry) same; stamp = ap (λ y. y.before.stamp) same; dword0 = ap (λ y. y.before.dword0) same; dword1 = ap (λ y. y.before.dword1) same })
 
--- ---- the operations of a trial's receipts
-pub trial_ops : (P : Op → Type 0) (cs : List Call) (rs : List Receipt) → AllByRecursion (λ (c : Call). P c.op) cs → IsTrial is_no_match cs rs → AllByRecursion (λ (r : Receipt). P r.op) rs
-trial_ops P [] [] all s = tt
-trial_ops P [] (r ∷ rs) all s = absurd s
-trial_ops P (c ∷ cs) [] all s = absurd s
-trial_ops P (c ∷ cs) (r ∷ rs) all s = at (cases_Bool (is_no_match r.answer)) (trial_ops P cs rs all.1) where
-  first : P r.op
-  first = subst P (sym s.0.op) all.0
+-- ---- the calls of a trial's receipts
+-- What holds of each call, by its operation and its entry, holds of each receipt.
+pub trial_calls : (P : Op → ℕ → Type 0) (cs : List Call) (rs : List Receipt) → AllByRecursion (λ (c : Call). P c.op c.entry) cs → IsTrial is_no_match cs rs → AllByRecursion (λ (r : Receipt). P r.op r.entry) rs
+trial_calls P [] [] all s = tt
+trial_calls P [] (r ∷ rs) all s = absurd s
+trial_calls P (c ∷ cs) [] all s = absurd s
+trial_calls P (c ∷ cs) (r ∷ rs) all s = at (cases_Bool (is_no_match r.answer)) (trial_calls P cs rs all.1) where
+  first : P r.op r.entry
+  first = subst (λ o. P o r.entry) (sym s.0.op) (subst (P c.op) (sym s.0.entry) all.0)
 
-  at : (is_no_match r.answer ≡ true) ⊎ (is_no_match r.answer ≡ false) → (IsTrial is_no_match cs rs → AllByRecursion (λ (x : Receipt). P x.op) rs) → AllByRecursion (λ (x : Receipt). P x.op) (r ∷ rs)
+  at : (is_no_match r.answer ≡ true) ⊎ (is_no_match r.answer ≡ false) → (IsTrial is_no_match cs rs → AllByRecursion (λ (x : Receipt). P x.op x.entry) rs) → AllByRecursion (λ (x : Receipt). P x.op x.entry) (r ∷ rs)
   at (inl on) rest = (first, rest (rw on at s.1))
-  at (inr off) rest = let none : rs ≡ [] = rw off at s.1 in (first, subst (AllByRecursion (λ (x : Receipt). P x.op)) (sym none) tt)
+  at (inr off) rest = let none : rs ≡ [] = rw off at s.1 in (first, subst (AllByRecursion (λ (x : Receipt). P x.op x.entry)) (sym none) tt)
+
+pub trial_ops : (P : Op → Type 0) (cs : List Call) (rs : List Receipt) → AllByRecursion (λ (c : Call). P c.op) cs → IsTrial is_no_match cs rs → AllByRecursion (λ (r : Receipt). P r.op) rs
+trial_ops P cs rs all s = trial_calls (λ op entry. P op) cs rs all s
 
 pub same_ops : (P : Op → Type 0) (op : Op) (es : List ℕ) → P op → AllByRecursion (λ (c : Call). P c.op) (map (call op) es)
 same_ops P op [] p = tt

@@ -29,9 +29,10 @@ IsGrantedPage grants frame actual = (x : ℕ × Kind) × (machine_range grants f
 abbrev pub actual_of : ℕ → ℕ → ℕ
 actual_of dword0 dword1 = option_map_or (λ (size : PageSize). size.actual) (size_of dword0 dword1) 12
 
--- The page that these words map lies in one grant.
-abbrev pub IsGrantedWords : List Grant → ℕ → ℕ → Type 0
-IsGrantedWords grants dword0 dword1 = IsGrantedPage grants (frame_of dword1 (actual_of dword0 dword1)) (actual_of dword0 dword1)
+-- The page that these words map lies in one grant, and the first is a doubleword.
+pub record IsGrantedWords (grants : List Grant) (dword0 dword1 : ℕ) : Type 0 where
+  pub page : IsGrantedPage grants (frame_of dword1 (actual_of dword0 dword1)) (actual_of dword0 dword1)
+  pub fits : dword0 < 2 ^ 64
 
 -- So does that of an entry, where it is valid.
 abbrev pub IsGranted : List Grant → State → Type 0
@@ -42,7 +43,7 @@ same_words : (grants : List Grant) (dword0 dword1 other : ℕ) → page_bits oth
 same_words grants h l m e granted =
     let size : actual_of h l ≡ actual_of h m = ap (λ (s : Option PageSize). option_map_or (λ (size : PageSize). size.actual) s 12) (same_size h l m (sym e)) in
     let frame : frame_of l (actual_of h l) ≡ frame_of m (actual_of h l) = same_frame l m (actual_of h l) (sym e) in
-    subst (λ a. IsGrantedPage grants (frame_of m a) a) size (subst (λ f. IsGrantedPage grants f (actual_of h l)) frame granted)
+    record { page = subst (λ a. IsGrantedPage grants (frame_of m a) a) size (subst (λ f. IsGrantedPage grants f (actual_of h l)) frame granted.page); fits = granted.fits }
 
 -- ---- operations
 either_granted : (b : Bool) (grants : List Grant) (p q : Answer × State) → IsGranted grants p.1 → IsGranted grants q.1 → IsGranted grants (if◌then◌else◌ {A = Answer × State} b p q).1
@@ -71,6 +72,6 @@ reply_granted grants s (ops.Access tag base key no_execute want) w h = either_gr
 -- An access by a valid entry has a machine address.
 pub access_lands : (grants : List Grant) (ea : ℕ) (s : State) → IsGranted grants s → s.valid ≡ true → (x : ℕ × Kind) × (machine_range grants (logical_of ea s) 1 ≡ Some x)
 access_lands grants ea s h valid =
-    let page = h valid in
+    let page = (h valid).page in
     let some : 0 < 2 ^ actual_size s = pow_pos (actual_size s) in
     part_range grants (frame_of s.dword1 (actual_size s)) (2 ^ actual_size s) (logical_of ea s) page.0 page.1 (omega arith) (omega arith)

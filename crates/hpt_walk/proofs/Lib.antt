@@ -4,5 +4,7 @@ pub mod Found
 pub mod Decided
 pub mod Walks
 pub mod Telling
+pub mod PageUses
+pub mod Unchanged
 mod Rows
 pub mod Finding

@@ -1,6 +1,6 @@
 -- An access tells whether an entry is one of the page.
 use Rattle.std.specs.Prelude.{IsTrue, IsSomeAnd, ◌==◌, ◌&&◌}
-use Rattle.std.proofs.Common.{◌≡◌, ℕ, ◌+◌, ◌/◌, ◌≤◌, Bool, true, false, Option, Some, None, ap, sym, ◌∙◌, refl, ◌⊎◌, inl, inr, arith}
+use Rattle.std.proofs.Common.{◌≡◌, ℕ, ◌+◌, ◌/◌, ◌<◌, ◌≤◌, Bool, true, false, Option, Some, None, ap, sym, ◌∙◌, refl, ◌⊎◌, inl, inr, arith, ◌^◌}
 use Rattle.std.specs.Option.{option_map_or}
 use Rattle.std.proofs.lemmas.Bool.{cases_Bool, and_parts, eqb-true, eq-eqb}
 use Rattle.std.specs.Cmp.Derive.{both_true}
@@ -41,8 +41,8 @@ unfolding has_base
 size-has_base d₀ d₁ base h = base_sized (size_of d₀ d₁) base h
 
 -- ---- a match is a page
-pub match_page : (order entry : ℕ) (page : VirtualPage) (secondary : Bool) (s : State) → IsPage page → group_of page order secondary ≡ entry / 8 → IsEntryState s → is_match s (tag_of page + h_bit secondary + 1) page.shift ≡ true → IsPageOf order entry s.dword0 s.dword1 page
-match_page order entry page secondary s is group state same =
+pub match_page : (order entry : ℕ) (page : VirtualPage) (secondary : Bool) (s : State) → IsPage page → group_of page order secondary ≡ entry / 8 → s.dword0 < 2 ^ 64 → is_match s (tag_of page + h_bit secondary + 1) page.shift ≡ true → IsPageOf order entry s.dword0 s.dword1 page
+match_page order entry page secondary s is group fits same =
     let parts = and_parts s.valid ((compared_bits s.dword0 == tag_of page + h_bit secondary + 1) && has_base s.dword0 s.dword1 page.shift) same in
     let words = and_parts (compared_bits s.dword0 == tag_of page + h_bit secondary + 1) (has_base s.dword0 s.dword1 page.shift) parts.1 in
     let has : HasTag s.dword0 (tag_of page) secondary = compared-has page s.dword0 secondary (eqb-true _ _ words.0) in
@@ -50,7 +50,7 @@ match_page order entry page secondary s is group state same =
       valid = has.valid;
       tag = has.tag;
       size = has_base-size s.dword0 s.dword1 page.shift words.1;
-      segment = segment_code-tag page s.dword0 is state.fits has.tag;
+      segment = segment_code-tag page s.dword0 is fits has.tag;
       group = ap (group_of page order) has.secondary ∙ group;
     }
 
@@ -90,7 +90,7 @@ tells_page order entry page mode secondary s low is group state = record { decid
   decided_back of = decided_match s (tag_of page + h_bit secondary + 1) page.shift mode (page_match order entry page secondary s low group state of)
 
   by_test : (is_decided answer ≡ true) → (matching ≡ true) ⊎ (matching ≡ false) → IsPageOf order entry s.dword0 s.dword1 page
-  by_test d (inl same) = match_page order entry page secondary s is group state same
+  by_test d (inl same) = match_page order entry page secondary s is group state.fits same
   by_test d (inr differs) = let none : answer ≡ NoMatch = no_match_is answer (accessed_no_match s (tag_of page + h_bit secondary + 1) page.shift mode differs) in let clash : false ≡ true = sym (ap is_decided none) ∙ d in cc
 
   decided_to : IsTrue (is_decided answer) → IsPageOf order entry s.dword0 s.dword1 page
@@ -100,7 +100,7 @@ tells_page order entry page mode secondary s low is group state = record { decid
   no_match_to none of = let clash : false ≡ true = sym (ap is_decided none) ∙ decided_back of in cc
 
   none_by_test : (IsPageOf order entry s.dword0 s.dword1 page → ⊥) → (matching ≡ true) ⊎ (matching ≡ false) → answer ≡ NoMatch
-  none_by_test not_of (inl same) = absurd (not_of (match_page order entry page secondary s is group state same))
+  none_by_test not_of (inl same) = absurd (not_of (match_page order entry page secondary s is group state.fits same))
   none_by_test not_of (inr differs) = no_match_is answer (accessed_no_match s (tag_of page + h_bit secondary + 1) page.shift mode differs)
 
   no_match_back : (IsPageOf order entry s.dword0 s.dword1 page → ⊥) → answer ≡ NoMatch

@@ -1,23 +1,27 @@
 -- What is proved of the accesses of a page.
-use Rattle.std.specs.Prelude.{◌≡◌, ℕ, ◌/◌, ◌^◌, ◌<◌, ◌≤◌, ◌↔◌, Bool, IsTrue, List, find, option_map}
+use Rattle.std.specs.Prelude.{◌≡◌, ℕ, ◌/◌, ◌^◌, ◌<◌, ◌≤◌, ◌↔◌, Bool, false, IsTrue, List, find, Option, option_map}
 use Rattle.std.specs.List.{AllByRecursion}
 use Rattle.power_addr.specs.Pages.{VirtualPage, IsPage}
 use Rattle.hpte_fields.specs.Fields.{is_secondary}
 use Rattle.hpt_hash.specs.Hash.{group_of}
 use Rattle.hpt_hash.specs.Entries.{IsPageOf}
+use Rattle.slb_model.specs.declared.segment.Segment.{Segment}
 use Rattle.entry_model.specs.State.{State, IsCanonicalState}
 use Rattle.entry_model.specs.declared.line.Line.{Line}
 use Rattle.entry_model.specs.declared.operation.Answer.{Answer}
 use Rattle.entry_model.specs.declared.operation.Answer.TheVariants.{NoMatch}
 use Rattle.entry_model.specs.declared.operation.Op.{Op}
 use Rattle.entry_model.specs.declared.receipt.Receipt.{Receipt}
+use Rattle.entry_model.specs.declared.access_reply.AccessReply.{AccessReply}
 use Rattle.entry_model.specs.Reply.{reply_of, AccessMode}
-use Rattle.entry_model.specs.Receipt.{is_no_match, is_decided, found_of}
+use Rattle.entry_model.specs.Receipt.{is_no_match, is_decided, is_at, found_of}
 use Rattle.entry_model.specs.CachedLines.{IsAccessOf, IsCurrent, line_of}
 use Rattle.entry_model.specs.Run.{IsRun}
 use Rattle.entry_model.specs.Trial.{IsTrial}
 use Rattle.hpt_walk.specs.Walk.{access_op, walk_calls, walk_entries}
-use Rattle.hpt_walk.specs.Translations.{TranslatesItsPage, translations, is_paired}
+use Rattle.hpt_walk.specs.declared.request.Request.{Request}
+use Rattle.hpt_walk.specs.Access.{AccessContext, IsHit, IsAccessReply}
+use Rattle.hpt_walk.specs.Translations.{TranslatesItsPage, StandsInItsGroup, translations, is_paired}
 
 -- ---- an access and the page of an entry
 -- A state as entries have it: written in one way, with a doubleword 0 of 64 bits.
@@ -45,6 +49,46 @@ AccessTellsPage =
     → group_of page order secondary ≡ entry / 8
     → IsEntryState s
     → TellsPage order entry page s (reply_of s (access_op page mode secondary)).0
+
+-- ---- the page that an access used
+-- The entry of a receipt was one of the page when the receipt was made.
+abbrev pub WasOfPage : ℕ → VirtualPage → Receipt → Type 0
+WasOfPage order page r = IsPageOf order r.entry r.before.dword0 r.before.dword1 page
+
+-- Where the entry was valid its doubleword 0 has 64 bits.
+abbrev pub HasFirstWord : Receipt → Type 0
+HasFirstWord r = IsTrue r.before.valid → r.before.dword0 < 2 ^ 64
+
+-- In a walk of the page an answer that used an entry's translation used one of an entry of the page.
+abbrev pub WalksUseTheirPage : Type 0
+WalksUseTheirPage =
+    (order : ℕ) (page : VirtualPage) (mode : AccessMode) (rs : List Receipt)
+    → IsPage page
+    → AllByRecursion HasFirstWord rs
+    → IsTrial is_no_match (walk_calls order page mode) rs
+    → AllByRecursion (λ (r : Receipt). IsTrue (is_decided r.answer) → WasOfPage order page r) rs
+
+-- So did a hit, by a line of the page whose entry stands in the page's group.
+abbrev pub HitsUseTheirPage : Type 0
+HitsUseTheirPage =
+    (context : AccessContext) (seg : Segment) (a : Request) (line : Line) (reply : AccessReply)
+    → IsPage seg.page
+    → line.page ≡ seg.page
+    → StandsInItsGroup context.order line
+    → AllByRecursion HasFirstWord reply.receipts
+    → IsHit context seg a line reply
+    → AllByRecursion (WasOfPage context.order seg.page) reply.receipts
+
+-- ---- what an access changes
+-- An access without a receipt that says At changes no entry.
+abbrev pub OnlyAtChangesEntries : Type 0
+OnlyAtChangesEntries =
+    (context : AccessContext) (cached : VirtualPage → Option Line) (a : Request)
+    (segment : Option Segment) (reply : AccessReply) (old new : List State)
+    → IsAccessReply context cached a segment reply
+    → AllByRecursion (λ (r : Receipt). is_at r.answer ≡ false) reply.receipts
+    → IsRun old reply.receipts new
+    → new ≡ old
 
 -- ---- a walk and the translations of a table
 -- On states that nobody else changes, a walk of the page finds the first entry, in walk order, that the list of translations pairs with the page, and none where it pairs none.

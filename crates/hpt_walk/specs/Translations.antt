@@ -1,8 +1,9 @@
 -- The translations of a table: the page of each entry that has one. No hash is searched.
-use Rattle.std.specs.Prelude.{◌==◌, ◌&&◌, Bool, ℕ, ◌+◌, List, [], ◌∷◌, Option, Some, None, if◌then◌else◌, IsTrue, ◌≡◌}
+use Rattle.std.specs.Prelude.{◌==◌, ◌&&◌, Bool, ℕ, ◌+◌, ◌/◌, List, [], ◌∷◌, Option, Some, None, if◌then◌else◌, IsTrue, ◌≡◌}
 use Rattle.std.specs.List.{list_any}
 use Rattle.hpte_fields.specs.Fields.{is_secondary}
 use Rattle.power_addr.specs.Pages.{VirtualPage, same_page, tag_of}
+use Rattle.hpt_hash.specs.Hash.{group_of}
 use Rattle.hpt_hash.specs.Entries.{page_at}
 use Rattle.hpt_walk.specs.Walk.{h_bit}
 use Rattle.entry_model.specs.State.{State}
@@ -43,3 +44,8 @@ is_paired ts page entry =
 pub record TranslatesItsPage (line : Line) : Type 0 where
   pub tag : tag_of line.page + h_bit (is_secondary line.dword0) + 1 ≡ compared_bits line.dword0
   pub size : IsTrue (has_base line.dword0 line.dword1 line.page.shift)
+
+-- The line's entry stands in its page's primary group, or with H in its doubleword 0 in the secondary one.
+abbrev pub StandsInItsGroup : ℕ → Line → Type 0
+StandsInItsGroup order line =
+    group_of line.page order (is_secondary line.dword0) ≡ line.entry / 8

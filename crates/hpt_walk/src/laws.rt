@@ -1,11 +1,26 @@
 //! Laws of the accesses of a page. Each function does nothing, and its contract is the law.
 
-ghost use Rattle.hpt_walk.specs.Laws.{AccessTellsPage, WalkFindsFirst, WalksGiveLines, LinesMatchAccesses, CurrentLinesDecide};
+ghost use Rattle.hpt_walk.specs.Laws.{AccessTellsPage, WalksUseTheirPage, HitsUseTheirPage, OnlyAtChangesEntries, WalkFindsFirst, WalksGiveLines, LinesMatchAccesses, CurrentLinesDecide};
 
 /// An access of a page, made on an entry of one of the page's two groups with H to match, answers
 /// NoMatch exactly where the entry isn't one of the page.
 pub fn access_tells_page()
     ensures { AccessTellsPage }
+{}
+
+/// In a walk of a page, an answer that used an entry's translation used one of an entry of the page.
+pub fn walks_use_their_page()
+    ensures { WalksUseTheirPage }
+{}
+
+/// A hit by a line whose entry stands in its page's group uses an entry that was one of the page.
+pub fn hits_use_their_page()
+    ensures { HitsUseTheirPage }
+{}
+
+/// An access without a receipt that says At changes no entry, however many entries it asked.
+pub fn only_at_changes_entries()
+    ensures { OnlyAtChangesEntries }
 {}
 
 /// Over a table that nobody else changes, a walk finds the first entry, in walk order, that

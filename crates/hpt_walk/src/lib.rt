@@ -11,8 +11,8 @@ mod walking;
 
 pub use access::access_op;
 pub use laws::{
-    access_tells_page, current_lines_decide, lines_match_accesses, walk_finds_first,
-    walks_give_lines,
+    access_tells_page, current_lines_decide, hits_use_their_page, lines_match_accesses,
+    only_at_changes_entries, walk_finds_first, walks_give_lines, walks_use_their_page,
 };
 pub use request::Request;
 pub use walking::{WalkAnswer, walk};

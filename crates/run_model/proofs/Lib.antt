@@ -17,8 +17,10 @@ pub mod Stores
 pub mod StoresKept
 pub mod LowStamps
 pub mod SafeReplies
+pub mod PlacedCaches
 pub mod LowStampRuns
 pub mod AllSafe
+pub mod ClearedBits
 pub mod SmallPartition
 mod AssuranceRows
 mod HistoryRows

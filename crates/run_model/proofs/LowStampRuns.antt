@@ -26,10 +26,11 @@ use Rattle.trace_reply.specs.declared.reply.Reply.{Reply}
 use Rattle.trace_reply.specs.Replies.{RepliedLine}
 use Rattle.run_model.specs.RunState.{RunState, states_of, opening_run, run_resize, run_quiet_line}
 use Rattle.run_model.specs.Sections.{processors_after_lines, section_end}
-use Rattle.run_model.specs.Landings.{IsSafe}
+use Rattle.run_model.specs.Landings.{IsUnworn}
 use Rattle.run_model.proofs.Each.{each_at, each_of_map}
 use Rattle.run_model.proofs.LowStamps.{IsLowStamp, empty_low_stamp}
 use Rattle.run_model.proofs.SectionGood.{quiet_size}
+use Rattle.run_model.proofs.PlacedCaches.{ProcessorPlaced, AllPlaced, quiet_placed, all_new_placed}
 use Rattle.papr_codes.specs.declared.calls.Hcall.TheVariants as calls
 use Rattle.papr_codes.specs.declared.codes.Rc.TheVariants as rc
 use Rattle.trace_read.specs.declared.trace.Act.TheVariants as acts
@@ -37,11 +38,12 @@ use Rattle.trace_read.specs.declared.trace.Act.TheVariants as acts
 abbrev pub AreLowStamp : GrantedMemory → ℕ → List State → Type 0
 AreLowStamp granted n states = AllByRecursion (IsLowStamp granted.grants n) states
 
--- The memory that is granted stays, and so does the number of processors; the stamps are low.
+-- The memory that is granted stays, and so does the number of processors; the stamps are low, and cached lines stand in their groups.
 pub record IsLowStampRunState (granted : GrantedMemory) (n cpus : ℕ) (w : RunState) : Type 0 where
   pub grants : w.grants ≡ granted.grants
   pub processors : length w.processors ≡ cpus
   pub states : AreLowStamp granted n (states_of w)
+  pub placed : AllPlaced w
 
 -- ---- a committed resize
 restamped_low_stamp : (grants : List Grant) (n : ℕ) (s : State) → IsLowStamp grants n s → IsLowStamp grants n (at_stamp_0 s)
@@ -118,7 +120,7 @@ prepared_fine limit flags shift pending pool = cond_both (not (is_prepare_reques
 -- ---- quiet lines
 -- The reply is safe, and the stamps stay low.
 abbrev KeepsLowStamp : GrantedMemory → ℕ → Reply × RunState → Type 0
-KeepsLowStamp granted n x = IsSafe granted x.0 × (x.1.grants ≡ granted.grants) × AreLowStamp granted n (states_of x.1)
+KeepsLowStamp granted n x = IsUnworn x.0 × (x.1.grants ≡ granted.grants) × AreLowStamp granted n (states_of x.1)
 
 resize_keeps : (granted : GrantedMemory) (n : ℕ) (w : RunState) (call : Hcall) (args : List ℕ) → w.grants ≡ granted.grants → AreLowStamp granted n (states_of w) → KeepsLowStamp granted n (run_resize w call args)
 unfolding run_resize prepare_result commit_result
@@ -133,19 +135,19 @@ unfolding run_quiet_line
 quiet_keeps granted n w (acts.Call number args spelt) g h = resize_keeps granted n w (hcall_of number) args g h
 quiet_keeps granted n w other g h = (tt, g, h)
 
-pub quiet_safe : (granted : GrantedMemory) (n cpus : ℕ) (w : RunState) (act : Act) → IsLowStampRunState granted n cpus w → IsSafe granted (run_quiet_line w act).0 × IsLowStampRunState granted n cpus (run_quiet_line w act).1
+pub quiet_safe : (granted : GrantedMemory) (n cpus : ℕ) (w : RunState) (act : Act) → IsLowStampRunState granted n cpus w → IsUnworn (run_quiet_line w act).0 × IsLowStampRunState granted n cpus (run_quiet_line w act).1
 quiet_safe granted n cpus w act h =
     let kept = quiet_keeps granted n w act h.grants h.states in
-    (kept.0, record { grants = kept.1; processors = quiet_size w act ∙ h.processors; states = kept.2 })
+    (kept.0, record { grants = kept.1; processors = quiet_size w act ∙ h.processors; states = kept.2; placed = quiet_placed w act h.placed })
 
 -- ---- the ends of sections
 processors_by_size : (cpu : ℕ) (processors : List Processor) (ts : List RepliedLine) → length (processors_after_lines cpu processors ts) ≡ length processors
 processors_by_size cpu [] ts = refl
 processors_by_size cpu (s ∷ ss) ts = ap suc (processors_by_size (suc cpu) ss ts)
 
-pub closed_run_state : (granted : GrantedMemory) (n m cpus : ℕ) (w : RunState) (ts : List RepliedLine) → IsLowStampRunState granted n cpus w → AreLowStamp granted m (states_of (section_end w ts)) → IsLowStampRunState granted m cpus (section_end w ts)
+pub closed_run_state : (granted : GrantedMemory) (n m cpus : ℕ) (w : RunState) (ts : List RepliedLine) → IsLowStampRunState granted n cpus w → AreLowStamp granted m (states_of (section_end w ts)) → AllByRecursion (ProcessorPlaced w.memory.table.order) (processors_after_lines 0 w.processors ts) → IsLowStampRunState granted m cpus (section_end w ts)
 unfolding section_end
-closed_run_state granted n m cpus w ts h states = record { grants = h.grants; processors = processors_by_size 0 w.processors ts ∙ h.processors; states = states }
+closed_run_state granted n m cpus w ts h states placed = record { grants = h.grants; processors = processors_by_size 0 w.processors ts ∙ h.processors; states = states; placed = placed }
 
 -- ---- the beginning
 each_replicate : (granted : GrantedMemory) (n count : ℕ) → AreLowStamp granted n (replicate count (empty_state 0))
@@ -155,6 +157,10 @@ each_replicate granted n (suc count) = (empty_low_stamp granted.grants n, each_r
 pub opening_states : (c : Configuration) → AreLowStamp c.granted 0 (states_of (opening_run c))
 unfolding opening_run opening_memory empty_states
 opening_states c = each_replicate c.granted 0 (entry_count c.order)
+
+pub opening_placed : (c : Configuration) → AllPlaced (opening_run c)
+unfolding opening_run
+opening_placed c = all_new_placed _ c.cpus
 
 pub opening_grants : (c : Configuration) → (opening_run c).grants ≡ c.granted.grants
 unfolding opening_run

@@ -60,7 +60,7 @@ answered_moves : (refusal : Option Rc) (pending : Option PendingTable) (pool : P
 answered_moves (Some rc) pending pool table fails = rw fails refl
 answered_moves None pending pool table fails = completed_moves pending pool table
 
-memory_moves : (memory : TableMemory) (flags shift : ℕ) → Moves (is_success (commit_result memory flags shift).0) memory.table (commit_result memory flags shift).1.table
+pub memory_moves : (memory : TableMemory) (flags shift : ℕ) → Moves (is_success (commit_result memory flags shift).0) memory.table (commit_result memory flags shift).1.table
 unfolding commit_result outcome_of_commit
 memory_moves memory flags shift = answered_moves (commit_refusal flags shift memory.pending) memory.pending memory.pool memory.table (commit_fails flags shift memory.pending)
 

@@ -44,7 +44,7 @@ use Rattle.trace_read.specs.declared.trace.Act.{Act}
 use Rattle.trace_reply.specs.declared.reply.Reply.{Reply}
 use Rattle.trace_reply.specs.Replies.{IsOfKind, receipts_in}
 use Rattle.run_model.specs.LineReplies.{hcall_plan, IsCallReply, IsReplyToAccess}
-use Rattle.run_model.specs.Landings.{IsLanding, Lands, IsSafe}
+use Rattle.run_model.specs.Landings.{IsUnworn}
 use Rattle.run_model.proofs.Each.{each_map, each_append}
 use Rattle.run_model.proofs.LowStamps.{IsLowStamp, top, EnterGranted, FromLowStamp, none_worn}
 use Rattle.papr_codes.specs.declared.calls.Hcall.TheVariants as calls
@@ -64,7 +64,7 @@ words_granted grants dword1 (Some size) h = size_granted grants dword1 size.actu
 
 suited_granted : (grants : List Grant) (dword0 dword1 : ℕ) → IsSuited grants dword0 dword1 → IsGrantedWords grants dword0 dword1
 unfolding suits_grants
-suited_granted grants dword0 dword1 h = words_granted grants dword1 (size_of dword0 dword1) h
+suited_granted grants dword0 dword1 h = record { page = words_granted grants dword1 (size_of dword0 dword1) h.suits; fits = h.fits }
 
 enters_granted : (grants : List Grant) (op : Op) → EntersOnly (IsSuited grants) op → EntersOnly (IsGrantedWords grants) op
 enters_granted grants (ops.Enter dword0 dword1) h = suited_granted grants dword0 dword1 h
@@ -87,7 +87,7 @@ hcall_tame set other args = answered_tame (IsSuited set.grants) rc.Function (λ 
 pub record IsTameLine (granted : GrantedMemory) (reply : Reply) : Type 0 where
   pub enters : EnterGranted granted.grants (receipts_in reply)
   pub few : weight (receipts_in reply) ≤ 32
-  pub safe : FromLowStamp granted.grants top (receipts_in reply) → IsSafe granted reply
+  pub safe : FromLowStamp granted.grants top (receipts_in reply) → IsUnworn reply
 
 call_line : (granted : GrantedMemory) (set : AccessContext) (h : Hcall) (args : List ℕ) (reply : HReply) → set.grants ≡ granted.grants → IsReplyOf (hcall_plan set h args) reply → IsTameLine granted (replies.Hcall reply)
 call_line granted set h args reply same is =
@@ -98,37 +98,12 @@ call_line granted set h args reply same is =
       safe = λ low_stamp. tame.code (none_worn granted.grants reply.receipts low_stamp);
     }
 
--- ---- where an access lands
-landing : (granted : GrantedMemory) (ea : ℕ) (s : State) → AreApart granted → IsLowStamp granted.grants top s → s.valid ≡ true → Lands granted (landing_at (machine_range granted.grants (logical_of ea s) 1) (logical_of ea s))
-landing granted ea s apart low_stamp valid =
-    let (x, found) = access_lands granted.grants ea s low_stamp.granted valid in
-    let at : IsLanding granted x.0 = record { logical = logical_of ea s; kind = x.1; in_grant = found; off_pool = λ inside. lands_off_pool granted (logical_of ea s) x apart found inside.from_base inside.to_end } in
-    rw found at
-
-found_lands : (granted : GrantedMemory) (ea : ℕ) (found : Option Receipt) → AreApart granted → IfSome found (λ r. IsLowStamp granted.grants top r.before) → Lands granted (outcome_by granted.grants ea found)
-found_lands granted ea None apart low_stamp = tt
-found_lands granted ea (Some r) apart low_stamp = at (cases_Bool (is_at r.answer)) where
-  at : (is_at r.answer ≡ true) ⊎ (is_at r.answer ≡ false) → Lands granted (outcome_by granted.grants ea (Some r))
-  at (inl on) = rw on (landing granted ea r.before apart low_stamp (at_valid r.before r.op (ap is_at (sym r.lawful) ∙ on)))
-  at (inr off) = rw off tt
-
-each_found : (P : Receipt → Type 0) (rs : List Receipt) → AllByRecursion P rs → IfSome (found_of rs) P
-each_found P [] h = tt
-each_found P (r ∷ rs) h = at (cases_Bool (is_no_match r.answer)) (each_found P rs h.1) where
-  at : (is_no_match r.answer ≡ true) ⊎ (is_no_match r.answer ≡ false) → IfSome (found_of rs) P → IfSome (found_of (r ∷ rs)) P
-  at (inl on) rest = rw (found-on r rs on) rest
-  at (inr off) rest = rw (found-off r rs off) h.0
-
-outcome_lands : (granted : GrantedMemory) (ea : ℕ) (o : Outcome) (rs : List Receipt) → AreApart granted → o ≡ outcome_of granted.grants ea rs → FromLowStamp granted.grants top rs → Lands granted o
-unfolding outcome_of
-outcome_lands granted ea o rs apart e low_stamp = subst (Lands granted) (sym e) (found_lands granted ea (found_of rs) apart (each_found (λ (r : Receipt). IsLowStamp granted.grants top r.before) rs low_stamp))
-
 -- ---- accesses
-access_line : (granted : GrantedMemory) (set : AccessContext) (ea : ℕ) (r : AccessReply) (cs : List Call) → AreApart granted → set.grants ≡ granted.grants → AllByRecursion (λ (c : Call). EntersOnly (IsGrantedWords granted.grants) c.op) cs → calls_cost cs ≤ 32 → IsTrial is_no_match cs r.receipts → r.outcome ≡ outcome_of set.grants ea r.receipts → IsTameLine granted (replies.Access r)
-access_line granted set ea r cs apart same enters low trial outcome = record {
+access_line : (granted : GrantedMemory) (r : AccessReply) (cs : List Call) → AllByRecursion (λ (c : Call). EntersOnly (IsGrantedWords granted.grants) c.op) cs → calls_cost cs ≤ 32 → IsTrial is_no_match cs r.receipts → IsTameLine granted (replies.Access r)
+access_line granted r cs enters low trial = record {
   enters = trial_ops (EntersOnly (IsGrantedWords granted.grants)) is_no_match cs r.receipts enters trial;
   few = omega (arith, trial_weight is_no_match cs r.receipts trial);
-  safe = outcome_lands granted ea r.outcome r.receipts apart (subst (λ g. r.outcome ≡ outcome_of g ea r.receipts) same outcome);
+  safe = λ low_stamp. tt;
 }
 
 walk_cost : (order : ℕ) (seg : Segment) (a : Request) → calls_cost (walk_calls order seg.page (mode_for seg a)) ≤ 32
@@ -145,23 +120,23 @@ walk_enters W order seg a =
     let second = access_op seg.page (mode_for seg a) true in
     each_append (λ (c : Call). EntersOnly W c.op) (group_calls first (group_of seg.page order false)) (group_calls second (group_of seg.page order true)) (each_call (EntersOnly W) first (range_with_len (group_of seg.page order false * 8) 8) tt) (each_call (EntersOnly W) second (range_with_len (group_of seg.page order true * 8) 8) tt)
 
-way_line : (granted : GrantedMemory) (set : AccessContext) (seg : Segment) (a : Request) (c : Option Line) (by : Option By) (r : AccessReply) → AreApart granted → set.grants ≡ granted.grants → IsByWay set seg a c by r → IsTameLine granted (replies.Access r)
-way_line granted set seg a (Some line) (Some Hit) r apart same h = access_line granted set a.ea r (hit_calls seg a line) apart same (tt, tt) (omega arith) h.trial h.outcome
-way_line granted set seg a (Some line) (Some Walk) r apart same h = access_line granted set a.ea r (walk_calls set.order seg.page (mode_for seg a)) apart same (walk_enters (IsGrantedWords granted.grants) set.order seg a) (walk_cost set.order seg a) h.trial h.outcome
-way_line granted set seg a None (Some Walk) r apart same h = access_line granted set a.ea r (walk_calls set.order seg.page (mode_for seg a)) apart same (walk_enters (IsGrantedWords granted.grants) set.order seg a) (walk_cost set.order seg a) h.trial h.outcome
-way_line granted set seg a None (Some Hit) r apart same h = absurd h
-way_line granted set seg a None None r apart same h = absurd h
-way_line granted set seg a (Some line) None r apart same h = absurd h
+way_line : (granted : GrantedMemory) (set : AccessContext) (seg : Segment) (a : Request) (c : Option Line) (by : Option By) (r : AccessReply) → IsByWay set seg a c by r → IsTameLine granted (replies.Access r)
+way_line granted set seg a (Some line) (Some Hit) r h = access_line granted r (hit_calls seg a line) (tt, tt) (omega arith) h.trial
+way_line granted set seg a (Some line) (Some Walk) r h = access_line granted r (walk_calls set.order seg.page (mode_for seg a)) (walk_enters (IsGrantedWords granted.grants) set.order seg a) (walk_cost set.order seg a) h.trial
+way_line granted set seg a None (Some Walk) r h = access_line granted r (walk_calls set.order seg.page (mode_for seg a)) (walk_enters (IsGrantedWords granted.grants) set.order seg a) (walk_cost set.order seg a) h.trial
+way_line granted set seg a None (Some Hit) r h = absurd h
+way_line granted set seg a None None r h = absurd h
+way_line granted set seg a (Some line) None r h = absurd h
 
-segment_line : (granted : GrantedMemory) (set : AccessContext) (cached : VirtualPage → Option Line) (a : Request) (s : Option Segment) (r : AccessReply) → AreApart granted → set.grants ≡ granted.grants → IsAccessReply set cached a s r → IsTameLine granted (replies.Access r)
-segment_line granted set cached a None r apart same h = subst (λ (x : AccessReply). IsTameLine granted (replies.Access x)) (sym h) (record { enters = tt; few = omega arith; safe = λ low_stamp. tt })
-segment_line granted set cached a (Some seg) r apart same h = way_line granted set seg a (cached seg.page) r.by r apart same h
+segment_line : (granted : GrantedMemory) (set : AccessContext) (cached : VirtualPage → Option Line) (a : Request) (s : Option Segment) (r : AccessReply) → IsAccessReply set cached a s r → IsTameLine granted (replies.Access r)
+segment_line granted set cached a None r h = subst (λ (x : AccessReply). IsTameLine granted (replies.Access x)) (sym h) (record { enters = tt; few = omega arith; safe = λ low_stamp. tt })
+segment_line granted set cached a (Some seg) r h = way_line granted set seg a (cached seg.page) r.by r h
 
 -- ---- each line
-pub line_tame : (granted : GrantedMemory) (set : AccessContext) (processor : Processor) (act : Act) (reply : Reply) → AreApart granted → set.grants ≡ granted.grants → IsOfKind act reply → IsCallReply set act reply → IsReplyToAccess set processor act reply → IsTameLine granted reply
-line_tame granted set processor (acts.Call number args spelt) (replies.Hcall h) apart same kind call acc = call_line granted set (hcall_of number) args h same call
-line_tame granted set processor (acts.Access want ea user) (replies.Access r) apart same kind call acc = segment_line granted set (cached_line processor.cache) (request want ea user) (segment_of processor.slots ea) r apart same acc
-line_tame granted set processor (acts.SlbMte rb rs) (replies.Segment accepted) apart same kind call acc = record { enters = tt; few = omega arith; safe = λ low_stamp. tt }
-line_tame granted set processor acts.SlbClear (replies.Segment accepted) apart same kind call acc = record { enters = tt; few = omega arith; safe = λ low_stamp. tt }
-line_tame granted set processor acts.Dump (replies.Dump shown) apart same kind call acc = record { enters = tt; few = omega arith; safe = λ low_stamp. tt }
-line_tame granted set processor act reply apart same kind call acc = absurd kind
+pub line_tame : (granted : GrantedMemory) (set : AccessContext) (processor : Processor) (act : Act) (reply : Reply) → set.grants ≡ granted.grants → IsOfKind act reply → IsCallReply set act reply → IsReplyToAccess set processor act reply → IsTameLine granted reply
+line_tame granted set processor (acts.Call number args spelt) (replies.Hcall h) same kind call acc = call_line granted set (hcall_of number) args h same call
+line_tame granted set processor (acts.Access want ea user) (replies.Access r) same kind call acc = segment_line granted set (cached_line processor.cache) (request want ea user) (segment_of processor.slots ea) r acc
+line_tame granted set processor (acts.SlbMte rb rs) (replies.Segment accepted) same kind call acc = record { enters = tt; few = omega arith; safe = λ low_stamp. tt }
+line_tame granted set processor acts.SlbClear (replies.Segment accepted) same kind call acc = record { enters = tt; few = omega arith; safe = λ low_stamp. tt }
+line_tame granted set processor acts.Dump (replies.Dump shown) same kind call acc = record { enters = tt; few = omega arith; safe = λ low_stamp. tt }
+line_tame granted set processor act reply same kind call acc = absurd kind

@@ -1,8 +1,6 @@
 -- The laws of runs: the serial run is a good one, and what follows of a run from its being good.
-use Rattle.std.specs.Prelude.{◌≡◌, ◌≢◌, ℕ, ◌+◌, ◌^◌, ◌<◌, ◌≤◌, ◌==◌, Bool, true, false, not, List, [], ◌∷◌, length, Option, Some, None, MatchBool, MatchOption, if◌then◌else◌}
+use Rattle.std.specs.Prelude.{◌≡◌, ℕ, false, List}
 use Rattle.std.specs.List.{AllByRecursion}
-use Rattle.papr_codes.specs.declared.codes.Rc.TheVariants.{Hardware}
-use Rattle.entry_model.specs.declared.access_reply.Outcome.TheVariants.{At, Ungranted}
 use Rattle.trace_read.specs.declared.trace.TraceLine.{TraceLine}
 use Rattle.trace_read.specs.Trace.{AcceptedTrace, is_quiet, IsAccepted}
 use Rattle.trace_reply.specs.declared.reply.Reply.{Reply}
@@ -10,15 +8,10 @@ use Rattle.trace_reply.specs.Replies.{AreReplies}
 use Rattle.run_model.specs.Sections.{sections_of}
 use Rattle.run_model.specs.SerialRun.{serial_replies}
 use Rattle.run_model.specs.GoodRun.{IsGoodRun}
-use Rattle.run_model.specs.ShownStores.{NoStoreIsLostIn}
+use Rattle.run_model.specs.ShownStores.{NoStoreIsLostIn, ClearedBitsAreShown}
 use Rattle.run_model.specs.CommittedResizes.{ResizesKeepTranslations}
-use Rattle.run_model.specs.Landings.{IsSafe}
+use Rattle.run_model.specs.Landings.{AccessesLand, IsUnworn}
 use Rattle.run_model.specs.ParallelRun.{IsParallel}
-use Rattle.papr_codes.specs.declared.calls.Hcall.TheVariants as calls
-use Rattle.entry_model.specs.declared.operation.Answer.TheVariants as answers
-use Rattle.entry_model.specs.declared.operation.Op.TheVariants as ops
-use Rattle.trace_read.specs.declared.trace.Act.TheVariants as acts
-use Rattle.trace_reply.specs.declared.reply.Reply.TheVariants as replies
 
 -- ---- which runs are good
 -- The serial run of each accepted trace is a good run.
@@ -61,6 +54,13 @@ NoStoreIsLost =
     → IsGoodRun t rs
     → NoStoreIsLostIn (sections_of t rs)
 
+-- In a good run the reply that clears a change bit shows it.
+abbrev pub ClearingRepliesShow : Type 0
+ClearingRepliesShow =
+    (t : AcceptedTrace) (rs : List Reply)
+    → IsGoodRun t rs
+    → AllByRecursion ClearedBitsAreShown (sections_of t rs)
+
 -- In a good run a committed resize keeps each bolted page's translation, and no other line changes the table between two sections.
 abbrev pub ResizesKeepBoltedPages : Type 0
 ResizesKeepBoltedPages =
@@ -69,10 +69,18 @@ ResizesKeepBoltedPages =
     → IsGoodRun t rs
     → ResizesKeepTranslations (sections_of t rs)
 
--- In a good run each access that is allowed lands in a grant, and in no table; Ungranted and H_HARDWARE never come.
-abbrev pub AccessesLandInGrants : Type 0
-AccessesLandInGrants =
+-- In a good run each access that is allowed, by a walk or by a cached line, lands where an entry that was then one of its page maps it: in a grant, and in no table. None is ungranted.
+abbrev pub AccessesLandByTheirEntries : Type 0
+AccessesLandByTheirEntries =
     (t : AcceptedTrace) (rs : List Reply)
     → IsAccepted t
     → IsGoodRun t rs
-    → AllByRecursion (IsSafe t.config.granted) rs
+    → AllByRecursion (AccessesLand t.config.granted) (sections_of t rs)
+
+-- In a good run no reply is H_HARDWARE.
+abbrev pub NoEntryIsWorn : Type 0
+NoEntryIsWorn =
+    (t : AcceptedTrace) (rs : List Reply)
+    → IsAccepted t
+    → IsGoodRun t rs
+    → AllByRecursion IsUnworn rs

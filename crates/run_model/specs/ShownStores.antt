@@ -1,9 +1,10 @@
 -- No store is lost: a store that succeeds shows in a change bit until a reply reports or clears it.
-use Rattle.std.specs.Prelude.{◌≡◌, ◌≢◌, ℕ, ◌+◌, ◌^◌, ◌<◌, ◌≤◌, ◌==◌, Bool, true, false, not, List, [], ◌∷◌, length, Option, Some, None, MatchBool, MatchOption, if◌then◌else◌}
+use Rattle.std.specs.Prelude.{◌≡◌, ℕ, ◌<◌, ◌==◌, Bool, true, false, IsTrue, List, [], ◌∷◌, length, slice_index, Option, Some, MatchBool, MatchOption, if◌then◌else◌}
 use Rattle.std.specs.List.{AllByRecursion}
-use Rattle.papr_codes.specs.declared.codes.Rc.TheVariants.{Hardware}
+use Rattle.papr_codes.specs.declared.calls.Hcall.{Hcall}
+use Rattle.papr_codes.specs.Hcalls.{hcall_of}
+use Rattle.hpte_fields.specs.Fields.{is_changed}
 use Rattle.entry_model.specs.State.{State}
-use Rattle.entry_model.specs.declared.access_reply.Outcome.TheVariants.{At, Ungranted}
 use Rattle.entry_model.specs.declared.operation.Answer.{Answer}
 use Rattle.entry_model.specs.declared.operation.Op.{Op}
 use Rattle.entry_model.specs.declared.receipt.Receipt.{Receipt}
@@ -11,9 +12,13 @@ use Rattle.entry_model.specs.Receipt.{is_at}
 use Rattle.entry_model.specs.Reply.{is_store}
 use Rattle.entry_model.specs.History.{history}
 use Rattle.entry_model.specs.Run.{state_at}
+use Rattle.h_update.specs.Bulk.{pairs_show}
 use Rattle.hpt_resize.specs.Rehash.{target_at}
+use Rattle.trace_read.specs.declared.trace.Act.{Act}
+use Rattle.trace_reply.specs.declared.reply.Reply.{Reply}
 use Rattle.run_model.specs.RunState.{states_of}
 use Rattle.run_model.specs.Sections.{Section, receipts_made, section_end}
+use Rattle.run_model.specs.GoodRun.{EachLine}
 use Rattle.papr_codes.specs.declared.calls.Hcall.TheVariants as calls
 use Rattle.entry_model.specs.declared.operation.Answer.TheVariants as answers
 use Rattle.entry_model.specs.declared.operation.Op.TheVariants as ops
@@ -55,6 +60,29 @@ history_in s entry = history entry (receipts_made s.before s.replied_lines)
 -- The state that the entry closes on.
 abbrev pub closing_state : Section → ℕ → State
 closing_state s entry = state_at (states_of (section_end s.before s.replied_lines)) entry
+
+-- ---- the reply that clears
+-- The words show C of an entry: H_REMOVE's in doubleword 1, the second of them, H_CLEAR_MOD's in the one word, H_BULK_REMOVE's in a pair of the entry.
+abbrev pub shows_changed : Hcall → List ℕ → ℕ → Bool
+shows_changed calls.Remove words entry = is_changed (slice_index words 1)
+shows_changed calls.ClearMod words entry = is_changed (slice_index words 0)
+shows_changed calls.BulkRemove words entry = pairs_show words entry
+shows_changed other words entry = false
+
+-- A receipt that clears C has its C shown, where that was set.
+abbrev pub ShowsWhatItClears : Hcall → List ℕ → Receipt → Type 0
+ShowsWhatItClears call words r =
+    clears r ≡ true → r.before.changed ≡ true → IsTrue (shows_changed call words r.entry)
+
+-- The reply of a hypervisor call shows each C that its receipts clear.
+abbrev pub ShowsClearedBits : Act → Reply → Type 0
+ShowsClearedBits (acts.Call number args spelt) (replies.Hcall h) =
+    AllByRecursion (ShowsWhatItClears (hcall_of number) h.words) h.receipts
+ShowsClearedBits act reply = Unit {0}
+
+-- So does each reply of a section.
+abbrev pub ClearedBitsAreShown : Section → Type 0
+ClearedBitsAreShown s = EachLine (λ p t. ShowsClearedBits t.line.act t.reply) s
 
 -- ---- from section to section
 -- The section has the table of the one before.

@@ -1,6 +1,6 @@
 //! Laws of the runs of a trace. Each function does nothing, and its contract is the law.
 
-ghost use Rattle.run_model.specs.Laws.{SerialIsGood, ParallelIsGood, SerialIsParallel, SerialIsTheOneGoodRun, NoStoreIsLost, ResizesKeepBoltedPages, AccessesLandInGrants};
+ghost use Rattle.run_model.specs.Laws.{SerialIsGood, ParallelIsGood, SerialIsParallel, SerialIsTheOneGoodRun, NoStoreIsLost, ClearingRepliesShow, ResizesKeepBoltedPages, AccessesLandByTheirEntries, NoEntryIsWorn};
 
 /// The serial run of a trace is a good run.
 pub fn serial_is_good()
@@ -28,12 +28,24 @@ pub fn no_store_is_lost()
     ensures { NoStoreIsLost }
 {}
 
+/// In a good run the reply that clears a change bit shows it: H_REMOVE's in register 5, H_CLEAR_MOD's in
+/// register 4, H_BULK_REMOVE's in a pair of the entry.
+pub fn clearing_replies_show()
+    ensures { ClearingRepliesShow }
+{}
+
 /// In a good run a committed resize keeps each bolted page's translation.
 pub fn resizes_keep_bolted_pages()
     ensures { ResizesKeepBoltedPages }
 {}
 
-/// In a good run each access that is allowed lands in a grant and in no table, and no entry is worn.
-pub fn accesses_land_in_grants()
-    ensures { AccessesLandInGrants }
+/// In a good run each access that is allowed lands where an entry that was then one of its page maps it,
+/// in a grant and in no table.
+pub fn accesses_land_by_their_entries()
+    ensures { AccessesLandByTheirEntries }
+{}
+
+/// In a good run no reply is H_HARDWARE.
+pub fn no_entry_is_worn()
+    ensures { NoEntryIsWorn }
 {}

@@ -8,6 +8,6 @@
 mod laws;
 
 pub use laws::{
-    accesses_land_in_grants, no_store_is_lost, one_good_run, parallel_is_good,
-    resizes_keep_bolted_pages, serial_is_good, serial_is_parallel,
+    accesses_land_by_their_entries, clearing_replies_show, no_entry_is_worn, no_store_is_lost,
+    one_good_run, parallel_is_good, resizes_keep_bolted_pages, serial_is_good, serial_is_parallel,
 };

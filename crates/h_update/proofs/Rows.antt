@@ -7,7 +7,7 @@ use Rattle.entry_model.specs.declared.operation.Answer.TheVariants.{Removed, Pro
 use Rattle.entry_model.specs.declared.hreply.HReply.{HReply}
 use Rattle.entry_model.specs.Trial.{Plan, plan_run, trial_run}
 use Rattle.h_update.specs.Single.{h_remove_plan, h_protect_plan, h_read_plan, h_clear_ref_plan, h_clear_mod_plan}
-use Rattle.h_update.specs.Bulk.{bulk_calls, bulk_told, asked_by, h_bulk_remove_plan}
+use Rattle.h_update.specs.Bulk.{bulk_calls, bulk_told, asked_by, h_bulk_remove_plan, pairs_show}
 use Rattle.papr_codes.specs.declared.codes.Rc.TheVariants as rc
 
 -- The first entries of a table, of which entry 0x20 has this state.
@@ -117,3 +117,25 @@ ends_at_the_second_pair = refl
 bulk_stops_at_a_worn_entry : reply (h_bulk_remove_plan 18 (0x4000000000000020 ∷ 0 ∷ 0x4000000000000021 ∷ 0 ∷ 0 ∷ 0 ∷ 0 ∷ 0 ∷ [])) (table (entry 0x1001 0x3012 false false 0xFFFFFFFF)) ≡ shows rc.Hardware (0xB000000000000020 ∷ 0 ∷ 0x4000000000000021 ∷ 0 ∷ 0 ∷ 0 ∷ 0 ∷ 0 ∷ []) (seen 0x20 0xFFFFFFFF Worn ∷ [])
 unfolding reply shown shows seen table entry plan_run trial_run h_bulk_remove_plan bulk_calls bulk_told asked_by
 bulk_stops_at_a_worn_entry = refl
+
+-- ---- a response shows C
+-- Of the two entries that were removed the first had C; the third was not found.
+responses : List ℕ
+responses = 0x8400000000000020 ∷ 0x10 ∷ 0x8800000000000021 ∷ 0x11 ∷ 0x9000000000000022 ∷ 0x12 ∷ []
+
+first_had_c : pairs_show responses 0x20 ≡ true
+unfolding responses
+first_had_c = refl
+
+second_had_r_alone : pairs_show responses 0x21 ≡ false
+unfolding responses
+second_had_r_alone = refl
+
+third_was_not_found : pairs_show responses 0x22 ≡ false
+unfolding responses
+third_was_not_found = refl
+
+-- A word of a test is no response.
+no_response : pairs_show responses 0x10 ≡ false
+unfolding responses
+no_response = refl

@@ -1,6 +1,10 @@
 -- Worked values of the claims, which the checker computes.
-use Rattle.std.proofs.Common.{◌≡◌, ℕ, List, [], ◌∷◌, Bool, true, false, Some, None, refl}
-use Rattle.power_addr.specs.Pages.{tag_of}
+use Rattle.std.proofs.Common.{◌≡◌, ℕ, ◌<◌, List, [], ◌∷◌, Bool, true, false, Some, None, refl, ap, arith}
+use Rattle.std.specs.Option.{option_map_or}
+use Rattle.power_addr.specs.Pages.{VirtualPage, virtual_page, tag_of}
+use Rattle.frame_grants.specs.declared.grant.Kind.{Kind}
+use Rattle.frame_grants.specs.declared.grant.Kind.TheVariants.{Ram}
+use Rattle.frame_grants.specs.Grants.{GrantedMemory, machine_range}
 use Rattle.papr_codes.specs.Hcalls.{row_of, hcall_of}
 use Rattle.papr_codes.specs.declared.codes.Rc.TheVariants.{Success, Busy}
 use Rattle.storage_prot.specs.declared.want.Want.TheVariants.{Load, Store}
@@ -17,8 +21,10 @@ use Rattle.hpt_resize.specs.Rehash.{carried_page, target_of}
 use Rattle.run_model.specs.RunState.{reply_of_code}
 use Rattle.run_model.specs.Histories.{closing_states}
 use Rattle.run_model.specs.Sections.{Section, section_end}
-use Rattle.run_model.specs.ShownStores.{clears, stores, ShowsChange, StoresAreShown, carried_to, StaysShown}
+use Rattle.run_model.specs.ShownStores.{clears, stores, shows_changed, ShowsChange, StoresAreShown, carried_to, StaysShown}
 use Rattle.run_model.specs.CommittedResizes.{commits_by}
+use Rattle.run_model.specs.Landings.{IsLanding}
+use Rattle.papr_codes.specs.declared.calls.Hcall.TheVariants as calls
 use Rattle.trace_read.specs.declared.trace.Act.TheVariants as acts
 
 -- A bolted entry of the page of VSID 0x801 and index 1, at index 0 of a table of 2 ^ 18 bytes.
@@ -58,6 +64,23 @@ failed_removal = refl
 clear_ref_keeps : clears (made true ClearRef) ≡ false
 unfolding made entry
 clear_ref_keeps = refl
+
+-- ---- the reply that clears
+-- C stands in the second word of H_REMOVE, where the first has a bit of the same weight.
+remove_shows_c : shows_changed calls.Remove (0x801091 ∷ 0x3092 ∷ []) 0 ≡ true
+remove_shows_c = refl
+
+remove_shows_no_c : shows_changed calls.Remove (0x801091 ∷ 0x3112 ∷ []) 0 ≡ false
+remove_shows_no_c = refl
+
+clear_mod_shows_c : shows_changed calls.ClearMod (0x3092 ∷ []) 0 ≡ true
+clear_mod_shows_c = refl
+
+bulk_shows_c : shows_changed calls.BulkRemove (0x8400000000000000 ∷ 0 ∷ []) 0 ≡ true
+bulk_shows_c = refl
+
+no_other_call : shows_changed calls.Protect (0x3092 ∷ []) 0 ≡ false
+no_other_call = refl
 
 -- ---- shown
 -- Behind the receipt that clears it nothing is asked.
@@ -135,3 +158,35 @@ refused = refl
 prepared : commits_by (acts.Call 0x36C (0 ∷ 19 ∷ []) false) (reply_of_code Success) ≡ false
 unfolding hcall_of row_of
 prepared = refl
+
+-- ---- landings
+-- The store at 0x1234 of its page: the frame is 0x3000, and the grant begins at machine address 0x2000000000.
+granted : GrantedMemory
+granted = record {
+  pool_base = 0x1000000000;
+  pool_order = 24;
+  grants = record { logical = 0; machine = 0x2000000000; length = 0x10000; kind = Ram } ∷ [];
+}
+
+page : VirtualPage
+page = virtual_page false 0x801 12 1
+
+lands : IsLanding granted 18 0x1234 page (made true store) 0x2000003234
+unfolding granted page made entry store has_base permission rows machine_range tag_of group_of
+lands = record {
+  allowed = refl;
+  of_page = record { valid = refl; tag = refl; size = refl; segment = refl; group = refl };
+  kind = Ram;
+  in_grant = refl;
+  off_pool = λ inside. absurd (omega (arith, inside.to_end));
+}
+
+-- Another byte of the same grant.
+lands_elsewhere : IsLanding granted 18 0x1234 page (made true store) 0x2000003235 → ⊥
+unfolding granted page made entry store has_base permission rows machine_range
+lands_elsewhere h = let no : 0x2000003234 ≡ 0x2000003235 = ap (λ x. option_map_or (λ (y : ℕ × Kind). y.0) x 0) h.in_grant in absurd (omega (arith, no))
+
+-- The entry is none of the next page.
+lands_by_another_page : IsLanding granted 18 0x1234 (virtual_page false 0x801 12 2) (made true store) 0x2000003234 → ⊥
+unfolding made entry store group_of
+lands_by_another_page h = let no : 3 ≡ 0 = h.of_page.group in absurd (omega (arith, no))

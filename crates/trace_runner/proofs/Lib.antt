@@ -7,3 +7,12 @@ mod RunRows
 mod CallRows
 mod QuietRows
 mod WholeRows
+pub mod WorkSteps
+pub mod Hiring
+pub mod Gathering
+pub mod Merging
+pub mod Sectioning
+pub mod Promised
+pub mod Running
+pub mod Headline
+pub mod Sending

@@ -1,2 +1,4 @@
 pub mod ActedLine
 pub mod MachineState
+pub mod Crews
+pub mod Gathers

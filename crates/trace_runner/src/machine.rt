@@ -19,8 +19,8 @@ use vcpu::Cpu;
 /// A partition with its processors, between two lines.
 #[derive(Drop)]
 pub struct Machine {
-    partition: Partition,
-    cpus: Vec<Cpu>,
+    pub partition: Partition,
+    pub cpus: Vec<Cpu>,
 }
 
 impl Model for Machine {

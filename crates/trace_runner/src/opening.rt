@@ -12,7 +12,7 @@ use std::alloc::{AllocError, Global};
 use trace_read::Trace;
 
 /// What each accepted trace has.
-fn keeps_limits(trace: &Trace)
+pub fn keeps_limits(trace: &Trace)
     ensures { IsAccepted trace.now }
 {
     let _limit = trace.config.limit;

@@ -1,0 +1,70 @@
+-- A processor that gets a pass is ready.
+use Rattle.std.proofs.Common.{◌≡◌, ℕ, zero, suc, ◌+◌, ◌-◌, ◌^◌, ◌<◌, ◌≤◌, List, [], ◌∷◌, ◌++◌, length, map, get_or, true, false, ap, sym, ◌∙◌, refl, subst, ◌⊎◌, inl, inr, arith, Option, Some, append_assoc, vec_capacity}
+use Rattle.std.specs.List.{AllByRecursion}
+use Rattle.std.proofs.lemmas.List.{length-map, get_or_past}
+use Rattle.entry_model.specs.State.{State, empty_state}
+use Rattle.entry_model.specs.declared.line.Line.{Line}
+use Rattle.tlb_model.specs.Cache.{AllCached}
+use Rattle.entry_model.specs.Run.{state_at}
+use Rattle.entry_model.specs.CachedLines.{Holds}
+use Rattle.entry_model.specs.History.{pair_of}
+use Rattle.entry_model.specs.Fronts.{opening_fronts}
+use Rattle.tlb_model.proofs.CachedPages.{all_cached_weaker}
+use Rattle.entry_lock.specs.declared.table.LockTable.{LockTable}
+use Rattle.entry_lock.specs.declared.table.Pass.{Pass}
+use Rattle.entry_lock.specs.PassOfTable.{IsOf, view_of}
+use Rattle.hpt_walk.specs.Access.{AccessContext}
+use Rattle.tlb_model.specs.Processor.{Processor}
+use Rattle.trace_read.specs.declared.trace.TraceLine.{TraceLine}
+use Rattle.trace_runner.specs.declared.worker.Worker.{Worker}
+use Rattle.trace_runner.specs.MachineState.{Holding}
+use Rattle.trace_runner.specs.Crews.{HasSome, own_lines, IsSeenBy, HasRun, IsReady}
+use Rattle.trace_runner.specs.Gathers.{AllFrom}
+use Rattle.trace_runner.proofs.Sectioning.{below_or}
+
+pub holds_inside : (a : List State) (line : Line) → Holding a line → line.entry < length a
+holds_inside a line h = at (below_or line.entry (length a)) where
+  at : (line.entry < length a) ⊎ (length a ≤ line.entry) → line.entry < length a
+  at (inl low) = low
+  at (inr past) = never (subst (Holds line) (get_or_past a line.entry (empty_state 0) past) h) where
+    never : Holds line (empty_state 0) → line.entry < length a
+    never (inl less) = absurd (omega (arith, less))
+    never (inr current) = let clash : false ≡ true = current.valid in cc
+
+-- What the pass is at first.
+pub record First (table : LockTable) (pass : Pass) : Type 0 where
+  pub of : IsOf table pass
+  pub share : pass.shares ≡ 1
+  pub made : (view_of pass).actor.receipts ≡ []
+  pub fronts : (view_of pass).fronts ≡ opening_fronts table.opening.items
+
+pub worker_ready : (set : AccessContext) (table : LockTable) (n j : ℕ) (lines : List TraceLine) (w : Worker) (pass : Pass) (cpu : Processor)
+    → length table.opening.items ≡ 2 ^ (table.order - 4) → AllCached (Holding table.opening.items) cpu.cache → First table pass
+    → (w.cpu ≡ cpu) × (w.begun.value ≡ cpu) → w.pass ≡ Some pass → w.replies.items ≡ [] → n ≡ j → length (own_lines n lines) ≤ vec_capacity w.replies
+    → IsReady set table j lines w
+worker_ready set table n j lines w pass cpu size holds first processors is none number room = record {
+  fresh = subst (λ (o : Option Pass). HasSome o (HasRun set table j [] [] w)) (sym is) (record {
+    of = first.of;
+    share = first.share;
+    made = first.made;
+    kinds = tt;
+    works = first.fronts;
+    size = ap length first.fronts ∙ length-map table.opening.items pair_of ∙ size;
+    processor = processors.0 ∙ sym processors.1;
+    seen = subst (λ (s : Processor). AllCached (IsSeenBy table pass) s.cache) (sym processors.0) (all_cached_weaker (Holding table.opening.items) (IsSeenBy table pass) (λ line h. record { inside = subst (λ m. line.entry < m) size (holds_inside table.opening.items line h); seen = inr h }) cpu.cache holds);
+  });
+  none = none;
+  room = subst (λ m. length (own_lines m lines) ≤ vec_capacity w.replies) number room;
+}
+
+pub all_push : {A : Type 0} (P : ℕ → A → Type 0) (n : ℕ) (xs : List A) (x : A) → AllFrom P n xs → P (n + length xs) x → AllFrom P n (xs ++ x ∷ [])
+all_push P n [] x h k = let e : n + 0 ≡ n = omega arith in (subst (λ m. P m x) e k, tt)
+all_push P n (y ∷ ys) x h k = let e : n + suc (length ys) ≡ suc n + length ys = omega arith in (h.0, all_push P (suc n) ys x h.1 (subst (λ m. P m x) e k))
+
+pub size_push : {A : Type 0} (xs : List A) (x : A) → length (xs ++ x ∷ []) ≡ length xs + 1
+size_push [] x = omega arith
+size_push (y ∷ ys) x = let e = size_push ys x in omega (arith, e)
+
+pub map_push : {A B : Type 0} (f : A → B) (xs : List A) (x : A) (y : B) (rest : List B) → f x ≡ y → map f (xs ++ x ∷ []) ++ rest ≡ map f xs ++ y ∷ rest
+map_push f [] x y rest e = ap (λ z. z ∷ rest) e
+map_push f (z ∷ zs) x y rest e = ap (λ l. f z ∷ l) (map_push f zs x y rest e)

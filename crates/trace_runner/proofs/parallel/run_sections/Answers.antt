@@ -1,0 +1,91 @@
+use Rattle.std.proofs.Common.{◌≡◌, ◌+◌, ◌-◌, ◌^◌, ◌<◌, ◌≤◌, ◌∙◌, sym, ap, subst, refl, get_or, false, length, take, drop, List, [], arith}
+use Rattle.std.specs.List.{AllByRecursion}
+use Rattle.trace_read.specs.declared.trace.TraceLine.{TraceLine}
+use Rattle.trace_read.specs.declared.trace.Act.TheVariants.{Call}
+use Rattle.trace_reply.specs.Replies.{AreReplies, lines_with_replies}
+use Rattle.trace_runner.specs.Crews.{NoneQuiet}
+use Rattle.trace_runner.specs.Gathers.{Sectioned, Runs}
+use Rattle.trace_runner.proofs.Merging.{each_line}
+use Rattle.trace_runner.proofs.Running.{part, Done, Ended, done_none, done_more, done_end, low_stamp_more, none_low_stamp, part_end, part_each, section_processors, section_number}
+use Rattle.trace_runner.proofs.parallel.run_sections.Goals as goal
+use Rattle.trace_runner.proofs.parallel.run_sections.Goals.{then-is_quiet+in_ok-machine+in_ok-line+in_ok-push, else-is_quiet}
+
+-- what a read past the end would give
+abbrev d : TraceLine
+d = record { number = 0; cpu = 0; act = Call 0 [] false }
+
+pub loop-i-init : goal.loop-i-init
+loop-i-init g c = record {
+  low = omega arith;
+  low_stamp = tt;
+  processors = refl;
+  number = omega (arith, c.requires.number);
+  done = subst (Done c.args.opened c.args.lines.now 0 c.args.opened) (sym c.new-replies.ensures) (done_none c.args.opened c.args.lines.now);
+}
+
+pub section-requires-clause-cpus : goal.section-requires-clause-cpus
+section-requires-clause-cpus g c κs within = part_each (λ (l : TraceLine). l.cpu < length c.loop-i.machine.processors) c.args.lines.now c.loop-i.start c.loop-i.i (subst (λ n. AllByRecursion (λ (l : TraceLine). l.cpu < n) c.args.lines.now) (sym c.loop-i.invariant.processors) c.requires.cpus)
+
+pub section-requires-clause-some : goal.section-requires-clause-some
+section-requires-clause-some g c κs within = subst (λ n. 0 < n) (sym c.loop-i.invariant.processors) c.requires.some
+
+pub section-requires-clause-few : goal.section-requires-clause-few
+section-requires-clause-few g c κs within = subst (λ n. n ≤ 64) (sym c.loop-i.invariant.processors) c.requires.few_cpus
+
+pub line-requires-clause-cpu : goal.line-requires-clause-cpu
+line-requires-clause-cpu g c =
+    let size : length c.in_ok-machine.machine.processors ≡ length c.args.opened.processors = section_processors c.loop-i.machine c.in_ok-machine.machine _ _ c.in_ok-machine.ensures.sectioned ∙ c.loop-i.invariant.processors in
+    subst (λ n. (get_or c.args.lines.now c.loop-i.i d).cpu < n) (sym size) (each_line (λ (l : TraceLine). l.cpu < length c.args.opened.processors) c.args.lines.now c.loop-i.i d c.requires.cpus c.loop-i-test.true)
+
+pub line-requires-clause-number : goal.line-requires-clause-number
+line-requires-clause-number g c =
+    let same = section_number c.loop-i.machine c.in_ok-machine.machine _ _ c.in_ok-machine.ensures.sectioned in
+    omega (arith, same, c.loop-i.invariant.number, c.loop-i-test.true, c.requires.few)
+
+pub loop-i-preserved : goal.loop-i-preserved
+loop-i-preserved g c =
+    let i = c.loop-i.invariant in
+    elim c.if-is_quiet.branch [
+      | then-is_quiet+in_ok-machine+in_ok-line+in_ok-push w ↦
+          let e = w.in_ok-machine.ensures in
+          let k = w.in_ok-line.ensures in
+          rw (w.machine-is, w.replies-is, w.start-is) (record {
+            low = omega arith;
+            low_stamp = none_low_stamp c.args.lines.now (c.loop-i.i + 1);
+            processors = k.cpus ∙ section_processors c.loop-i.machine w.in_ok-machine.machine _ _ e.sectioned ∙ i.processors;
+            number = omega (arith, k.number, section_number c.loop-i.machine w.in_ok-machine.machine _ _ e.sectioned, i.number);
+            done = done_more c.args.opened c.loop-i.machine w.in_ok-machine.machine w.line.new.self c.args.lines.now c.loop-i.start c.loop-i.i d c.loop-i.replies.items w.section.new.replies.items e.news w.push.new.self.items w.line.new.reply i.low c.loop-i-test.true i.done i.low_stamp e.sectioned (sym c.is_quiet.ensures ∙ w.if-is_quiet.true) k.reply e.grown w.in_ok-push.ensures.ok;
+          })
+      | else-is_quiet w ↦
+          rw (w.machine-is, w.replies-is, w.start-is) (record {
+            low = omega (arith, i.low);
+            low_stamp = low_stamp_more c.args.lines.now c.loop-i.start c.loop-i.i d i.low c.loop-i-test.true i.low_stamp (sym c.is_quiet.ensures ∙ w.if-is_quiet.false);
+            processors = i.processors;
+            number = omega (arith, i.number);
+            done = i.done;
+          })
+    ]
+
+pub section-requires-2-clause-low_stamp : goal.section-requires-2-clause-low_stamp
+section-requires-2-clause-low_stamp g c κs within =
+    let last : c.loop-i.i ≡ length c.args.lines.now = omega (arith, c.loop-i-test.false, c.loop-i.auto.i-end) in
+    subst (λ n. NoneQuiet (part c.loop-i.start n c.args.lines.now)) last c.loop-i.invariant.low_stamp
+
+pub section-requires-2-clause-cpus : goal.section-requires-2-clause-cpus
+section-requires-2-clause-cpus g c κs within = part_each (λ (l : TraceLine). l.cpu < length c.loop-i.machine.processors) c.args.lines.now c.loop-i.start (length c.args.lines.now) (subst (λ n. AllByRecursion (λ (l : TraceLine). l.cpu < n) c.args.lines.now) (sym c.loop-i.invariant.processors) c.requires.cpus)
+
+pub section-requires-2-clause-some : goal.section-requires-2-clause-some
+section-requires-2-clause-some g c κs within = subst (λ n. 0 < n) (sym c.loop-i.invariant.processors) c.requires.some
+
+pub section-requires-2-clause-few : goal.section-requires-2-clause-few
+section-requires-2-clause-few g c κs within = subst (λ n. n ≤ 64) (sym c.loop-i.invariant.processors) c.requires.few_cpus
+
+pub returns-clause-kinds : goal.returns-clause-kinds
+returns-clause-kinds g c =
+    let last : c.loop-i.i ≡ length c.args.lines.now = omega (arith, c.loop-i-test.false, c.loop-i.auto.i-end) in
+    (done_end c.args.opened c.loop-i.machine c.in_ok-section.field-0 c.args.lines.now c.loop-i.start c.loop-i.i c.loop-i.replies.items c.section-2.new.replies.items c.loop-i.invariant.low last c.loop-i.invariant.done c.loop-i.invariant.low_stamp c.in_ok-section.ensures).kinds
+
+pub returns-clause-runs : goal.returns-clause-runs
+returns-clause-runs g c =
+    let last : c.loop-i.i ≡ length c.args.lines.now = omega (arith, c.loop-i-test.false, c.loop-i.auto.i-end) in
+    (done_end c.args.opened c.loop-i.machine c.in_ok-section.field-0 c.args.lines.now c.loop-i.start c.loop-i.i c.loop-i.replies.items c.section-2.new.replies.items c.loop-i.invariant.low last c.loop-i.invariant.done c.loop-i.invariant.low_stamp c.in_ok-section.ensures).runs

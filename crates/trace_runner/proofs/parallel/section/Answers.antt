@@ -1,0 +1,105 @@
+use Rattle.std.proofs.Common.{◌≡◌, ◌-◌, ◌^◌, ◌<◌, ◌++◌, ◌∙◌, sym, ap, subst, refl, length, map, take, drop, List, [], arith, append-nil}
+use Rattle.std.proofs.lemmas.Bool.{eqb-true}
+use Rattle.std.proofs.lemmas.List.{length-map}
+use Rattle.std.specs.List.{AllByRecursion}
+use Rattle.entry_model.specs.State.{State}
+use Rattle.tlb_model.specs.Processor.{Processor}
+use Rattle.partition.specs.PartitionState.{PartitionState, with_memory}
+use Rattle.hpt_resize.specs.TableMemory.{with_states}
+use Rattle.trace_read.specs.declared.trace.TraceLine.{TraceLine}
+use Rattle.run_model.specs.RunState.{RunState}
+use Rattle.trace_runner.specs.declared.worker.Worker.{Worker}
+use Rattle.hpt_walk.specs.Access.{access_context}
+use Rattle.trace_runner.specs.MachineState.{run_state_of, AllHold}
+use Rattle.trace_runner.specs.Crews.{IsReady, IsDone}
+use Rattle.trace_runner.specs.Gathers.{AllFrom, HasPass, IsAll, IsQueue, HasNews, Extends}
+use Rattle.trace_runner.proofs.Gathering.{nil_of}
+use Rattle.trace_runner.proofs.Running.{empty_section}
+use Rattle.trace_runner.proofs.Promised.{Ran, refilled, done_passes, done_queues, workers_count, section_extends, section_holds}
+use Rattle.trace_runner.proofs.parallel.section.Goals as goal
+
+pub returns-then-is_empty : goal.returns-then-is_empty
+returns-then-is_empty g c =
+    let none : c.args.lines.now ≡ [] = nil_of c.args.lines.now (eqb-true (length c.args.lines.now) 0 (sym c.is_empty.ensures ∙ c.if-is_empty.true)) in
+    record { news = []; grown = sym (append-nil c.args.replies.now.items); sectioned = rw none (empty_section c.args.machine) }
+
+pub run_all-requires-clause-ready : goal.run_all-requires-clause-ready
+run_all-requires-clause-ready g c κs within =
+    subst (AllFrom (λ j w. IsReady (access_context c.in-Ok.table.order c.grants.result.now.grants) c.in-Ok.table j c.args.lines.now w) 0) (sym c.as_mut_slice.ensures.value) (c.in_ok-workers.ensures.ready (access_context c.in-Ok.table.order c.grants.result.now.grants))
+
+pub gather-requires-clause-passes : goal.gather-requires-clause-passes
+gather-requires-clause-passes g c =
+    let same = refilled c.in_ok-workers.workers.len c.run_all.new.workers c.in_ok-workers.workers.items c.in_ok-workers.workers.ok.0 (c.run_all.auto.workers ∙ ap length c.as_mut_slice.ensures.value) in
+    subst (AllByRecursion (HasPass c.in-Ok.table)) (sym same) (done_passes (access_context c.in-Ok.table.order c.grants.result.now.grants) c.in-Ok.table c.args.lines.now c.run_all.new.workers c.run_all.ensures.done)
+
+pub merge-requires-clause-cpus : goal.merge-requires-clause-cpus
+merge-requires-clause-cpus g c =
+    let same = refilled c.in_ok-workers.workers.len c.run_all.new.workers c.in_ok-workers.workers.items c.in_ok-workers.workers.ok.0 (c.run_all.auto.workers ∙ ap length c.as_mut_slice.ensures.value) in
+    let queues : c.gather.new.queues.items ≡ map (λ (w : Worker). w.replies) c.run_all.new.workers = c.in_ok-pass.ensures.queues ∙ (λ j. c.in_ok-queues.ensures.items j ++ map (λ (w : Worker). w.replies) (same j)) in
+    let begun = c.run_all.ensures.begun ∙ ap (map (λ (w : Worker). w.begun.value)) c.as_mut_slice.ensures.value ∙ c.in_ok-workers.ensures.begun in
+    let count : length c.gather.new.queues.items ≡ length c.machine.inside.cpus.items = ap length queues ∙ length-map c.run_all.new.workers (λ (w : Worker). w.replies) ∙ workers_count c.run_all.new.workers c.machine.inside.cpus.items begun in
+    subst (λ n. AllByRecursion (λ (l : TraceLine). l.cpu < n) c.args.lines.now) (ap (λ (v : RunState). length v.processors) (sym c.machine.view_is) ∙ sym count) c.requires.cpus
+
+pub merge-requires-clause-queues : goal.merge-requires-clause-queues
+merge-requires-clause-queues g c =
+    let same = refilled c.in_ok-workers.workers.len c.run_all.new.workers c.in_ok-workers.workers.items c.in_ok-workers.workers.ok.0 (c.run_all.auto.workers ∙ ap length c.as_mut_slice.ensures.value) in
+    let queues : c.gather.new.queues.items ≡ map (λ (w : Worker). w.replies) c.run_all.new.workers = c.in_ok-pass.ensures.queues ∙ (λ j. c.in_ok-queues.ensures.items j ++ map (λ (w : Worker). w.replies) (same j)) in
+    subst (AllFrom (λ cpu queue. IsQueue c.args.lines.now cpu queue) 0) (sym queues) (done_queues (access_context c.in-Ok.table.order c.grants.result.now.grants) c.in-Ok.table c.args.lines.now c.run_all.new.workers c.run_all.ensures.done)
+
+pub invariant_of-result : goal.invariant_of-result
+invariant_of-result g c =
+    let partition = c.machine.inside.partition in
+    let processors = c.machine.inside.cpus.items in
+    let table = c.in-Ok.table in
+    let set = access_context table.order c.grants.result.now.grants in
+    let ws = c.run_all.new.workers in
+    let same = refilled c.in_ok-workers.workers.len ws c.in_ok-workers.workers.items c.in_ok-workers.workers.ok.0 (c.run_all.auto.workers ∙ ap length c.as_mut_slice.ensures.value) in
+    let order : table.order ≡ partition.memory.table.order = c.in-Ok.ensures.order ∙ c.order-order.ensures.value in
+    let granted : c.grants.result.now ≡ partition.granted = c.grants.ensures ∙ ap (λ (p : PartitionState). p.granted) c.take_states.ensures.out in
+    let ran : Ran partition c.put_states.new.self processors c.gather.new.cpus.items set table c.args.lines.now c.args.replies.now.items c.merge.new.replies.items ws c.gather.new.queues.items c.in_ok-pass.pass c.close-closed.result.closing.items = record {
+      context = λ j. access_context (order j) (granted j).grants;
+      opening = c.in-Ok.ensures.opening ∙ c.take_states.ensures.states;
+      order = order;
+      some = subst (λ (v : RunState). 0 < length v.processors) (sym c.machine.view_is) c.requires.some;
+      begun = c.run_all.ensures.begun ∙ ap (map (λ (w : Worker). w.begun.value)) c.as_mut_slice.ensures.value ∙ c.in_ok-workers.ensures.begun;
+      on_cpus = subst (λ (v : RunState). AllByRecursion (λ (l : TraceLine). l.cpu < length v.processors) c.args.lines.now) (sym c.machine.view_is) c.requires.cpus;
+      done = c.run_all.ensures.done;
+      are_queues = c.in_ok-pass.ensures.queues ∙ (λ j. c.in_ok-queues.ensures.items j ++ map (λ (w : Worker). w.replies) (same j));
+      news = subst (λ l. HasNews c.args.lines.now c.gather.new.queues.items l c.merge.new.replies.items) c.reserve.ensures.same c.in_ok-merge.ensures.merged;
+      gathered = subst (λ l. IsAll table l c.in_ok-pass.pass) same c.in_ok-pass.ensures.all;
+      closes = c.close-closed.ensures.closes;
+      put_back = c.put_states.ensures.put ∙ ap (λ (p : PartitionState). with_memory p (with_states p.memory c.close-closed.result.closing.items)) c.take_states.ensures.out;
+      homed = c.in_ok-pass.ensures.cpus ∙ (λ j. c.in_ok-workers.ensures.none j ++ map (λ (w : Worker). w.cpu) (same j));
+    } in
+    record {
+      has_states = c.put_states.ensures.has_states;
+      hold = section_holds partition c.put_states.new.self processors c.gather.new.cpus.items set table c.args.lines.now c.args.replies.now.items c.merge.new.replies.items ws c.gather.new.queues.items c.in_ok-pass.pass c.close-closed.result.closing.items (ap length table.lists.opening_is ∙ table.sized.size) ran;
+    }
+
+pub returns : goal.returns
+returns g c =
+    let partition = c.machine.inside.partition in
+    let processors = c.machine.inside.cpus.items in
+    let table = c.in-Ok.table in
+    let set = access_context table.order c.grants.result.now.grants in
+    let ws = c.run_all.new.workers in
+    let same = refilled c.in_ok-workers.workers.len ws c.in_ok-workers.workers.items c.in_ok-workers.workers.ok.0 (c.run_all.auto.workers ∙ ap length c.as_mut_slice.ensures.value) in
+    let order : table.order ≡ partition.memory.table.order = c.in-Ok.ensures.order ∙ c.order-order.ensures.value in
+    let granted : c.grants.result.now ≡ partition.granted = c.grants.ensures ∙ ap (λ (p : PartitionState). p.granted) c.take_states.ensures.out in
+    let ran : Ran partition c.put_states.new.self processors c.gather.new.cpus.items set table c.args.lines.now c.args.replies.now.items c.merge.new.replies.items ws c.gather.new.queues.items c.in_ok-pass.pass c.close-closed.result.closing.items = record {
+      context = λ j. access_context (order j) (granted j).grants;
+      opening = c.in-Ok.ensures.opening ∙ c.take_states.ensures.states;
+      order = order;
+      some = subst (λ (v : RunState). 0 < length v.processors) (sym c.machine.view_is) c.requires.some;
+      begun = c.run_all.ensures.begun ∙ ap (map (λ (w : Worker). w.begun.value)) c.as_mut_slice.ensures.value ∙ c.in_ok-workers.ensures.begun;
+      on_cpus = subst (λ (v : RunState). AllByRecursion (λ (l : TraceLine). l.cpu < length v.processors) c.args.lines.now) (sym c.machine.view_is) c.requires.cpus;
+      done = c.run_all.ensures.done;
+      are_queues = c.in_ok-pass.ensures.queues ∙ (λ j. c.in_ok-queues.ensures.items j ++ map (λ (w : Worker). w.replies) (same j));
+      news = subst (λ l. HasNews c.args.lines.now c.gather.new.queues.items l c.merge.new.replies.items) c.reserve.ensures.same c.in_ok-merge.ensures.merged;
+      gathered = subst (λ l. IsAll table l c.in_ok-pass.pass) same c.in_ok-pass.ensures.all;
+      closes = c.close-closed.ensures.closes;
+      put_back = c.put_states.ensures.put ∙ ap (λ (p : PartitionState). with_memory p (with_states p.memory c.close-closed.result.closing.items)) c.take_states.ensures.out;
+      homed = c.in_ok-pass.ensures.cpus ∙ (λ j. c.in_ok-workers.ensures.none j ++ map (λ (w : Worker). w.cpu) (same j));
+    } in
+    subst (λ (v : RunState). Extends v c.args.lines.now c.args.replies.now.items c.merge.new.replies.items (run_state_of c.put_states.new.self c.gather.new.cpus.items)) c.machine.view_is
+    (section_extends partition c.put_states.new.self processors c.gather.new.cpus.items set table c.args.lines.now c.args.replies.now.items c.merge.new.replies.items ws c.gather.new.queues.items c.in_ok-pass.pass c.close-closed.result.closing.items ran)

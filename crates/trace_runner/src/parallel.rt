@@ -1,0 +1,120 @@
+// The parallel run: a thread for each processor between two quiet lines.
+ghost use Rattle.std.specs.Prelude.{◌≡◌, ℕ, ◌+◌, ◌<◌, ◌≤◌, ◌^◌, length, IfOk};
+ghost use Rattle.std.specs.List.{AllByRecursion};
+ghost use Rattle.trace_read.specs.declared.trace.TraceLine.{TraceLine as LineOf};
+ghost use Rattle.run_model.specs.RunState.{opening_run};
+ghost use Rattle.trace_reply.specs.Replies.{AreReplies, lines_with_replies};
+ghost use Rattle.run_model.specs.SerialRun.{serial_replies};
+ghost use Rattle.run_model.specs.GoodRun.{IsGoodRun};
+ghost use Rattle.run_model.specs.Assurances.{Assures};
+ghost use Rattle.run_model.specs.Laws.{HasOneProcessor};
+ghost use Rattle.trace_runner.specs.Crews.{NoneQuiet};
+ghost use Rattle.trace_runner.specs.Gathers.{Extends, Runs};
+
+use crate::gate::Gate;
+use crate::machine::Machine;
+use crate::opening::{keeps_limits, open_machine};
+use crate::section::{gather, hire, merge, run_all};
+use entry_lock::LockTable;
+use std::alloc::{AllocError, Global};
+use std::sync::Wait;
+use std::thread::Threads;
+use trace_read::{Trace, TraceLine};
+use trace_reply::{Replies, Reply};
+
+/// Runs the lines of a section, each processor in a thread of its own.
+fn section<R: Threads + Wait + Sync, G: Gate + Sync>(
+    rt: &R,
+    alloc: Global,
+    machine: Machine,
+    gate: &G,
+    lines: &[TraceLine],
+    replies: &mut Replies,
+) -> Result<Machine, AllocError>
+    requires low_stamp { NoneQuiet lines.now }
+    requires cpus { AllByRecursion (λ (l : LineOf). l.cpu < length machine.processors) lines.now }
+    requires some { 0 < length machine.processors }
+    requires few { length machine.processors ≤ 64 }
+    ensures { IfOk result (λ later. Extends machine lines.now replies.old.items replies.new.items later) }
+{
+    if lines.is_empty() {
+        return Ok(machine);
+    }
+    let Machine {
+        mut partition,
+        mut cpus,
+    } = machine;
+    let order = partition.order();
+    let count = cpus.len();
+    replies.reserve(lines.len())?;
+    let mut queues = Vec::with_capacity(alloc, count)?;
+    let Ok((table, pass)) = LockTable::open(alloc, partition.take_states(), order, count as u32)
+    else {
+        return Err(AllocError);
+    };
+    let mut workers = hire(alloc, &table, pass, &mut cpus, lines)?;
+    run_all(
+        rt,
+        &table,
+        gate,
+        partition.grants(),
+        lines,
+        workers.as_mut_slice(),
+    );
+    let pass = gather(&table, workers, &mut cpus, &mut queues)?;
+    let closed = table.close(pass);
+    partition.put_states(closed.closing);
+    merge(lines, &mut queues, replies)?;
+    Ok(Machine { partition, cpus })
+}
+
+/// Runs lines: sections, one after the other, and the quiet lines between them.
+fn run_sections<R: Threads + Wait + Sync, G: Gate + Sync>(
+    rt: &R,
+    alloc: Global,
+    opened: Machine,
+    gate: &G,
+    lines: &[TraceLine],
+) -> Result<Replies, AllocError>
+    requires few { length lines.now ≤ 2 ^ 17 }
+    requires cpus { AllByRecursion (λ (l : LineOf). l.cpu < length opened.processors) lines.now }
+    requires some { 0 < length opened.processors }
+    requires few_cpus { length opened.processors ≤ 64 }
+    requires number { opened.memory.table.number ≡ 0 }
+    ensures kinds { IfOk result (λ r. AreReplies lines.now r.items) }
+    ensures runs { IfOk result (λ r. Runs opened (lines_with_replies lines.now r.items)) }
+{
+    let mut machine = opened;
+    let mut replies = Replies::new(alloc);
+    let mut start = 0;
+    for i in 0..lines.len() {
+        if lines[i].act.is_quiet() {
+            machine = section(rt, alloc, machine, gate, &lines[start..i], &mut replies)?;
+            let mut reply = Reply::Segment(true);
+            machine.line(alloc, &lines[i], &mut reply)?;
+            replies.push(reply)?;
+            start = i + 1;
+        }
+    }
+    section(rt, alloc, machine, gate, &lines[start..], &mut replies)?;
+    Ok(replies)
+}
+
+/// The replies of a parallel run of a trace: between two quiet lines each processor runs its lines in
+/// a thread of its own. They are a good run.
+pub fn run_parallel<R: Threads + Wait + Sync, G: Gate + Sync>(
+    rt: &R,
+    alloc: Global,
+    trace: &Trace,
+    gate: &G,
+) -> Result<Replies, AllocError>
+    ensures kinds { IfOk result (λ r. AreReplies trace.now.lines r.items) }
+    ensures count { IfOk result (λ r. length r.items ≡ length trace.now.lines) }
+    ensures good { IfOk result (λ r. IsGoodRun trace.now r.items) }
+    ensures assured { IfOk result (λ r. Assures trace.now r.items) }
+    ensures one { IfOk result (λ r. (cpu : ℕ) → HasOneProcessor cpu trace.now.lines → r.items ≡ serial_replies trace.now) }
+{
+    keeps_limits(trace);
+    let machine = open_machine(alloc, trace)?;
+    run_sections(rt, alloc, machine, gate, trace.lines.as_slice())
+}

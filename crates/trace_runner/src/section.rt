@@ -1,0 +1,179 @@
+// A section: the lines between two quiet ones, by a thread for each processor.
+ghost use Rattle.std.specs.Prelude.{◌≡◌, ℕ, ◌+◌, ◌<◌, ◌≤◌, ◌++◌, [], length, map, vec_capacity, Some, IfOk, OnOk};
+ghost use Rattle.std.specs.List.{AllByRecursion};
+ghost use Rattle.std.specs.Thread.{IsSync};
+ghost use Rattle.hpt_walk.specs.Access.{AccessContext};
+ghost use Rattle.entry_model.specs.Fronts.{opening_fronts};
+ghost use Rattle.entry_lock.specs.PassOfTable.{IsOf, view_of};
+ghost use Rattle.trace_read.specs.declared.trace.TraceLine.{TraceLine as LineOf};
+ghost use Rattle.trace_runner.specs.declared.worker.Worker.{Worker as WorkerOf};
+ghost use Rattle.hpt_walk.specs.Access.{access_context};
+ghost use Rattle.trace_runner.specs.MachineState.{AllHold};
+ghost use Rattle.trace_runner.specs.Crews.{own_lines, NoneQuiet, IsReady, IsDone};
+ghost use Rattle.trace_runner.specs.Gathers.{AllFrom, HasPass, IsAll, IsQueue, HasNews, Sectioned};
+
+use crate::gate::Gate;
+use crate::machine::Machine;
+use crate::worker::{Worker, work};
+use entry_lock::{LockTable, Pass};
+use frame_grants::Grants;
+use std::alloc::{AllocError, Global};
+use std::snapshot::Snapshot;
+use std::sync::Wait;
+use std::thread;
+use std::thread::Threads;
+use trace_read::TraceLine;
+use trace_reply::{Replies, Reply};
+use vcpu::Cpu;
+
+/// How many of the lines are this processor's.
+fn own_count(number: u32, lines: &[TraceLine]) -> usize
+    ensures { result ≡ length (own_lines number lines.now) }
+{
+    let mut count = 0;
+    for line in lines {
+        if line.cpu == number {
+            count += 1;
+        }
+    }
+    count
+}
+
+/// A processor with this pass, and with room for the replies to its lines.
+fn hired(
+    alloc: Global,
+    cpu: Cpu,
+    pass: Pass,
+    number: u32,
+    lines: &[TraceLine],
+) -> Result<Worker, AllocError>
+    ensures cpu { IfOk result (λ w. (w.cpu ≡ cpu) × (w.begun.value ≡ cpu)) }
+    ensures pass { IfOk result (λ w. w.pass ≡ Some pass) }
+    ensures none { IfOk result (λ w. w.replies.items ≡ []) }
+    ensures room { IfOk result (λ w. length (own_lines number lines.now) ≤ vec_capacity w.replies) }
+{
+    let replies = Vec::with_capacity(alloc, own_count(number, lines))?;
+    let begun = Snapshot::of(&cpu);
+    Ok(Worker {
+        cpu,
+        begun,
+        pass: Some(pass),
+        replies,
+    })
+}
+
+/// Gives each processor a pass: the first the one given, and each other one that is split off.
+pub fn hire(
+    alloc: Global,
+    table: &LockTable,
+    pass: Pass,
+    cpus: &mut Vec<Cpu>,
+    lines: &[TraceLine],
+) -> Result<Vec<Worker>, AllocError>
+    requires of { IsOf table.now pass }
+    requires shares { pass.shares ≡ length cpus.old.items }
+    requires some { 0 < length cpus.old.items }
+    requires few { length cpus.old.items ≤ 64 }
+    requires fresh { ((view_of pass).actor.receipts ≡ []) × ((view_of pass).fronts ≡ opening_fronts table.now.opening.items) }
+    requires hold { AllHold table.now.opening.items cpus.old.items }
+    ensures ready { IfOk result (λ ws. (set : AccessContext) → AllFrom (λ j w. IsReady set table.now j lines.now w) 0 ws.items) }
+    ensures begun { IfOk result (λ ws. map (λ (w : WorkerOf). w.begun.value) ws.items ≡ cpus.old.items) }
+    ensures none { IfOk result (λ ws. cpus.new.items ≡ []) }
+{
+    let mut rest = pass;
+    let others = cpus.len() - 1;
+    let first = cpus.remove(0);
+    let mut workers = Vec::with_capacity(alloc, others + 1)?;
+    for i in 0..others {
+        let part = rest.split(table);
+        let worker = hired(alloc, cpus.remove(0), part, i as u32 + 1, lines)?;
+        workers.push(worker)?;
+    }
+    let worker = hired(alloc, first, rest, 0, lines)?;
+    workers.insert(0, worker)?;
+    Ok(workers)
+}
+
+/// Runs the lines, each processor in a thread of its own.
+pub fn run_all<R: Threads + Wait + Sync, G: Gate + Sync>(
+    rt: &R,
+    table: &LockTable,
+    gate: &G,
+    grants: &Grants,
+    lines: &[TraceLine],
+    workers: &mut [Worker],
+)
+    requires low_stamp { NoneQuiet lines.now }
+    requires some { 0 < length workers.old }
+    requires few { length workers.old ≤ 64 }
+    requires ready { AllFrom (λ j w. IsReady (access_context table.now.order grants.now.grants) table.now j lines.now w) 0 workers.old }
+    ensures done { AllFrom (λ j w. IsDone (access_context table.now.order grants.now.grants) table.now j lines.now w) 0 workers.new }
+    ensures begun { map (λ (w : WorkerOf). w.begun.value) workers.new ≡ map (λ (w : WorkerOf). w.begun.value) workers.old }
+{
+    let threads = workers.len();
+    thread::for_each_mut(
+        rt,
+        workers,
+        threads,
+        &|i: usize, worker: &mut Worker|
+            requires { IsSync R.row × IsSync G.row × (i < 64) × NoneQuiet lines.now × IsReady (access_context table.now.order grants.now.grants) table.now i lines.now worker.old }
+            ensures { IsDone (access_context table.entry.now.order grants.entry.now.grants) table.entry.now i lines.entry.now worker.exit.now × (worker.exit.now.begun.value ≡ worker.entry.now.begun.value) }
+        { work(rt, table, gate, grants, lines, i as u32, worker) },
+    );
+}
+
+/// Joins all passes in the order of processors, and takes the processors and their replies out.
+pub fn gather(
+    table: &LockTable,
+    workers: Vec<Worker>,
+    cpus: &mut Vec<Cpu>,
+    queues: &mut Vec<Vec<Reply>>,
+) -> Result<Pass, AllocError>
+    requires some { 0 < length workers.items }
+    requires passes { AllByRecursion (HasPass table.now) workers.items }
+    ensures all { IfOk result (IsAll table.now workers.items) }
+    ensures cpus { IfOk result (λ pass. cpus.new.items ≡ cpus.old.items ++ map (λ (w : WorkerOf). w.cpu) workers.items) }
+    ensures queues { IfOk result (λ pass. queues.new.items ≡ queues.old.items ++ map (λ (w : WorkerOf). w.replies) workers.items) }
+{
+    let mut rest = workers;
+    let others = rest.len() - 1;
+    let Worker {
+        cpu,
+        begun: _,
+        pass,
+        replies,
+    } = rest.remove(0);
+    cpus.push(cpu)?;
+    queues.push(replies)?;
+    let mut all = pass.unwrap();
+    for _ in 0..others {
+        let Worker {
+            cpu,
+            begun: _,
+            pass,
+            replies,
+        } = rest.remove(0);
+        cpus.push(cpu)?;
+        queues.push(replies)?;
+        all.join(table, pass.unwrap());
+    }
+    Ok(all)
+}
+
+/// Puts the replies to these lines, of which each processor has its own, the first one last, in file
+/// order behind those that are there.
+pub fn merge(
+    lines: &[TraceLine],
+    queues: &mut Vec<Vec<Reply>>,
+    replies: &mut Replies,
+) -> Result<(), AllocError>
+    requires cpus { AllByRecursion (λ (l : LineOf). l.cpu < length queues.old.items) lines.now }
+    requires queues { AllFrom (λ cpu queue. IsQueue lines.now cpu queue) 0 queues.old.items }
+    ensures merged { OnOk result (HasNews lines.now queues.old.items replies.old.items replies.new.items) }
+{
+    for line in lines {
+        let reply = queues[line.cpu as usize].pop().unwrap();
+        replies.push(reply)?;
+    }
+    Ok(())
+}

@@ -8,11 +8,11 @@ mod CallRows
 mod QuietRows
 mod WholeRows
 pub mod WorkSteps
-pub mod Hiring
-pub mod Gathering
-pub mod Merging
-pub mod Sectioning
-pub mod Promised
-pub mod Running
-pub mod Headline
-pub mod Sending
+pub mod NewWorkers
+pub mod JoinedWorkers
+pub mod MergedReplies
+pub mod SectionWork
+pub mod SectionPromises
+pub mod SectionsRun
+pub mod ParallelAssured
+pub mod WorkerSend

@@ -28,7 +28,7 @@ use Rattle.run_model.specs.Sections.{processor_after_lines}
 use Rattle.run_model.specs.Histories.{receipts_by}
 use Rattle.run_model.specs.ParallelRun.{WorksLine, Works}
 use Rattle.trace_runner.specs.declared.worker.Worker.{Worker}
-use Rattle.trace_runner.specs.Crews.{replied_line, own_lines, own_share, IsSeenBy, HasRun}
+use Rattle.trace_runner.specs.Workers.{replied_line, lines_of_cpu, replied_lines_of_cpu, IsSeenBy, HasRun}
 
 -- ---- lists of replied_lines
 pub replied_lines_more : (ls ms : List TraceLine) (rs ss : List Reply) → AreReplies ls rs → lines_with_replies (ls ++ ms) (rs ++ ss) ≡ lines_with_replies ls rs ++ lines_with_replies ms ss
@@ -68,32 +68,32 @@ not_eqb a b differ = at (cases_Bool (eqb a b)) where
   at (inl same) = absurd (differ (eqb-true a b same))
   at (inr other) = other
 
-pub own_more : (cpu : ℕ) (lines : List TraceLine) (k : ℕ) (d : TraceLine) → k < length lines → eqb (get_or lines k d).cpu cpu ≡ true → own_lines cpu (take (k + 1) lines) ≡ own_lines cpu (take k lines) ++ get_or lines k d ∷ []
-own_more cpu lines k d within own = filter_more (λ (l : TraceLine). eqb l.cpu cpu) lines k d within ∙ ap (λ b. own_lines cpu (take k lines) ++ (if b then get_or lines k d ∷ [] else [])) own
+pub own_more : (cpu : ℕ) (lines : List TraceLine) (k : ℕ) (d : TraceLine) → k < length lines → eqb (get_or lines k d).cpu cpu ≡ true → lines_of_cpu cpu (take (k + 1) lines) ≡ lines_of_cpu cpu (take k lines) ++ get_or lines k d ∷ []
+own_more cpu lines k d within own = filter_more (λ (l : TraceLine). eqb l.cpu cpu) lines k d within ∙ ap (λ b. lines_of_cpu cpu (take k lines) ++ (if b then get_or lines k d ∷ [] else [])) own
 
-pub own_same : (cpu : ℕ) (lines : List TraceLine) (k : ℕ) (d : TraceLine) → k < length lines → eqb (get_or lines k d).cpu cpu ≡ false → own_lines cpu (take (k + 1) lines) ≡ own_lines cpu (take k lines)
-own_same cpu lines k d within other = filter_more (λ (l : TraceLine). eqb l.cpu cpu) lines k d within ∙ ap (λ b. own_lines cpu (take k lines) ++ (if b then get_or lines k d ∷ [] else [])) other ∙ append-nil (own_lines cpu (take k lines))
+pub own_same : (cpu : ℕ) (lines : List TraceLine) (k : ℕ) (d : TraceLine) → k < length lines → eqb (get_or lines k d).cpu cpu ≡ false → lines_of_cpu cpu (take (k + 1) lines) ≡ lines_of_cpu cpu (take k lines)
+own_same cpu lines k d within other = filter_more (λ (l : TraceLine). eqb l.cpu cpu) lines k d within ∙ ap (λ b. lines_of_cpu cpu (take k lines) ++ (if b then get_or lines k d ∷ [] else [])) other ∙ append-nil (lines_of_cpu cpu (take k lines))
 
-pub own_room : (cpu : ℕ) (lines : List TraceLine) (k : ℕ) (d : TraceLine) → k < length lines → eqb (get_or lines k d).cpu cpu ≡ true → length (own_lines cpu (take k lines)) < length (own_lines cpu lines)
+pub own_room : (cpu : ℕ) (lines : List TraceLine) (k : ℕ) (d : TraceLine) → k < length lines → eqb (get_or lines k d).cpu cpu ≡ true → length (lines_of_cpu cpu (take k lines)) < length (lines_of_cpu cpu lines)
 own_room cpu [] k d h e = absurd (omega arith)
 own_room cpu (l ∷ ls) zero d h e = rw e (omega arith)
 own_room cpu (l ∷ ls) (suc k) d h e = at (cases_Bool (eqb l.cpu cpu)) (own_room cpu ls k d (omega arith) e) where
-  at : (eqb l.cpu cpu ≡ true) ⊎ (eqb l.cpu cpu ≡ false) → length (own_lines cpu (take k ls)) < length (own_lines cpu ls) → length (own_lines cpu (take (suc k) (l ∷ ls))) < length (own_lines cpu (l ∷ ls))
+  at : (eqb l.cpu cpu ≡ true) ⊎ (eqb l.cpu cpu ≡ false) → length (lines_of_cpu cpu (take k ls)) < length (lines_of_cpu cpu ls) → length (lines_of_cpu cpu (take (suc k) (l ∷ ls))) < length (lines_of_cpu cpu (l ∷ ls))
   at (inl own) rest = rw own (omega (arith, rest))
   at (inr other) rest = rw other rest
 
-pub own_few : (cpu : ℕ) (lines : List TraceLine) → length (own_lines cpu lines) ≤ length lines
+pub own_few : (cpu : ℕ) (lines : List TraceLine) → length (lines_of_cpu cpu lines) ≤ length lines
 own_few cpu [] = omega arith
 own_few cpu (l ∷ ls) = at (cases_Bool (eqb l.cpu cpu)) (own_few cpu ls) where
-  at : (eqb l.cpu cpu ≡ true) ⊎ (eqb l.cpu cpu ≡ false) → length (own_lines cpu ls) ≤ length ls → length (own_lines cpu (l ∷ ls)) ≤ length (l ∷ ls)
+  at : (eqb l.cpu cpu ≡ true) ⊎ (eqb l.cpu cpu ≡ false) → length (lines_of_cpu cpu ls) ≤ length ls → length (lines_of_cpu cpu (l ∷ ls)) ≤ length (l ∷ ls)
   at (inl own) rest = rw own (omega (arith, rest))
   at (inr other) rest = rw other (omega (arith, rest))
 
-pub own_few_front : (cpu : ℕ) (lines : List TraceLine) (k : ℕ) → length (own_lines cpu (take k lines)) ≤ length lines
+pub own_few_front : (cpu : ℕ) (lines : List TraceLine) (k : ℕ) → length (lines_of_cpu cpu (take k lines)) ≤ length lines
 own_few_front cpu lines zero = omega arith
 own_few_front cpu [] (suc k) = omega arith
 own_few_front cpu (l ∷ ls) (suc k) = at (cases_Bool (eqb l.cpu cpu)) (own_few_front cpu ls k) where
-  at : (eqb l.cpu cpu ≡ true) ⊎ (eqb l.cpu cpu ≡ false) → length (own_lines cpu (take k ls)) ≤ length ls → length (own_lines cpu (l ∷ take k ls)) ≤ length (l ∷ ls)
+  at : (eqb l.cpu cpu ≡ true) ⊎ (eqb l.cpu cpu ≡ false) → length (lines_of_cpu cpu (take k ls)) ≤ length ls → length (lines_of_cpu cpu (l ∷ take k ls)) ≤ length (l ∷ ls)
   at (inl own) rest = rw own (omega (arith, rest))
   at (inr other) rest = rw other (omega (arith, rest))
 
@@ -115,9 +115,9 @@ other_run set table cpu lines k d rs w pass within other h =
       share = h.share;
       made = subst (λ ls. (view_of pass).actor.receipts ≡ receipts_by (lines_with_replies ls rs)) e h.made;
       kinds = subst (λ ls. AreReplies ls rs) e h.kinds;
-      works = subst (λ ls. Works set (opening_fronts table.opening.items) w.begun.value (lines_with_replies ls rs) (view_of pass).fronts) e h.works;
+      works = subst (λ ls. Works set (opening_fronts table.opening.items) w.before.value (lines_with_replies ls rs) (view_of pass).fronts) e h.works;
       size = h.size;
-      processor = subst (λ ls. w.cpu ≡ processor_after_lines w.begun.value (lines_with_replies ls rs)) e h.processor;
+      processor = subst (λ ls. w.cpu ≡ processor_after_lines w.before.value (lines_with_replies ls rs)) e h.processor;
       seen = h.seen;
     }
 
@@ -134,23 +134,23 @@ pub record Ran (set : AccessContext) (table : LockTable) (l : TraceLine) (proces
 
 pub own_run : (set : AccessContext) (table : LockTable) (cpu : ℕ) (lines : List TraceLine) (k : ℕ) (d : TraceLine) (rs ss : List Reply) (w v : Worker) (pass behind : Pass) (r : Reply)
     → k < length lines → eqb (get_or lines k d).cpu cpu ≡ true → HasRun set table cpu (take k lines) rs w pass
-    → v.begun.value ≡ w.begun.value → ss ≡ rs ++ r ∷ [] → Ran set table (get_or lines k d) w.cpu v.cpu pass behind r
+    → v.before.value ≡ w.before.value → ss ≡ rs ++ r ∷ [] → Ran set table (get_or lines k d) w.cpu v.cpu pass behind r
     → HasRun set table cpu (take (k + 1) lines) ss v behind
-own_run set table cpu lines k d rs ss w v pass behind r within own h begun replies ran =
+own_run set table cpu lines k d rs ss w v pass behind r within own h before replies ran =
     let l = get_or lines k d in
-    let old = own_share cpu (take k lines) rs in
+    let old = replied_lines_of_cpu cpu (take k lines) rs in
     let e = own_more cpu lines k d within own in
-    let grown : own_share cpu (take (k + 1) lines) ss ≡ old ++ replied_line l r ∷ [] = (λ i. lines_with_replies (e i) (replies i)) ∙ replied_lines_more (own_lines cpu (take k lines)) (l ∷ []) rs (r ∷ []) h.kinds in
-    let processor : v.cpu ≡ processor_after_lines w.begun.value (old ++ replied_line l r ∷ []) = ran.place ∙ ap (λ s. processor_after s l.act r) h.processor ∙ sym (processor_more w.begun.value old (replied_line l r)) in
-    let line : WorksLine set (view_of pass).fronts (processor_after_lines w.begun.value old) (replied_line l r) (view_of behind).fronts = subst (λ s. WorksLine set (view_of pass).fronts s (replied_line l r) (view_of behind).fronts) h.processor ran.line in
+    let grown : replied_lines_of_cpu cpu (take (k + 1) lines) ss ≡ old ++ replied_line l r ∷ [] = (λ i. lines_with_replies (e i) (replies i)) ∙ replied_lines_more (lines_of_cpu cpu (take k lines)) (l ∷ []) rs (r ∷ []) h.kinds in
+    let processor : v.cpu ≡ processor_after_lines w.before.value (old ++ replied_line l r ∷ []) = ran.place ∙ ap (λ s. processor_after s l.act r) h.processor ∙ sym (processor_more w.before.value old (replied_line l r)) in
+    let line : WorksLine set (view_of pass).fronts (processor_after_lines w.before.value old) (replied_line l r) (view_of behind).fronts = subst (λ s. WorksLine set (view_of pass).fronts s (replied_line l r) (view_of behind).fronts) h.processor ran.line in
     record {
       of = ran.of;
       share = ran.share ∙ h.share;
       made = ran.made ∙ ap (λ l. l ++ receipts_in r) h.made ∙ sym (receipts_more old (replied_line l r)) ∙ ap receipts_by (sym grown);
-      kinds = subst (λ ls. AreReplies ls ss) (sym e) (subst (λ z. AreReplies (own_lines cpu (take k lines) ++ l ∷ []) z) (sym replies) (kinds_more (own_lines cpu (take k lines)) (l ∷ []) rs (r ∷ []) h.kinds (ran.kind, tt)));
-      works = rw (begun, grown) (works_more set (opening_fronts table.opening.items) w.begun.value old (replied_line l r) (view_of pass).fronts (view_of behind).fronts h.works line);
+      kinds = subst (λ ls. AreReplies ls ss) (sym e) (subst (λ z. AreReplies (lines_of_cpu cpu (take k lines) ++ l ∷ []) z) (sym replies) (kinds_more (lines_of_cpu cpu (take k lines)) (l ∷ []) rs (r ∷ []) h.kinds (ran.kind, tt)));
+      works = rw (before, grown) (works_more set (opening_fronts table.opening.items) w.before.value old (replied_line l r) (view_of pass).fronts (view_of behind).fronts h.works line);
       size = ran.size;
-      processor = rw (begun, grown) processor;
+      processor = rw (before, grown) processor;
       seen = ran.seen;
     }
 

@@ -1,4 +1,3 @@
-pub mod ActedLine
 pub mod MachineState
-pub mod Crews
-pub mod Gathers
+pub mod Workers
+pub mod SectionRun

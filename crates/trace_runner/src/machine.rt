@@ -4,7 +4,7 @@ ghost use Rattle.trace_read.specs.Trace.{is_quiet};
 ghost use Rattle.run_model.specs.RunState.{opening_run, run_quiet_line, run_resize, shown_of, without_cache, is_success};
 ghost use Rattle.run_model.specs.SerialRun.{run_line};
 
-use crate::act::run_act;
+use crate::act::run_alone;
 use crate::dump::shown_table;
 use entry_model::HReply;
 use papr_codes::{Hcall, Rc};
@@ -113,7 +113,7 @@ impl Machine {
         let order = self.partition.order();
         let mut table = PlainTable::open(self.partition.take_states(), order);
         let cpu = &mut self.cpus[line.cpu as usize];
-        run_act(&mut table, cpu, self.partition.grants(), &line.act, reply);
+        run_alone(&mut table, cpu, self.partition.grants(), &line.act, reply);
         self.partition.put_states(table.close());
     }
 

@@ -8,13 +8,13 @@ ghost use Rattle.run_model.specs.SerialRun.{serial_replies};
 ghost use Rattle.run_model.specs.GoodRun.{IsGoodRun};
 ghost use Rattle.run_model.specs.Assurances.{Assures};
 ghost use Rattle.run_model.specs.Laws.{HasOneProcessor};
-ghost use Rattle.trace_runner.specs.Crews.{NoneQuiet};
-ghost use Rattle.trace_runner.specs.Gathers.{Extends, Runs};
+ghost use Rattle.trace_runner.specs.Workers.{NoneQuiet};
+ghost use Rattle.trace_runner.specs.SectionRun.{RunsSection, Runs};
 
 use crate::gate::Gate;
 use crate::machine::Machine;
 use crate::opening::{keeps_limits, open_machine};
-use crate::section::{gather, hire, merge, run_all};
+use crate::section::{join_workers, make_workers, merge_replies, run_workers};
 use entry_lock::LockTable;
 use std::alloc::{AllocError, Global};
 use std::sync::Wait;
@@ -35,7 +35,7 @@ fn section<R: Threads + Wait + Sync, G: Gate + Sync>(
     requires cpus { AllByRecursion (λ (l : LineOf). l.cpu < length machine.processors) lines.now }
     requires some { 0 < length machine.processors }
     requires few { length machine.processors ≤ 64 }
-    ensures { IfOk result (λ later. Extends machine lines.now replies.old.items replies.new.items later) }
+    ensures { IfOk result (λ later. RunsSection machine lines.now replies.old.items replies.new.items later) }
 {
     if lines.is_empty() {
         return Ok(machine);
@@ -52,8 +52,8 @@ fn section<R: Threads + Wait + Sync, G: Gate + Sync>(
     else {
         return Err(AllocError);
     };
-    let mut workers = hire(alloc, &table, pass, &mut cpus, lines)?;
-    run_all(
+    let mut workers = make_workers(alloc, &table, pass, &mut cpus, lines)?;
+    run_workers(
         rt,
         &table,
         gate,
@@ -61,10 +61,10 @@ fn section<R: Threads + Wait + Sync, G: Gate + Sync>(
         lines,
         workers.as_mut_slice(),
     );
-    let pass = gather(&table, workers, &mut cpus, &mut queues)?;
+    let pass = join_workers(&table, workers, &mut cpus, &mut queues)?;
     let closed = table.close(pass);
     partition.put_states(closed.closing);
-    merge(lines, &mut queues, replies)?;
+    merge_replies(lines, &mut queues, replies)?;
     Ok(Machine { partition, cpus })
 }
 

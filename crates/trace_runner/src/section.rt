@@ -9,8 +9,8 @@ ghost use Rattle.trace_read.specs.declared.trace.TraceLine.{TraceLine as LineOf}
 ghost use Rattle.trace_runner.specs.declared.worker.Worker.{Worker as WorkerOf};
 ghost use Rattle.hpt_walk.specs.Access.{access_context};
 ghost use Rattle.trace_runner.specs.MachineState.{AllHold};
-ghost use Rattle.trace_runner.specs.Crews.{own_lines, NoneQuiet, IsReady, IsDone};
-ghost use Rattle.trace_runner.specs.Gathers.{AllFrom, HasPass, IsAll, IsQueue, HasNews, Sectioned};
+ghost use Rattle.trace_runner.specs.Workers.{lines_of_cpu, NoneQuiet, IsReady, IsDone};
+ghost use Rattle.trace_runner.specs.SectionRun.{AllNumbered, HasPass, IsJoinOf, IsQueue, AddsReplies, Sectioned};
 
 use crate::gate::Gate;
 use crate::machine::Machine;
@@ -27,8 +27,8 @@ use trace_reply::{Replies, Reply};
 use vcpu::Cpu;
 
 /// How many of the lines are this processor's.
-fn own_count(number: u32, lines: &[TraceLine]) -> usize
-    ensures { result ≡ length (own_lines number lines.now) }
+fn count_lines_of(number: u32, lines: &[TraceLine]) -> usize
+    ensures { result ≡ length (lines_of_cpu number lines.now) }
 {
     let mut count = 0;
     for line in lines {
@@ -40,30 +40,30 @@ fn own_count(number: u32, lines: &[TraceLine]) -> usize
 }
 
 /// A processor with this pass, and with room for the replies to its lines.
-fn hired(
+fn worker_with(
     alloc: Global,
     cpu: Cpu,
     pass: Pass,
     number: u32,
     lines: &[TraceLine],
 ) -> Result<Worker, AllocError>
-    ensures cpu { IfOk result (λ w. (w.cpu ≡ cpu) × (w.begun.value ≡ cpu)) }
+    ensures cpu { IfOk result (λ w. (w.cpu ≡ cpu) × (w.before.value ≡ cpu)) }
     ensures pass { IfOk result (λ w. w.pass ≡ Some pass) }
     ensures none { IfOk result (λ w. w.replies.items ≡ []) }
-    ensures room { IfOk result (λ w. length (own_lines number lines.now) ≤ vec_capacity w.replies) }
+    ensures room { IfOk result (λ w. length (lines_of_cpu number lines.now) ≤ vec_capacity w.replies) }
 {
-    let replies = Vec::with_capacity(alloc, own_count(number, lines))?;
-    let begun = Snapshot::of(&cpu);
+    let replies = Vec::with_capacity(alloc, count_lines_of(number, lines))?;
+    let before = Snapshot::of(&cpu);
     Ok(Worker {
         cpu,
-        begun,
+        before,
         pass: Some(pass),
         replies,
     })
 }
 
 /// Gives each processor a pass: the first the one given, and each other one that is split off.
-pub fn hire(
+pub fn make_workers(
     alloc: Global,
     table: &LockTable,
     pass: Pass,
@@ -76,8 +76,8 @@ pub fn hire(
     requires few { length cpus.old.items ≤ 64 }
     requires fresh { ((view_of pass).actor.receipts ≡ []) × ((view_of pass).fronts ≡ opening_fronts table.now.opening.items) }
     requires hold { AllHold table.now.opening.items cpus.old.items }
-    ensures ready { IfOk result (λ ws. (set : AccessContext) → AllFrom (λ j w. IsReady set table.now j lines.now w) 0 ws.items) }
-    ensures begun { IfOk result (λ ws. map (λ (w : WorkerOf). w.begun.value) ws.items ≡ cpus.old.items) }
+    ensures ready { IfOk result (λ ws. (set : AccessContext) → AllNumbered (λ j w. IsReady set table.now j lines.now w) 0 ws.items) }
+    ensures before { IfOk result (λ ws. map (λ (w : WorkerOf). w.before.value) ws.items ≡ cpus.old.items) }
     ensures none { IfOk result (λ ws. cpus.new.items ≡ []) }
 {
     let mut rest = pass;
@@ -86,16 +86,16 @@ pub fn hire(
     let mut workers = Vec::with_capacity(alloc, others + 1)?;
     for i in 0..others {
         let part = rest.split(table);
-        let worker = hired(alloc, cpus.remove(0), part, i as u32 + 1, lines)?;
+        let worker = worker_with(alloc, cpus.remove(0), part, i as u32 + 1, lines)?;
         workers.push(worker)?;
     }
-    let worker = hired(alloc, first, rest, 0, lines)?;
+    let worker = worker_with(alloc, first, rest, 0, lines)?;
     workers.insert(0, worker)?;
     Ok(workers)
 }
 
 /// Runs the lines, each processor in a thread of its own.
-pub fn run_all<R: Threads + Wait + Sync, G: Gate + Sync>(
+pub fn run_workers<R: Threads + Wait + Sync, G: Gate + Sync>(
     rt: &R,
     table: &LockTable,
     gate: &G,
@@ -106,9 +106,9 @@ pub fn run_all<R: Threads + Wait + Sync, G: Gate + Sync>(
     requires low_stamp { NoneQuiet lines.now }
     requires some { 0 < length workers.old }
     requires few { length workers.old ≤ 64 }
-    requires ready { AllFrom (λ j w. IsReady (access_context table.now.order grants.now.grants) table.now j lines.now w) 0 workers.old }
-    ensures done { AllFrom (λ j w. IsDone (access_context table.now.order grants.now.grants) table.now j lines.now w) 0 workers.new }
-    ensures begun { map (λ (w : WorkerOf). w.begun.value) workers.new ≡ map (λ (w : WorkerOf). w.begun.value) workers.old }
+    requires ready { AllNumbered (λ j w. IsReady (access_context table.now.order grants.now.grants) table.now j lines.now w) 0 workers.old }
+    ensures done { AllNumbered (λ j w. IsDone (access_context table.now.order grants.now.grants) table.now j lines.now w) 0 workers.new }
+    ensures before { map (λ (w : WorkerOf). w.before.value) workers.new ≡ map (λ (w : WorkerOf). w.before.value) workers.old }
 {
     let threads = workers.len();
     thread::for_each_mut(
@@ -117,13 +117,13 @@ pub fn run_all<R: Threads + Wait + Sync, G: Gate + Sync>(
         threads,
         &|i: usize, worker: &mut Worker|
             requires { IsSync R.row × IsSync G.row × (i < 64) × NoneQuiet lines.now × IsReady (access_context table.now.order grants.now.grants) table.now i lines.now worker.old }
-            ensures { IsDone (access_context table.entry.now.order grants.entry.now.grants) table.entry.now i lines.entry.now worker.exit.now × (worker.exit.now.begun.value ≡ worker.entry.now.begun.value) }
+            ensures { IsDone (access_context table.entry.now.order grants.entry.now.grants) table.entry.now i lines.entry.now worker.exit.now × (worker.exit.now.before.value ≡ worker.entry.now.before.value) }
         { work(rt, table, gate, grants, lines, i as u32, worker) },
     );
 }
 
 /// Joins all passes in the order of processors, and takes the processors and their replies out.
-pub fn gather(
+pub fn join_workers(
     table: &LockTable,
     workers: Vec<Worker>,
     cpus: &mut Vec<Cpu>,
@@ -131,7 +131,7 @@ pub fn gather(
 ) -> Result<Pass, AllocError>
     requires some { 0 < length workers.items }
     requires passes { AllByRecursion (HasPass table.now) workers.items }
-    ensures all { IfOk result (IsAll table.now workers.items) }
+    ensures all { IfOk result (IsJoinOf table.now workers.items) }
     ensures cpus { IfOk result (λ pass. cpus.new.items ≡ cpus.old.items ++ map (λ (w : WorkerOf). w.cpu) workers.items) }
     ensures queues { IfOk result (λ pass. queues.new.items ≡ queues.old.items ++ map (λ (w : WorkerOf). w.replies) workers.items) }
 {
@@ -139,7 +139,7 @@ pub fn gather(
     let others = rest.len() - 1;
     let Worker {
         cpu,
-        begun: _,
+        before: _,
         pass,
         replies,
     } = rest.remove(0);
@@ -149,7 +149,7 @@ pub fn gather(
     for _ in 0..others {
         let Worker {
             cpu,
-            begun: _,
+            before: _,
             pass,
             replies,
         } = rest.remove(0);
@@ -162,14 +162,14 @@ pub fn gather(
 
 /// Puts the replies to these lines, of which each processor has its own, the first one last, in file
 /// order behind those that are there.
-pub fn merge(
+pub fn merge_replies(
     lines: &[TraceLine],
     queues: &mut Vec<Vec<Reply>>,
     replies: &mut Replies,
 ) -> Result<(), AllocError>
     requires cpus { AllByRecursion (λ (l : LineOf). l.cpu < length queues.old.items) lines.now }
-    requires queues { AllFrom (λ cpu queue. IsQueue lines.now cpu queue) 0 queues.old.items }
-    ensures merged { OnOk result (HasNews lines.now queues.old.items replies.old.items replies.new.items) }
+    requires queues { AllNumbered (λ cpu queue. IsQueue lines.now cpu queue) 0 queues.old.items }
+    ensures merged { OnOk result (AddsReplies lines.now queues.old.items replies.old.items replies.new.items) }
 {
     for line in lines {
         let reply = queues[line.cpu as usize].pop().unwrap();

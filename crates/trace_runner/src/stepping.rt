@@ -9,7 +9,7 @@ use entry_model::{EntryStore, Line, Op, Receipt};
 pub struct Stepping<'a, S, G> {
     pub store: S,
     pub at: &'a AtLine<'a, G>,
-    pub begun: bool,
+    pub started: bool,
 }
 
 impl<'a, S, G: Gate> Stepping<'a, S, G> {
@@ -17,10 +17,10 @@ impl<'a, S, G: Gate> Stepping<'a, S, G> {
     fn step(&mut self)
         ensures { self.new.store ≡ self.old.store }
     {
-        if self.begun {
+        if self.started {
             self.at.gate.step(self.at.cpu, self.at.line);
         }
-        self.begun = true;
+        self.started = true;
     }
 }
 

@@ -7,9 +7,9 @@ ghost use Rattle.run_model.specs.Processors.{processor_after};
 ghost use Rattle.trace_reply.specs.Replies.{IsOfKind, receipts_in};
 ghost use Rattle.run_model.specs.ParallelRun.{WorksLine};
 ghost use Rattle.hpt_walk.specs.Access.{access_context};
-ghost use Rattle.trace_runner.specs.Crews.{replied_line, NoneQuiet, IsSeenBy, IsReady, IsDone};
+ghost use Rattle.trace_runner.specs.Workers.{replied_line, NoneQuiet, IsSeenBy, IsReady, IsDone};
 
-use crate::any_store::act_on;
+use crate::act::run_act;
 use crate::gate::{AtLine, Gate};
 use crate::stepping::Stepping;
 use entry_lock::{LockTable, Pass, Waiting};
@@ -26,7 +26,7 @@ use vcpu::Cpu;
 #[derive(Drop)]
 pub struct Worker {
     pub cpu: Cpu,
-    pub begun: Snapshot<Cpu>,
+    pub before: Snapshot<Cpu>,
     pub pass: Option<Pass>,
     pub replies: Vec<Reply>,
 }
@@ -70,13 +70,15 @@ fn answer<R: Wait, G: Gate>(
     let mut store = Stepping {
         store: Waiting::new(rt, table, pass, &at),
         at: &at,
-        begun: false,
+        started: false,
     };
-    let reply = act_on(&mut store, cpu, grants, &line.act);
+    // The line's own reply takes its place.
+    let mut reply = Reply::Segment(true);
+    run_act(&mut store, cpu, grants, &line.act, &mut reply);
     let Stepping {
         store: waiting,
         at: _,
-        begun: _,
+        started: _,
     } = store;
     let pass = waiting.into_pass();
     gate.after(line.cpu, line.number);
@@ -96,7 +98,7 @@ pub fn work<R: Wait, G: Gate>(
     requires low_stamp { NoneQuiet lines.now }
     requires ready { IsReady (access_context table.now.order grants.now.grants) table.now number lines.now worker.old }
     ensures done { IsDone (access_context table.now.order grants.now.grants) table.now number lines.now worker.new }
-    ensures begun { worker.new.begun.value ≡ worker.old.begun.value }
+    ensures before { worker.new.before.value ≡ worker.old.before.value }
 {
     let Some(mut pass) = worker.pass.take() else {
         return;

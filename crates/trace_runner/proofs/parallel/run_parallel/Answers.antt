@@ -2,7 +2,7 @@ use Rattle.std.proofs.Common.{◌≡◌, ◌<◌, ◌≤◌, ◌∙◌, sym, ap,
 use Rattle.trace_read.specs.Trace.{AcceptedTrace}
 use Rattle.run_model.specs.RunState.{RunState, opening_run}
 use Rattle.run_model.proofs.SerialGood.{opening_processors}
-use Rattle.trace_runner.proofs.Headline.{parallel_counts, parallel_is_good, parallel_assures, parallel_is_serial}
+use Rattle.trace_runner.proofs.ParallelAssured.{parallel_counts, parallel_is_good, parallel_assures, parallel_is_serial}
 use Rattle.trace_runner.proofs.parallel.run_parallel.Goals as goal
 
 pub run_sections-requires-clause-some : goal.run_sections-requires-clause-some

@@ -1,6 +1,6 @@
 use Rattle.std.proofs.Common.{◌≡◌, ◌≤◌, length}
-use Rattle.trace_runner.specs.Crews.{NoneQuiet}
-use Rattle.trace_runner.proofs.Running.{part, Done}
+use Rattle.trace_runner.specs.Workers.{NoneQuiet}
+use Rattle.trace_runner.proofs.SectionsRun.{part, Done}
 use Rattle.trace_runner.proofs.parallel.run_sections.Given as goal
 
 abbrev pub invariant-loop-i : goal.invariant-loop-i

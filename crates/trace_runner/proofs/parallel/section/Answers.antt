@@ -11,11 +11,11 @@ use Rattle.run_model.specs.RunState.{RunState}
 use Rattle.trace_runner.specs.declared.worker.Worker.{Worker}
 use Rattle.hpt_walk.specs.Access.{access_context}
 use Rattle.trace_runner.specs.MachineState.{run_state_of, AllHold}
-use Rattle.trace_runner.specs.Crews.{IsReady, IsDone}
-use Rattle.trace_runner.specs.Gathers.{AllFrom, HasPass, IsAll, IsQueue, HasNews, Extends}
-use Rattle.trace_runner.proofs.Gathering.{nil_of}
-use Rattle.trace_runner.proofs.Running.{empty_section}
-use Rattle.trace_runner.proofs.Promised.{Ran, refilled, done_passes, done_queues, workers_count, section_extends, section_holds}
+use Rattle.trace_runner.specs.Workers.{IsReady, IsDone}
+use Rattle.trace_runner.specs.SectionRun.{AllNumbered, HasPass, IsJoinOf, IsQueue, AddsReplies, RunsSection}
+use Rattle.trace_runner.proofs.JoinedWorkers.{nil_of}
+use Rattle.trace_runner.proofs.SectionsRun.{empty_section}
+use Rattle.trace_runner.proofs.SectionPromises.{Ran, refilled, done_passes, done_queues, workers_count, section_extends, section_holds}
 use Rattle.trace_runner.proofs.parallel.section.Goals as goal
 
 pub returns-then-is_empty : goal.returns-then-is_empty
@@ -23,28 +23,28 @@ returns-then-is_empty g c =
     let none : c.args.lines.now ≡ [] = nil_of c.args.lines.now (eqb-true (length c.args.lines.now) 0 (sym c.is_empty.ensures ∙ c.if-is_empty.true)) in
     record { news = []; grown = sym (append-nil c.args.replies.now.items); sectioned = rw none (empty_section c.args.machine) }
 
-pub run_all-requires-clause-ready : goal.run_all-requires-clause-ready
-run_all-requires-clause-ready g c κs within =
-    subst (AllFrom (λ j w. IsReady (access_context c.in-Ok.table.order c.grants.result.now.grants) c.in-Ok.table j c.args.lines.now w) 0) (sym c.as_mut_slice.ensures.value) (c.in_ok-workers.ensures.ready (access_context c.in-Ok.table.order c.grants.result.now.grants))
+pub run_workers-requires-clause-ready : goal.run_workers-requires-clause-ready
+run_workers-requires-clause-ready g c κs within =
+    subst (AllNumbered (λ j w. IsReady (access_context c.in-Ok.table.order c.grants.result.now.grants) c.in-Ok.table j c.args.lines.now w) 0) (sym c.as_mut_slice.ensures.value) (c.in_ok-workers.ensures.ready (access_context c.in-Ok.table.order c.grants.result.now.grants))
 
-pub gather-requires-clause-passes : goal.gather-requires-clause-passes
-gather-requires-clause-passes g c =
-    let same = refilled c.in_ok-workers.workers.len c.run_all.new.workers c.in_ok-workers.workers.items c.in_ok-workers.workers.ok.0 (c.run_all.auto.workers ∙ ap length c.as_mut_slice.ensures.value) in
-    subst (AllByRecursion (HasPass c.in-Ok.table)) (sym same) (done_passes (access_context c.in-Ok.table.order c.grants.result.now.grants) c.in-Ok.table c.args.lines.now c.run_all.new.workers c.run_all.ensures.done)
+pub join_workers-requires-clause-passes : goal.join_workers-requires-clause-passes
+join_workers-requires-clause-passes g c =
+    let same = refilled c.in_ok-workers.workers.len c.run_workers.new.workers c.in_ok-workers.workers.items c.in_ok-workers.workers.ok.0 (c.run_workers.auto.workers ∙ ap length c.as_mut_slice.ensures.value) in
+    subst (AllByRecursion (HasPass c.in-Ok.table)) (sym same) (done_passes (access_context c.in-Ok.table.order c.grants.result.now.grants) c.in-Ok.table c.args.lines.now c.run_workers.new.workers c.run_workers.ensures.done)
 
-pub merge-requires-clause-cpus : goal.merge-requires-clause-cpus
-merge-requires-clause-cpus g c =
-    let same = refilled c.in_ok-workers.workers.len c.run_all.new.workers c.in_ok-workers.workers.items c.in_ok-workers.workers.ok.0 (c.run_all.auto.workers ∙ ap length c.as_mut_slice.ensures.value) in
-    let queues : c.gather.new.queues.items ≡ map (λ (w : Worker). w.replies) c.run_all.new.workers = c.in_ok-pass.ensures.queues ∙ (λ j. c.in_ok-queues.ensures.items j ++ map (λ (w : Worker). w.replies) (same j)) in
-    let begun = c.run_all.ensures.begun ∙ ap (map (λ (w : Worker). w.begun.value)) c.as_mut_slice.ensures.value ∙ c.in_ok-workers.ensures.begun in
-    let count : length c.gather.new.queues.items ≡ length c.machine.inside.cpus.items = ap length queues ∙ length-map c.run_all.new.workers (λ (w : Worker). w.replies) ∙ workers_count c.run_all.new.workers c.machine.inside.cpus.items begun in
+pub merge_replies-requires-clause-cpus : goal.merge_replies-requires-clause-cpus
+merge_replies-requires-clause-cpus g c =
+    let same = refilled c.in_ok-workers.workers.len c.run_workers.new.workers c.in_ok-workers.workers.items c.in_ok-workers.workers.ok.0 (c.run_workers.auto.workers ∙ ap length c.as_mut_slice.ensures.value) in
+    let queues : c.join_workers.new.queues.items ≡ map (λ (w : Worker). w.replies) c.run_workers.new.workers = c.in_ok-pass.ensures.queues ∙ (λ j. c.in_ok-queues.ensures.items j ++ map (λ (w : Worker). w.replies) (same j)) in
+    let before = c.run_workers.ensures.before ∙ ap (map (λ (w : Worker). w.before.value)) c.as_mut_slice.ensures.value ∙ c.in_ok-workers.ensures.before in
+    let count : length c.join_workers.new.queues.items ≡ length c.machine.inside.cpus.items = ap length queues ∙ length-map c.run_workers.new.workers (λ (w : Worker). w.replies) ∙ workers_count c.run_workers.new.workers c.machine.inside.cpus.items before in
     subst (λ n. AllByRecursion (λ (l : TraceLine). l.cpu < n) c.args.lines.now) (ap (λ (v : RunState). length v.processors) (sym c.machine.view_is) ∙ sym count) c.requires.cpus
 
-pub merge-requires-clause-queues : goal.merge-requires-clause-queues
-merge-requires-clause-queues g c =
-    let same = refilled c.in_ok-workers.workers.len c.run_all.new.workers c.in_ok-workers.workers.items c.in_ok-workers.workers.ok.0 (c.run_all.auto.workers ∙ ap length c.as_mut_slice.ensures.value) in
-    let queues : c.gather.new.queues.items ≡ map (λ (w : Worker). w.replies) c.run_all.new.workers = c.in_ok-pass.ensures.queues ∙ (λ j. c.in_ok-queues.ensures.items j ++ map (λ (w : Worker). w.replies) (same j)) in
-    subst (AllFrom (λ cpu queue. IsQueue c.args.lines.now cpu queue) 0) (sym queues) (done_queues (access_context c.in-Ok.table.order c.grants.result.now.grants) c.in-Ok.table c.args.lines.now c.run_all.new.workers c.run_all.ensures.done)
+pub merge_replies-requires-clause-queues : goal.merge_replies-requires-clause-queues
+merge_replies-requires-clause-queues g c =
+    let same = refilled c.in_ok-workers.workers.len c.run_workers.new.workers c.in_ok-workers.workers.items c.in_ok-workers.workers.ok.0 (c.run_workers.auto.workers ∙ ap length c.as_mut_slice.ensures.value) in
+    let queues : c.join_workers.new.queues.items ≡ map (λ (w : Worker). w.replies) c.run_workers.new.workers = c.in_ok-pass.ensures.queues ∙ (λ j. c.in_ok-queues.ensures.items j ++ map (λ (w : Worker). w.replies) (same j)) in
+    subst (AllNumbered (λ cpu queue. IsQueue c.args.lines.now cpu queue) 0) (sym queues) (done_queues (access_context c.in-Ok.table.order c.grants.result.now.grants) c.in-Ok.table c.args.lines.now c.run_workers.new.workers c.run_workers.ensures.done)
 
 pub invariant_of-result : goal.invariant_of-result
 invariant_of-result g c =
@@ -52,28 +52,28 @@ invariant_of-result g c =
     let processors = c.machine.inside.cpus.items in
     let table = c.in-Ok.table in
     let set = access_context table.order c.grants.result.now.grants in
-    let ws = c.run_all.new.workers in
-    let same = refilled c.in_ok-workers.workers.len ws c.in_ok-workers.workers.items c.in_ok-workers.workers.ok.0 (c.run_all.auto.workers ∙ ap length c.as_mut_slice.ensures.value) in
+    let ws = c.run_workers.new.workers in
+    let same = refilled c.in_ok-workers.workers.len ws c.in_ok-workers.workers.items c.in_ok-workers.workers.ok.0 (c.run_workers.auto.workers ∙ ap length c.as_mut_slice.ensures.value) in
     let order : table.order ≡ partition.memory.table.order = c.in-Ok.ensures.order ∙ c.order-order.ensures.value in
     let granted : c.grants.result.now ≡ partition.granted = c.grants.ensures ∙ ap (λ (p : PartitionState). p.granted) c.take_states.ensures.out in
-    let ran : Ran partition c.put_states.new.self processors c.gather.new.cpus.items set table c.args.lines.now c.args.replies.now.items c.merge.new.replies.items ws c.gather.new.queues.items c.in_ok-pass.pass c.close-closed.result.closing.items = record {
+    let ran : Ran partition c.put_states.new.self processors c.join_workers.new.cpus.items set table c.args.lines.now c.args.replies.now.items c.merge_replies.new.replies.items ws c.join_workers.new.queues.items c.in_ok-pass.pass c.close-closed.result.closing.items = record {
       context = λ j. access_context (order j) (granted j).grants;
       opening = c.in-Ok.ensures.opening ∙ c.take_states.ensures.states;
       order = order;
       some = subst (λ (v : RunState). 0 < length v.processors) (sym c.machine.view_is) c.requires.some;
-      begun = c.run_all.ensures.begun ∙ ap (map (λ (w : Worker). w.begun.value)) c.as_mut_slice.ensures.value ∙ c.in_ok-workers.ensures.begun;
+      before = c.run_workers.ensures.before ∙ ap (map (λ (w : Worker). w.before.value)) c.as_mut_slice.ensures.value ∙ c.in_ok-workers.ensures.before;
       on_cpus = subst (λ (v : RunState). AllByRecursion (λ (l : TraceLine). l.cpu < length v.processors) c.args.lines.now) (sym c.machine.view_is) c.requires.cpus;
-      done = c.run_all.ensures.done;
+      done = c.run_workers.ensures.done;
       are_queues = c.in_ok-pass.ensures.queues ∙ (λ j. c.in_ok-queues.ensures.items j ++ map (λ (w : Worker). w.replies) (same j));
-      news = subst (λ l. HasNews c.args.lines.now c.gather.new.queues.items l c.merge.new.replies.items) c.reserve.ensures.same c.in_ok-merge.ensures.merged;
-      gathered = subst (λ l. IsAll table l c.in_ok-pass.pass) same c.in_ok-pass.ensures.all;
+      news = subst (λ l. AddsReplies c.args.lines.now c.join_workers.new.queues.items l c.merge_replies.new.replies.items) c.reserve.ensures.same c.in_ok-merge_replies.ensures.merged;
+      gathered = subst (λ l. IsJoinOf table l c.in_ok-pass.pass) same c.in_ok-pass.ensures.all;
       closes = c.close-closed.ensures.closes;
       put_back = c.put_states.ensures.put ∙ ap (λ (p : PartitionState). with_memory p (with_states p.memory c.close-closed.result.closing.items)) c.take_states.ensures.out;
       homed = c.in_ok-pass.ensures.cpus ∙ (λ j. c.in_ok-workers.ensures.none j ++ map (λ (w : Worker). w.cpu) (same j));
     } in
     record {
       has_states = c.put_states.ensures.has_states;
-      hold = section_holds partition c.put_states.new.self processors c.gather.new.cpus.items set table c.args.lines.now c.args.replies.now.items c.merge.new.replies.items ws c.gather.new.queues.items c.in_ok-pass.pass c.close-closed.result.closing.items (ap length table.lists.opening_is ∙ table.sized.size) ran;
+      hold = section_holds partition c.put_states.new.self processors c.join_workers.new.cpus.items set table c.args.lines.now c.args.replies.now.items c.merge_replies.new.replies.items ws c.join_workers.new.queues.items c.in_ok-pass.pass c.close-closed.result.closing.items (ap length table.lists.opening_is ∙ table.sized.size) ran;
     }
 
 pub returns : goal.returns
@@ -82,24 +82,24 @@ returns g c =
     let processors = c.machine.inside.cpus.items in
     let table = c.in-Ok.table in
     let set = access_context table.order c.grants.result.now.grants in
-    let ws = c.run_all.new.workers in
-    let same = refilled c.in_ok-workers.workers.len ws c.in_ok-workers.workers.items c.in_ok-workers.workers.ok.0 (c.run_all.auto.workers ∙ ap length c.as_mut_slice.ensures.value) in
+    let ws = c.run_workers.new.workers in
+    let same = refilled c.in_ok-workers.workers.len ws c.in_ok-workers.workers.items c.in_ok-workers.workers.ok.0 (c.run_workers.auto.workers ∙ ap length c.as_mut_slice.ensures.value) in
     let order : table.order ≡ partition.memory.table.order = c.in-Ok.ensures.order ∙ c.order-order.ensures.value in
     let granted : c.grants.result.now ≡ partition.granted = c.grants.ensures ∙ ap (λ (p : PartitionState). p.granted) c.take_states.ensures.out in
-    let ran : Ran partition c.put_states.new.self processors c.gather.new.cpus.items set table c.args.lines.now c.args.replies.now.items c.merge.new.replies.items ws c.gather.new.queues.items c.in_ok-pass.pass c.close-closed.result.closing.items = record {
+    let ran : Ran partition c.put_states.new.self processors c.join_workers.new.cpus.items set table c.args.lines.now c.args.replies.now.items c.merge_replies.new.replies.items ws c.join_workers.new.queues.items c.in_ok-pass.pass c.close-closed.result.closing.items = record {
       context = λ j. access_context (order j) (granted j).grants;
       opening = c.in-Ok.ensures.opening ∙ c.take_states.ensures.states;
       order = order;
       some = subst (λ (v : RunState). 0 < length v.processors) (sym c.machine.view_is) c.requires.some;
-      begun = c.run_all.ensures.begun ∙ ap (map (λ (w : Worker). w.begun.value)) c.as_mut_slice.ensures.value ∙ c.in_ok-workers.ensures.begun;
+      before = c.run_workers.ensures.before ∙ ap (map (λ (w : Worker). w.before.value)) c.as_mut_slice.ensures.value ∙ c.in_ok-workers.ensures.before;
       on_cpus = subst (λ (v : RunState). AllByRecursion (λ (l : TraceLine). l.cpu < length v.processors) c.args.lines.now) (sym c.machine.view_is) c.requires.cpus;
-      done = c.run_all.ensures.done;
+      done = c.run_workers.ensures.done;
       are_queues = c.in_ok-pass.ensures.queues ∙ (λ j. c.in_ok-queues.ensures.items j ++ map (λ (w : Worker). w.replies) (same j));
-      news = subst (λ l. HasNews c.args.lines.now c.gather.new.queues.items l c.merge.new.replies.items) c.reserve.ensures.same c.in_ok-merge.ensures.merged;
-      gathered = subst (λ l. IsAll table l c.in_ok-pass.pass) same c.in_ok-pass.ensures.all;
+      news = subst (λ l. AddsReplies c.args.lines.now c.join_workers.new.queues.items l c.merge_replies.new.replies.items) c.reserve.ensures.same c.in_ok-merge_replies.ensures.merged;
+      gathered = subst (λ l. IsJoinOf table l c.in_ok-pass.pass) same c.in_ok-pass.ensures.all;
       closes = c.close-closed.ensures.closes;
       put_back = c.put_states.ensures.put ∙ ap (λ (p : PartitionState). with_memory p (with_states p.memory c.close-closed.result.closing.items)) c.take_states.ensures.out;
       homed = c.in_ok-pass.ensures.cpus ∙ (λ j. c.in_ok-workers.ensures.none j ++ map (λ (w : Worker). w.cpu) (same j));
     } in
-    subst (λ (v : RunState). Extends v c.args.lines.now c.args.replies.now.items c.merge.new.replies.items (run_state_of c.put_states.new.self c.gather.new.cpus.items)) c.machine.view_is
-    (section_extends partition c.put_states.new.self processors c.gather.new.cpus.items set table c.args.lines.now c.args.replies.now.items c.merge.new.replies.items ws c.gather.new.queues.items c.in_ok-pass.pass c.close-closed.result.closing.items ran)
+    subst (λ (v : RunState). RunsSection v c.args.lines.now c.args.replies.now.items c.merge_replies.new.replies.items (run_state_of c.put_states.new.self c.join_workers.new.cpus.items)) c.machine.view_is
+    (section_extends partition c.put_states.new.self processors c.join_workers.new.cpus.items set table c.args.lines.now c.args.replies.now.items c.merge_replies.new.replies.items ws c.join_workers.new.queues.items c.in_ok-pass.pass c.close-closed.result.closing.items ran)

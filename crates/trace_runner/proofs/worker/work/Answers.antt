@@ -2,7 +2,7 @@ use Rattle.std.proofs.Common.{◌≡◌, sym, refl, subst, arith, length, ◌≤
 use Rattle.std.specs.Prelude.{vec_capacity}
 use Rattle.std.proofs.lemmas.Bool.{eq-eqb}
 use Rattle.hpt_walk.specs.Access.{access_context}
-use Rattle.trace_runner.specs.Crews.{own_lines}
+use Rattle.trace_runner.specs.Workers.{lines_of_cpu}
 use Rattle.trace_runner.proofs.WorkSteps.{kinds_count, own_room, own_run, other_run, not_eqb}
 use Rattle.trace_runner.proofs.worker.work.Goals as goal
 use Rattle.trace_runner.proofs.worker.work.Goals.{then-line-number, else-line-number}
@@ -22,13 +22,13 @@ loop-line-preserved g c =
           rw (w.worker-is, w.pass-is) (record {
             run = own_run set c.args.table.now c.args.number c.args.lines.now c.loop-line.line-index _ c.loop-line.worker.replies.items _ c.loop-line.worker _ c.loop-line.pass w.answer-answered.result.pass w.answer-answered.result.reply c.loop-line-test.true (eq-eqb _ _ w.if-line-number.true) i.run refl w.push_reserved.ensures.items
                 (record { of = e.of; share = e.share; made = e.made; line = e.line; size = e.size; kind = e.kind; place = e.processor; seen = e.seen });
-            room = subst (λ n. length (own_lines c.args.number c.args.lines.now) ≤ n) (sym w.push_reserved.ensures.capacity) i.room;
-            begun = i.begun;
+            room = subst (λ n. length (lines_of_cpu c.args.number c.args.lines.now) ≤ n) (sym w.push_reserved.ensures.capacity) i.room;
+            before = i.before;
           })
       | else-line-number w ↦
           rw (w.worker-is, w.pass-is) (record {
             run = other_run set c.args.table.now c.args.number c.args.lines.now c.loop-line.line-index _ c.loop-line.worker.replies.items c.loop-line.worker c.loop-line.pass c.loop-line-test.true (not_eqb _ _ w.if-line-number.false) i.run;
             room = i.room;
-            begun = i.begun;
+            before = i.before;
           })
     ]

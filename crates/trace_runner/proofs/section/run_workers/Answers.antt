@@ -1,11 +1,11 @@
 use Rattle.std.proofs.Common.{rules, ◌≡◌, ◌+◌, ◌<◌, ◌≤◌, ◌∙◌, sym, ap, subst, arith, length, get_or}
 use denote.Param.Send.{sendable}
-use Rattle.trace_runner.proofs.Sending.{worker_send}
+use Rattle.trace_runner.proofs.WorkerSend.{worker_send}
 use Rattle.trace_runner.specs.declared.worker.Worker.{Worker}
 use Rattle.hpt_walk.specs.Access.{access_context}
-use Rattle.trace_runner.specs.Crews.{IsReady, IsDone}
-use Rattle.trace_runner.proofs.Sectioning.{all_at, all_from, map_same}
-use Rattle.trace_runner.proofs.section.run_all.Goals as goal
+use Rattle.trace_runner.specs.Workers.{IsReady, IsDone}
+use Rattle.trace_runner.proofs.SectionWork.{all_at, all_from, map_same}
+use Rattle.trace_runner.proofs.section.run_workers.Goals as goal
 
 pub for_each_mut-requires-send-T : goal.for_each_mut-requires-send-T
 for_each_mut-requires-send-T g c κs within = search (sendable, worker_send)
@@ -30,8 +30,8 @@ returns-clause-done g c =
     subst (λ n. IsDone (access_context c.args.table.now.order c.args.grants.now.grants) c.args.table.now n c.args.lines.now (get_or c.for_each_mut.new.s k d)) e
     (subst (IsDone (access_context c.args.table.now.order c.args.grants.now.grants) c.args.table.now k c.args.lines.now) m.left m.call.0))
 
-pub returns-clause-begun : goal.returns-clause-begun
-returns-clause-begun g c =
-    map_same (λ (w : Worker). w.begun.value) c.for_each_mut.new.s c.args.workers.now c.for_each_mut.auto.s (λ k d within.
+pub returns-clause-before : goal.returns-clause-before
+returns-clause-before g c =
+    map_same (λ (w : Worker). w.before.value) c.for_each_mut.new.s c.args.workers.now c.for_each_mut.auto.s (λ k d within.
     let m = (c.for_each_mut.ensures k d (subst (λ n. k < n) c.for_each_mut.auto.s within)).1 in
-    ap (λ (w : Worker). w.begun.value) (sym m.left) ∙ m.call.1 ∙ ap (λ (w : Worker). w.begun.value) m.argument_is)
+    ap (λ (w : Worker). w.before.value) (sym m.left) ∙ m.call.1 ∙ ap (λ (w : Worker). w.before.value) m.argument_is)

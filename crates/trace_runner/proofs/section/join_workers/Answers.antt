@@ -1,7 +1,7 @@
 use Rattle.std.proofs.Common.{◌≡◌, ◌+◌, ◌-◌, ◌<◌, ◌∙◌, ◌++◌, sym, ap, subst, arith, length, map, List, [], ◌∷◌, Option, Some, get_or}
 use Rattle.trace_runner.specs.declared.worker.Worker.{Worker}
-use Rattle.trace_runner.proofs.Gathering.{Joining, split_first, joining_first, joining_more, joining_all, map_more, nil_of}
-use Rattle.trace_runner.proofs.section.gather.Goals as goal
+use Rattle.trace_runner.proofs.JoinedWorkers.{Joining, split_first, joining_first, joining_more, joining_all, map_more, nil_of}
+use Rattle.trace_runner.proofs.section.join_workers.Goals as goal
 
 pub loop-preserved : goal.loop-preserved
 loop-preserved c =

@@ -3,8 +3,8 @@ use Rattle.std.proofs.lemmas.List.{get_or_default}
 use Rattle.trace_read.specs.declared.trace.TraceLine.{TraceLine}
 use Rattle.trace_read.specs.declared.trace.Act.TheVariants.{Call}
 use Rattle.trace_reply.specs.declared.reply.Reply.{Reply}
-use Rattle.trace_runner.proofs.Merging.{Merging, merging_none, merging_more, each_line}
-use Rattle.trace_runner.proofs.section.merge.Goals as goal
+use Rattle.trace_runner.proofs.MergedReplies.{Merging, merging_none, merging_more, each_line}
+use Rattle.trace_runner.proofs.section.merge_replies.Goals as goal
 
 -- what a read past the end would give
 abbrev d : TraceLine

@@ -1,4 +1,5 @@
 -- A processor that gets a pass is ready.
+use Rattle.std.specs.Prelude.{IsSomeAnd}
 use Rattle.std.proofs.Common.{◌≡◌, ℕ, zero, suc, ◌+◌, ◌-◌, ◌^◌, ◌<◌, ◌≤◌, List, [], ◌∷◌, ◌++◌, length, map, get_or, true, false, ap, sym, ◌∙◌, refl, subst, ◌⊎◌, inl, inr, arith, Option, Some, append_assoc, vec_capacity}
 use Rattle.std.specs.List.{AllByRecursion}
 use Rattle.std.proofs.lemmas.List.{length-map, get_or_past}
@@ -18,9 +19,9 @@ use Rattle.tlb_model.specs.Processor.{Processor}
 use Rattle.trace_read.specs.declared.trace.TraceLine.{TraceLine}
 use Rattle.trace_runner.specs.declared.worker.Worker.{Worker}
 use Rattle.trace_runner.specs.MachineState.{Holding}
-use Rattle.trace_runner.specs.Crews.{HasSome, own_lines, IsSeenBy, HasRun, IsReady}
-use Rattle.trace_runner.specs.Gathers.{AllFrom}
-use Rattle.trace_runner.proofs.Sectioning.{below_or}
+use Rattle.trace_runner.specs.Workers.{lines_of_cpu, IsSeenBy, HasRun, IsReady}
+use Rattle.trace_runner.specs.SectionRun.{AllNumbered}
+use Rattle.trace_runner.proofs.SectionWork.{below_or}
 
 pub holds_inside : (a : List State) (line : Line) → Holding a line → line.entry < length a
 holds_inside a line h = at (below_or line.entry (length a)) where
@@ -40,10 +41,10 @@ pub record First (table : LockTable) (pass : Pass) : Type 0 where
 
 pub worker_ready : (set : AccessContext) (table : LockTable) (n j : ℕ) (lines : List TraceLine) (w : Worker) (pass : Pass) (cpu : Processor)
     → length table.opening.items ≡ 2 ^ (table.order - 4) → AllCached (Holding table.opening.items) cpu.cache → First table pass
-    → (w.cpu ≡ cpu) × (w.begun.value ≡ cpu) → w.pass ≡ Some pass → w.replies.items ≡ [] → n ≡ j → length (own_lines n lines) ≤ vec_capacity w.replies
+    → (w.cpu ≡ cpu) × (w.before.value ≡ cpu) → w.pass ≡ Some pass → w.replies.items ≡ [] → n ≡ j → length (lines_of_cpu n lines) ≤ vec_capacity w.replies
     → IsReady set table j lines w
 worker_ready set table n j lines w pass cpu size holds first processors is none number room = record {
-  fresh = subst (λ (o : Option Pass). HasSome o (HasRun set table j [] [] w)) (sym is) (record {
+  fresh = subst (λ (o : Option Pass). IsSomeAnd o (HasRun set table j [] [] w)) (sym is) (record {
     of = first.of;
     share = first.share;
     made = first.made;
@@ -54,10 +55,10 @@ worker_ready set table n j lines w pass cpu size holds first processors is none 
     seen = subst (λ (s : Processor). AllCached (IsSeenBy table pass) s.cache) (sym processors.0) (all_cached_weaker (Holding table.opening.items) (IsSeenBy table pass) (λ line h. record { inside = subst (λ m. line.entry < m) size (holds_inside table.opening.items line h); seen = inr h }) cpu.cache holds);
   });
   none = none;
-  room = subst (λ m. length (own_lines m lines) ≤ vec_capacity w.replies) number room;
+  room = subst (λ m. length (lines_of_cpu m lines) ≤ vec_capacity w.replies) number room;
 }
 
-pub all_push : {A : Type 0} (P : ℕ → A → Type 0) (n : ℕ) (xs : List A) (x : A) → AllFrom P n xs → P (n + length xs) x → AllFrom P n (xs ++ x ∷ [])
+pub all_push : {A : Type 0} (P : ℕ → A → Type 0) (n : ℕ) (xs : List A) (x : A) → AllNumbered P n xs → P (n + length xs) x → AllNumbered P n (xs ++ x ∷ [])
 all_push P n [] x h k = let e : n + 0 ≡ n = omega arith in (subst (λ m. P m x) e k, tt)
 all_push P n (y ∷ ys) x h k = let e : n + suc (length ys) ≡ suc n + length ys = omega arith in (h.0, all_push P (suc n) ys x h.1 (subst (λ m. P m x) e k))
 

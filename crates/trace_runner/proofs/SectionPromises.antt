@@ -1,4 +1,5 @@
 -- A section, from what its calls promise.
+use Rattle.std.specs.Prelude.{IsSomeAnd}
 use Rattle.std.proofs.Common.{◌≡◌, ℕ, ◌+◌, ◌-◌, ◌^◌, ◌<◌, ◌≤◌, List, [], ◌∷◌, ◌++◌, length, map, take, drop, zero, suc, ap, sym, ◌∙◌, refl, subst, arith, Option, Some, None, Vec, Global, reverse}
 use Rattle.std.specs.List.{AllByRecursion}
 use Rattle.std.proofs.lemmas.List.{length-map}
@@ -19,9 +20,9 @@ use Rattle.run_model.specs.RunState.{RunState}
 use Rattle.trace_runner.specs.declared.worker.Worker.{Worker}
 use Rattle.hpt_walk.specs.Access.{access_context}
 use Rattle.trace_runner.specs.MachineState.{run_state_of, AllHold}
-use Rattle.trace_runner.specs.Crews.{HasSome, HasRun, IsDone}
-use Rattle.trace_runner.specs.Gathers.{AllFrom, HasPass, IsAll, IsQueue, HasNews, Extends}
-use Rattle.trace_runner.proofs.Sectioning.{all_weaker, all_plain, all_both, all_mapped, own_parts, all_hold, sectioned}
+use Rattle.trace_runner.specs.Workers.{HasRun, IsDone}
+use Rattle.trace_runner.specs.SectionRun.{AllNumbered, HasPass, IsJoinOf, IsQueue, AddsReplies, RunsSection}
+use Rattle.trace_runner.proofs.SectionWork.{all_weaker, all_plain, all_both, all_mapped, own_parts, all_hold, sectioned}
 
 abbrev Queue : Type 0
 Queue = Vec Reply Global
@@ -34,22 +35,22 @@ refilled n new old count same = subst (λ m. take m (new ++ drop (length new) ol
   at (x ∷ xs) ys = ap (λ l. x ∷ l) (at xs ys)
 
 -- ---- each that ran
-some_weaker : {A : Type 0} (o : Option A) (P Q : A → Type 0) → ((x : A) → P x → Q x) → HasSome o P → HasSome o Q
+some_weaker : {A : Type 0} (o : Option A) (P Q : A → Type 0) → ((x : A) → P x → Q x) → IsSomeAnd o P → IsSomeAnd o Q
 some_weaker None P Q f h = absurd h
 some_weaker (Some x) P Q f h = f x h
 
-some_gives : {A : Type 0} (o : Option A) (P : A → Type 0) (Q : Type 0) → ((x : A) → P x → Q) → HasSome o P → Q
+some_gives : {A : Type 0} (o : Option A) (P : A → Type 0) (Q : Type 0) → ((x : A) → P x → Q) → IsSomeAnd o P → Q
 some_gives None P Q f h = absurd h
 some_gives (Some x) P Q f h = f x h
 
-pub done_passes : (set : AccessContext) (table : LockTable) (lines : List TraceLine) (ws : List Worker) → AllFrom (λ j w. IsDone set table j lines w) 0 ws → AllByRecursion (HasPass table) ws
+pub done_passes : (set : AccessContext) (table : LockTable) (lines : List TraceLine) (ws : List Worker) → AllNumbered (λ j w. IsDone set table j lines w) 0 ws → AllByRecursion (HasPass table) ws
 done_passes set table lines ws h = all_plain (λ j w. IsDone set table j lines w) (HasPass table) 0 ws (λ j w d. some_weaker w.pass (HasRun set table j lines (reverse w.replies.items) w) (λ pass. IsOf table pass × (pass.shares ≡ 1)) (λ p run. (run.of, run.share)) d) h
 
-pub done_queues : (set : AccessContext) (table : LockTable) (lines : List TraceLine) (ws : List Worker) → AllFrom (λ j w. IsDone set table j lines w) 0 ws → AllFrom (λ cpu queue. IsQueue lines cpu queue) 0 (map (λ (w : Worker). w.replies) ws)
+pub done_queues : (set : AccessContext) (table : LockTable) (lines : List TraceLine) (ws : List Worker) → AllNumbered (λ j w. IsDone set table j lines w) 0 ws → AllNumbered (λ cpu queue. IsQueue lines cpu queue) 0 (map (λ (w : Worker). w.replies) ws)
 done_queues set table lines ws h = all_mapped (λ cpu queue. IsQueue lines cpu queue) (λ (w : Worker). w.replies) 0 ws (all_weaker (λ j w. IsDone set table j lines w) (λ j w. IsQueue lines j w.replies) 0 ws (λ j w d. some_gives w.pass (HasRun set table j lines (reverse w.replies.items) w) (IsQueue lines j w.replies) (λ p run. run.kinds) d) h)
 
-pub workers_count : (ws : List Worker) (processors : List Processor) → map (λ (w : Worker). w.begun.value) ws ≡ processors → length ws ≡ length processors
-workers_count ws processors e = sym (length-map ws (λ (w : Worker). w.begun.value)) ∙ ap length e
+pub workers_count : (ws : List Worker) (processors : List Processor) → map (λ (w : Worker). w.before.value) ws ≡ processors → length ws ≡ length processors
+workers_count ws processors e = sym (length-map ws (λ (w : Worker). w.before.value)) ∙ ap length e
 
 -- What the calls of a section promise.
 pub record Ran (partition put : PartitionState) (processors cpus : List Processor) (set : AccessContext) (table : LockTable) (lines : List TraceLine) (old new : List Reply) (ws : List Worker) (queues : List Queue) (all : Pass) (b : List State) : Type 0 where
@@ -57,31 +58,31 @@ pub record Ran (partition put : PartitionState) (processors cpus : List Processo
   pub opening : table.opening.items ≡ partition.memory.table.states
   pub order : table.order ≡ partition.memory.table.order
   pub some : 0 < length processors
-  pub begun : map (λ (w : Worker). w.begun.value) ws ≡ processors
+  pub before : map (λ (w : Worker). w.before.value) ws ≡ processors
   pub on_cpus : AllByRecursion (λ (l : TraceLine). l.cpu < length processors) lines
-  pub done : AllFrom (λ j w. IsDone set table j lines w) 0 ws
+  pub done : AllNumbered (λ j w. IsDone set table j lines w) 0 ws
   pub are_queues : queues ≡ map (λ (w : Worker). w.replies) ws
-  pub news : HasNews lines queues old new
-  pub gathered : IsAll table ws all
+  pub news : AddsReplies lines queues old new
+  pub gathered : IsJoinOf table ws all
   pub closes : Closes table.opening.items (view_of all) b
   pub put_back : put ≡ with_memory partition (with_states partition.memory b)
   pub homed : cpus ≡ map (λ (w : Worker). w.cpu) ws
 
-pub section_extends : (partition put : PartitionState) (processors cpus : List Processor) (set : AccessContext) (table : LockTable) (lines : List TraceLine) (old new : List Reply) (ws : List Worker) (queues : List Queue) (all : Pass) (b : List State) → Ran partition put processors cpus set table lines old new ws queues all b → Extends (run_state_of partition processors) lines old new (run_state_of put cpus)
+pub section_extends : (partition put : PartitionState) (processors cpus : List Processor) (set : AccessContext) (table : LockTable) (lines : List TraceLine) (old new : List Reply) (ws : List Worker) (queues : List Queue) (all : Pass) (b : List State) → Ran partition put processors cpus set table lines old new ws queues all b → RunsSection (run_state_of partition processors) lines old new (run_state_of put cpus)
 section_extends partition put processors cpus set table lines old new ws queues all b r =
     let w = run_state_of partition processors in
-    let count : length ws ≡ length processors = workers_count ws processors r.begun in
-    let news : HasNews lines (map (λ (x : Worker). x.replies) ws) old new = subst (λ (q : List Queue). HasNews lines q old new) r.are_queues r.news in
+    let count : length ws ≡ length processors = workers_count ws processors r.before in
+    let news : AddsReplies lines (map (λ (x : Worker). x.replies) ws) old new = subst (λ (q : List Queue). AddsReplies lines q old new) r.are_queues r.news in
     record {
       news = news.news;
       grown = news.grown;
-      sectioned = sectioned w (run_state_of put cpus) table lines news.news ws all b r.opening r.order (subst (λ n. 0 < n) (sym count) r.some) r.begun (subst (λ n. AllByRecursion (λ (l : TraceLine). l.cpu < n) lines) (sym count) r.on_cpus)
-          (subst (λ (s : AccessContext). AllFrom (λ j x. IsDone s table j lines x) 0 ws) r.context r.done) news.merged r.gathered r.closes (λ j. run_state_of (r.put_back j) (r.homed j));
+      sectioned = sectioned w (run_state_of put cpus) table lines news.news ws all b r.opening r.order (subst (λ n. 0 < n) (sym count) r.some) r.before (subst (λ n. AllByRecursion (λ (l : TraceLine). l.cpu < n) lines) (sym count) r.on_cpus)
+          (subst (λ (s : AccessContext). AllNumbered (λ j x. IsDone s table j lines x) 0 ws) r.context r.done) news.merged r.gathered r.closes (λ j. run_state_of (r.put_back j) (r.homed j));
     }
 
 pub section_holds : (partition put : PartitionState) (processors cpus : List Processor) (set : AccessContext) (table : LockTable) (lines : List TraceLine) (old new : List Reply) (ws : List Worker) (queues : List Queue) (all : Pass) (b : List State) → length table.opening.items ≡ 2 ^ (table.order - 4) → Ran partition put processors cpus set table lines old new ws queues all b → AllHold put.memory.table.states cpus
 section_holds partition put processors cpus set table lines old new ws queues all b size r =
-    let news : HasNews lines (map (λ (x : Worker). x.replies) ws) old new = subst (λ (q : List Queue). HasNews lines q old new) r.are_queues r.news in
+    let news : AddsReplies lines (map (λ (x : Worker). x.replies) ws) old new = subst (λ (q : List Queue). AddsReplies lines q old new) r.are_queues r.news in
     let ts = lines_with_replies lines news.news in
     let parts = all_both (λ j x. IsDone set table j lines x) _ 0 ws r.done (own_parts lines news.news ws news.merged) in
     let held : AllHold b (map (λ (w : Worker). w.cpu) ws) = all_hold set table lines ts b 0 ws parts (λ line inside any. r.closes.seen line (subst (λ n. line.entry < n) (sym size) inside) (r.gathered.seen table.opening.items line any)) in

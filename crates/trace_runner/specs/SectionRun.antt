@@ -1,4 +1,5 @@
 -- A section: its processors, what they made together, and what it leaves.
+use Rattle.std.specs.Prelude.{IsSomeAnd}
 use Rattle.std.specs.Prelude.{◌≡◌, ◌⊎◌, ℕ, zero, suc, ◌+◌, ◌<◌, List, [], ◌∷◌, ◌++◌, length, map, reverse, slice_index_or, Vec, Option, Some, None}
 use Rattle.std.specs.List.{AllByRecursion}
 use Rattle.std.specs.Global.{Global}
@@ -19,16 +20,16 @@ use Rattle.run_model.specs.Sections.{cut, section_end_on}
 use Rattle.run_model.specs.RunState.{RunState}
 use Rattle.run_model.specs.ParallelRun.{AllWork, IsClosed, RunsParallel}
 use Rattle.trace_runner.specs.declared.worker.Worker.{Worker}
-use Rattle.trace_runner.specs.Crews.{HasSome, own_lines, own_share}
+use Rattle.trace_runner.specs.Workers.{lines_of_cpu, replied_lines_of_cpu}
 
 -- A fact of each, with its number.
-abbrev pub AllFrom : {A : Type 0} → (ℕ → A → Type 0) → ℕ → List A → Type 0
-AllFrom P n [] = Unit {0}
-AllFrom P n (x ∷ xs) = P n x × AllFrom P (suc n) xs
+abbrev pub AllNumbered : {A : Type 0} → (ℕ → A → Type 0) → ℕ → List A → Type 0
+AllNumbered P n [] = Unit {0}
+AllNumbered P n (x ∷ xs) = P n x × AllNumbered P (suc n) xs
 
 -- ---- passes
 abbrev pub HasPass : LockTable → Worker → Type 0
-HasPass table w = HasSome w.pass (λ pass. IsOf table pass × (pass.shares ≡ 1))
+HasPass table w = IsSomeAnd w.pass (λ pass. IsOf table pass × (pass.shares ≡ 1))
 
 abbrev pub made_in : Option Pass → List Receipt
 made_in None = []
@@ -42,15 +43,15 @@ all_made (w ∷ ws) = made_in w.pass ++ all_made ws
 -- The line is gone for one of them.
 abbrev pub AnyGone : Line → List Worker → Type 0
 AnyGone line [] = ⊥
-AnyGone line (w ∷ ws) = HasSome w.pass (λ pass. IsGone (view_of pass).fronts line) ⊎ AnyGone line ws
+AnyGone line (w ∷ ws) = IsSomeAnd w.pass (λ pass. IsGone (view_of pass).fronts line) ⊎ AnyGone line ws
 
 -- One of them has seen the line.
 abbrev pub AnySeen : List State → Line → List Worker → Type 0
 AnySeen opening line [] = ⊥
-AnySeen opening line (w ∷ ws) = HasSome w.pass (λ pass. IsSeen (view_of pass).actor.lines opening line) ⊎ AnySeen opening line ws
+AnySeen opening line (w ∷ ws) = IsSomeAnd w.pass (λ pass. IsSeen (view_of pass).actor.lines opening line) ⊎ AnySeen opening line ws
 
 -- The pass that all of them become.
-pub record IsAll (table : LockTable) (ws : List Worker) (pass : Pass) : Type 0 where
+pub record IsJoinOf (table : LockTable) (ws : List Worker) (pass : Pass) : Type 0 where
   pub of : IsOf table pass
   pub shares : pass.shares ≡ length ws
   pub made : (view_of pass).actor.receipts ≡ all_made ws
@@ -60,12 +61,12 @@ pub record IsAll (table : LockTable) (ws : List Worker) (pass : Pass) : Type 0 w
 -- ---- replies in file order
 -- The processor's replies to its lines among these.
 abbrev pub IsQueue : List TraceLine → ℕ → Vec Reply Global → Type 0
-IsQueue lines cpu queue = AreReplies (own_lines cpu lines) (reverse queue.items)
+IsQueue lines cpu queue = AreReplies (lines_of_cpu cpu lines) (reverse queue.items)
 
 -- Each processor's replied_lines are its own lines with its own replies.
 pub record IsMerged (lines : List TraceLine) (queues : List (Vec Reply Global)) (news : List Reply) : Type 0 where
   pub kinds : AreReplies lines news
-  pub own : (cpu : ℕ) (d : Vec Reply Global) → cpu < length queues → lines_of_processor cpu (lines_with_replies lines news) ≡ own_share cpu lines (reverse (slice_index_or queues cpu d).items)
+  pub own : (cpu : ℕ) (d : Vec Reply Global) → cpu < length queues → lines_of_processor cpu (lines_with_replies lines news) ≡ replied_lines_of_cpu cpu lines (reverse (slice_index_or queues cpu d).items)
 
 -- ---- a section
 -- The replies to its lines, and the run_state behind it.
@@ -82,13 +83,13 @@ abbrev pub Runs : RunState → List RepliedLine → Type 0
 Runs w ts = let c = cut ts in RunsParallel w c.0 c.1
 
 -- These replies were put behind those of before.
-pub record HasNews (lines : List TraceLine) (queues : List (Vec Reply Global)) (old new : List Reply) : Type 0 where
+pub record AddsReplies (lines : List TraceLine) (queues : List (Vec Reply Global)) (old new : List Reply) : Type 0 where
   pub news : List Reply
   pub grown : new ≡ old ++ news
   pub merged : IsMerged lines queues news
 
 -- The section's replies were put behind those of before.
-pub record Extends (w : RunState) (lines : List TraceLine) (old new : List Reply) (later : RunState) : Type 0 where
+pub record RunsSection (w : RunState) (lines : List TraceLine) (old new : List Reply) (later : RunState) : Type 0 where
   pub news : List Reply
   pub grown : new ≡ old ++ news
   pub sectioned : Sectioned w lines news later

@@ -4,9 +4,9 @@ use Rattle.entry_model.specs.Fronts.{opening_fronts}
 use Rattle.entry_lock.specs.PassOfTable.{IsOf, view_of}
 use Rattle.trace_runner.specs.declared.worker.Worker.{Worker}
 use Rattle.trace_runner.specs.MachineState.{AllHold}
-use Rattle.trace_runner.specs.Crews.{IsReady}
-use Rattle.trace_runner.specs.Gathers.{AllFrom}
-use Rattle.trace_runner.proofs.section.hire.Given as goal
+use Rattle.trace_runner.specs.Workers.{IsReady}
+use Rattle.trace_runner.specs.SectionRun.{AllNumbered}
+use Rattle.trace_runner.proofs.section.make_workers.Given as goal
 
 abbrev pub invariant-loop-i : goal.invariant-loop-i
 invariant-loop-i l = record {
@@ -17,6 +17,6 @@ invariant-loop-i l = record {
   hold : AllHold l.table.opening.items l.cpus.items;
   count : length l.cpus.items + l.i ≡ l.others;
   size : length l.workers.items ≡ l.i;
-  begun : l.first ∷ map (λ (w : Worker). w.begun.value) l.workers.items ++ l.cpus.items ≡ l.fn.cpus.items;
-  ready : (set : AccessContext) → AllFrom (λ j w. IsReady set l.table j l.lines w) 1 l.workers.items;
+  before : l.first ∷ map (λ (w : Worker). w.before.value) l.workers.items ++ l.cpus.items ≡ l.fn.cpus.items;
+  ready : (set : AccessContext) → AllNumbered (λ j w. IsReady set l.table j l.lines w) 1 l.workers.items;
 }

@@ -17,7 +17,7 @@ use Rattle.run_model.proofs.ClearedBits.{cleared_are_shown}
 use Rattle.run_model.proofs.StoresKept.{no_store_is_lost}
 use Rattle.run_model.proofs.SectionChain.{resizes_keep_bolted_pages}
 use Rattle.run_model.proofs.OneProcessor.{one_good_run}
-use Rattle.trace_runner.specs.Gathers.{Runs}
+use Rattle.trace_runner.specs.SectionRun.{Runs}
 use Rattle.trace_runner.proofs.WorkSteps.{kinds_count}
 
 -- The replies are a good run.

@@ -1,4 +1,5 @@
 -- What the processors of a section did together, and the run_state behind it.
+use Rattle.std.specs.Prelude.{IsSomeAnd}
 use Rattle.std.proofs.Common.{◌≡◌, ℕ, zero, suc, ◌+◌, ◌-◌, ◌*◌, ◌^◌, ◌<◌, ◌≤◌, List, [], ◌∷◌, ◌++◌, length, map, reverse, get_or, true, false, ap, sym, ◌∙◌, refl, subst, ◌⊎◌, inl, inr, eqb, arith, Option, Some, None, Vec, Global}
 use Rattle.std.specs.List.{AllByRecursion}
 use Rattle.std.proofs.lemmas.Bool.{cases_Bool, eqb-true}
@@ -33,37 +34,37 @@ use Rattle.run_model.proofs.Each.{each_append}
 use Rattle.run_model.proofs.LinesByProcessor.{own_no}
 use Rattle.trace_runner.specs.declared.worker.Worker.{Worker}
 use Rattle.trace_runner.specs.MachineState.{Holding, AllHold}
-use Rattle.trace_runner.specs.Crews.{HasSome, own_lines, own_share, IsSeenBy, HasRun, IsDone}
-use Rattle.trace_runner.specs.Gathers.{AllFrom, made_in, all_made, AnyGone, AnySeen, IsAll, IsQueue, IsMerged, Sectioned}
+use Rattle.trace_runner.specs.Workers.{lines_of_cpu, replied_lines_of_cpu, IsSeenBy, HasRun, IsDone}
+use Rattle.trace_runner.specs.SectionRun.{AllNumbered, made_in, all_made, AnyGone, AnySeen, IsJoinOf, IsQueue, IsMerged, Sectioned}
 
 abbrev Queue : Type 0
 Queue = Vec Reply Global
 
 -- ---- numbers
-pub all_at : {A : Type 0} (P : ℕ → A → Type 0) (n k : ℕ) (xs : List A) (d : A) → AllFrom P n xs → k < length xs → P (n + k) (get_or xs k d)
+pub all_at : {A : Type 0} (P : ℕ → A → Type 0) (n k : ℕ) (xs : List A) (d : A) → AllNumbered P n xs → k < length xs → P (n + k) (get_or xs k d)
 all_at P n k [] d h within = absurd (omega arith)
 all_at P n zero (x ∷ xs) d h within = let e : n + 0 ≡ n = omega arith in rw e h.0
 all_at P n (suc k) (x ∷ xs) d h within = let e : n + suc k ≡ suc n + k = omega arith in rw e (all_at P (suc n) k xs d h.1 (omega arith))
 
-pub all_from : {A : Type 0} (P : ℕ → A → Type 0) (n : ℕ) (xs : List A) → ((k : ℕ) (d : A) → k < length xs → P (n + k) (get_or xs k d)) → AllFrom P n xs
+pub all_from : {A : Type 0} (P : ℕ → A → Type 0) (n : ℕ) (xs : List A) → ((k : ℕ) (d : A) → k < length xs → P (n + k) (get_or xs k d)) → AllNumbered P n xs
 all_from P n [] h = tt
 all_from P n (x ∷ xs) h =
     let e : n + 0 ≡ n = omega arith in
     (subst (λ m. P m x) e (h 0 x (omega arith)), all_from P (suc n) xs (λ k d within. let s : n + suc k ≡ suc n + k = omega arith in subst (λ m. P m (get_or xs k d)) s (h (suc k) d (omega (arith, within)))))
 
-pub all_weaker : {A : Type 0} (P Q : ℕ → A → Type 0) (n : ℕ) (xs : List A) → ((k : ℕ) (x : A) → P k x → Q k x) → AllFrom P n xs → AllFrom Q n xs
+pub all_weaker : {A : Type 0} (P Q : ℕ → A → Type 0) (n : ℕ) (xs : List A) → ((k : ℕ) (x : A) → P k x → Q k x) → AllNumbered P n xs → AllNumbered Q n xs
 all_weaker P Q n [] f h = tt
 all_weaker P Q n (x ∷ xs) f h = (f n x h.0, all_weaker P Q (suc n) xs f h.1)
 
-pub all_both : {A : Type 0} (P Q : ℕ → A → Type 0) (n : ℕ) (xs : List A) → AllFrom P n xs → AllFrom Q n xs → AllFrom (λ k x. P k x × Q k x) n xs
+pub all_both : {A : Type 0} (P Q : ℕ → A → Type 0) (n : ℕ) (xs : List A) → AllNumbered P n xs → AllNumbered Q n xs → AllNumbered (λ k x. P k x × Q k x) n xs
 all_both P Q n [] h k = tt
 all_both P Q n (x ∷ xs) h k = ((h.0, k.0), all_both P Q (suc n) xs h.1 k.1)
 
-pub all_plain : {A : Type 0} (P : ℕ → A → Type 0) (Q : A → Type 0) (n : ℕ) (xs : List A) → ((k : ℕ) (x : A) → P k x → Q x) → AllFrom P n xs → AllByRecursion Q xs
+pub all_plain : {A : Type 0} (P : ℕ → A → Type 0) (Q : A → Type 0) (n : ℕ) (xs : List A) → ((k : ℕ) (x : A) → P k x → Q x) → AllNumbered P n xs → AllByRecursion Q xs
 all_plain P Q n [] f h = tt
 all_plain P Q n (x ∷ xs) f h = (f n x h.0, all_plain P Q (suc n) xs f h.1)
 
-pub all_mapped : {A B : Type 0} (P : ℕ → B → Type 0) (f : A → B) (n : ℕ) (xs : List A) → AllFrom (λ k x. P k (f x)) n xs → AllFrom P n (map f xs)
+pub all_mapped : {A B : Type 0} (P : ℕ → B → Type 0) (f : A → B) (n : ℕ) (xs : List A) → AllNumbered (λ k x. P k (f x)) n xs → AllNumbered P n (map f xs)
 all_mapped P f n [] h = tt
 all_mapped P f n (x ∷ xs) h = (h.0, all_mapped P f (suc n) xs h.1)
 
@@ -80,25 +81,25 @@ module _ (set : AccessContext) (table : LockTable) (lines : List TraceLine) (ts 
 
   -- It ran its lines, and they are its own among all.
   abbrev pub IsPart : ℕ → Worker → Type 0
-  IsPart cpu w = HasSome w.pass (HasRun set table cpu lines (reverse w.replies.items) w) × (lines_of_processor cpu ts ≡ own_share cpu lines (reverse w.replies.items))
+  IsPart cpu w = IsSomeAnd w.pass (HasRun set table cpu lines (reverse w.replies.items) w) × (lines_of_processor cpu ts ≡ replied_lines_of_cpu cpu lines (reverse w.replies.items))
 
   -- a fact of its pass, by the pass's case
-  by_pass : (o : Option Pass) (P : Pass → Type 0) (Q : Option Pass → Type 0) → ((p : Pass) → P p → Q (Some p)) → HasSome o P → Q o
+  by_pass : (o : Option Pass) (P : Pass → Type 0) (Q : Option Pass → Type 0) → ((p : Pass) → P p → Q (Some p)) → IsSomeAnd o P → Q o
   by_pass None P Q f h = absurd h
   by_pass (Some p) P Q f h = f p h
 
   part_made : (cpu : ℕ) (w : Worker) → IsPart cpu w → made_in w.pass ≡ receipts_by (lines_of_processor cpu ts)
   part_made cpu w h = by_pass w.pass (HasRun set table cpu lines (reverse w.replies.items) w) (λ o. made_in o ≡ receipts_by (lines_of_processor cpu ts)) (λ p run. run.made ∙ ap receipts_by (sym h.1)) h.0
 
-  part_processor : (cpu : ℕ) (w : Worker) → IsPart cpu w → processor_after_lines w.begun.value (lines_of_processor cpu ts) ≡ w.cpu
-  part_processor cpu w h = by_pass w.pass (HasRun set table cpu lines (reverse w.replies.items) w) (λ o. processor_after_lines w.begun.value (lines_of_processor cpu ts) ≡ w.cpu) (λ p run. ap (processor_after_lines w.begun.value) h.1 ∙ sym run.processor) h.0
+  part_processor : (cpu : ℕ) (w : Worker) → IsPart cpu w → processor_after_lines w.before.value (lines_of_processor cpu ts) ≡ w.cpu
+  part_processor cpu w h = by_pass w.pass (HasRun set table cpu lines (reverse w.replies.items) w) (λ o. processor_after_lines w.before.value (lines_of_processor cpu ts) ≡ w.cpu) (λ p run. ap (processor_after_lines w.before.value) h.1 ∙ sym run.processor) h.0
 
   -- ---- all processors
-  pub made_is : (n : ℕ) (ws : List Worker) → AllFrom IsPart n ws → all_made ws ≡ receipts_from_processor (length ws) n ts
+  pub made_is : (n : ℕ) (ws : List Worker) → AllNumbered IsPart n ws → all_made ws ≡ receipts_from_processor (length ws) n ts
   made_is n [] h = refl
   made_is n (w ∷ ws) h = (λ j. part_made n w h.0 j ++ made_is (suc n) ws h.1 j)
 
-  pub processors_are : (n : ℕ) (ws : List Worker) → AllFrom IsPart n ws → processors_after_lines n (map (λ (w : Worker). w.begun.value) ws) ts ≡ map (λ (w : Worker). w.cpu) ws
+  pub processors_are : (n : ℕ) (ws : List Worker) → AllNumbered IsPart n ws → processors_after_lines n (map (λ (w : Worker). w.before.value) ws) ts ≡ map (λ (w : Worker). w.cpu) ws
   processors_are n [] h = refl
   processors_are n (w ∷ ws) h = (λ j. part_processor n w h.0 j ∷ processors_are (suc n) ws h.1 j)
 
@@ -112,30 +113,30 @@ module _ (set : AccessContext) (table : LockTable) (lines : List TraceLine) (ts 
   fronts_of (w ∷ ws) zero = fronts_in w.pass
   fronts_of (w ∷ ws) (suc cpu) = fronts_of ws cpu
 
-  pub works_at : (n cpu : ℕ) (ws : List Worker) → AllFrom IsPart n ws → cpu < length ws → Works set (opening_fronts a) (processor_at (map (λ (w : Worker). w.begun.value) ws) cpu) (lines_of_processor (n + cpu) ts) (fronts_of ws cpu)
+  pub works_at : (n cpu : ℕ) (ws : List Worker) → AllNumbered IsPart n ws → cpu < length ws → Works set (opening_fronts a) (processor_at (map (λ (w : Worker). w.before.value) ws) cpu) (lines_of_processor (n + cpu) ts) (fronts_of ws cpu)
   works_at n cpu [] h within = absurd (omega arith)
   works_at n zero (w ∷ ws) h within =
       let e : n ≡ n + 0 = omega arith in
-      subst (λ k. Works set (opening_fronts a) w.begun.value (lines_of_processor k ts) (fronts_in w.pass)) e (by_pass w.pass (HasRun set table n lines (reverse w.replies.items) w) (λ o. Works set (opening_fronts a) w.begun.value (lines_of_processor n ts) (fronts_in o)) (λ p run. subst (λ us. Works set (opening_fronts a) w.begun.value us (view_of p).fronts) (sym h.0.1) run.works) h.0.0)
+      subst (λ k. Works set (opening_fronts a) w.before.value (lines_of_processor k ts) (fronts_in w.pass)) e (by_pass w.pass (HasRun set table n lines (reverse w.replies.items) w) (λ o. Works set (opening_fronts a) w.before.value (lines_of_processor n ts) (fronts_in o)) (λ p run. subst (λ us. Works set (opening_fronts a) w.before.value us (view_of p).fronts) (sym h.0.1) run.works) h.0.0)
   works_at n (suc cpu) (w ∷ ws) h within =
       let e : suc n + cpu ≡ n + suc cpu = omega arith in
-      subst (λ k. Works set (opening_fronts a) (processor_at (map (λ (w : Worker). w.begun.value) ws) cpu) (lines_of_processor k ts) (fronts_of ws cpu)) e (works_at (suc n) cpu ws h.1 (omega arith))
+      subst (λ k. Works set (opening_fronts a) (processor_at (map (λ (w : Worker). w.before.value) ws) cpu) (lines_of_processor k ts) (fronts_of ws cpu)) e (works_at (suc n) cpu ws h.1 (omega arith))
 
   pub fronts_past : (ws : List Worker) (cpu : ℕ) → length ws ≤ cpu → fronts_of ws cpu ≡ opening_fronts a
   fronts_past [] cpu h = refl
   fronts_past (w ∷ ws) zero h = absurd (omega arith)
   fronts_past (w ∷ ws) (suc cpu) h = fronts_past ws cpu (omega arith)
 
-  pub any_gone : (n cpu : ℕ) (ws : List Worker) (line : Line) → AllFrom IsPart n ws → cpu < length ws → IsGone (fronts_of ws cpu) line → AnyGone line ws
+  pub any_gone : (n cpu : ℕ) (ws : List Worker) (line : Line) → AllNumbered IsPart n ws → cpu < length ws → IsGone (fronts_of ws cpu) line → AnyGone line ws
   any_gone n cpu [] line h within gone = absurd (omega arith)
-  any_gone n zero (w ∷ ws) line h within gone = inl (by_pass w.pass (HasRun set table n lines (reverse w.replies.items) w) (λ o. IsGone (fronts_in o) line → HasSome o (λ p. IsGone (view_of p).fronts line)) (λ p run g. g) h.0.0 gone)
+  any_gone n zero (w ∷ ws) line h within gone = inl (by_pass w.pass (HasRun set table n lines (reverse w.replies.items) w) (λ o. IsGone (fronts_in o) line → IsSomeAnd o (λ p. IsGone (view_of p).fronts line)) (λ p run g. g) h.0.0 gone)
   any_gone n (suc cpu) (w ∷ ws) line h within gone = inr (any_gone (suc n) cpu ws line h.1 (omega arith) gone)
 
   -- ---- cached lines
-  part_holds : (b : List State) (n : ℕ) (w : Worker) → IsPart n w → ((line : Line) → line.entry < 2 ^ (table.order - 4) → HasSome w.pass (λ p. IsSeen (view_of p).actor.lines a line) → Holding b line) → AllCached (Holding b) w.cpu.cache
-  part_holds b n w h f = by_pass w.pass (HasRun set table n lines (reverse w.replies.items) w) (λ o. ((line : Line) → line.entry < 2 ^ (table.order - 4) → HasSome o (λ p. IsSeen (view_of p).actor.lines a line) → Holding b line) → AllCached (Holding b) w.cpu.cache) (λ p run g. all_cached_weaker (IsSeenBy table p) (Holding b) (λ line s. g line s.inside s.seen) w.cpu.cache run.seen) h.0 f
+  part_holds : (b : List State) (n : ℕ) (w : Worker) → IsPart n w → ((line : Line) → line.entry < 2 ^ (table.order - 4) → IsSomeAnd w.pass (λ p. IsSeen (view_of p).actor.lines a line) → Holding b line) → AllCached (Holding b) w.cpu.cache
+  part_holds b n w h f = by_pass w.pass (HasRun set table n lines (reverse w.replies.items) w) (λ o. ((line : Line) → line.entry < 2 ^ (table.order - 4) → IsSomeAnd o (λ p. IsSeen (view_of p).actor.lines a line) → Holding b line) → AllCached (Holding b) w.cpu.cache) (λ p run g. all_cached_weaker (IsSeenBy table p) (Holding b) (λ line s. g line s.inside s.seen) w.cpu.cache run.seen) h.0 f
 
-  pub all_hold : (b : List State) (n : ℕ) (ws : List Worker) → AllFrom IsPart n ws → ((line : Line) → line.entry < 2 ^ (table.order - 4) → AnySeen a line ws → Holding b line) → AllHold b (map (λ (w : Worker). w.cpu) ws)
+  pub all_hold : (b : List State) (n : ℕ) (ws : List Worker) → AllNumbered IsPart n ws → ((line : Line) → line.entry < 2 ^ (table.order - 4) → AnySeen a line ws → Holding b line) → AllHold b (map (λ (w : Worker). w.cpu) ws)
   all_hold b n [] h f = tt
   all_hold b n (w ∷ ws) h f = (part_holds b n w h.0 (λ line inside s. f line inside (inl s)), all_hold b (suc n) ws h.1 (λ line inside s. f line inside (inr s)))
 
@@ -188,26 +189,26 @@ gone_inside f line gone = at (below_or line.entry (length f)) where
   at (inr h) = let zero_front = past_end f line.entry h in absurd (omega (arith, gone, zero_front))
 
 -- Each processor's replied_lines among all are its own lines with its own replies.
-own_from : (lines : List TraceLine) (ts : List RepliedLine) (n : ℕ) (xs : List Worker) → ((k : ℕ) (d : Queue) → k < length (map (λ (x : Worker). x.replies) xs) → lines_of_processor (n + k) ts ≡ own_share (n + k) lines (reverse (get_or (map (λ (x : Worker). x.replies) xs) k d).items)) → AllFrom (λ j x. lines_of_processor j ts ≡ own_share j lines (reverse x.replies.items)) n xs
+own_from : (lines : List TraceLine) (ts : List RepliedLine) (n : ℕ) (xs : List Worker) → ((k : ℕ) (d : Queue) → k < length (map (λ (x : Worker). x.replies) xs) → lines_of_processor (n + k) ts ≡ replied_lines_of_cpu (n + k) lines (reverse (get_or (map (λ (x : Worker). x.replies) xs) k d).items)) → AllNumbered (λ j x. lines_of_processor j ts ≡ replied_lines_of_cpu j lines (reverse x.replies.items)) n xs
 own_from lines ts n [] h = tt
 own_from lines ts n (x ∷ xs) h =
     let e : n + 0 ≡ n = omega arith in (
-      subst (λ m. lines_of_processor m ts ≡ own_share m lines (reverse x.replies.items)) e (h 0 x.replies (omega arith)),
-      own_from lines ts (suc n) xs (λ k d low. let s : n + suc k ≡ suc n + k = omega arith in subst (λ m. lines_of_processor m ts ≡ own_share m lines (reverse (get_or (map (λ (x : Worker). x.replies) xs) k d).items)) s (h (suc k) d (omega (arith, low)))),
+      subst (λ m. lines_of_processor m ts ≡ replied_lines_of_cpu m lines (reverse x.replies.items)) e (h 0 x.replies (omega arith)),
+      own_from lines ts (suc n) xs (λ k d low. let s : n + suc k ≡ suc n + k = omega arith in subst (λ m. lines_of_processor m ts ≡ replied_lines_of_cpu m lines (reverse (get_or (map (λ (x : Worker). x.replies) xs) k d).items)) s (h (suc k) d (omega (arith, low)))),
     )
 
-pub own_parts : (lines : List TraceLine) (news : List Reply) (ws : List Worker) → IsMerged lines (map (λ (x : Worker). x.replies) ws) news → AllFrom (λ j x. lines_of_processor j (lines_with_replies lines news) ≡ own_share j lines (reverse x.replies.items)) 0 ws
-own_parts lines news ws merged = own_from lines (lines_with_replies lines news) 0 ws (λ k d low. let e : k ≡ 0 + k = omega arith in subst (λ n. lines_of_processor n (lines_with_replies lines news) ≡ own_share n lines (reverse (get_or (map (λ (x : Worker). x.replies) ws) k d).items)) e (merged.own k d low))
+pub own_parts : (lines : List TraceLine) (news : List Reply) (ws : List Worker) → IsMerged lines (map (λ (x : Worker). x.replies) ws) news → AllNumbered (λ j x. lines_of_processor j (lines_with_replies lines news) ≡ replied_lines_of_cpu j lines (reverse x.replies.items)) 0 ws
+own_parts lines news ws merged = own_from lines (lines_with_replies lines news) 0 ws (λ k d low. let e : k ≡ 0 + k = omega arith in subst (λ n. lines_of_processor n (lines_with_replies lines news) ≡ replied_lines_of_cpu n lines (reverse (get_or (map (λ (x : Worker). x.replies) ws) k d).items)) e (merged.own k d low))
 
 -- ---- the section
 pub sectioned : (w later : RunState) (table : LockTable) (lines : List TraceLine) (news : List Reply) (ws : List Worker) (all : Pass) (b : List State)
     → table.opening.items ≡ states_of w → table.order ≡ w.memory.table.order → 0 < length ws
-    → map (λ (x : Worker). x.begun.value) ws ≡ w.processors → AllByRecursion (λ (l : TraceLine). l.cpu < length ws) lines
-    → AllFrom (λ j x. IsDone (context_of w) table j lines x) 0 ws → IsMerged lines (map (λ (x : Worker). x.replies) ws) news
-    → IsAll table ws all → Closes table.opening.items (view_of all) b
+    → map (λ (x : Worker). x.before.value) ws ≡ w.processors → AllByRecursion (λ (l : TraceLine). l.cpu < length ws) lines
+    → AllNumbered (λ j x. IsDone (context_of w) table j lines x) 0 ws → IsMerged lines (map (λ (x : Worker). x.replies) ws) news
+    → IsJoinOf table ws all → Closes table.opening.items (view_of all) b
     → later ≡ record w { memory = with_states w.memory b; processors = map (λ (x : Worker). x.cpu) ws }
     → Sectioned w lines news later
-sectioned w later table lines news ws all b opening order some begun cpus done merged gathered closes run_state = record {
+sectioned w later table lines news ws all b opening order some before cpus done merged gathered closes run_state = record {
   kinds = merged.kinds;
   fronts = fronts;
   states = b;
@@ -218,7 +219,7 @@ sectioned w later table lines news ws all b opening order some begun cpus done m
     legal = λ entry low. rw (sym made) (subst (λ l. IsLegal (state_at l entry) (history entry (view_of all).actor.receipts) (state_at b entry)) opening (closes.legal entry (subst (λ l. entry < length l) (sym opening) low)));
     gone = λ cpu line gone. at cpu line gone (below_or cpu (length ws));
   };
-  run_state = run_state ∙ ap (λ (s : List Processor). record w { memory = with_states w.memory b; processors = s }) (sym (processors_are set table lines ts 0 ws parts) ∙ ap (λ s. processors_after_lines 0 s ts) begun);
+  run_state = run_state ∙ ap (λ (s : List Processor). record w { memory = with_states w.memory b; processors = s }) (sym (processors_are set table lines ts 0 ws parts) ∙ ap (λ s. processors_after_lines 0 s ts) before);
 } where
   ts : List RepliedLine
   ts = lines_with_replies lines news
@@ -229,20 +230,20 @@ sectioned w later table lines news ws all b opening order some begun cpus done m
   a : List State
   a = table.opening.items
 
-  parts : AllFrom (IsPart set table lines ts) 0 ws
-  parts = all_both (λ j x. IsDone set table j lines x) (λ j x. lines_of_processor j ts ≡ own_share j lines (reverse x.replies.items)) 0 ws done (own_parts lines news ws merged)
+  parts : AllNumbered (IsPart set table lines ts) 0 ws
+  parts = all_both (λ j x. IsDone set table j lines x) (λ j x. lines_of_processor j ts ≡ replied_lines_of_cpu j lines (reverse x.replies.items)) 0 ws done (own_parts lines news ws merged)
 
   fronts : ℕ → List ℕ
   fronts cpu = fronts_of set table lines ts ws cpu
 
   count : length ws ≡ length w.processors
-  count = sym (length-map ws (λ (x : Worker). x.begun.value)) ∙ ap length begun
+  count = sym (length-map ws (λ (x : Worker). x.before.value)) ∙ ap length before
 
   sizes : length (opening_fronts a) ≡ length (states_of w)
   sizes = length-map a pair_of ∙ ap length opening
 
   here : (cpu : ℕ) → cpu < length ws → Works set (opening_fronts a) (processor_at w.processors cpu) (lines_of_processor cpu ts) (fronts cpu)
-  here cpu low = let e : 0 + cpu ≡ cpu = omega arith in subst (λ n. Works set (opening_fronts a) (processor_at w.processors cpu) (lines_of_processor n ts) (fronts cpu)) e (subst (λ s. Works set (opening_fronts a) (processor_at s cpu) (lines_of_processor (0 + cpu) ts) (fronts cpu)) begun (works_at set table lines ts 0 cpu ws parts low))
+  here cpu low = let e : 0 + cpu ≡ cpu = omega arith in subst (λ n. Works set (opening_fronts a) (processor_at w.processors cpu) (lines_of_processor n ts) (fronts cpu)) e (subst (λ s. Works set (opening_fronts a) (processor_at s cpu) (lines_of_processor (0 + cpu) ts) (fronts cpu)) before (works_at set table lines ts 0 cpu ws parts low))
 
   work : AllWork w ts fronts
   work cpu = subst (λ l. Works set (opening_fronts l) (processor_at w.processors cpu) (lines_of_processor cpu ts) (fronts cpu)) opening (each (below_or cpu (length ws))) where

@@ -2,11 +2,11 @@ use Rattle.std.proofs.Common.{◌≡◌, ◌+◌, ◌-◌, ◌^◌, ◌<◌, ◌
 use Rattle.tlb_model.specs.Processor.{Processor}
 use Rattle.trace_runner.specs.declared.worker.Worker.{Worker}
 use Rattle.trace_runner.specs.MachineState.{AllHold}
-use Rattle.trace_runner.specs.Crews.{IsReady}
-use Rattle.trace_runner.specs.Gathers.{AllFrom}
-use Rattle.trace_runner.proofs.Gathering.{split_first}
-use Rattle.trace_runner.proofs.Hiring.{worker_ready, all_push, size_push, map_push}
-use Rattle.trace_runner.proofs.section.hire.Goals as goal
+use Rattle.trace_runner.specs.Workers.{IsReady}
+use Rattle.trace_runner.specs.SectionRun.{AllNumbered}
+use Rattle.trace_runner.proofs.JoinedWorkers.{split_first}
+use Rattle.trace_runner.proofs.NewWorkers.{worker_ready, all_push, size_push, map_push}
+use Rattle.trace_runner.proofs.section.make_workers.Goals as goal
 
 pub loop-i-preserved : goal.loop-i-preserved
 loop-i-preserved c =
@@ -28,9 +28,9 @@ loop-i-preserved c =
       hold = held.1;
       count = omega (arith, i.count, ap length cut);
       size = ap length c.in_ok-push.ensures.items ∙ size_push c.loop-i.workers.items w ∙ ap (λ n. n + 1) i.size;
-      begun = ap (λ l. c.remove-first.result ∷ (map (λ (y : Worker). y.begun.value) l ++ c.remove.new.self.items)) c.in_ok-push.ensures.items
-          ∙ ap (λ l. c.remove-first.result ∷ l) (map_push (λ (y : Worker). y.begun.value) c.loop-i.workers.items w x c.remove.new.self.items k.cpu.1 ∙ ap (λ l. map (λ (y : Worker). y.begun.value) c.loop-i.workers.items ++ l) (sym cut)) ∙ i.begun;
-      ready = λ set. subst (λ l. AllFrom (λ j y. IsReady set table j c.args.lines.now y) 1 l) (sym c.in_ok-push.ensures.items)
+      before = ap (λ l. c.remove-first.result ∷ (map (λ (y : Worker). y.before.value) l ++ c.remove.new.self.items)) c.in_ok-push.ensures.items
+          ∙ ap (λ l. c.remove-first.result ∷ l) (map_push (λ (y : Worker). y.before.value) c.loop-i.workers.items w x c.remove.new.self.items k.cpu.1 ∙ ap (λ l. map (λ (y : Worker). y.before.value) c.loop-i.workers.items ++ l) (sym cut)) ∙ i.before;
+      ready = λ set. subst (λ l. AllNumbered (λ j y. IsReady set table j c.args.lines.now y) 1 l) (sym c.in_ok-push.ensures.items)
           (all_push (λ j y. IsReady set table j c.args.lines.now y) 1 c.loop-i.workers.items w (i.ready set)
           (worker_ready set table _ _ c.args.lines.now w c.split-part.result x size held.0 (record { of = e.other_table; share = e.one; made = e.fresh; fronts = e.same_fronts ∙ i.fronts }) k.cpu k.pass k.none (omega (arith, i.size, i.count, c.loop-i-test.true, c.requires.few)) k.room));
     }
@@ -44,5 +44,5 @@ returns-clause-ready c set =
     let cut : c.args.cpus.now.items ≡ x ∷ c.remove-first.new.self.items = split_first c.args.cpus.now.items x c.requires.some c.remove-first.ensures.value ∙ ap (λ l. x ∷ l) (sym c.remove-first.ensures.items) in
     let held : AllHold table.opening.items (x ∷ c.remove-first.new.self.items) = subst (AllHold table.opening.items) cut c.requires.hold in
     let size : length table.opening.items ≡ 2 ^ (table.order - 4) = ap length table.lists.opening_is ∙ table.sized.size in
-    subst (λ l. AllFrom (λ j y. IsReady set table j c.args.lines.now y) 0 l) (sym c.in_ok-insert.ensures.items)
+    subst (λ l. AllNumbered (λ j y. IsReady set table j c.args.lines.now y) 0 l) (sym c.in_ok-insert.ensures.items)
     (worker_ready set table 0 0 c.args.lines.now c.in_ok-worker-2.worker c.loop-i.rest x size held.0 (record { of = i.of; share = omega (arith, i.shares, c.loop-i-test.false, c.loop-i.auto.i-end); made = i.fresh; fronts = i.fronts }) k.cpu k.pass k.none refl k.room, i.ready set)

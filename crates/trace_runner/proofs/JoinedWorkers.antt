@@ -1,4 +1,5 @@
 -- The passes of all processors become one.
+use Rattle.std.specs.Prelude.{IsSomeAnd}
 use Rattle.std.proofs.Common.{◌≡◌, ℕ, zero, suc, ◌+◌, ◌<◌, List, [], ◌∷◌, ◌++◌, length, map, get_or, remove, ap, sym, ◌∙◌, refl, subst, ◌⊎◌, inl, inr, Option, Some, None, arith, append_assoc, append-nil}
 use Rattle.std.specs.List.{AllByRecursion}
 use Rattle.std.proofs.lemmas.List.Elements.{Contains-append_left, Contains-append_right}
@@ -13,16 +14,15 @@ use Rattle.entry_lock.specs.declared.table.Pass.{Pass}
 use Rattle.entry_lock.specs.SeenLines.{IsSeen}
 use Rattle.entry_lock.specs.PassOfTable.{IsOf, view_of}
 use Rattle.trace_runner.specs.declared.worker.Worker.{Worker}
-use Rattle.trace_runner.specs.Crews.{HasSome}
-use Rattle.trace_runner.specs.Gathers.{HasPass, made_in, all_made, AnyGone, AnySeen, IsAll}
+use Rattle.trace_runner.specs.SectionRun.{HasPass, made_in, all_made, AnyGone, AnySeen, IsJoinOf}
 
 -- ---- the first of a list
 pub split_first : {A : Type 0} (xs : List A) (x : A) → 0 < length xs → x ≡ get_or xs 0 x → xs ≡ x ∷ remove xs 0
 split_first [] x h e = absurd (omega arith)
 split_first (y ∷ ys) x h e = ap (λ z. z ∷ ys) (sym e)
 
-pub has_some : {A : Type 0} (o : Option A) (P : A → Type 0) (x : A) → o ≡ Some x → HasSome o P → P x
-has_some o P x e h = subst (λ (z : Option _). HasSome z P) e h
+pub has_some : {A : Type 0} (o : Option A) (P : A → Type 0) (x : A) → o ≡ Some x → IsSomeAnd o P → P x
+has_some o P x e h = subst (λ (z : Option _). IsSomeAnd z P) e h
 
 -- ---- joins
 -- The pass so far and those of the processors that are left are those of all.
@@ -92,7 +92,7 @@ no_more : {A B : Type 0} → (B → ⊥) → A ⊎ B → A
 no_more f (inl a) = a
 no_more f (inr b) = absurd (f b)
 
-pub joining_all : (table : LockTable) (ws : List Worker) (pass : Pass) → Joining table ws [] pass → IsAll table ws pass
+pub joining_all : (table : LockTable) (ws : List Worker) (pass : Pass) → Joining table ws [] pass → IsJoinOf table ws pass
 joining_all table ws pass h = record {
   of = h.of;
   shares = omega (arith, h.shares);

@@ -27,10 +27,10 @@ use Rattle.run_model.specs.SerialRun.{run_line}
 use Rattle.run_model.specs.ParallelRun.{AllWork, IsClosed, RunsParallel}
 use Rattle.run_model.proofs.LinesByProcessor.{own_processors}
 use Rattle.run_model.proofs.SectionGood.{section_legal}
-use Rattle.trace_runner.specs.Crews.{replied_line, NoneQuiet}
-use Rattle.trace_runner.specs.Gathers.{Sectioned, Extends, Runs}
+use Rattle.trace_runner.specs.Workers.{replied_line, NoneQuiet}
+use Rattle.trace_runner.specs.SectionRun.{Sectioned, RunsSection, Runs}
 use Rattle.trace_runner.proofs.WorkSteps.{replied_lines_more, kinds_more}
-use Rattle.trace_runner.proofs.Sectioning.{listed_inside}
+use Rattle.trace_runner.proofs.SectionWork.{listed_inside}
 
 -- ---- where the quiet lines cut
 low_stamp_cut : (ls : List TraceLine) (rs : List Reply) (ts : List RepliedLine) → AreReplies ls rs → NoneQuiet ls → cut (lines_with_replies ls rs ++ ts) ≡ (lines_with_replies ls rs ++ (cut ts).0, (cut ts).1)
@@ -248,7 +248,7 @@ section_processors w later ls news s = ap (λ (v : RunState). length v.processor
 pub section_number : (w later : RunState) (ls : List TraceLine) (news : List Reply) → Sectioned w ls news later → later.memory.table.number ≡ w.memory.table.number
 section_number w later ls news s = ap (λ (v : RunState). v.memory.table.number) s.run_state
 
-pub done_end : (w later last : RunState) (lines : List TraceLine) (start i : ℕ) (rs new : List Reply) → start ≤ i → i ≡ length lines → Done w lines start later rs → NoneQuiet (part start i lines) → Extends later (part start (length lines) lines) rs new last → Ended w lines new
+pub done_end : (w later last : RunState) (lines : List TraceLine) (start i : ℕ) (rs new : List Reply) → start ≤ i → i ≡ length lines → Done w lines start later rs → NoneQuiet (part start i lines) → RunsSection later (part start (length lines) lines) rs new last → Ended w lines new
 done_end w later last lines start i rs new low end h m x =
     let below : start ≤ length lines = omega (arith, low, end) in
     let e : part start (length lines) lines ≡ drop start lines = part_end lines start (length lines) below (omega arith) in

@@ -1,3 +1,5 @@
+mod parallel;
+
 use crate::{Ran, run_serial, run_to_text, run_with_table};
 use entry_model::EntryState;
 use reply_text::text_of;

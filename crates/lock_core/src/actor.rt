@@ -1,4 +1,4 @@
-ghost use Rattle.std.specs.Prelude.{◌≡◌, [], ◌∷◌, ◌++◌, IfOk, OnOk, OnErr, IsOkUnless};
+ghost use Rattle.std.specs.Prelude.{◌≡◌, [], ◌∷◌, ◌++◌, IfOk, OnOk, OnErr, IfNone, IsOk, IsOkUnless};
 ghost use Rattle.std.specs.Option.{option_to_list};
 ghost use Rattle.lock_core.specs.Machine.{nobody as nobody_of, newcomer, shown_sightings, sighting_of};
 ghost use Rattle.lock_core.specs.Steps.{actor_after, joined_actor};
@@ -120,6 +120,7 @@ impl Actor {
         ensures ok { OnOk result (self.new ≡ actor_after self.old phase made) }
         ensures err { OnErr result (self.new ≡ self.old) }
         ensures memory { IsOkUnless result CoreError.Memory }
+        ensures without_receipt { IfNone made (IsOk result) }
     {
         if let Some(receipt) = made {
             self.record(receipt)?;

@@ -83,6 +83,7 @@ impl Actor {
     pub fn child(&self, alloc: Global) -> Result<Actor, CoreError>
         ensures ok { IfOk result (λ a. a ≡ newcomer self.now.lines) }
         ensures err { IsOkUnless result CoreError.Memory }
+        ensures without_lines { self.now.lines ≡ [] → IsOk result }
     {
         let mut actor = Actor::first(alloc);
         match actor.lines.extend_from_slice(&self.lines) {
@@ -156,6 +157,7 @@ impl Actor {
         ensures ok { OnOk result (self.new ≡ joined_actor self.old other.now) }
         ensures err { OnErr result (self.new ≡ self.old) }
         ensures memory { IsOkUnless result CoreError.Memory }
+        ensures of_nothing { other.now.receipts ≡ [] → other.now.lines ≡ [] → IsOk result }
     {
         if self.receipts.reserve(other.receipts.len()).is_err() {
             return Err(CoreError::Memory);

@@ -261,7 +261,9 @@ impl Core {
             (step_result_of self.old actor step.now)) }
         ensures err { OnErr result (self.new ≡ self.old) }
         ensures memory { IsOkUnless result CoreError.Memory }
-        ensures without_receipt { IfNone (step_result_of self.old actor step.now).made (IsOk result) }
+        ensures without_receipt { IfNone
+            (step_result_of self.old actor step.now).made
+            (IsOk result) }
     {
         let phase = self.phase_of(actor);
         let e = entry_of(&phase, step);

@@ -1,4 +1,4 @@
-ghost use Rattle.std.specs.Prelude.{◌≡◌, ◌≤◌, ◌⊎◌, None, Some};
+ghost use Rattle.std.specs.Prelude.{◌≡◌, ◌≢◌, ◌≤◌, ◌⊎◌, None, Some};
 ghost use Rattle.trace_io.specs.Outside.{Rose};
 ghost use Rattle.papr_top.specs.Top.{IsOutcome, EndsDrill};
 ghost use Rattle.trace_gen.specs.Generated.{generated_trace};
@@ -99,6 +99,8 @@ pub fn papr<S: Source, K: Sink>(
     // The words alone decide whether they are used rightly.
     ensures usage { words_of.command_of words.now ≡ None
         → (result ≡ Status.Usage) ⊎ (result ≡ Status.WriteFault) }
+    // Under other words than `run` the source isn't asked for anything.
+    ensures untouched { words_of.command_of words.now ≢ Some Command.Run → source.new ≡ source.old }
     // A fault is one of the source's or of the sink's own.
     ensures read_fault { result ≡ Status.ReadFault → Rose (S.faults source.old) (S.faults source.new) }
     ensures write_fault { result ≡ Status.WriteFault → Rose (K.faults sink.old) (K.faults sink.new) }

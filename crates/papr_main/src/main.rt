@@ -4,10 +4,10 @@
 
 use papr_top::{Status, papr};
 use std::alloc::Global;
+use std::env;
 use std::io::{self, ErrorKind};
 use std::process::ExitCode;
 use std::rt::Env;
-use std::env;
 use trace_io::{StdSink, StdSource};
 
 /// The words behind the program's name.

@@ -97,7 +97,7 @@ pub record Refuses (run : Run) : Type 0 where
   pub refused : trace_of bytes ≡ Err refusal
   pub written : Writes run (refusal_text refusal.0 refusal.1)
 
--- Nothing was read, and the summary of the generated trace's serial run, which is a good run, was written.
+-- No byte was read, and the summary of the generated trace's serial run, which is a good run, was written.
 pub record Drills (seed lines : ℕ) (run : Run) : Type 0 where
   pub nothing_read : ReadsNothing run
   pub assured : IsAssured (generated_trace seed lines)
@@ -110,7 +110,7 @@ IsDone None run = ⊥
 IsDone (Some commands.Run) run = Answers run
 IsDone (Some (commands.Drill seed lines)) run = Drills seed lines run
 
--- Words that are none of the listed forms are answered before anything is read.
+-- Words that are none of the listed forms are answered, and no byte was read.
 abbrev pub IsUsage : Option Command → Run → Type 0
 IsUsage None run = ReadsNothing run × Writes run usage_text
 IsUsage (Some command) run = ⊥

@@ -1,4 +1,4 @@
-ghost use Rattle.std.specs.Prelude.{◌≡◌, ◌-◌, ◌^◌, ◌<◌, ◌≤◌, length, Option, Some, None, IsOk, IfErr, OnOk, MatchOption, MatchResult, replicate, vec_len};
+ghost use Rattle.std.specs.Prelude.{◌≡◌, ◌-◌, ◌^◌, ◌<◌, ◌≤◌, length, Option, Some, None, IsOk, IfErr, OnOk, MatchOption, MatchResult, replicate, vec_len, vec_capacity};
 ghost use Rattle.hpte_fields.specs.TableSize.{entry_count};
 ghost use Rattle.entry_model.specs.State.{State, empty_state};
 ghost use Rattle.entry_model.specs.Run.{state_at};
@@ -47,6 +47,7 @@ pub fn rehash(
     ensures carried { OnOk result (into.new.items ≡ rehashed_states order_from order_to states.now) }
     ensures never { order_from ≤ order_to → IsOk result }
     ensures length { vec_len into.new ≡ vec_len into.old }
+    ensures capacity { vec_capacity into.new ≡ vec_capacity into.old }
 {
     for index in 0..states.len() {
         if let Some(target) = target_index(order_from, order_to, states[index], index) {

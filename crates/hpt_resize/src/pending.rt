@@ -29,12 +29,13 @@ impl Model for Pending {
 }
 
 impl Pending {
-    /// A table of `2^order` bytes with no entry ready. `states` has the room for all of them.
+    /// A table of `2^order` bytes with no entry ready. `states` has room for all of them,
+    /// and for no more.
     pub fn new(order: u8, place: u64, states: Vec<EntryState>) -> Pending
         requires low { 18 ≤ order }
         requires high { order ≤ 22 }
         requires none { states.items ≡ [] }
-        requires room { entry_count order ≤ vec_capacity states }
+        requires room { vec_capacity states ≡ entry_count order }
         ensures { result ≡ no_entries order place }
     {
         Pending {
@@ -77,7 +78,8 @@ impl Pending {
 
     /// Its entries, all of them empty.
     pub fn into_states(self) -> Vec<EntryState>
-        ensures { result.items ≡ replicate self.ready (empty_state 0) }
+        ensures items { result.items ≡ replicate self.ready (empty_state 0) }
+        ensures room { vec_capacity result ≡ entry_count self.order }
     {
         let Pending {
             order: _,
@@ -101,9 +103,9 @@ pub fn entry_count(order: u8) -> usize
 fn push_empty(states: &mut Vec<EntryState>, count: usize)
     requires { vec_len states.old + count ≤ vec_capacity states.old }
     ensures items { states.new.items ≡ states.old.items ++ replicate count (empty_state 0) }
-    ensures capacity { vec_capacity states.old ≤ vec_capacity states.new }
+    ensures capacity { vec_capacity states.new ≡ vec_capacity states.old }
 {
     for _i in 0..count {
-        states.push(EntryState::empty(0)).unwrap();
+        states.push_reserved(EntryState::empty(0));
     }
 }

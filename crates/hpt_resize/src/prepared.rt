@@ -1,4 +1,4 @@
-ghost use Rattle.std.specs.Prelude.{◌≡◌, ◌≢◌, ◌+◌, ◌-◌, ◌^◌, ◌<◌, ◌≤◌, length, Contains, MatchOption, Some, None, true, false, IfOk, OnOk, OnErr, MatchResult, replicate, if◌then◌else◌};
+ghost use Rattle.std.specs.Prelude.{◌≡◌, ◌≢◌, ◌+◌, ◌-◌, ◌^◌, ◌<◌, ◌≤◌, length, Contains, MatchOption, Some, None, true, false, IfOk, OnOk, OnErr, MatchResult, replicate, if◌then◌else◌, vec_capacity};
 ghost use Rattle.std.specs.Option.{ForSome};
 ghost use Rattle.hpt_pool.specs.Pool.{block_at};
 ghost use Rattle.entry_model.specs.State.{empty_state};
@@ -96,6 +96,9 @@ impl Resize {
         ensures held { IsHeld self.new pool.new }
         ensures taken { IsElsewhere self.old (block_at current.old.place current.old.order)
             → Contains pool.new.taken (block_at current.new.place current.new.order) }
+        // A new table takes no more memory than its entries need.
+        ensures room { result.rc ≡ Rc.Success
+            → vec_capacity current.new.states ≡ entry_count current.new.order }
     {
         if let Err(rc) = self.check(flags, shift) {
             return CommitAnswer::of(rc);
@@ -214,6 +217,8 @@ fn complete(pending: Pending, pool: &mut Pool, current: &mut Current) -> CommitA
     ensures table { IsTable current.new }
     ensures taken { pending.place ≢ current.old.place
         → Contains pool.new.taken (block_at current.new.place current.new.order) }
+    ensures room { result.rc ≡ Rc.Success
+        → vec_capacity current.new.states ≡ entry_count current.new.order }
 {
     let order = pending.order();
     let place = pending.place();

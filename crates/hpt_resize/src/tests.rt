@@ -1,6 +1,7 @@
 ghost use Rattle.std.specs.Prelude.{◌≡◌, ◌≤◌, bit_and, length, replicate, vec_len, IfOk};
 ghost use Rattle.entry_model.specs.State.{empty_state};
 ghost use Rattle.hpte_fields.specs.TableSize.{entry_count};
+ghost use Rattle.hpt_resize.specs.Resize.{IsHeld};
 
 use crate::{Collision, CommitAnswer, Current, Resize, rehash};
 use entry_model::EntryState;
@@ -180,5 +181,38 @@ fn what_prepare_answers(rt: HostRuntime) -> Result<(), Fail> {
         Ok(Rc::Success)
     );
     assert_eq!(rt; pool.take(18), Some(0x10_0004_0000));
+    Ok(())
+}
+
+/// The answers of the calls that make a table ready, up to the first that isn't a long wait: how many
+/// waits, and that answer.
+fn made_ready(
+    alloc: Global,
+    pool: &mut Pool,
+    resize: &mut Resize,
+    order: u64,
+) -> Result<(u32, Rc), AllocError>
+    requires { IsHeld resize.old pool.old }
+    ensures { IsHeld resize.new pool.new }
+{
+    for waits in 0..100 {
+        let rc = resize.prepare(alloc, pool, 22, 0, order)?;
+        if rc != Rc::LongBusy {
+            return Ok((waits, rc));
+        }
+    }
+    Ok((100, Rc::LongBusy))
+}
+
+#[test]
+fn larger_tables_are_made_ready_a_part_at_a_call(rt: HostRuntime) -> Result<(), Fail> {
+    let mut pool = Pool::new(rt.alloc(), 0x10_0000_0000, 24)?;
+    let mut resize = Resize::none();
+    for (order, waits) in [(20, 3), (21, 7), (22, 15)] {
+        let answers = made_ready(rt.alloc(), &mut pool, &mut resize, order)?;
+        assert_eq!(rt; answers, (waits, Rc::Success), "at order {order}");
+    }
+    assert_eq!(rt; pool.take(23), Some(0x10_0080_0000));
+    assert_eq!(rt; pool.take(22), Some(0x10_0040_0000));
     Ok(())
 }

@@ -1,6 +1,6 @@
 -- What holds of the opened machine, and after every list of steps.
 use Rattle.std.specs.Prelude.{slice_get, slice_index_or, All, Contains}
-use Rattle.std.proofs.Common.{◌≡◌, ◌⊎◌, ℕ, zero, suc, ◌≢◌, ◌<◌, false, List, [], ◌∷◌, ◌++◌, length, replicate, set, inl, inr, ⊎_elim, refl, sym, ap, ◌∙◌, subst, arith, Some, true}
+use Rattle.std.proofs.Common.{◌≡◌, ◌⊎◌, ℕ, zero, suc, ◌≢◌, ◌<◌, false, List, [], ◌∷◌, ◌++◌, length, replicate, set, inl, inr, ⊎_elim, refl, sym, ap, ◌∙◌, subst, arith, Some}
 use Rattle.std.proofs.lemmas.List.{length-map}
 use Rattle.std.proofs.lemmas.Bool.{false≢true}
 use Rattle.std.proofs.lemmas.Option.{slice_get-get_or, slice_get_within, get_or_from_slice_get}

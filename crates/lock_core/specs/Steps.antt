@@ -1,5 +1,5 @@
 -- The table of steps: in which phase each is allowed, and what it does.
-use Rattle.std.specs.Prelude.{ℕ, ◌==◌, ◌&&◌, Bool, true, false, not, if◌then◌else◌, nat_lt, List, [], ◌∷◌, ◌++◌, length, find, slice_set, Option, Some, None, option_map, is_none}
+use Rattle.std.specs.Prelude.{ℕ, ◌==◌, ◌&&◌, Bool, true, false, not, if◌then◌else◌, nat_lt, List, [], ◌∷◌, ◌++◌, length, slice_set, Option, Some, None, is_none, is_some}
 use Rattle.basics.specs.Words.{first_refusal}
 use Rattle.entry_model.specs.State.{State}
 use Rattle.entry_model.specs.declared.operation.Op.{Op}
@@ -233,6 +233,12 @@ unfoldable pub made_by : Machine → ℕ → Step → Option Receipt
 made_by m i (Split to) = None
 made_by m i (Join from) = None
 made_by m i step = if is_allowed m i step then (step_result_of m i step).made else None
+
+-- The step takes memory: it splits or joins, or makes a receipt.
+unfoldable pub takes_memory : Machine → ℕ → Step → Bool
+takes_memory m i (Split to) = true
+takes_memory m i (Join from) = true
+takes_memory m i step = is_some (made_by m i step)
 
 -- The machine after an allowed step.
 unfoldable pub after_allowed_step : Machine → ℕ → Step → Machine

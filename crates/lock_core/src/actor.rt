@@ -1,4 +1,4 @@
-ghost use Rattle.std.specs.Prelude.{◌≡◌, [], ◌∷◌, ◌++◌, IfOk, OnOk, OnErr, IsOkUnless};
+ghost use Rattle.std.specs.Prelude.{◌≡◌, [], ◌∷◌, ◌++◌, IfOk, OnOk, OnErr, IfNone, IsOk, IsOkUnless};
 ghost use Rattle.std.specs.Option.{option_to_list};
 ghost use Rattle.lock_core.specs.Machine.{nobody as nobody_of, newcomer, shown_sightings, sighting_of};
 ghost use Rattle.lock_core.specs.Steps.{actor_after, joined_actor};
@@ -83,6 +83,7 @@ impl Actor {
     pub fn child(&self, alloc: Global) -> Result<Actor, CoreError>
         ensures ok { IfOk result (λ a. a ≡ newcomer self.now.lines) }
         ensures err { IsOkUnless result CoreError.Memory }
+        ensures without_lines { self.now.lines ≡ [] → IsOk result }
     {
         let mut actor = Actor::first(alloc);
         match actor.lines.extend_from_slice(&self.lines) {
@@ -120,6 +121,7 @@ impl Actor {
         ensures ok { OnOk result (self.new ≡ actor_after self.old phase made) }
         ensures err { OnErr result (self.new ≡ self.old) }
         ensures memory { IsOkUnless result CoreError.Memory }
+        ensures without_receipt { IfNone made (IsOk result) }
     {
         if let Some(receipt) = made {
             self.record(receipt)?;
@@ -155,6 +157,7 @@ impl Actor {
         ensures ok { OnOk result (self.new ≡ joined_actor self.old other.now) }
         ensures err { OnErr result (self.new ≡ self.old) }
         ensures memory { IsOkUnless result CoreError.Memory }
+        ensures of_nothing { other.now.receipts ≡ [] → other.now.lines ≡ [] → IsOk result }
     {
         if self.receipts.reserve(other.receipts.len()).is_err() {
             return Err(CoreError::Memory);

@@ -1,7 +1,7 @@
-ghost use Rattle.std.specs.Prelude.{◌≡◌, ◌≢◌, ◌<◌, ◌==◌, ◌||◌, [], length, map, replicate, slice_set, nat_lt, true, Err, IfOk, OnOk, OnErr, IsOkUnless, MatchBool, MatchOption};
+ghost use Rattle.std.specs.Prelude.{◌≡◌, ◌≢◌, ◌<◌, ◌==◌, ◌||◌, [], length, map, replicate, slice_set, nat_lt, true, Err, IfOk, OnOk, OnErr, IfNone, IsOk, IsTrue, IsOkUnless, MatchBool, MatchOption};
 ghost use Rattle.lock_core.specs.Words.{unheld_entry as quiet_entry_of};
 ghost use Rattle.lock_core.specs.Machine.{opening_machine, nobody, newcomer, actor_at, opening_at as opening_of, in_table as is_in_table, words_seen as seen_words_of};
-ghost use Rattle.lock_core.specs.Steps.{may_act as may_act_of, names_entry as names_entry_of, fits_entry as fits_entry_of, fits_phase as fits_phase_of, is_idle as is_idle_of, refusal as refusal_of, is_allowed, after_allowed_step, after_step, entry_of as entry_by, step_result_of, with_result, split_off, join_in};
+ghost use Rattle.lock_core.specs.Steps.{may_act as may_act_of, names_entry as names_entry_of, fits_entry as fits_entry_of, fits_phase as fits_phase_of, is_idle as is_idle_of, refusal as refusal_of, is_allowed, after_allowed_step, after_step, entry_of as entry_by, step_result_of, with_result, split_off, join_in, takes_memory};
 ghost use Rattle.lock_core.specs.Laws.{published_state};
 
 use crate::actor::Actor;
@@ -261,6 +261,9 @@ impl Core {
             (step_result_of self.old actor step.now)) }
         ensures err { OnErr result (self.new ≡ self.old) }
         ensures memory { IsOkUnless result CoreError.Memory }
+        ensures without_receipt { IfNone
+            (step_result_of self.old actor step.now).made
+            (IsOk result) }
     {
         let phase = self.phase_of(actor);
         let e = entry_of(&phase, step);
@@ -310,6 +313,7 @@ impl Core {
         ensures ok { OnOk result (self.new ≡ after_allowed_step self.old actor step) }
         ensures err { OnErr result (self.new ≡ self.old) }
         ensures memory { IsOkUnless result CoreError.Memory }
+        ensures taking { result ≡ Err CoreError.Memory → IsTrue (takes_memory self.old actor step) }
     {
         match step {
             Step::Split { to } => self.split(alloc, actor, to),
@@ -319,12 +323,13 @@ impl Core {
     }
 
     /// Takes a step of an actor. A step that is refused changes nothing, and so does one for which there
-    /// is not enough memory.
+    /// is not enough memory. Only a split, a join and a step that makes a receipt take memory.
     pub fn step(&mut self, alloc: Global, actor: u32, step: Step) -> Result<(), CoreError>
         ensures refused { MatchOption
             (refusal_of self.old actor step)
             (IsOkUnless result CoreError.Memory)
             (λ e. result ≡ Err e) }
+        ensures memory { result ≡ Err CoreError.Memory → IsTrue (takes_memory self.old actor step) }
         ensures ok { OnOk result (self.new ≡ after_step self.old actor step) }
         ensures err { OnErr result (self.new ≡ self.old) }
         ensures entries { length self.new.entries ≡ length self.old.entries }

@@ -144,7 +144,8 @@ fn look(entry: &Entry, e: u32, op: Op, seen: Option<(u64, u64)>) -> StepResult
 
 /// The shut step: the word found has the R and C that count.
 fn shut(entry: &Entry, doing: Doing) -> StepResult
-    ensures { result ≡ going_on (shut_entry entry.now) (HeldShut (noting_of doing entry.now.control)) }
+    ensures { result
+        ≡ going_on (shut_entry entry.now) (HeldShut (noting_of doing entry.now.control)) }
 {
     let mut next = *entry;
     next.control.shut = true;

@@ -3,6 +3,8 @@
 
 ghost use Rattle.std.specs.Prelude.{◌≡◌, length, IfOk};
 
+mod four_actors;
+
 use super::*;
 use entry_model::{Answer, EntryState, Op, Receipt, Test};
 use std::alloc::Global;

@@ -2,11 +2,12 @@
 //! ends with the status. It prints nothing itself.
 #![tactic(auto)]
 
-use papr_top::papr;
+use papr_top::{Status, papr};
 use std::alloc::Global;
+use std::env;
+use std::io::{self, ErrorKind};
 use std::process::ExitCode;
 use std::rt::Env;
-use std::{env, io};
 use trace_io::{StdSink, StdSource};
 
 /// The words behind the program's name.
@@ -21,7 +22,9 @@ fn words(rt: &(impl Env + Alloc<A = Global>)) -> io::Result<Vec<String>> {
 fn main(rt: HostRuntime) -> ExitCode {
     let words = match words(&rt) {
         Ok(words) => words,
-        Err(_) => return ExitCode::from(papr_top::Status::Memory.number()),
+        // A word that isn't text is a wrong word. So are no words, which stand for it.
+        Err(error) if error.kind() == ErrorKind::InvalidData => Vec::new(rt.alloc()),
+        Err(_) => return ExitCode::from(Status::Memory.number()),
     };
     let mut source = StdSource::new(rt.stdin());
     let mut sink = StdSink::new(rt.stdout());

@@ -3,24 +3,22 @@ use Rattle.std.proofs.Common.{◌≡◌, ℕ, List, [], ◌++◌, Option, Some, 
 use Rattle.trace_io.specs.Outside.{Took}
 use Rattle.trace_read.specs.Trace.{AcceptedTrace}
 use Rattle.trace_gen.specs.Generated.{generated_trace}
-use Rattle.run_model.specs.SerialRun.{serial_replies}
-use Rattle.run_model.specs.GoodRun.{IsGoodRun}
 use Rattle.papr_top.specs.declared.status.Status.{Status}
 use Rattle.papr_top.specs.declared.status.Status.TheVariants.{Done, Usage, Refused, ReadFault, WriteFault, Memory}
-use Rattle.papr_top.specs.Top.{IsOutcome, EndsDrill, drill_text, usage_text}
+use Rattle.papr_top.specs.Top.{IsOutcome, IsAssured, EndsDrill, drill_text, usage_text}
 use Rattle.papr_top.specs.Finish.{Finishes}
 use Rattle.papr_top.specs.declared.command.Command.TheVariants as commands
 
 -- The summary was being written.
-pub finished : (t : AcceptedTrace) (taken taken_after : Option (List ℕ)) (faults faults_after : ℕ) (text : List ℕ) (result : Status) → IsGoodRun t (serial_replies t) → text ≡ drill_text t → Finishes Done text taken taken_after faults faults_after result → EndsDrill t taken taken_after result
-finished t taken taken_after faults faults_after text result good is (inl done) = subst (EndsDrill t taken taken_after) (sym done.0) (good, rw (sym is) done.1)
-finished t taken taken_after faults faults_after text result good is (inr stopped) =
+pub finished : (t : AcceptedTrace) (taken taken_after : Option (List ℕ)) (faults faults_after : ℕ) (text : List ℕ) (result : Status) → IsAssured t → text ≡ drill_text t → Finishes Done text taken taken_after faults faults_after result → EndsDrill t taken taken_after result
+finished t taken taken_after faults faults_after text result assured is (inl done) = subst (EndsDrill t taken taken_after) (sym done.0) (assured, rw (sym is) done.1)
+finished t taken taken_after faults faults_after text result assured is (inr stopped) =
     let front = stopped.2 in
     subst (EndsDrill t taken taken_after) (sym stopped.0) (front.0, front.1, rw (sym is) front.2, front.3)
 
 -- What a drill leaves, where nothing was read.
 pub drilled : (seed lines : ℕ) (left left_after taken taken_after : Option (List ℕ)) (result : Status) → Took left [] left_after → EndsDrill (generated_trace seed lines) taken taken_after result → IsOutcome (Some (commands.Drill seed lines)) (record { left = left; left_after = left_after; taken = taken; taken_after = taken_after }) result
-drilled seed lines left left_after taken taken_after Done nothing ends = record { nothing_read = nothing; good = ends.0; written = ends.1 }
+drilled seed lines left left_after taken taken_after Done nothing ends = record { nothing_read = nothing; assured = ends.0; written = ends.1 }
 drilled seed lines left left_after taken taken_after WriteFault nothing ends = (nothing, ends)
 drilled seed lines left left_after taken taken_after Memory nothing ends = (tt, ends)
 drilled seed lines left left_after taken taken_after Usage nothing ends = absurd ends

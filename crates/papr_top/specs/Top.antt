@@ -97,10 +97,10 @@ pub record Refuses (run : Run) : Type 0 where
   pub refused : trace_of bytes ≡ Err refusal
   pub written : Writes run (refusal_text refusal.0 refusal.1)
 
--- Nothing was read, and the summary of the generated trace's serial run was written.
+-- No byte was read, and the summary of the generated trace's serial run, which is a good run, was written.
 pub record Drills (seed lines : ℕ) (run : Run) : Type 0 where
   pub nothing_read : ReadsNothing run
-  pub good : IsGoodRun (generated_trace seed lines) (serial_replies (generated_trace seed lines))
+  pub assured : IsAssured (generated_trace seed lines)
   pub written : Writes run (drill_text (generated_trace seed lines))
 
 -- ---- by the words
@@ -110,7 +110,7 @@ IsDone None run = ⊥
 IsDone (Some commands.Run) run = Answers run
 IsDone (Some (commands.Drill seed lines)) run = Drills seed lines run
 
--- Words that are none of the listed forms are answered before anything is read.
+-- Words that are none of the listed forms are answered, and no byte was read.
 abbrev pub IsUsage : Option Command → Run → Type 0
 IsUsage None run = ReadsNothing run × Writes run usage_text
 IsUsage (Some command) run = ⊥
@@ -145,8 +145,7 @@ IsOutcome command run Memory = IsListed command × Writes run []
 -- ---- drills
 -- How a drill ends: the summary was written whole, or the sink failed behind a prefix of it, or memory ran out.
 abbrev pub EndsDrill : AcceptedTrace → Option (List ℕ) → Option (List ℕ) → Status → Type 0
-EndsDrill t taken taken_after Done =
-    IsGoodRun t (serial_replies t) × Put taken (drill_text t) taken_after
+EndsDrill t taken taken_after Done = IsAssured t × Put taken (drill_text t) taken_after
 EndsDrill t taken taken_after WriteFault =
     (front : List ℕ)
     × (rest : List ℕ)

@@ -1,9 +1,7 @@
 ghost use Rattle.std.specs.Prelude.{◌≡◌, ◌≤◌, IfOk, string_bytes};
 ghost use Rattle.trace_read.specs.Grammar.{trace_of};
 ghost use Rattle.trace_gen.specs.Generated.{generated_trace};
-ghost use Rattle.run_model.specs.SerialRun.{serial_replies};
-ghost use Rattle.run_model.specs.GoodRun.{IsGoodRun};
-ghost use Rattle.papr_top.specs.Top.{refusal_text, drill_text, IsAnswered};
+ghost use Rattle.papr_top.specs.Top.{refusal_text, drill_text, IsAnswered, IsAssured};
 
 use crate::status::Status;
 use reply_text::summary_of;
@@ -39,10 +37,7 @@ pub fn answer(alloc: Global, bytes: &[u8]) -> Result<(Status, String), AllocErro
 pub fn summary(alloc: Global, seed: u64, lines: u32) -> Result<String, AllocError>
     requires { lines ≤ 100000 }
     ensures text { IfOk result (λ s. string_bytes s ≡ drill_text (generated_trace seed lines)) }
-    ensures good { IfOk
-        result
-        (λ _.
-        IsGoodRun (generated_trace seed lines) (serial_replies (generated_trace seed lines))) }
+    ensures assured { IfOk result (λ _. IsAssured (generated_trace seed lines)) }
 {
     let trace = generate(alloc, seed, lines)?;
     let ran = run_with_table(alloc, &trace)?;

@@ -3,6 +3,7 @@ mod drills;
 mod entering;
 mod entries;
 mod faults;
+mod long_trace;
 mod refusals;
 mod resizing;
 mod words;

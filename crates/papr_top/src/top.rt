@@ -1,4 +1,4 @@
-ghost use Rattle.std.specs.Prelude.{◌≡◌, ◌≤◌, ◌⊎◌, None, Some};
+ghost use Rattle.std.specs.Prelude.{◌≡◌, ◌≢◌, ◌≤◌, ◌⊎◌, None, Some};
 ghost use Rattle.trace_io.specs.Outside.{Rose};
 ghost use Rattle.papr_top.specs.Top.{IsOutcome, EndsDrill};
 ghost use Rattle.trace_gen.specs.Generated.{generated_trace};
@@ -77,8 +77,8 @@ fn drill<K: Sink>(alloc: Global, seed: u64, lines: u32, sink: &mut K) -> Status
 ///
 /// `run` reads the source to its end and writes the replies of the serial run: [`Status::Done`].
 /// An input that is no trace is refused with its first refused line and the reason:
-/// [`Status::Refused`]. `drill SEED LINES` reads nothing, and writes the summary of the serial run of a
-/// generated trace. Other words are answered with a usage line before anything is read:
+/// [`Status::Refused`]. `drill SEED LINES` leaves the source as it is, and writes the summary of the
+/// serial run of a generated trace. Other words leave it too, and are answered with a usage line:
 /// [`Status::Usage`]. All text goes to the sink. [`Status::Memory`] is want of memory.
 pub fn papr<S: Source, K: Sink>(
     alloc: Global,
@@ -99,6 +99,8 @@ pub fn papr<S: Source, K: Sink>(
     // The words alone decide whether they are used rightly.
     ensures usage { words_of.command_of words.now ≡ None
         → (result ≡ Status.Usage) ⊎ (result ≡ Status.WriteFault) }
+    // Under other words than `run` the source is left as it is.
+    ensures untouched { words_of.command_of words.now ≢ Some Command.Run → source.new ≡ source.old }
     // A fault is one of the source's or of the sink's own.
     ensures read_fault { result ≡ Status.ReadFault → Rose (S.faults source.old) (S.faults source.new) }
     ensures write_fault { result ≡ Status.WriteFault → Rose (K.faults sink.old) (K.faults sink.new) }

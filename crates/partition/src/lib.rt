@@ -7,3 +7,6 @@ mod partition_state;
 
 pub use laws::{commit_keeps_translations, kept_translations_are_paired};
 pub use partition_state::Partition;
+
+#[cfg(test)]
+mod tests;

@@ -2,6 +2,7 @@ use crate::{put_reply, summary_of, text_of};
 use entry_model::{EntryState, HReply};
 use papr_codes::Rc;
 use std::alloc::Global;
+use std::fmt::Write;
 use std::test::Fail;
 use trace_read::{Act, Trace, TraceError, TraceLine, parse};
 use trace_reply::{Replies, Reply, Shown, ShownStates};
@@ -102,5 +103,27 @@ entries 1
 changed 1
 "
     );
+    Ok(())
+}
+
+#[test]
+fn replies_are_kept_without_room_made_for_them(rt: HostRuntime) -> Result<(), Fail> {
+    let alloc = rt.alloc();
+    let mut input = String::from_str(alloc, "begin\n")?;
+    let mut told = String::new(alloc);
+    let mut replies = Replies::new(alloc);
+    for number in 2..5_002 {
+        let accepted = number % 3 == 0;
+        let verdict = if accepted { "ok" } else { "refused" };
+        input.push_str("0 slbmte 0 0\n")?;
+        write!(told, "{number} 0 slbmte {verdict}\n")?;
+        replies.push(Reply::Segment(accepted))?;
+    }
+    let trace = accepted(alloc, input.as_str())?;
+    if trace.lines.as_slice().len() != replies.as_slice().len() {
+        return Err("not a reply for each line".into());
+    }
+    assert_eq!(rt; replies.as_slice().len(), 5_000);
+    assert!(rt; text_of(alloc, &trace, &replies)? == told);
     Ok(())
 }

@@ -171,8 +171,8 @@ fn put_dump(out: &mut String, line: u32, shown: &Shown) -> Result<(), AllocError
     put_entries(out, entries)
 }
 
-/// Appends the text of the reply to a line. Where memory ends, it isn't told how much of it was
-/// appended.
+/// Appends the text of the reply to a line. Where memory ends, nothing is told of the text that is
+/// left.
 pub fn put_reply(out: &mut String, line: &TraceLine, reply: &Reply) -> Result<(), AllocError>
     ensures { OnOk result (string_bytes out.new ≡ string_bytes out.old ++ reply_text line.now reply.now) }
 {

@@ -71,3 +71,18 @@ fn a_trace_of_the_segments_alone(rt: HostRuntime) -> Result<(), Fail> {
     assert_eq!(rt; trace.config.cpus, 4);
     Ok(())
 }
+
+#[test]
+fn a_longer_trace_of_a_seed_begins_as_a_shorter_one(rt: HostRuntime) -> Result<(), Fail> {
+    let alloc = rt.alloc();
+    let whole = generate(alloc, 1, 50_000)?;
+    let lines = whole.lines.as_slice();
+    assert_eq!(rt; lines.len(), 50_004);
+    for count in [12, 20_001, 49_999] {
+        let shorter = generate(alloc, 1, count)?;
+        let front = shorter.lines.as_slice();
+        assert_eq!(rt; front.len(), count as usize + 4);
+        assert!(rt; lines.starts_with(front), "of {count} lines");
+    }
+    Ok(())
+}

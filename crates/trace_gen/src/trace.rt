@@ -1,4 +1,5 @@
 ghost use Rattle.std.specs.Prelude.{◌≡◌, ◌≤◌, ◌++◌, IfOk, OnOk};
+ghost use Rattle.trace_read.specs.Trace.{IsAccepted};
 ghost use Rattle.trace_gen.specs.Generated.{generated_trace, generated_config, segment_lines, lines_from, words_of_seed};
 
 use crate::line::{line, segment};
@@ -12,19 +13,23 @@ use trace_read::{Config, Trace, TraceLines};
 const PROCESSORS: u32 = 4;
 
 /// The trace of a seed: each processor gets a segment of VSID 1 at effective address 0, and then
-/// comes one line for each of the first `lines` words of a generator that is made from the seed.
+/// comes one line for each of the first `lines` words of a generator that is made from the seed. It
+/// is one that could have been read.
 /// The only error is want of memory.
 pub fn generate(alloc: Global, seed: u64, lines: u32) -> Result<Trace, AllocError>
     requires { lines ≤ 100000 }
-    ensures { IfOk result (λ trace. trace ≡ generated_trace seed lines) }
+    ensures value { IfOk result (λ trace. trace ≡ generated_trace seed lines) }
+    ensures accepted { IfOk result IsAccepted }
 {
     let mut list = TraceLines::new(alloc);
     push_segments(&mut list)?;
     push_words(&mut list, seed, lines)?;
-    Ok(Trace {
+    let trace = Trace {
         config: config(),
         lines: list,
-    })
+    };
+    trace.keeps_limits();
+    Ok(trace)
 }
 
 // The configuration of each generated trace.

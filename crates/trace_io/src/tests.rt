@@ -86,6 +86,18 @@ fn a_full_sink_takes_and_drops(rt: HostRuntime) -> Result<(), AllocError> {
 }
 
 #[test]
+fn a_sink_has_the_room_that_was_asked_for(rt: HostRuntime) -> Result<(), AllocError> {
+    let mut bytes = Vec::new(rt.alloc());
+    for i in 0..200_000u32 {
+        bytes.push((i % 251) as u8)?;
+    }
+    let mut sink = MemorySink::new(rt.alloc(), 4096, Vec::new(rt.alloc()), 200_000)?;
+    assert!(rt; write_all(&mut sink, &bytes).is_ok());
+    assert!(rt; sink.taken() == bytes.as_slice());
+    Ok(())
+}
+
+#[test]
 fn reads_over_std(rt: HostRuntime) {
     let mut source = StdSource::new(TEXT);
     let read = read_all(rt.alloc(), &mut source, 100);

@@ -1,6 +1,7 @@
-ghost use Rattle.std.specs.Prelude.{◌≡◌};
+ghost use Rattle.std.specs.Prelude.{◌≡◌, IfOk};
 ghost use Rattle.trace_read.specs.Grammar.{trace_of};
 ghost use Rattle.trace_read.specs.Read.{IsParsed, error_of};
+ghost use Rattle.trace_read.specs.Trace.{IsAccepted};
 
 use crate::lines::{lines, split_line};
 use crate::reader::Reader;
@@ -30,10 +31,11 @@ fn error_at(line: u32, stop: Stop) -> TraceError
     }
 }
 
-/// The trace that the bytes give, or the first refused line with its reason.
+/// The trace that the bytes give, which keeps the limits, or the first refused line with its reason.
 #[tactic(auto, unfolding(crate::specs::Grammar::trace_of, crate::specs::Grammar::after_lines))]
 pub fn parse(alloc: Global, bytes: &[u8]) -> Result<Trace, TraceError>
-    ensures { IsParsed result (trace_of bytes.now) }
+    ensures parsed { IsParsed result (trace_of bytes.now) }
+    ensures accepted { IfOk result IsAccepted }
 {
     if bytes.len() > MOST_BYTES {
         return Err(TraceError::Line {
@@ -57,5 +59,7 @@ pub fn parse(alloc: Global, bytes: &[u8]) -> Result<Trace, TraceError>
             why: Why::Begin,
         });
     }
-    Ok(reader.into_trace())
+    let trace = reader.into_trace();
+    trace.keeps_limits();
+    Ok(trace)
 }

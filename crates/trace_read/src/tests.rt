@@ -222,3 +222,28 @@ fn past_the_most_bytes_nothing_is_read(rt: HostRuntime) -> Result<(), Fail> {
     assert_eq!(rt; refusal(rt.alloc(), &most[1..])?, Some((131_073, "lines")));
     Ok(())
 }
+
+#[test]
+fn a_line_may_have_100_kilobytes(rt: HostRuntime) -> Result<(), Fail> {
+    let alloc = rt.alloc();
+    let mut spaces = String::new(alloc);
+    let mut words = String::new(alloc);
+    for _ in 0..50_000 {
+        spaces.push_str(" \t")?;
+        words.push_str("0 ")?;
+    }
+    let mut input = String::from_str(alloc, "begin\n0")?;
+    input.push_str(spaces.as_str())?;
+    input.push_str("H_READ 0x1 0x2\n#")?;
+    input.push_str(words.as_str())?;
+    let trace = parse(alloc, input.as_bytes())?;
+    let lines = trace.lines.as_slice();
+    assert_eq!(rt; lines.len(), 1);
+    assert_eq!(rt; (lines[0].number, lines[0].cpu), (2, 0));
+    assert!(rt; lines[0].act == call(0x0C, [1, 2, 0, 0, 0, 0, 0, 0], true));
+    assert_eq!(rt; refusal(alloc, words.as_bytes())?, Some((1, "word")));
+    input.push_str("\n0 H_READ ")?;
+    input.push_str(words.as_str())?;
+    assert_eq!(rt; refusal(alloc, input.as_bytes())?, Some((4, "count")));
+    Ok(())
+}

@@ -125,3 +125,16 @@ impl Model for Trace {
 
     ghost invariant = { λ t. IsTrace t.config.cpus t.lines };
 }
+
+impl Trace {
+    ghost use Rattle.trace_read.specs.Trace.{IsAccepted};
+
+    /// Tells what each trace has, and does nothing else.
+    pub fn keeps_limits(&self)
+        ensures { IsAccepted self.now }
+    {
+        let _limit = self.config.limit;
+        let _grants = self.config.grants.list();
+        let _lines = &self.lines;
+    }
+}

@@ -3,22 +3,12 @@ ghost use Rattle.std.specs.List.{AllByRecursion};
 ghost use Rattle.trace_read.specs.declared.trace.TraceLine.{TraceLine};
 ghost use Rattle.run_model.specs.RunState.{opening_run};
 ghost use Rattle.run_model.specs.SerialRun.{serial_replies};
-ghost use Rattle.trace_read.specs.Trace.{IsAccepted};
 ghost use Rattle.run_model.specs.GoodRun.{IsGoodRun};
 ghost use Rattle.run_model.specs.Assurances.{Assures};
 
 use crate::machine::Machine;
 use std::alloc::{AllocError, Global};
 use trace_read::Trace;
-
-/// What each accepted trace has.
-pub fn keeps_limits(trace: &Trace)
-    ensures { IsAccepted trace.now }
-{
-    let _limit = trace.config.limit;
-    let _grants = trace.config.grants.list();
-    let _lines = trace.lines.as_slice();
-}
 
 /// The machine of a trace, before its first line. The serial run of each trace is a good run.
 pub fn open_machine(alloc: Global, trace: &Trace) -> Result<Machine, AllocError>
@@ -31,7 +21,7 @@ pub fn open_machine(alloc: Global, trace: &Trace) -> Result<Machine, AllocError>
     ensures good { IsGoodRun trace.now (serial_replies trace.now) }
     ensures assured { Assures trace.now (serial_replies trace.now) }
 {
-    keeps_limits(trace);
+    trace.keeps_limits();
     let machine = Machine::open(alloc, &trace.config)?;
     Ok(machine)
 }

@@ -13,7 +13,7 @@ ghost use Rattle.trace_runner.specs.SectionRun.{RunsSection, Runs};
 
 use crate::gate::Gate;
 use crate::machine::Machine;
-use crate::opening::{keeps_limits, open_machine};
+use crate::opening::open_machine;
 use crate::section::{join_workers, make_workers, merge_replies, run_workers};
 use entry_lock::LockTable;
 use std::alloc::{AllocError, Global};
@@ -114,7 +114,7 @@ pub fn run_parallel<R: Threads + Wait + Sync, G: Gate + Sync>(
     ensures assured { IfOk result (λ r. Assures trace.now r.items) }
     ensures one { IfOk result (λ r. (cpu : ℕ) → HasOneProcessor cpu trace.now.lines → r.items ≡ serial_replies trace.now) }
 {
-    keeps_limits(trace);
+    trace.keeps_limits();
     let machine = open_machine(alloc, trace)?;
     run_sections(rt, alloc, machine, gate, trace.lines.as_slice())
 }

@@ -1,6 +1,6 @@
 use Rattle.std.proofs.Common.{◌∙◌, sym}
 use Rattle.std.proofs.lemmas.Result.{on_ok_weaker}
-use Rattle.lock_core.proofs.Telling.{allowed_if, moved_if, ended_size}
+use Rattle.lock_core.proofs.Telling.{allowed_if, moved_if, ended_size, refused_otherwise}
 use Rattle.lock_core.proofs.machine.Core.step.Goals as goal
 
 pub take-requires : goal.take-requires
@@ -20,3 +20,6 @@ pub returns-in-None-clause-actors : goal.returns-in-None-clause-actors
 returns-in-None-clause-actors c =
     let may = allowed_if c.args.self.now c.args.actor c.args.step (sym c.refusal.ensures ∙ c.in-None.is) in
     (ended_size c.args.self.now c.take.new.self c.args.actor c.args.step c.take.result (on_ok_weaker c.take.result (λ e. e ∙ moved_if c.args.self.now c.args.actor c.args.step may) c.take.ensures.ok) c.take.ensures.err).1
+
+pub returns-in-Some-clause-memory : goal.returns-in-Some-clause-memory
+returns-in-Some-clause-memory c = λ fails. absurd (refused_otherwise c.args.self.now c.args.actor c.args.step c.in-Some.error (sym c.refusal.ensures ∙ c.in-Some.is) fails)

@@ -1,6 +1,6 @@
 use Rattle.std.proofs.Common.{◌∙◌, sym}
 use Rattle.std.proofs.lemmas.Result.{on_ok_weaker}
-use Rattle.lock_core.proofs.Telling.{split_parts, join_parts, result_parts, stepped_split, stepped_join}
+use Rattle.lock_core.proofs.Telling.{split_parts, join_parts, result_parts, stepped_split, stepped_join, split_takes, join_takes, receipt_takes}
 use Rattle.lock_core.proofs.machine.Core.take.Goals as goal
 
 pub split-requires-clause-live : goal.split-requires-clause-live
@@ -27,10 +27,17 @@ returns-in-Split-clause-ok c = on_ok_weaker c.split.result (λ e. e ∙ stepped_
 pub returns-in-Join-clause-ok : goal.returns-in-Join-clause-ok
 returns-in-Join-clause-ok c = on_ok_weaker c.join.result (λ e. e ∙ stepped_join c.args.self.now c.args.actor c.in-Join.from c.args.step c.in-Join.is) c.join.ensures.ok
 
+pub returns-in-Split-clause-taking : goal.returns-in-Split-clause-taking
+returns-in-Split-clause-taking c = λ fails. split_takes c.args.self.now c.args.actor c.in-Split.to c.args.step c.in-Split.is
+
+pub returns-in-Join-clause-taking : goal.returns-in-Join-clause-taking
+returns-in-Join-clause-taking c = λ fails. join_takes c.args.self.now c.args.actor c.in-Join.from c.args.step c.in-Join.is
+
 pub returns-in_default : goal.returns-in_default
 returns-in_default c =
     let parts = result_parts c.args.self.now c.args.actor c.args.step c.in_default.not-Split c.in_default.not-Join c.requires in record {
       ok = on_ok_weaker c.take_step.result (λ e. e ∙ sym parts.stepped_is) c.take_step.ensures.ok;
       err = c.take_step.ensures.err;
       memory = c.take_step.ensures.memory;
+      taking = receipt_takes c.args.self.now c.args.actor c.args.step c.take_step.result c.in_default.not-Split c.in_default.not-Join c.requires c.take_step.ensures.without_receipt;
     }

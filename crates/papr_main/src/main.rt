@@ -2,7 +2,7 @@
 //! ends with the status. It prints nothing itself.
 #![tactic(auto)]
 
-use papr_top::{Status, papr};
+use papr_top::{OpenGate, Status, papr};
 use std::alloc::Global;
 use std::env;
 use std::io::{self, ErrorKind};
@@ -28,5 +28,6 @@ fn main(rt: HostRuntime) -> ExitCode {
     };
     let mut source = StdSource::new(rt.stdin());
     let mut sink = StdSink::new(rt.stdout());
-    ExitCode::from(papr(rt.alloc(), &words, &mut source, &mut sink).number())
+    let status = papr(&rt, rt.alloc(), &words, &mut source, &mut sink, &OpenGate);
+    ExitCode::from(status.number())
 }

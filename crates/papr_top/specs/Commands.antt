@@ -4,7 +4,7 @@ use Rattle.std.specs.Str.{bytes_eq}
 use Rattle.std.specs.declared.alloc.Global.{Global}
 use Rattle.trace_read.specs.Numbers.{number_of}
 use Rattle.papr_top.specs.declared.command.Command.{Command}
-use Rattle.papr_top.specs.declared.command.Command.TheVariants.{Run, Drill}
+use Rattle.papr_top.specs.declared.command.Command.TheVariants.{Run, Par, Drill}
 
 -- At most 100,000 lines are generated.
 abbrev pub drill_by : Option ℕ → Option ℕ → Option Command
@@ -15,9 +15,16 @@ drill_by seed lines = None
 unfoldable pub drill_of : List ℕ → List ℕ → Option Command
 drill_of seed lines = drill_by (number_of seed) (number_of lines)
 
--- `run`, or `drill SEED LINES`.
+-- `run` or `par`.
+unfoldable pub reading_of : List ℕ → Option Command
+reading_of word =
+    if bytes_eq word (codes "run") then Some Run
+    else if bytes_eq word (codes "par") then Some Par
+    else None
+
+-- `run`, `par`, or `drill SEED LINES`.
 unfoldable pub command_of : List (String Global) → Option Command
-command_of (word ∷ []) = if bytes_eq (string_bytes word) (codes "run") then Some Run else None
+command_of (word ∷ []) = reading_of (string_bytes word)
 command_of (word ∷ seed ∷ lines ∷ []) =
     if bytes_eq (string_bytes word) (codes "drill")
     then drill_of (string_bytes seed) (string_bytes lines)
@@ -27,4 +34,10 @@ command_of other = None
 -- A drill has at most 100,000 lines.
 abbrev pub IsInRange : Command → Type 0
 IsInRange Run = Unit {0}
+IsInRange Par = Unit {0}
 IsInRange (Drill seed lines) = lines ≤ 100000
+
+-- The command without threads: `par` is none of its forms.
+abbrev pub without_par : Option Command → Option Command
+without_par (Some Par) = None
+without_par command = command

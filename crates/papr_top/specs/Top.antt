@@ -1,5 +1,5 @@
 -- What the program answers and writes.
-use Rattle.std.specs.Prelude.{◌⊎◌, ◌≡◌, ℕ, ◌^◌, ◌≤◌, List, [], ◌++◌, length, Option, Some, None, Result, Ok, Err, codes}
+use Rattle.std.specs.Prelude.{◌≡◌, ℕ, ◌≤◌, List, [], ◌++◌, length, Option, Some, None, Result, Ok, Err, codes}
 use Rattle.std.specs.Fmt.{decimal}
 use Rattle.trace_io.specs.Outside.{Took, Put, AtEnd}
 use Rattle.trace_read.specs.declared.why.Why.{Why}
@@ -7,6 +7,7 @@ use Rattle.trace_read.specs.Whys.{why_word}
 use Rattle.trace_read.specs.Trace.{AcceptedTrace}
 use Rattle.trace_read.specs.Grammar.{trace_of, most_bytes}
 use Rattle.trace_gen.specs.Generated.{generated_trace}
+use Rattle.trace_reply.specs.declared.reply.Reply.{Reply}
 use Rattle.run_model.specs.RunState.{opening_run, shown_of}
 use Rattle.run_model.specs.SerialRun.{serial_replies, state_after_lines}
 use Rattle.run_model.specs.GoodRun.{IsGoodRun}
@@ -14,6 +15,8 @@ use Rattle.run_model.specs.Assurances.{Assures}
 use Rattle.reply_text.specs.Text.{text_of}
 use Rattle.reply_text.specs.Summary.{summary_text}
 use Rattle.papr_top.specs.declared.command.Command.{Command}
+use Rattle.papr_top.specs.declared.reading.NoTrace.{NoTrace}
+use Rattle.papr_top.specs.declared.reading.NoTrace.TheVariants as missing
 use Rattle.papr_top.specs.declared.status.Status.{Status}
 use Rattle.papr_top.specs.declared.status.Status.TheVariants.{Done, Usage, Refused, ReadFault, WriteFault, Memory}
 use Rattle.papr_top.specs.declared.command.Command.TheVariants as commands
@@ -28,11 +31,6 @@ refusal_text line why =
 abbrev pub usage_text : List ℕ
 usage_text = codes "papr: usage\n"
 
--- The text of an input under `run`.
-abbrev pub output_of : Result AcceptedTrace (ℕ × Why) → List ℕ
-output_of (Ok t) = text_of t (serial_replies t)
-output_of (Err refusal) = refusal_text refusal.0 refusal.1
-
 -- The summary of the serial run of a trace, with the valid entries of the table at its end.
 unfoldable pub drill_text : AcceptedTrace → List ℕ
 drill_text t =
@@ -41,18 +39,22 @@ drill_text t =
     (serial_replies t)
     (shown_of (state_after_lines (opening_run t.config) t.lines).memory).states
 
--- ---- answers
--- A run that is good, and what it assures.
-pub record IsAssured (t : AcceptedTrace) : Type 0 where
-  pub good : IsGoodRun t (serial_replies t)
-  pub assures : Assures t (serial_replies t)
+-- ---- what may be written of a trace
+-- The replies are a good run, and have what good runs assure.
+pub record IsAssured (t : AcceptedTrace) (rs : List Reply) : Type 0 where
+  pub good : IsGoodRun t rs
+  pub assures : Assures t rs
 
--- The status and the text of an input. The serial run of a trace is a good run.
-abbrev pub IsAnswered : Result AcceptedTrace (ℕ × Why) → Status → List ℕ → Type 0
-IsAnswered (Ok t) status text =
-    (status ≡ Done) × (text ≡ text_of t (serial_replies t)) × IsAssured t
-IsAnswered (Err refusal) status text =
-    (status ≡ Refused) × (text ≡ refusal_text refusal.0 refusal.1)
+-- The text of the serial run, which is assured.
+pub record IsSerialText (t : AcceptedTrace) (text : List ℕ) : Type 0 where
+  pub is : text ≡ text_of t (serial_replies t)
+  pub assured : IsAssured t (serial_replies t)
+
+-- The text of some run that is assured: one that processors beside each other made.
+pub record IsParallelText (t : AcceptedTrace) (text : List ℕ) : Type 0 where
+  pub replies : List Reply
+  pub is : text ≡ text_of t replies
+  pub assured : IsAssured t replies
 
 -- ---- what a call leaves
 -- The bytes left in the source and those taken by the sink, before and after, where they are told.
@@ -63,9 +65,9 @@ pub record Run : Type 0 where
   pub taken_after : Option (List ℕ)
 
 -- These bytes were read: to the end of the input, or past the limit.
-pub record Reads (run : Run) (bytes : List ℕ) : Type 0 where
-  pub took : Took run.left bytes run.left_after
-  pub end : length bytes ≤ most_bytes → AtEnd run.left_after
+pub record Reads (left : Option (List ℕ)) (bytes : List ℕ) (left_after : Option (List ℕ)) : Type 0 where
+  pub took : Took left bytes left_after
+  pub end : length bytes ≤ most_bytes → AtEnd left_after
 
 -- No byte was read.
 abbrev pub ReadsNothing : Run → Type 0
@@ -80,76 +82,77 @@ abbrev pub WritesPrefix : Run → List ℕ → Type 0
 WritesPrefix run text =
     (front : List ℕ) × (rest : List ℕ) × (text ≡ front ++ rest) × Writes run front
 
--- The input is a trace, and the text of its serial run was written, which is a good run.
-pub record Answers (run : Run) : Type 0 where
+-- ---- commands that read a trace
+-- What was read is a trace, or is refused; of a fault and of want of memory nothing is told.
+abbrev pub IsInput :
+    Result AcceptedTrace NoTrace → Option (List ℕ) → Option (List ℕ) → Type 0
+IsInput (Ok t) left left_after =
+    (bytes : List ℕ) × Reads left bytes left_after × (trace_of bytes ≡ Ok t)
+IsInput (Err (missing.Refused line why)) left left_after =
+    (bytes : List ℕ) × Reads left bytes left_after × (trace_of bytes ≡ Err (line, why))
+IsInput (Err other) left left_after = Unit {0}
+
+-- The input is a trace, and a text that may be written of it was.
+pub record Answers (says : AcceptedTrace → List ℕ → Type 0) (run : Run) : Type 0 where
   pub bytes : List ℕ
   pub trace : AcceptedTrace
-  pub read : Reads run bytes
+  pub text : List ℕ
+  pub read : Reads run.left bytes run.left_after
   pub accepted : trace_of bytes ≡ Ok trace
-  pub assured : IsAssured trace
-  pub written : Writes run (text_of trace (serial_replies trace))
+  pub said : says trace text
+  pub written : Writes run text
 
 -- The input is refused, and the line and the reason were written.
 pub record Refuses (run : Run) : Type 0 where
   pub bytes : List ℕ
   pub refusal : ℕ × Why
-  pub read : Reads run bytes
+  pub read : Reads run.left bytes run.left_after
   pub refused : trace_of bytes ≡ Err refusal
   pub written : Writes run (refusal_text refusal.0 refusal.1)
 
--- No byte was read, and the summary of the generated trace's serial run, which is a good run, was written.
-pub record Drills (seed lines : ℕ) (run : Run) : Type 0 where
-  pub nothing_read : ReadsNothing run
-  pub assured : IsAssured (generated_trace seed lines)
-  pub written : Writes run (drill_text (generated_trace seed lines))
+-- A text that may be written of a trace, or the line that refuses the input.
+abbrev pub IsOutput :
+    (AcceptedTrace → List ℕ → Type 0) → Result AcceptedTrace (ℕ × Why) → List ℕ → Type 0
+IsOutput says (Ok t) text = says t text
+IsOutput says (Err refusal) text = text ≡ refusal_text refusal.0 refusal.1
 
--- ---- by the words
--- What was written whole.
-abbrev pub IsDone : Option Command → Run → Type 0
-IsDone None run = ⊥
-IsDone (Some commands.Run) run = Answers run
-IsDone (Some (commands.Drill seed lines)) run = Drills seed lines run
+-- The sink failed behind a prefix of such a text.
+pub record Stops (says : AcceptedTrace → List ℕ → Type 0) (run : Run) : Type 0 where
+  pub bytes : List ℕ
+  pub text : List ℕ
+  pub read : Reads run.left bytes run.left_after
+  pub output : IsOutput says (trace_of bytes) text
+  pub written : WritesPrefix run text
 
--- Words that are none of the listed forms are answered, and no byte was read.
-abbrev pub IsUsage : Option Command → Run → Type 0
-IsUsage None run = ReadsNothing run × Writes run usage_text
-IsUsage (Some command) run = ⊥
+-- By the status. Want of memory and a fault of the source leave nothing written.
+abbrev pub EndsReading : (AcceptedTrace → List ℕ → Type 0) → Run → Status → Type 0
+EndsReading says run Done = Answers says run
+EndsReading says run Refused = Refuses run
+EndsReading says run ReadFault = Writes run []
+EndsReading says run WriteFault = Stops says run
+EndsReading says run Memory = Writes run []
+EndsReading says run Usage = ⊥
 
--- Only what is read can be refused, or fail to be read.
-abbrev pub UnderRun : Option Command → Type 0 → Type 0
-UnderRun (Some commands.Run) fact = fact
-UnderRun other fact = ⊥
+-- ---- the other words
+-- Of a drill's trace, from which no byte is read: the summary was written whole, or a prefix of it, or nothing for want of memory.
+abbrev pub EndsDrill : AcceptedTrace → Run → Status → Type 0
+EndsDrill t run Done =
+    ReadsNothing run × IsAssured t (serial_replies t) × Writes run (drill_text t)
+EndsDrill t run WriteFault = ReadsNothing run × WritesPrefix run (drill_text t)
+EndsDrill t run Memory = ReadsNothing run × Writes run []
+EndsDrill t run other = ⊥
 
--- The sink failed behind a prefix of the text.
-abbrev pub Stops : Option Command → Run → Type 0
-Stops None run = ReadsNothing run × WritesPrefix run usage_text
-Stops (Some commands.Run) run =
-    (bytes : List ℕ) × Reads run bytes × WritesPrefix run (output_of (trace_of bytes))
-Stops (Some (commands.Drill seed lines)) run =
-    ReadsNothing run × WritesPrefix run (drill_text (generated_trace seed lines))
+-- Of words that are none of the listed forms: the usage line was written, or a prefix of it, and no byte was read.
+abbrev pub EndsUsage : Run → Status → Type 0
+EndsUsage run Usage = ReadsNothing run × Writes run usage_text
+EndsUsage run WriteFault = ReadsNothing run × WritesPrefix run usage_text
+EndsUsage run other = ⊥
 
--- The words are one of the listed forms.
-abbrev pub IsListed : Option Command → Type 0
-IsListed None = ⊥
-IsListed (Some command) = Unit {0}
-
--- By the words and the status.
+-- ---- by the words and the status
+-- What a call with these words left, where it answered this status.
 abbrev pub IsOutcome : Option Command → Run → Status → Type 0
-IsOutcome command run Done = IsDone command run
-IsOutcome command run Usage = IsUsage command run
-IsOutcome command run Refused = UnderRun command (Refuses run)
-IsOutcome command run ReadFault = UnderRun command (Writes run [])
-IsOutcome command run WriteFault = Stops command run
-IsOutcome command run Memory = IsListed command × Writes run []
-
--- ---- drills
--- How a drill ends: the summary was written whole, or the sink failed behind a prefix of it, or memory ran out.
-abbrev pub EndsDrill : AcceptedTrace → Option (List ℕ) → Option (List ℕ) → Status → Type 0
-EndsDrill t taken taken_after Done = IsAssured t × Put taken (drill_text t) taken_after
-EndsDrill t taken taken_after WriteFault =
-    (front : List ℕ)
-    × (rest : List ℕ)
-    × (drill_text t ≡ front ++ rest)
-    × Put taken front taken_after
-EndsDrill t taken taken_after Memory = Put taken [] taken_after
-EndsDrill t taken taken_after other = ⊥
+IsOutcome None run status = EndsUsage run status
+IsOutcome (Some commands.Run) run status = EndsReading IsSerialText run status
+IsOutcome (Some commands.Par) run status = EndsReading IsParallelText run status
+IsOutcome (Some (commands.Drill seed lines)) run status =
+    EndsDrill (generated_trace seed lines) run status

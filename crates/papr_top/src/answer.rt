@@ -1,15 +1,16 @@
 ghost use Rattle.std.specs.Prelude.{◌≡◌, ◌≤◌, IfOk, string_bytes};
-ghost use Rattle.trace_read.specs.Grammar.{trace_of};
 ghost use Rattle.trace_gen.specs.Generated.{generated_trace};
-ghost use Rattle.papr_top.specs.Top.{refusal_text, drill_text, IsAnswered, IsAssured};
+ghost use Rattle.run_model.specs.SerialRun.{serial_replies};
+ghost use Rattle.papr_top.specs.Top.{refusal_text, drill_text, IsAssured, IsSerialText, IsParallelText};
 
-use crate::status::Status;
-use reply_text::summary_of;
+use reply_text::{summary_of, text_of};
 use std::alloc::{AllocError, Global};
 use std::fmt::Write;
+use std::sync::Wait;
+use std::thread::Threads;
 use trace_gen::generate;
-use trace_read::{TraceError, Why, parse};
-use trace_runner::{run_to_text, run_with_table};
+use trace_read::{Trace, Why};
+use trace_runner::{Gate, run_parallel, run_to_text, run_with_table};
 
 /// The line that refuses an input.
 pub fn refusal(alloc: Global, line: u32, why: Why) -> Result<String, AllocError>
@@ -21,15 +22,24 @@ pub fn refusal(alloc: Global, line: u32, why: Why) -> Result<String, AllocError>
     Ok(out)
 }
 
-/// The status and the text of an input.
-pub fn answer(alloc: Global, bytes: &[u8]) -> Result<(Status, String), AllocError>
-    ensures { IfOk result (λ x. IsAnswered (trace_of bytes.now) x.0 (string_bytes x.1)) }
+/// The text of the serial run.
+pub fn serial_text(alloc: Global, trace: &Trace) -> Result<String, AllocError>
+    ensures { IfOk result (λ s. IsSerialText trace.now (string_bytes s)) }
 {
-    match parse(alloc, bytes) {
-        Ok(trace) => Ok((Status::Done, run_to_text(alloc, &trace)?)),
-        Err(TraceError::Line { line, why }) => Ok((Status::Refused, refusal(alloc, line, why)?)),
-        Err(TraceError::Memory) => Err(AllocError),
-    }
+    run_to_text(alloc, trace)
+}
+
+/// The text of a run with a thread for each processor.
+pub fn parallel_text<R: Threads + Wait + Sync, G: Gate + Sync>(
+    rt: &R,
+    alloc: Global,
+    trace: &Trace,
+    gate: &G,
+) -> Result<String, AllocError>
+    ensures { IfOk result (λ s. IsParallelText trace.now (string_bytes s)) }
+{
+    let replies = run_parallel(rt, alloc, trace, gate)?;
+    text_of(alloc, trace, &replies)
 }
 
 /// The summary of a generated trace.
@@ -37,7 +47,9 @@ pub fn answer(alloc: Global, bytes: &[u8]) -> Result<(Status, String), AllocErro
 pub fn summary(alloc: Global, seed: u64, lines: u32) -> Result<String, AllocError>
     requires { lines ≤ 100000 }
     ensures text { IfOk result (λ s. string_bytes s ≡ drill_text (generated_trace seed lines)) }
-    ensures assured { IfOk result (λ _. IsAssured (generated_trace seed lines)) }
+    ensures assured { IfOk
+        result
+        (λ _. IsAssured (generated_trace seed lines) (serial_replies (generated_trace seed lines))) }
 {
     let trace = generate(alloc, seed, lines)?;
     let ran = run_with_table(alloc, &trace)?;

@@ -1,5 +1,5 @@
 ghost use Rattle.std.specs.Prelude.{◌≡◌, ◌≤◌, IfSome};
-ghost use Rattle.papr_top.specs.Commands.{drill_of, IsInRange};
+ghost use Rattle.papr_top.specs.Commands.{drill_of, reading_of, IsInRange};
 ghost use Rattle.papr_top.specs.Commands as words;
 
 use trace_read::number;
@@ -10,8 +10,10 @@ const MOST_LINES: u64 = 100_000;
 /// What the words behind the program's name ask for.
 #[derive(Clone, Copy, PartialEq, Eq, Debug)]
 pub enum Command {
-    /// Runs the trace that is read.
+    /// Runs the trace that is read, one line after the other.
     Run,
+    /// Runs the trace that is read, with a thread for each processor.
+    Par,
     /// Runs a generated trace: its seed, and how many lines are drawn, at most 100,000.
     Drill { seed: u64, lines: u32 },
 }
@@ -33,6 +35,19 @@ fn drill(seed: &str, lines: &str) -> Option<Command>
     })
 }
 
+/// The command of one word.
+#[tactic(auto, unfolding(crate::specs::Commands::reading_of))]
+fn reading(word: &str) -> Option<Command>
+    ensures value { result ≡ reading_of word.now }
+    ensures range { IfSome result IsInRange }
+{
+    match word {
+        "run" => Some(Command::Run),
+        "par" => Some(Command::Par),
+        _ => None,
+    }
+}
+
 /// The command that the words are; `None` where they are none of the listed forms.
 #[tactic(auto, unfolding(crate::specs::Commands::command_of))]
 pub fn command_of(list: &[String]) -> Option<Command>
@@ -40,7 +55,7 @@ pub fn command_of(list: &[String]) -> Option<Command>
     ensures range { IfSome result IsInRange }
 {
     match list {
-        [word] if word.as_str() == "run" => Some(Command::Run),
+        [word] => reading(word.as_str()),
         [word, seed, lines] if word.as_str() == "drill" => drill(seed.as_str(), lines.as_str()),
         _ => None,
     }

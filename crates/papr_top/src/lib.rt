@@ -5,11 +5,14 @@
 
 mod answer;
 mod command;
+mod ending;
+mod reading;
 mod status;
 mod top;
 
 pub use status::Status;
-pub use top::papr;
+pub use top::{papr, papr_serial};
+pub use trace_runner::{Gate, OpenGate};
 
 #[cfg(test)]
 mod tests;

@@ -4,6 +4,7 @@ mod entering;
 mod entries;
 mod faults;
 mod long_trace;
+mod par;
 mod refusals;
 mod resizing;
 mod words;
@@ -47,7 +48,7 @@ fn push_lines(text: &mut String, lines: &[&str]) -> Result<(), Fail> {
 fn run(alloc: Global, input: &[u8]) -> Result<(Status, String), Fail> {
     let mut source = MemorySource::new(input.to_vec(alloc)?, 4096, Vec::new(alloc));
     let mut sink = MemorySink::new(alloc, 4096, Vec::new(alloc), 65_536)?;
-    let status = papr(alloc, &list(alloc, &["run"])?, &mut source, &mut sink);
+    let status = papr_serial(alloc, &list(alloc, &["run"])?, &mut source, &mut sink);
     Ok((status, text_in(alloc, &sink)?))
 }
 
@@ -59,12 +60,17 @@ fn text_in(alloc: Global, sink: &MemorySink) -> Result<String, Fail> {
     }
 }
 
-/// The status and the text of a row's lines.
-fn ran(alloc: Global, row: &Row) -> Result<(Status, String), Fail> {
+/// The input of a row.
+fn input_of(alloc: Global, row: &Row) -> Result<String, Fail> {
     let mut input = String::new(alloc);
     push_lines(&mut input, row.config)?;
     push_lines(&mut input, row.lines)?;
-    run(alloc, input.as_bytes())
+    Ok(input)
+}
+
+/// The status and the text of a row's lines.
+fn ran(alloc: Global, row: &Row) -> Result<(Status, String), Fail> {
+    run(alloc, input_of(alloc, row)?.as_bytes())
 }
 
 /// The status and the text that the row names.

@@ -1,39 +1,25 @@
 ghost use Rattle.std.specs.Prelude.{◌≡◌, ◌≢◌, ◌≤◌, ◌⊎◌, None, Some};
 ghost use Rattle.trace_io.specs.Outside.{Rose};
-ghost use Rattle.papr_top.specs.Top.{IsOutcome, EndsDrill};
 ghost use Rattle.trace_gen.specs.Generated.{generated_trace};
-ghost use Rattle.papr_top.specs.Finish.{Finishes};
+ghost use Rattle.papr_top.specs.Top.{IsOutcome, EndsReading, EndsDrill, IsSerialText, IsParallelText};
+ghost use Rattle.papr_top.specs.Commands.{without_par};
 ghost use Rattle.papr_top.specs.Commands as words_of;
 
-use crate::answer::{answer, refusal, summary};
+use crate::answer::{parallel_text, serial_text, summary};
 use crate::command::{Command, command_of};
+use crate::ending::{finish, refuse};
+use crate::reading::read_trace;
 use crate::status::Status;
 use std::alloc::Global;
-use trace_io::{ReadAllError, Sink, Source, read_all, write_all};
-use trace_read::{MOST_BYTES, Why};
+use std::sync::Wait;
+use std::thread::Threads;
+use trace_io::{Sink, Source};
+use trace_runner::Gate;
 
-/// Writes the text, and answers the status unless the sink fails.
-fn finish<K: Sink>(sink: &mut K, text: &[u8], status: Status) -> Status
-    ensures end { Finishes
-        status
-        text.now
-        (K.taken sink.old)
-        (K.taken sink.new)
-        (K.faults sink.old)
-        (K.faults sink.new)
-        result }
-    ensures faults { K.faults sink.old ≤ K.faults sink.new }
-{
-    match write_all(sink, text) {
-        Ok(()) => status,
-        Err(_) => Status::WriteFault,
-    }
-}
-
-/// `run`: reads the source to its end, and writes the replies or the refusal.
+/// `run`: reads the source to its end, and writes the replies of the serial run, or the refusal.
 fn run<S: Source, K: Sink>(alloc: Global, source: &mut S, sink: &mut K) -> Status
-    ensures outcome { IsOutcome
-        (Some Command.Run)
+    ensures outcome { EndsReading
+        IsSerialText
         (record {
           left = S.left source.old;
           left_after = S.left source.new;
@@ -46,24 +32,58 @@ fn run<S: Source, K: Sink>(alloc: Global, source: &mut S, sink: &mut K) -> Statu
     ensures source_faults { S.faults source.old ≤ S.faults source.new }
     ensures sink_faults { K.faults sink.old ≤ K.faults sink.new }
 {
-    match read_all(alloc, source, MOST_BYTES) {
-        Ok(bytes) => match answer(alloc, &bytes) {
-            Ok((status, text)) => finish(sink, text.as_bytes(), status),
+    match read_trace(alloc, source) {
+        Ok(trace) => match serial_text(alloc, &trace) {
+            Ok(text) => finish(sink, text.as_bytes(), Status::Done),
             Err(_) => Status::Memory,
         },
-        Err(ReadAllError::Fault) => Status::ReadFault,
-        Err(ReadAllError::Memory) => Status::Memory,
-        Err(ReadAllError::Long) => match refusal(alloc, 0, Why::Long) {
-            Ok(text) => finish(sink, text.as_bytes(), Status::Refused),
+        Err(error) => refuse(alloc, sink, error),
+    }
+}
+
+/// `par`: the same, with a thread for each processor.
+fn par<R: Threads + Wait + Sync, S: Source, K: Sink, G: Gate + Sync>(
+    rt: &R,
+    alloc: Global,
+    source: &mut S,
+    sink: &mut K,
+    gate: &G,
+) -> Status
+    ensures outcome { EndsReading
+        IsParallelText
+        (record {
+          left = S.left source.old;
+          left_after = S.left source.new;
+          taken = K.taken sink.old;
+          taken_after = K.taken sink.new;
+        })
+        result }
+    ensures read_fault { result ≡ Status.ReadFault → Rose (S.faults source.old) (S.faults source.new) }
+    ensures write_fault { result ≡ Status.WriteFault → Rose (K.faults sink.old) (K.faults sink.new) }
+    ensures source_faults { S.faults source.old ≤ S.faults source.new }
+    ensures sink_faults { K.faults sink.old ≤ K.faults sink.new }
+{
+    match read_trace(alloc, source) {
+        Ok(trace) => match parallel_text(rt, alloc, &trace, gate) {
+            Ok(text) => finish(sink, text.as_bytes(), Status::Done),
             Err(_) => Status::Memory,
         },
+        Err(error) => refuse(alloc, sink, error),
     }
 }
 
 /// `drill`: writes the summary of a generated trace.
 fn drill<K: Sink>(alloc: Global, seed: u64, lines: u32, sink: &mut K) -> Status
     requires { lines ≤ 100000 }
-    ensures end { EndsDrill (generated_trace seed lines) (K.taken sink.old) (K.taken sink.new) result }
+    ensures end { EndsDrill
+        (generated_trace seed lines)
+        (record {
+          left = None;
+          left_after = None;
+          taken = K.taken sink.old;
+          taken_after = K.taken sink.new;
+        })
+        result }
     ensures write_fault { result ≡ Status.WriteFault → Rose (K.faults sink.old) (K.faults sink.new) }
     ensures sink_faults { K.faults sink.old ≤ K.faults sink.new }
 {
@@ -73,18 +93,58 @@ fn drill<K: Sink>(alloc: Global, seed: u64, lines: u32, sink: &mut K) -> Status
     }
 }
 
-/// All that the program does, with the words behind its name.
+/// All that the program does but `par`, with the words behind its name. It always returns.
 ///
 /// `run` reads the source to its end and writes the replies of the serial run: [`Status::Done`].
 /// An input that is no trace is refused with its first refused line and the reason:
 /// [`Status::Refused`]. `drill SEED LINES` leaves the source as it is, and writes the summary of the
 /// serial run of a generated trace. Other words leave it too, and are answered with a usage line:
 /// [`Status::Usage`]. All text goes to the sink. [`Status::Memory`] is want of memory.
-pub fn papr<S: Source, K: Sink>(
+pub fn papr_serial<S: Source, K: Sink>(
     alloc: Global,
     words: &[String],
     source: &mut S,
     sink: &mut K,
+) -> Status
+    // What was read and written.
+    ensures outcome { IsOutcome
+        (without_par (words_of.command_of words.now))
+        (record {
+          left = S.left source.old;
+          left_after = S.left source.new;
+          taken = K.taken sink.old;
+          taken_after = K.taken sink.new;
+        })
+        result }
+    // The words alone decide whether they are used rightly.
+    ensures usage { without_par (words_of.command_of words.now) ≡ None
+        → (result ≡ Status.Usage) ⊎ (result ≡ Status.WriteFault) }
+    // Under other words than `run` the source is left as it is.
+    ensures untouched { words_of.command_of words.now ≢ Some Command.Run → source.new ≡ source.old }
+    // A fault is one of the source's or of the sink's own.
+    ensures read_fault { result ≡ Status.ReadFault → Rose (S.faults source.old) (S.faults source.new) }
+    ensures write_fault { result ≡ Status.WriteFault → Rose (K.faults sink.old) (K.faults sink.new) }
+    ensures source_faults { S.faults source.old ≤ S.faults source.new }
+    ensures sink_faults { K.faults sink.old ≤ K.faults sink.new }
+{
+    match command_of(words) {
+        Some(Command::Run) => run(alloc, source, sink),
+        Some(Command::Drill { seed, lines }) => drill(alloc, seed, lines, sink),
+        None | Some(Command::Par) => finish(sink, b"papr: usage\n", Status::Usage),
+    }
+}
+
+/// All that the program does, with the words behind its name: [`papr_serial`], and `par`, which reads
+/// the source to its end, runs each processor's lines in a thread of its own, and writes the replies.
+/// They are a good run, which may be another one each time. The gate is called at each line; the
+/// program's own lets all pass. Under `par` a call may wait for another processor.
+pub fn papr<R: Threads + Wait + Sync, S: Source, K: Sink, G: Gate + Sync>(
+    rt: &R,
+    alloc: Global,
+    words: &[String],
+    source: &mut S,
+    sink: &mut K,
+    gate: &G,
 ) -> Status
     // What was read and written.
     ensures outcome { IsOutcome
@@ -99,8 +159,10 @@ pub fn papr<S: Source, K: Sink>(
     // The words alone decide whether they are used rightly.
     ensures usage { words_of.command_of words.now ≡ None
         → (result ≡ Status.Usage) ⊎ (result ≡ Status.WriteFault) }
-    // Under other words than `run` the source is left as it is.
-    ensures untouched { words_of.command_of words.now ≢ Some Command.Run → source.new ≡ source.old }
+    // Under other words than `run` and `par` the source is left as it is.
+    ensures untouched { words_of.command_of words.now ≢ Some Command.Run
+        → words_of.command_of words.now ≢ Some Command.Par
+        → source.new ≡ source.old }
     // A fault is one of the source's or of the sink's own.
     ensures read_fault { result ≡ Status.ReadFault → Rose (S.faults source.old) (S.faults source.new) }
     ensures write_fault { result ≡ Status.WriteFault → Rose (K.faults sink.old) (K.faults sink.new) }
@@ -108,8 +170,7 @@ pub fn papr<S: Source, K: Sink>(
     ensures sink_faults { K.faults sink.old ≤ K.faults sink.new }
 {
     match command_of(words) {
-        None => finish(sink, b"papr: usage\n", Status::Usage),
-        Some(Command::Run) => run(alloc, source, sink),
-        Some(Command::Drill { seed, lines }) => drill(alloc, seed, lines, sink),
+        Some(Command::Par) => par(rt, alloc, source, sink, gate),
+        _ => papr_serial(alloc, words, source, sink),
     }
 }

@@ -2,7 +2,7 @@ use super::{BASIS, Row, check_rows};
 use std::test::Fail;
 
 /// The walk of both groups, other page sizes and segments.
-const WALKS: &[Row] = &[
+pub const WALKS: &[Row] = &[
     Row {
         name: "in the first group",
         config: BASIS,
@@ -82,7 +82,7 @@ fn an_access_walks_both_groups_of_its_page(rt: HostRuntime) -> Result<(), Fail> 
 }
 
 /// Accesses beside calls that change their entry.
-const CHANGED_PAGES: &[Row] = &[
+pub const CHANGED_PAGES: &[Row] = &[
     Row {
         name: "protection, referenced and changed",
         config: BASIS,

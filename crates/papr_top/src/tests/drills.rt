@@ -1,5 +1,5 @@
 use super::{list, push_lines, text_in};
-use crate::{Status, papr};
+use crate::{Status, papr_serial};
 use std::alloc::Global;
 use std::test::Fail;
 use trace_io::{MemorySink, MemorySource};
@@ -16,7 +16,7 @@ fn summary(alloc: Global, drill: &Drill) -> Result<(Status, String), Fail> {
     let mut source = MemorySource::new(b"begin\n".to_vec(alloc)?, 16, vec![in alloc; 1]?);
     let mut sink = MemorySink::new(alloc, 4096, Vec::new(alloc), 4096)?;
     let words = list(alloc, &["drill", drill.seed, drill.lines])?;
-    let status = papr(alloc, &words, &mut source, &mut sink);
+    let status = papr_serial(alloc, &words, &mut source, &mut sink);
     Ok((status, text_in(alloc, &sink)?))
 }
 

@@ -2,7 +2,7 @@ use super::{BASIS, Row, check_rows};
 use std::test::Fail;
 
 /// Each call on entries, its words and receipts.
-const CALLS: &[Row] = &[
+pub const CALLS: &[Row] = &[
     Row {
         name: "removed by its abbreviated virtual page number",
         config: BASIS,

@@ -1,5 +1,5 @@
 use super::{list, text_in};
-use crate::{Status, papr};
+use crate::{Status, papr_serial};
 use std::alloc::Global;
 use std::test::Fail;
 use trace_io::{MemorySink, MemorySource};
@@ -14,7 +14,7 @@ fn faulty(alloc: Global, words: &[&str], read: u64, write: u64) -> Result<(Statu
     let input = INPUT.as_bytes().to_vec(alloc)?;
     let mut source = MemorySource::new(input, 16, vec![in alloc; read]?);
     let mut sink = MemorySink::new(alloc, 8, vec![in alloc; write]?, 4096)?;
-    let status = papr(alloc, &list(alloc, words)?, &mut source, &mut sink);
+    let status = papr_serial(alloc, &list(alloc, words)?, &mut source, &mut sink);
     Ok((status, text_in(alloc, &sink)?))
 }
 

@@ -3,7 +3,7 @@
 ghost use Rattle.std.specs.Prelude.{◌<◌};
 
 use super::{list, text_in};
-use crate::{Status, papr};
+use crate::{Status, papr_serial};
 use reply_text::{put_reply, summary_of, text_of};
 use std::alloc::Global;
 use std::fmt::Write;
@@ -161,7 +161,7 @@ fn the_program_answers_it(rt: HostRuntime) -> Result<(), Fail> {
     let input = input(alloc)?;
     let mut source = MemorySource::new(input.as_bytes().to_vec(alloc)?, 4096, Vec::new(alloc));
     let mut sink = MemorySink::new(alloc, 4096, Vec::new(alloc), 1_048_576)?;
-    let status = papr(alloc, &list(alloc, &["run"])?, &mut source, &mut sink);
+    let status = papr_serial(alloc, &list(alloc, &["run"])?, &mut source, &mut sink);
     assert_eq!(rt; status, Status::Done);
     assert!(rt; text_in(alloc, &sink)? == told(alloc)?);
     Ok(())

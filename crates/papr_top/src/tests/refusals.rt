@@ -1,5 +1,5 @@
 use super::{list, run, text_in};
-use crate::{Status, papr};
+use crate::{Status, papr_serial};
 use std::alloc::Global;
 use std::test::Fail;
 use trace_io::{MemorySink, MemorySource};
@@ -125,7 +125,7 @@ fn an_input_of_more_than_16_megabytes_is_refused(rt: HostRuntime) -> Result<(), 
     let bytes = vec![in alloc; b'#'; 16_777_217]?;
     let mut source = MemorySource::new(bytes, 65_536, Vec::new(alloc));
     let mut sink = MemorySink::new(alloc, 4096, Vec::new(alloc), 4096)?;
-    let status = papr(alloc, &list(alloc, &["run"])?, &mut source, &mut sink);
+    let status = papr_serial(alloc, &list(alloc, &["run"])?, &mut source, &mut sink);
     assert_eq!(rt; status, Status::Refused);
     assert_eq!(rt; text_in(alloc, &sink)?.as_str(), "papr: line 0: long\n");
     Ok(())

@@ -2,7 +2,7 @@ use super::{BASIS, Row, check_rows};
 use std::test::Fail;
 
 /// A table of twice the size, and back.
-const RESIZED: &[Row] = &[
+pub const RESIZED: &[Row] = &[
     Row {
         name: "to twice the entries",
         config: BASIS,
@@ -67,7 +67,7 @@ fn a_resized_table_holds_the_bolted_entry_of_its_own_groups(rt: HostRuntime) -> 
 }
 
 /// Resize calls that are refused.
-const REFUSED_RESIZES: &[Row] = &[
+pub const REFUSED_RESIZES: &[Row] = &[
     Row {
         name: "by its state, its order and the pool",
         config: &[

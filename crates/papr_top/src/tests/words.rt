@@ -1,5 +1,5 @@
 use super::{list, text_in};
-use crate::{Status, papr};
+use crate::{Status, papr_serial};
 use std::alloc::Global;
 use std::test::Fail;
 use trace_io::{MemorySink, MemorySource};
@@ -8,7 +8,7 @@ use trace_io::{MemorySink, MemorySource};
 fn answer_to(alloc: Global, words: &[&str]) -> Result<(Status, String), Fail> {
     let mut source = MemorySource::new(b"begin\n".to_vec(alloc)?, 16, vec![in alloc; 1]?);
     let mut sink = MemorySink::new(alloc, 8, Vec::new(alloc), 4096)?;
-    let status = papr(alloc, &list(alloc, words)?, &mut source, &mut sink);
+    let status = papr_serial(alloc, &list(alloc, words)?, &mut source, &mut sink);
     Ok((status, text_in(alloc, &sink)?))
 }
 

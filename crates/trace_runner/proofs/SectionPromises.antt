@@ -20,8 +20,8 @@ use Rattle.run_model.specs.RunState.{RunState}
 use Rattle.trace_runner.specs.declared.worker.Worker.{Worker}
 use Rattle.hpt_walk.specs.Access.{access_context}
 use Rattle.trace_runner.specs.MachineState.{run_state_of, AllHold}
-use Rattle.trace_runner.specs.Workers.{HasRun, IsDone}
-use Rattle.trace_runner.specs.SectionRun.{AllNumbered, HasPass, IsJoinOf, IsQueue, AddsReplies, RunsSection}
+use Rattle.trace_runner.specs.Workers.{HasRun, IsDone, AllNumbered}
+use Rattle.trace_runner.specs.SectionRun.{HasPass, IsJoinOf, IsQueue, AddsReplies, RunsSection}
 use Rattle.trace_runner.proofs.SectionWork.{all_weaker, all_plain, all_both, all_mapped, own_parts, all_hold, sectioned}
 
 abbrev Queue : Type 0

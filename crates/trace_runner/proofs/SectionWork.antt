@@ -34,8 +34,8 @@ use Rattle.run_model.proofs.Each.{each_append}
 use Rattle.run_model.proofs.LinesByProcessor.{own_no}
 use Rattle.trace_runner.specs.declared.worker.Worker.{Worker}
 use Rattle.trace_runner.specs.MachineState.{Holding, AllHold}
-use Rattle.trace_runner.specs.Workers.{lines_of_cpu, replied_lines_of_cpu, IsSeenBy, HasRun, IsDone}
-use Rattle.trace_runner.specs.SectionRun.{AllNumbered, made_in, all_made, AnyGone, AnySeen, IsJoinOf, IsQueue, IsMerged, Sectioned}
+use Rattle.trace_runner.specs.Workers.{lines_of_cpu, replied_lines_of_cpu, IsSeenBy, HasRun, IsDone, AllNumbered}
+use Rattle.trace_runner.specs.SectionRun.{made_in, all_made, AnyGone, AnySeen, IsJoinOf, IsQueue, IsMerged, Sectioned}
 
 abbrev Queue : Type 0
 Queue = Vec Reply Global

@@ -33,17 +33,17 @@ use Rattle.trace_runner.proofs.WorkSteps.{replied_lines_more, kinds_more}
 use Rattle.trace_runner.proofs.SectionWork.{listed_inside}
 
 -- ---- where the quiet lines cut
-low_stamp_cut : (ls : List TraceLine) (rs : List Reply) (ts : List RepliedLine) → AreReplies ls rs → NoneQuiet ls → cut (lines_with_replies ls rs ++ ts) ≡ (lines_with_replies ls rs ++ (cut ts).0, (cut ts).1)
-low_stamp_cut [] [] ts h m = refl
-low_stamp_cut [] (r ∷ rs) ts h m = absurd h
-low_stamp_cut (l ∷ ls) [] ts h m = absurd h
-low_stamp_cut (l ∷ ls) (r ∷ rs) ts h m = rw m.0 (ap (λ (x : List RepliedLine × List (RepliedLine × List RepliedLine)). (replied_line l r ∷ x.0, x.1)) (low_stamp_cut ls rs ts h.1 m.1))
+no_quiet_cut : (ls : List TraceLine) (rs : List Reply) (ts : List RepliedLine) → AreReplies ls rs → NoneQuiet ls → cut (lines_with_replies ls rs ++ ts) ≡ (lines_with_replies ls rs ++ (cut ts).0, (cut ts).1)
+no_quiet_cut [] [] ts h m = refl
+no_quiet_cut [] (r ∷ rs) ts h m = absurd h
+no_quiet_cut (l ∷ ls) [] ts h m = absurd h
+no_quiet_cut (l ∷ ls) (r ∷ rs) ts h m = rw m.0 (ap (λ (x : List RepliedLine × List (RepliedLine × List RepliedLine)). (replied_line l r ∷ x.0, x.1)) (no_quiet_cut ls rs ts h.1 m.1))
 
 quiet_cut : (l : TraceLine) (r : Reply) (ts : List RepliedLine) → is_quiet l.act ≡ true → cut (replied_line l r ∷ ts) ≡ ([], (replied_line l r, (cut ts).0) ∷ (cut ts).1)
 quiet_cut l r ts q = rw q refl
 
 section_cut : (ls : List TraceLine) (rs : List Reply) (l : TraceLine) (r : Reply) (ts : List RepliedLine) → AreReplies ls rs → NoneQuiet ls → is_quiet l.act ≡ true → cut (lines_with_replies ls rs ++ replied_line l r ∷ ts) ≡ (lines_with_replies ls rs, (replied_line l r, (cut ts).0) ∷ (cut ts).1)
-section_cut ls rs l r ts h m q = low_stamp_cut ls rs (replied_line l r ∷ ts) h m ∙ ap (λ (x : List RepliedLine × List (RepliedLine × List RepliedLine)). (lines_with_replies ls rs ++ x.0, x.1)) (quiet_cut l r ts q) ∙ ap (λ us. (us, (replied_line l r, (cut ts).0) ∷ (cut ts).1)) (append-nil (lines_with_replies ls rs))
+section_cut ls rs l r ts h m q = no_quiet_cut ls rs (replied_line l r ∷ ts) h m ∙ ap (λ (x : List RepliedLine × List (RepliedLine × List RepliedLine)). (lines_with_replies ls rs ++ x.0, x.1)) (quiet_cut l r ts q) ∙ ap (λ us. (us, (replied_line l r, (cut ts).0) ∷ (cut ts).1)) (append-nil (lines_with_replies ls rs))
 
 -- ---- quiet lines
 quiet_is : (w : RunState) (l : TraceLine) → is_quiet l.act ≡ true → run_line w l ≡ run_quiet_line w l.act
@@ -84,7 +84,7 @@ section_runs w later after ls news l r rest more s m q told h =
 
 last_runs : (w later : RunState) (ls : List TraceLine) (news : List Reply) → Sectioned w ls news later → NoneQuiet ls → Runs w (lines_with_replies ls news)
 last_runs w later ls news s m =
-    let at : cut (lines_with_replies ls news) ≡ (lines_with_replies ls news, []) = ap cut (sym (append-nil (lines_with_replies ls news))) ∙ low_stamp_cut ls news [] s.kinds m ∙ ap (λ us. (us, [])) (append-nil (lines_with_replies ls news)) in
+    let at : cut (lines_with_replies ls news) ≡ (lines_with_replies ls news, []) = ap cut (sym (append-nil (lines_with_replies ls news))) ∙ no_quiet_cut ls news [] s.kinds m ∙ ap (λ us. (us, [])) (append-nil (lines_with_replies ls news)) in
     subst (λ (c : List RepliedLine × List (RepliedLine × List RepliedLine)). RunsParallel w c.0 c.1) (sym at) (s.fronts, s.states, s.work, s.closed)
 
 -- The lines from a place up to another, and the one there.
@@ -149,8 +149,8 @@ done_all w later last lines start rs news new h m s grown = record {
 }
 
 -- One more line that isn't quiet.
-pub low_stamp_more : (lines : List TraceLine) (start i : ℕ) (d : TraceLine) → start ≤ i → i < length lines → NoneQuiet (part start i lines) → is_quiet (get_or lines i d).act ≡ false → NoneQuiet (part start (i + 1) lines)
-low_stamp_more lines start i d low within m q =
+pub no_quiet_more : (lines : List TraceLine) (start i : ℕ) (d : TraceLine) → start ≤ i → i < length lines → NoneQuiet (part start i lines) → is_quiet (get_or lines i d).act ≡ false → NoneQuiet (part start (i + 1) lines)
+no_quiet_more lines start i d low within m q =
     let e : i + 1 - start ≡ (i - start) + 1 = omega arith in
     let k : i - start < length (drop start lines) = inside lines start i low within in
     let same : get_or (drop start lines) (i - start) d ≡ get_or lines i d = at lines start i low in
@@ -171,8 +171,8 @@ low_stamp_more lines start i d low within m q =
       push [] l h q = (q, tt)
       push (x ∷ xs) l h q = (h.0, push xs l h.1 q)
 
-pub none_low_stamp : (lines : List TraceLine) (i : ℕ) → NoneQuiet (part i i lines)
-none_low_stamp lines i = let e : i - i ≡ 0 = omega arith in rw e tt
+pub no_quiet_yet : (lines : List TraceLine) (i : ℕ) → NoneQuiet (part i i lines)
+no_quiet_yet lines i = let e : i - i ≡ 0 = omega arith in rw e tt
 
 pub part_end : (lines : List TraceLine) (start n : ℕ) → start ≤ n → length lines ≤ n → part start n lines ≡ drop start lines
 part_end lines start n low end = full (drop start lines) (n - start) (fits lines start n low end) where
@@ -252,5 +252,5 @@ pub done_end : (w later last : RunState) (lines : List TraceLine) (start i : ℕ
 done_end w later last lines start i rs new low end h m x =
     let below : start ≤ length lines = omega (arith, low, end) in
     let e : part start (length lines) lines ≡ drop start lines = part_end lines start (length lines) below (omega arith) in
-    let low_stamp : NoneQuiet (part start (length lines) lines) = subst (λ n. NoneQuiet (part start n lines)) end m in
-    done_all w later last lines start rs x.news new h (subst NoneQuiet e low_stamp) (subst (λ ls. Sectioned later ls x.news last) e x.sectioned) x.grown
+    let none_quiet : NoneQuiet (part start (length lines) lines) = subst (λ n. NoneQuiet (part start n lines)) end m in
+    done_all w later last lines start rs x.news new h (subst NoneQuiet e none_quiet) (subst (λ ls. Sectioned later ls x.news last) e x.sectioned) x.grown

@@ -22,15 +22,12 @@ use Rattle.run_model.specs.ParallelRun.{AllWork, IsClosed, RunsParallel}
 use Rattle.trace_runner.specs.declared.worker.Worker.{Worker}
 use Rattle.trace_runner.specs.Workers.{lines_of_cpu, replied_lines_of_cpu}
 
--- A fact of each, with its number.
-abbrev pub AllNumbered : {A : Type 0} → (ℕ → A → Type 0) → ℕ → List A → Type 0
-AllNumbered P n [] = Unit {0}
-AllNumbered P n (x ∷ xs) = P n x × AllNumbered P (suc n) xs
-
 -- ---- passes
+-- The worker has a pass of this table with one share.
 abbrev pub HasPass : LockTable → Worker → Type 0
 HasPass table w = IsSomeAnd w.pass (λ pass. IsOf table pass × (pass.shares ≡ 1))
 
+-- The receipts that a worker's pass made.
 abbrev pub made_in : Option Pass → List Receipt
 made_in None = []
 made_in (Some pass) = (view_of pass).actor.receipts
@@ -43,53 +40,86 @@ all_made (w ∷ ws) = made_in w.pass ++ all_made ws
 -- The line is gone for one of them.
 abbrev pub AnyGone : Line → List Worker → Type 0
 AnyGone line [] = ⊥
-AnyGone line (w ∷ ws) = IsSomeAnd w.pass (λ pass. IsGone (view_of pass).fronts line) ⊎ AnyGone line ws
+AnyGone line (w ∷ ws) =
+    IsSomeAnd w.pass (λ pass. IsGone (view_of pass).fronts line) ⊎ AnyGone line ws
 
 -- One of them has seen the line.
 abbrev pub AnySeen : List State → Line → List Worker → Type 0
 AnySeen opening line [] = ⊥
-AnySeen opening line (w ∷ ws) = IsSomeAnd w.pass (λ pass. IsSeen (view_of pass).actor.lines opening line) ⊎ AnySeen opening line ws
+AnySeen opening line (w ∷ ws) =
+    IsSomeAnd w.pass (λ pass. IsSeen (view_of pass).actor.lines opening line)
+    ⊎ AnySeen opening line ws
 
--- The pass that all of them become.
+-- The pass into which those of all workers were joined.
 pub record IsJoinOf (table : LockTable) (ws : List Worker) (pass : Pass) : Type 0 where
   pub of : IsOf table pass
   pub shares : pass.shares ≡ length ws
   pub made : (view_of pass).actor.receipts ≡ all_made ws
   pub gone : (line : Line) → AnyGone line ws → IsGone (view_of pass).fronts line
-  pub seen : (opening : List State) (line : Line) → AnySeen opening line ws → IsSeen (view_of pass).actor.lines opening line
+  pub seen :
+      (opening : List State) (line : Line)
+      → AnySeen opening line ws
+      → IsSeen (view_of pass).actor.lines opening line
 
 -- ---- replies in file order
--- The processor's replies to its lines among these.
+-- These are the processor's replies to its lines, the last one first.
 abbrev pub IsQueue : List TraceLine → ℕ → Vec Reply Global → Type 0
 IsQueue lines cpu queue = AreReplies (lines_of_cpu cpu lines) (reverse queue.items)
 
--- Each processor's replied_lines are its own lines with its own replies.
-pub record IsMerged (lines : List TraceLine) (queues : List (Vec Reply Global)) (news : List Reply) : Type 0 where
-  pub kinds : AreReplies lines news
-  pub own : (cpu : ℕ) (d : Vec Reply Global) → cpu < length queues → lines_of_processor cpu (lines_with_replies lines news) ≡ replied_lines_of_cpu cpu lines (reverse (slice_index_or queues cpu d).items)
+-- There is a reply to each line, and each processor's are those that it made.
+pub record IsMerged
+    (lines : List TraceLine)
+    (queues : List (Vec Reply Global))
+    (news : List Reply)
+    : Type 0
+  where
+    pub kinds : AreReplies lines news
+    pub own :
+        (cpu : ℕ) (d : Vec Reply Global)
+        → cpu < length queues
+        → lines_of_processor cpu (lines_with_replies lines news)
+        ≡ replied_lines_of_cpu cpu lines (reverse (slice_index_or queues cpu d).items)
 
 -- ---- a section
--- The replies to its lines, and the run_state behind it.
-pub record Sectioned (w : RunState) (lines : List TraceLine) (news : List Reply) (later : RunState) : Type 0 where
-  pub kinds : AreReplies lines news
-  pub fronts : ℕ → List ℕ
-  pub states : List State
-  pub work : AllWork w (lines_with_replies lines news) fronts
-  pub closed : IsClosed w (lines_with_replies lines news) fronts states
-  pub run_state : later ≡ section_end_on w (lines_with_replies lines news) states
+-- The replies to its lines: each processor worked on its own, the table closed on these states, and the run goes on with them.
+pub record Sectioned
+    (w : RunState)
+    (lines : List TraceLine)
+    (news : List Reply)
+    (later : RunState)
+    : Type 0
+  where
+    pub kinds : AreReplies lines news
+    pub fronts : ℕ → List ℕ
+    pub states : List State
+    pub work : AllWork w (lines_with_replies lines news) fronts
+    pub closed : IsClosed w (lines_with_replies lines news) fronts states
+    pub run_state : later ≡ section_end_on w (lines_with_replies lines news) states
 
 -- ---- a run
+-- These lines with their replies are a run in which each processor works on its own.
 abbrev pub Runs : RunState → List RepliedLine → Type 0
 Runs w ts = let c = cut ts in RunsParallel w c.0 c.1
 
 -- These replies were put behind those of before.
-pub record AddsReplies (lines : List TraceLine) (queues : List (Vec Reply Global)) (old new : List Reply) : Type 0 where
-  pub news : List Reply
-  pub grown : new ≡ old ++ news
-  pub merged : IsMerged lines queues news
+pub record AddsReplies
+    (lines : List TraceLine)
+    (queues : List (Vec Reply Global))
+    (old new : List Reply)
+    : Type 0
+  where
+    pub news : List Reply
+    pub grown : new ≡ old ++ news
+    pub merged : IsMerged lines queues news
 
 -- The section's replies were put behind those of before.
-pub record RunsSection (w : RunState) (lines : List TraceLine) (old new : List Reply) (later : RunState) : Type 0 where
-  pub news : List Reply
-  pub grown : new ≡ old ++ news
-  pub sectioned : Sectioned w lines news later
+pub record RunsSection
+    (w : RunState)
+    (lines : List TraceLine)
+    (old new : List Reply)
+    (later : RunState)
+    : Type 0
+  where
+    pub news : List Reply
+    pub grown : new ≡ old ++ news
+    pub sectioned : Sectioned w lines news later

@@ -1,7 +1,8 @@
--- The processors of a section, each with a pass of its own.
+-- The workers of a section: a processor each, with a pass of its own.
 use Rattle.std.specs.Prelude.{IsSomeAnd}
-use Rattle.std.specs.Prelude.{◌≡◌, ◌≢◌, ℕ, zero, suc, ◌+◌, ◌-◌, ◌^◌, ◌<◌, ◌≤◌, ◌==◌, List, [], ◌∷◌, ◌++◌, length, filter, reverse, vec_capacity, Option, Some, None, false}
+use Rattle.std.specs.Prelude.{◌≡◌, ◌≢◌, ℕ, zero, suc, ◌+◌, ◌-◌, ◌^◌, ◌<◌, ◌≤◌, ◌==◌, List, [], ◌∷◌, ◌++◌, length, filter, reverse, map, vec_capacity, Option, Some, None, false}
 use Rattle.std.specs.List.{AllByRecursion}
+use Rattle.hpte_fields.specs.TableSize.{entry_count}
 use Rattle.entry_model.specs.State.{State}
 use Rattle.entry_model.specs.declared.line.Line.{Line}
 use Rattle.entry_model.specs.declared.receipt.Receipt.{Receipt}
@@ -22,41 +23,90 @@ use Rattle.run_model.specs.Histories.{receipts_by}
 use Rattle.run_model.specs.ParallelRun.{Works}
 use Rattle.trace_runner.specs.declared.worker.Worker.{Worker}
 
+-- A line with its reply.
 abbrev pub replied_line : TraceLine → Reply → RepliedLine
-replied_line l r = record { line = l; reply = r }
+replied_line line reply = record { line = line; reply = reply }
 
--- ---- one processor
--- Its lines, in file order.
-abbrev pub lines_of_cpu : ℕ → List TraceLine → List TraceLine
-lines_of_cpu cpu lines = filter (λ (l : TraceLine). l.cpu == cpu) lines
-
-abbrev pub replied_lines_of_cpu : ℕ → List TraceLine → List Reply → List RepliedLine
-replied_lines_of_cpu cpu lines replies = lines_with_replies (lines_of_cpu cpu lines) replies
-
+-- None of the lines is quiet.
 abbrev pub NoneQuiet : List TraceLine → Type 0
 NoneQuiet lines = AllByRecursion (λ (l : TraceLine). is_quiet l.act ≡ false) lines
 
+-- ---- the lines of one processor
+-- They are in file order.
+abbrev pub lines_of_cpu : ℕ → List TraceLine → List TraceLine
+lines_of_cpu cpu lines = filter (λ (l : TraceLine). l.cpu == cpu) lines
+
+-- Each with its reply.
+abbrev pub replied_lines_of_cpu : ℕ → List TraceLine → List Reply → List RepliedLine
+replied_lines_of_cpu cpu lines replies = lines_with_replies (lines_of_cpu cpu lines) replies
+
+-- ---- one worker
 -- The line was seen by this pass.
 abbrev pub IsSeenBy : LockTable → Pass → Line → Type 0
-IsSeenBy table pass line = IsSeenInTable table.order (view_of pass).actor.lines table.opening.items line
+IsSeenBy table pass line =
+    IsSeenInTable table.order (view_of pass).actor.lines table.opening.items line
 
 -- It has run its lines among these: its replies are to them, the pass made their receipts and no other, and it kept its promise from the opening fronts on.
-pub record HasRun (set : AccessContext) (table : LockTable) (cpu : ℕ) (lines : List TraceLine) (replies : List Reply) (w : Worker) (pass : Pass) : Type 0 where
-  pub of : IsOf table pass
-  pub share : pass.shares ≡ 1
-  pub made : (view_of pass).actor.receipts ≡ receipts_by (replied_lines_of_cpu cpu lines replies)
-  pub kinds : AreReplies (lines_of_cpu cpu lines) replies
-  pub works : Works set (opening_fronts table.opening.items) w.before.value (replied_lines_of_cpu cpu lines replies) (view_of pass).fronts
-  pub size : length (view_of pass).fronts ≡ 2 ^ (table.order - 4)
-  pub processor : w.cpu ≡ processor_after_lines w.before.value (replied_lines_of_cpu cpu lines replies)
-  pub seen : AllCached (IsSeenBy table pass) w.cpu.cache
+pub record HasRun
+    (context : AccessContext)
+    (table : LockTable)
+    (cpu : ℕ)
+    (lines : List TraceLine)
+    (replies : List Reply)
+    (w : Worker)
+    (pass : Pass)
+    : Type 0
+  where
+    pub of : IsOf table pass
+    pub share : pass.shares ≡ 1
+    pub made :
+        (view_of pass).actor.receipts ≡ receipts_by (replied_lines_of_cpu cpu lines replies)
+    pub kinds : AreReplies (lines_of_cpu cpu lines) replies
+    pub works :
+        Works
+        context
+        (opening_fronts table.opening.items)
+        w.before.value
+        (replied_lines_of_cpu cpu lines replies)
+        (view_of pass).fronts
+    pub size : length (view_of pass).fronts ≡ entry_count table.order
+    pub processor :
+        w.cpu ≡ processor_after_lines w.before.value (replied_lines_of_cpu cpu lines replies)
+    pub seen : AllCached (IsSeenBy table pass) w.cpu.cache
 
 -- It has a pass, no reply, and room for the replies to its lines.
-pub record IsReady (set : AccessContext) (table : LockTable) (cpu : ℕ) (lines : List TraceLine) (w : Worker) : Type 0 where
-  pub fresh : IsSomeAnd w.pass (HasRun set table cpu [] [] w)
-  pub none : w.replies.items ≡ []
-  pub room : length (lines_of_cpu cpu lines) ≤ vec_capacity w.replies
+pub record IsReady
+    (context : AccessContext)
+    (table : LockTable)
+    (cpu : ℕ)
+    (lines : List TraceLine)
+    (w : Worker)
+    : Type 0
+  where
+    pub fresh : IsSomeAnd w.pass (HasRun context table cpu [] [] w)
+    pub none : w.replies.items ≡ []
+    pub room : length (lines_of_cpu cpu lines) ≤ vec_capacity w.replies
 
--- The last of them is the one to its first line.
+-- It has run all of them. The last of its replies is the one to its first line.
 abbrev pub IsDone : AccessContext → LockTable → ℕ → List TraceLine → Worker → Type 0
-IsDone set table cpu lines w = IsSomeAnd w.pass (HasRun set table cpu lines (reverse w.replies.items) w)
+IsDone context table cpu lines w =
+    IsSomeAnd w.pass (HasRun context table cpu lines (reverse w.replies.items) w)
+
+-- A fact of each of a list, by its number from one on.
+abbrev pub AllNumbered : {A : Type 0} → (ℕ → A → Type 0) → ℕ → List A → Type 0
+AllNumbered P number [] = Unit {0}
+AllNumbered P number (x ∷ xs) = P number x × AllNumbered P (suc number) xs
+
+-- All workers are ready, the first as processor 0.
+abbrev pub AreReady : AccessContext → LockTable → List TraceLine → List Worker → Type 0
+AreReady context table lines ws =
+    AllNumbered (λ cpu w. IsReady context table cpu lines w) 0 ws
+
+-- All are done.
+abbrev pub AreDone : AccessContext → LockTable → List TraceLine → List Worker → Type 0
+AreDone context table lines ws =
+    AllNumbered (λ cpu w. IsDone context table cpu lines w) 0 ws
+
+-- What the processors were before the section's first line.
+abbrev pub processors_before : List Worker → List Processor
+processors_before ws = map (λ (w : Worker). w.before.value) ws

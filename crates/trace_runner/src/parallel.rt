@@ -1,4 +1,4 @@
-// The parallel run: a thread for each processor between two quiet lines.
+//! The parallel run: a thread for each processor between two quiet lines.
 ghost use Rattle.std.specs.Prelude.{◌≡◌, ℕ, ◌+◌, ◌<◌, ◌≤◌, ◌^◌, length, IfOk};
 ghost use Rattle.std.specs.List.{AllByRecursion};
 ghost use Rattle.trace_read.specs.declared.trace.TraceLine.{TraceLine as LineOf};
@@ -31,11 +31,12 @@ fn section<R: Threads + Wait + Sync, G: Gate + Sync>(
     lines: &[TraceLine],
     replies: &mut Replies,
 ) -> Result<Machine, AllocError>
-    requires low_stamp { NoneQuiet lines.now }
+    requires none_quiet { NoneQuiet lines.now }
     requires cpus { AllByRecursion (λ (l : LineOf). l.cpu < length machine.processors) lines.now }
     requires some { 0 < length machine.processors }
     requires few { length machine.processors ≤ 64 }
-    ensures { IfOk result (λ later. RunsSection machine lines.now replies.old.items replies.new.items later) }
+    ensures { IfOk result
+        (λ later. RunsSection machine lines.now replies.old.items replies.new.items later) }
 {
     if lines.is_empty() {
         return Ok(machine);
@@ -112,7 +113,10 @@ pub fn run_parallel<R: Threads + Wait + Sync, G: Gate + Sync>(
     ensures count { IfOk result (λ r. length r.items ≡ length trace.now.lines) }
     ensures good { IfOk result (λ r. IsGoodRun trace.now r.items) }
     ensures assured { IfOk result (λ r. Assures trace.now r.items) }
-    ensures one { IfOk result (λ r. (cpu : ℕ) → HasOneProcessor cpu trace.now.lines → r.items ≡ serial_replies trace.now) }
+    ensures one { IfOk result
+        (λ r. (cpu : ℕ)
+        → HasOneProcessor cpu trace.now.lines
+        → r.items ≡ serial_replies trace.now) }
 {
     trace.keeps_limits();
     let machine = open_machine(alloc, trace)?;

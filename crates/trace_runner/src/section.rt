@@ -1,4 +1,4 @@
-// A section: the lines between two quiet ones, by a thread for each processor.
+//! A section: the lines between two quiet ones, with a thread for each processor.
 ghost use Rattle.std.specs.Prelude.{◌≡◌, ℕ, ◌+◌, ◌<◌, ◌≤◌, ◌++◌, [], length, map, vec_capacity, Some, IfOk, OnOk};
 ghost use Rattle.std.specs.List.{AllByRecursion};
 ghost use Rattle.std.specs.Thread.{IsSync};
@@ -9,8 +9,8 @@ ghost use Rattle.trace_read.specs.declared.trace.TraceLine.{TraceLine as LineOf}
 ghost use Rattle.trace_runner.specs.declared.worker.Worker.{Worker as WorkerOf};
 ghost use Rattle.hpt_walk.specs.Access.{access_context};
 ghost use Rattle.trace_runner.specs.MachineState.{AllHold};
-ghost use Rattle.trace_runner.specs.Workers.{lines_of_cpu, NoneQuiet, IsReady, IsDone};
-ghost use Rattle.trace_runner.specs.SectionRun.{AllNumbered, HasPass, IsJoinOf, IsQueue, AddsReplies, Sectioned};
+ghost use Rattle.trace_runner.specs.Workers.{lines_of_cpu, processors_before, AllNumbered, AreDone, AreReady, IsDone, IsReady, NoneQuiet};
+ghost use Rattle.trace_runner.specs.SectionRun.{HasPass, IsJoinOf, IsQueue, AddsReplies, Sectioned};
 
 use crate::gate::Gate;
 use crate::machine::Machine;
@@ -62,7 +62,8 @@ fn worker_with(
     })
 }
 
-/// Gives each processor a pass: the first the one given, and each other one that is split off.
+/// A worker for each processor: the first with the pass that is given, and each other with one that is
+/// split off. They have room for the replies to their lines.
 pub fn make_workers(
     alloc: Global,
     table: &LockTable,
@@ -74,10 +75,12 @@ pub fn make_workers(
     requires shares { pass.shares ≡ length cpus.old.items }
     requires some { 0 < length cpus.old.items }
     requires few { length cpus.old.items ≤ 64 }
-    requires fresh { ((view_of pass).actor.receipts ≡ []) × ((view_of pass).fronts ≡ opening_fronts table.now.opening.items) }
+    requires receipts { (view_of pass).actor.receipts ≡ [] }
+    requires fronts { (view_of pass).fronts ≡ opening_fronts table.now.opening.items }
     requires hold { AllHold table.now.opening.items cpus.old.items }
-    ensures ready { IfOk result (λ ws. (set : AccessContext) → AllNumbered (λ j w. IsReady set table.now j lines.now w) 0 ws.items) }
-    ensures before { IfOk result (λ ws. map (λ (w : WorkerOf). w.before.value) ws.items ≡ cpus.old.items) }
+    ensures ready { IfOk result
+        (λ ws. (context : AccessContext) → AreReady context table.now lines.now ws.items) }
+    ensures before { IfOk result (λ ws. processors_before ws.items ≡ cpus.old.items) }
     ensures none { IfOk result (λ ws. cpus.new.items ≡ []) }
 {
     let mut rest = pass;
@@ -94,7 +97,7 @@ pub fn make_workers(
     Ok(workers)
 }
 
-/// Runs the lines, each processor in a thread of its own.
+/// Runs the lines, each processor's in a thread of its own. It takes no memory for replies or receipts.
 pub fn run_workers<R: Threads + Wait + Sync, G: Gate + Sync>(
     rt: &R,
     table: &LockTable,
@@ -103,12 +106,20 @@ pub fn run_workers<R: Threads + Wait + Sync, G: Gate + Sync>(
     lines: &[TraceLine],
     workers: &mut [Worker],
 )
-    requires low_stamp { NoneQuiet lines.now }
+    requires none_quiet { NoneQuiet lines.now }
     requires some { 0 < length workers.old }
     requires few { length workers.old ≤ 64 }
-    requires ready { AllNumbered (λ j w. IsReady (access_context table.now.order grants.now.grants) table.now j lines.now w) 0 workers.old }
-    ensures done { AllNumbered (λ j w. IsDone (access_context table.now.order grants.now.grants) table.now j lines.now w) 0 workers.new }
-    ensures before { map (λ (w : WorkerOf). w.before.value) workers.new ≡ map (λ (w : WorkerOf). w.before.value) workers.old }
+    requires ready { AreReady
+        (access_context table.now.order grants.now.grants)
+        table.now
+        lines.now
+        workers.old }
+    ensures done { AreDone
+        (access_context table.now.order grants.now.grants)
+        table.now
+        lines.now
+        workers.new }
+    ensures before { processors_before workers.new ≡ processors_before workers.old }
 {
     let threads = workers.len();
     thread::for_each_mut(
@@ -116,8 +127,20 @@ pub fn run_workers<R: Threads + Wait + Sync, G: Gate + Sync>(
         workers,
         threads,
         &|i: usize, worker: &mut Worker|
-            requires { IsSync R.row × IsSync G.row × (i < 64) × NoneQuiet lines.now × IsReady (access_context table.now.order grants.now.grants) table.now i lines.now worker.old }
-            ensures { IsDone (access_context table.entry.now.order grants.entry.now.grants) table.entry.now i lines.entry.now worker.exit.now × (worker.exit.now.before.value ≡ worker.entry.now.before.value) }
+            requires { IsSync R.row × IsSync G.row × (i < 64) × NoneQuiet lines.now
+                × IsReady
+                (access_context table.now.order grants.now.grants)
+                table.now
+                i
+                lines.now
+                worker.old }
+            ensures { IsDone
+                (access_context table.entry.now.order grants.entry.now.grants)
+                table.entry.now
+                i
+                lines.entry.now
+                worker.exit.now
+                × (worker.exit.now.before.value ≡ worker.entry.now.before.value) }
         { work(rt, table, gate, grants, lines, i as u32, worker) },
     );
 }
@@ -132,8 +155,11 @@ pub fn join_workers(
     requires some { 0 < length workers.items }
     requires passes { AllByRecursion (HasPass table.now) workers.items }
     ensures all { IfOk result (IsJoinOf table.now workers.items) }
-    ensures cpus { IfOk result (λ pass. cpus.new.items ≡ cpus.old.items ++ map (λ (w : WorkerOf). w.cpu) workers.items) }
-    ensures queues { IfOk result (λ pass. queues.new.items ≡ queues.old.items ++ map (λ (w : WorkerOf). w.replies) workers.items) }
+    ensures cpus { IfOk result
+        (λ pass. cpus.new.items ≡ cpus.old.items ++ map (λ (w : WorkerOf). w.cpu) workers.items) }
+    ensures queues { IfOk result
+        (λ pass. queues.new.items
+        ≡ queues.old.items ++ map (λ (w : WorkerOf). w.replies) workers.items) }
 {
     let mut rest = workers;
     let others = rest.len() - 1;
@@ -160,7 +186,7 @@ pub fn join_workers(
     Ok(all)
 }
 
-/// Puts the replies to these lines, of which each processor has its own, the first one last, in file
+/// Puts the replies to these lines, of which each processor has its own with the first one last, in file
 /// order behind those that are there.
 pub fn merge_replies(
     lines: &[TraceLine],
@@ -169,7 +195,8 @@ pub fn merge_replies(
 ) -> Result<(), AllocError>
     requires cpus { AllByRecursion (λ (l : LineOf). l.cpu < length queues.old.items) lines.now }
     requires queues { AllNumbered (λ cpu queue. IsQueue lines.now cpu queue) 0 queues.old.items }
-    ensures merged { OnOk result (AddsReplies lines.now queues.old.items replies.old.items replies.new.items) }
+    ensures merged { OnOk result
+        (AddsReplies lines.now queues.old.items replies.old.items replies.new.items) }
 {
     for line in lines {
         let reply = queues[line.cpu as usize].pop().unwrap();

@@ -1,4 +1,4 @@
-// A store that stops at a gate.
+//! A store that stops at a gate.
 ghost use Rattle.std.specs.Prelude.{◌≡◌};
 
 use crate::gate::{AtLine, Gate};

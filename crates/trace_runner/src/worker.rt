@@ -1,5 +1,6 @@
-// A processor of a section, with a pass of its own.
-ghost use Rattle.std.specs.Prelude.{◌≡◌, ◌-◌, ◌^◌, ◌++◌, false, length};
+//! A processor of a section, with a pass of its own.
+ghost use Rattle.std.specs.Prelude.{◌≡◌, ◌++◌, false, length};
+ghost use Rattle.hpte_fields.specs.TableSize.{entry_count};
 ghost use Rattle.tlb_model.specs.Cache.{AllCached};
 ghost use Rattle.entry_lock.specs.PassOfTable.{IsOf, view_of};
 ghost use Rattle.trace_read.specs.Trace.{is_quiet};
@@ -20,9 +21,9 @@ use trace_read::TraceLine;
 use trace_reply::Reply;
 use vcpu::Cpu;
 
-/// A processor in a section: what it keeps from line to line, what it kept before the section's first
-/// line, its pass, and the replies to its
-/// lines: while it works in their order, and behind that the last one first.
+/// A processor in a section: what it keeps from line to line, what it was before the section's first
+/// line, its pass, and the replies to its lines. These are in order while it works, and behind that the
+/// last one stands first.
 #[derive(Drop)]
 pub struct Worker {
     pub cpu: Cpu,
@@ -50,13 +51,19 @@ fn answer<R: Wait, G: Gate>(
 ) -> Answered
     requires of { IsOf table.now pass }
     requires not_quiet { is_quiet line.now.act ≡ false }
-    requires size { length (view_of pass).fronts ≡ 2 ^ (table.now.order - 4) }
+    requires size { length (view_of pass).fronts ≡ entry_count table.now.order }
     requires seen { AllCached (IsSeenBy table.now pass) cpu.old.cache }
     ensures of { IsOf table.now result.pass }
     ensures share { result.pass.shares ≡ pass.shares }
-    ensures made { (view_of result.pass).actor.receipts ≡ (view_of pass).actor.receipts ++ receipts_in result.reply }
-    ensures line { WorksLine (access_context table.now.order grants.now.grants) (view_of pass).fronts cpu.old (replied_line line.now result.reply) (view_of result.pass).fronts }
-    ensures size { length (view_of result.pass).fronts ≡ 2 ^ (table.now.order - 4) }
+    ensures made { (view_of result.pass).actor.receipts
+        ≡ (view_of pass).actor.receipts ++ receipts_in result.reply }
+    ensures line { WorksLine
+        (access_context table.now.order grants.now.grants)
+        (view_of pass).fronts
+        cpu.old
+        (replied_line line.now result.reply)
+        (view_of result.pass).fronts }
+    ensures size { length (view_of result.pass).fronts ≡ entry_count table.now.order }
     ensures kind { IsOfKind line.now.act result.reply }
     ensures processor { cpu.new ≡ processor_after cpu.old line.now.act result.reply }
     ensures seen { AllCached (IsSeenBy table.now result.pass) cpu.new.cache }
@@ -85,7 +92,7 @@ fn answer<R: Wait, G: Gate>(
     Answered { reply, pass }
 }
 
-/// Runs the worker's lines among these, in file order.
+/// Runs the worker's lines among these, in file order. It takes no memory for their replies.
 pub fn work<R: Wait, G: Gate>(
     rt: &R,
     table: &LockTable,
@@ -95,9 +102,19 @@ pub fn work<R: Wait, G: Gate>(
     number: u32,
     worker: &mut Worker,
 )
-    requires low_stamp { NoneQuiet lines.now }
-    requires ready { IsReady (access_context table.now.order grants.now.grants) table.now number lines.now worker.old }
-    ensures done { IsDone (access_context table.now.order grants.now.grants) table.now number lines.now worker.new }
+    requires none_quiet { NoneQuiet lines.now }
+    requires ready { IsReady
+        (access_context table.now.order grants.now.grants)
+        table.now
+        number
+        lines.now
+        worker.old }
+    ensures done { IsDone
+        (access_context table.now.order grants.now.grants)
+        table.now
+        number
+        lines.now
+        worker.new }
     ensures before { worker.new.before.value ≡ worker.old.before.value }
 {
     let Some(mut pass) = worker.pass.take() else {

@@ -6,7 +6,7 @@ use Rattle.trace_reply.specs.Replies.{AreReplies, lines_with_replies}
 use Rattle.trace_runner.specs.Workers.{NoneQuiet}
 use Rattle.trace_runner.specs.SectionRun.{Sectioned, Runs}
 use Rattle.trace_runner.proofs.MergedReplies.{each_line}
-use Rattle.trace_runner.proofs.SectionsRun.{part, Done, Ended, done_none, done_more, done_end, low_stamp_more, none_low_stamp, part_end, part_each, section_processors, section_number}
+use Rattle.trace_runner.proofs.SectionsRun.{part, Done, Ended, done_none, done_more, done_end, no_quiet_more, no_quiet_yet, part_end, part_each, section_processors, section_number}
 use Rattle.trace_runner.proofs.parallel.run_sections.Goals as goal
 use Rattle.trace_runner.proofs.parallel.run_sections.Goals.{then-is_quiet+in_ok-machine+in_ok-line+in_ok-push, else-is_quiet}
 
@@ -17,7 +17,7 @@ d = record { number = 0; cpu = 0; act = Call 0 [] false }
 pub loop-i-init : goal.loop-i-init
 loop-i-init g c = record {
   low = omega arith;
-  low_stamp = tt;
+  none_quiet = tt;
   processors = refl;
   number = omega (arith, c.requires.number);
   done = subst (Done c.args.opened c.args.lines.now 0 c.args.opened) (sym c.new-replies.ensures) (done_none c.args.opened c.args.lines.now);
@@ -51,25 +51,25 @@ loop-i-preserved g c =
           let k = w.in_ok-line.ensures in
           rw (w.machine-is, w.replies-is, w.start-is) (record {
             low = omega arith;
-            low_stamp = none_low_stamp c.args.lines.now (c.loop-i.i + 1);
+            none_quiet = no_quiet_yet c.args.lines.now (c.loop-i.i + 1);
             processors = k.cpus ∙ section_processors c.loop-i.machine w.in_ok-machine.machine _ _ e.sectioned ∙ i.processors;
             number = omega (arith, k.number, section_number c.loop-i.machine w.in_ok-machine.machine _ _ e.sectioned, i.number);
-            done = done_more c.args.opened c.loop-i.machine w.in_ok-machine.machine w.line.new.self c.args.lines.now c.loop-i.start c.loop-i.i d c.loop-i.replies.items w.section.new.replies.items e.news w.push.new.self.items w.line.new.reply i.low c.loop-i-test.true i.done i.low_stamp e.sectioned (sym c.is_quiet.ensures ∙ w.if-is_quiet.true) k.reply e.grown w.in_ok-push.ensures.ok;
+            done = done_more c.args.opened c.loop-i.machine w.in_ok-machine.machine w.line.new.self c.args.lines.now c.loop-i.start c.loop-i.i d c.loop-i.replies.items w.section.new.replies.items e.news w.push.new.self.items w.line.new.reply i.low c.loop-i-test.true i.done i.none_quiet e.sectioned (sym c.is_quiet.ensures ∙ w.if-is_quiet.true) k.reply e.grown w.in_ok-push.ensures.ok;
           })
       | else-is_quiet w ↦
           rw (w.machine-is, w.replies-is, w.start-is) (record {
             low = omega (arith, i.low);
-            low_stamp = low_stamp_more c.args.lines.now c.loop-i.start c.loop-i.i d i.low c.loop-i-test.true i.low_stamp (sym c.is_quiet.ensures ∙ w.if-is_quiet.false);
+            none_quiet = no_quiet_more c.args.lines.now c.loop-i.start c.loop-i.i d i.low c.loop-i-test.true i.none_quiet (sym c.is_quiet.ensures ∙ w.if-is_quiet.false);
             processors = i.processors;
             number = omega (arith, i.number);
             done = i.done;
           })
     ]
 
-pub section-requires-2-clause-low_stamp : goal.section-requires-2-clause-low_stamp
-section-requires-2-clause-low_stamp g c κs within =
+pub section-requires-2-clause-none_quiet : goal.section-requires-2-clause-none_quiet
+section-requires-2-clause-none_quiet g c κs within =
     let last : c.loop-i.i ≡ length c.args.lines.now = omega (arith, c.loop-i-test.false, c.loop-i.auto.i-end) in
-    subst (λ n. NoneQuiet (part c.loop-i.start n c.args.lines.now)) last c.loop-i.invariant.low_stamp
+    subst (λ n. NoneQuiet (part c.loop-i.start n c.args.lines.now)) last c.loop-i.invariant.none_quiet
 
 pub section-requires-2-clause-cpus : goal.section-requires-2-clause-cpus
 section-requires-2-clause-cpus g c κs within = part_each (λ (l : TraceLine). l.cpu < length c.loop-i.machine.processors) c.args.lines.now c.loop-i.start (length c.args.lines.now) (subst (λ n. AllByRecursion (λ (l : TraceLine). l.cpu < n) c.args.lines.now) (sym c.loop-i.invariant.processors) c.requires.cpus)
@@ -83,9 +83,9 @@ section-requires-2-clause-few g c κs within = subst (λ n. n ≤ 64) (sym c.loo
 pub returns-clause-kinds : goal.returns-clause-kinds
 returns-clause-kinds g c =
     let last : c.loop-i.i ≡ length c.args.lines.now = omega (arith, c.loop-i-test.false, c.loop-i.auto.i-end) in
-    (done_end c.args.opened c.loop-i.machine c.in_ok-section.field-0 c.args.lines.now c.loop-i.start c.loop-i.i c.loop-i.replies.items c.section-2.new.replies.items c.loop-i.invariant.low last c.loop-i.invariant.done c.loop-i.invariant.low_stamp c.in_ok-section.ensures).kinds
+    (done_end c.args.opened c.loop-i.machine c.in_ok-section.field-0 c.args.lines.now c.loop-i.start c.loop-i.i c.loop-i.replies.items c.section-2.new.replies.items c.loop-i.invariant.low last c.loop-i.invariant.done c.loop-i.invariant.none_quiet c.in_ok-section.ensures).kinds
 
 pub returns-clause-runs : goal.returns-clause-runs
 returns-clause-runs g c =
     let last : c.loop-i.i ≡ length c.args.lines.now = omega (arith, c.loop-i-test.false, c.loop-i.auto.i-end) in
-    (done_end c.args.opened c.loop-i.machine c.in_ok-section.field-0 c.args.lines.now c.loop-i.start c.loop-i.i c.loop-i.replies.items c.section-2.new.replies.items c.loop-i.invariant.low last c.loop-i.invariant.done c.loop-i.invariant.low_stamp c.in_ok-section.ensures).runs
+    (done_end c.args.opened c.loop-i.machine c.in_ok-section.field-0 c.args.lines.now c.loop-i.start c.loop-i.i c.loop-i.replies.items c.section-2.new.replies.items c.loop-i.invariant.low last c.loop-i.invariant.done c.loop-i.invariant.none_quiet c.in_ok-section.ensures).runs

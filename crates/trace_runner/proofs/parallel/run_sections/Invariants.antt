@@ -6,7 +6,7 @@ use Rattle.trace_runner.proofs.parallel.run_sections.Given as goal
 abbrev pub invariant-loop-i : goal.invariant-loop-i
 invariant-loop-i g l = record {
   low : l.start ≤ l.i;
-  low_stamp : NoneQuiet (part l.start l.i l.lines);
+  none_quiet : NoneQuiet (part l.start l.i l.lines);
   processors : length l.machine.processors ≡ length l.fn.opened.processors;
   number : l.machine.memory.table.number ≤ l.i;
   done : Done l.fn.opened l.lines l.start l.machine l.replies.items;

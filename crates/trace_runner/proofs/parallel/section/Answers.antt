@@ -11,8 +11,8 @@ use Rattle.run_model.specs.RunState.{RunState}
 use Rattle.trace_runner.specs.declared.worker.Worker.{Worker}
 use Rattle.hpt_walk.specs.Access.{access_context}
 use Rattle.trace_runner.specs.MachineState.{run_state_of, AllHold}
-use Rattle.trace_runner.specs.Workers.{IsReady, IsDone}
-use Rattle.trace_runner.specs.SectionRun.{AllNumbered, HasPass, IsJoinOf, IsQueue, AddsReplies, RunsSection}
+use Rattle.trace_runner.specs.Workers.{IsReady, IsDone, AllNumbered}
+use Rattle.trace_runner.specs.SectionRun.{HasPass, IsJoinOf, IsQueue, AddsReplies, RunsSection}
 use Rattle.trace_runner.proofs.JoinedWorkers.{nil_of}
 use Rattle.trace_runner.proofs.SectionsRun.{empty_section}
 use Rattle.trace_runner.proofs.SectionPromises.{Ran, refilled, done_passes, done_queues, workers_count, section_extends, section_holds}

@@ -2,8 +2,8 @@ use Rattle.std.proofs.Common.{◌≡◌, ◌+◌, ◌-◌, ◌^◌, ◌<◌, ◌
 use Rattle.tlb_model.specs.Processor.{Processor}
 use Rattle.trace_runner.specs.declared.worker.Worker.{Worker}
 use Rattle.trace_runner.specs.MachineState.{AllHold}
-use Rattle.trace_runner.specs.Workers.{IsReady}
-use Rattle.trace_runner.specs.SectionRun.{AllNumbered}
+use Rattle.trace_runner.specs.Workers.{IsReady, AllNumbered}
+use Rattle.trace_runner.specs.SectionRun.{}
 use Rattle.trace_runner.proofs.JoinedWorkers.{split_first}
 use Rattle.trace_runner.proofs.NewWorkers.{worker_ready, all_push, size_push, map_push}
 use Rattle.trace_runner.proofs.section.make_workers.Goals as goal

@@ -4,8 +4,8 @@ use Rattle.entry_model.specs.Fronts.{opening_fronts}
 use Rattle.entry_lock.specs.PassOfTable.{IsOf, view_of}
 use Rattle.trace_runner.specs.declared.worker.Worker.{Worker}
 use Rattle.trace_runner.specs.MachineState.{AllHold}
-use Rattle.trace_runner.specs.Workers.{IsReady}
-use Rattle.trace_runner.specs.SectionRun.{AllNumbered}
+use Rattle.trace_runner.specs.Workers.{IsReady, AllNumbered}
+use Rattle.trace_runner.specs.SectionRun.{}
 use Rattle.trace_runner.proofs.section.make_workers.Given as goal
 
 abbrev pub invariant-loop-i : goal.invariant-loop-i

@@ -17,7 +17,7 @@ for_each_mut-requires-clause-accepts g c κs within i p inside is =
       (search rules),
       (search rules),
       omega (arith, inside, c.requires.few),
-      c.requires.low_stamp,
+      c.requires.none_quiet,
       subst (λ n. IsReady (access_context c.args.table.now.order c.args.grants.now.grants) c.args.table.now n c.args.lines.now p.now) e
           (subst (IsReady (access_context c.args.table.now.order c.args.grants.now.grants) c.args.table.now (0 + i) c.args.lines.now) (sym is) (all_at (λ j w. IsReady (access_context c.args.table.now.order c.args.grants.now.grants) c.args.table.now j c.args.lines.now w) 0 i c.args.workers.now p.now c.requires.ready inside)),
     )

@@ -3,7 +3,7 @@
 _papr() {
     COMPREPLY=()
     if [ "$COMP_CWORD" -eq 1 ]; then
-        mapfile -t COMPREPLY < <(compgen -W 'run drill' -- "${COMP_WORDS[COMP_CWORD]}")
+        mapfile -t COMPREPLY < <(compgen -W 'run par drill' -- "${COMP_WORDS[COMP_CWORD]}")
     fi
 }
 

@@ -1,4 +1,4 @@
-ghost use Rattle.std.specs.Prelude.{◌≡◌, ◌≤◌, ◌-◌, ◌++◌, [], ◌∷◌, OnOk, OnErr, IsOk};
+ghost use Rattle.std.specs.Prelude.{◌≡◌, ◌≤◌, ◌-◌, ◌++◌, max, [], ◌∷◌, OnOk, OnErr, IsOk};
 
 use crate::reply::Reply;
 use std::alloc::{AllocError, Global};
@@ -22,19 +22,20 @@ impl Model for Replies {
 impl Replies {
     /// No reply. It takes no memory; later replies are kept in `alloc`.
     pub fn new(alloc: Global) -> Self
-        ensures { result.items ≡ [] }
+        ensures none { result.items ≡ [] }
+        ensures room { result.spare ≡ 0 }
     {
         Replies {
             items: Vec::new(alloc),
         }
     }
 
-    /// Makes room for so many further replies.
+    /// Makes room for so many further replies, and for no more.
     pub fn reserve(&mut self, more: usize) -> Result<(), AllocError>
-        ensures ok { OnOk result (more ≤ self.new.spare) }
+        ensures ok { OnOk result (self.new.spare ≡ max self.old.spare more) }
         ensures same { self.new.items ≡ self.old.items }
     {
-        self.items.reserve(more)
+        self.items.reserve_exact(more)
     }
 
     /// Appends a reply. In room that was made it takes no memory. Where memory ends, the list stays

@@ -47,7 +47,6 @@ fn section<R: Threads + Wait + Sync, G: Gate + Sync>(
     } = machine;
     let order = partition.order();
     let count = cpus.len();
-    replies.reserve(lines.len())?;
     let mut queues = Vec::with_capacity(alloc, count)?;
     let Ok((table, pass)) = LockTable::open(alloc, partition.take_states(), order, count as u32)
     else {
@@ -87,6 +86,7 @@ fn run_sections<R: Threads + Wait + Sync, G: Gate + Sync>(
 {
     let mut machine = opened;
     let mut replies = Replies::new(alloc);
+    replies.reserve(lines.len())?;
     let mut start = 0;
     for i in 0..lines.len() {
         if lines[i].act.is_quiet() {

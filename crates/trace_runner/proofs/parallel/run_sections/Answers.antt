@@ -20,7 +20,7 @@ loop-i-init g c = record {
   none_quiet = tt;
   processors = refl;
   number = omega (arith, c.requires.number);
-  done = subst (Done c.args.opened c.args.lines.now 0 c.args.opened) (sym c.new-replies.ensures) (done_none c.args.opened c.args.lines.now);
+  done = subst (Done c.args.opened c.args.lines.now 0 c.args.opened) (sym (c.reserve.ensures.same ∙ c.new-replies.ensures.none)) (done_none c.args.opened c.args.lines.now);
 }
 
 pub section-requires-clause-cpus : goal.section-requires-clause-cpus

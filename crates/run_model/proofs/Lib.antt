@@ -11,6 +11,7 @@ pub mod SerialGood
 pub mod ParallelGood
 pub mod SerialParallel
 pub mod OneProcessor
+pub mod CachesUsed
 pub mod Resized
 pub mod SectionChain
 pub mod Stores

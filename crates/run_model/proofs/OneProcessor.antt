@@ -90,7 +90,7 @@ left_rising e p (Some line) evs rs h rest = at (cases_Bool (eqb line.entry e)) w
   at (inr other) = let k = rw other at h in rest p k
 
 -- the events of the first line and of the rest
-first_events : (processor : Processor) (t : RepliedLine) (ts : List RepliedLine) → events_by processor (t ∷ ts) ≡ gone_events (gone_line_of processor t.line.act t.reply) ++ (map (λ (r : Receipt). made r) (receipts_in t.reply) ++ events_by (processor_after processor t.line.act t.reply) ts)
+pub first_events : (processor : Processor) (t : RepliedLine) (ts : List RepliedLine) → events_by processor (t ∷ ts) ≡ gone_events (gone_line_of processor t.line.act t.reply) ++ (map (λ (r : Receipt). made r) (receipts_in t.reply) ++ events_by (processor_after processor t.line.act t.reply) ts)
 first_events processor t ts = append_assoc (gone_events (gone_line_of processor t.line.act t.reply)) (map (λ (r : Receipt). made r) (receipts_in t.reply)) (events_by (processor_after processor t.line.act t.reply) ts)
 
 -- a processor's receipts on one entry
@@ -154,7 +154,7 @@ bits_low true false = omega arith
 bits_low false true = omega arith
 bits_low false false = omega arith
 
-pair_stamp : (n : ℕ) (s : State) → (n + 1) * 4 ≤ pair_of s → n < s.stamp
+pub pair_stamp : (n : ℕ) (s : State) → (n + 1) * 4 ≤ pair_of s → n < s.stamp
 unfolding pair_of
 pair_stamp n s h = omega (arith, bits_low s.referenced s.changed)
 
@@ -170,14 +170,14 @@ step_rest e p r evs more h rest = at (cases_Bool (eqb r.entry e)) where
   at (inl own) = let k = rw own at h in rest (pair_of (after_of r)) k.1
   at (inr other) = let k = rw other at h in rest p k
 
-receipts_rest : (e p : ℕ) (rs : List Receipt) (evs : List Event) → InOrder e p (map (λ (r : Receipt). made r) rs ++ evs) → (q : ℕ) × InOrder e q evs
+pub receipts_rest : (e p : ℕ) (rs : List Receipt) (evs : List Event) → InOrder e p (map (λ (r : Receipt). made r) rs ++ evs) → (q : ℕ) × InOrder e q evs
 receipts_rest e p [] evs h = (p, h)
 receipts_rest e p (r ∷ rs) evs h = step_rest e p r (map (λ (r : Receipt). made r) rs ++ evs) evs h (λ q k. receipts_rest e q rs evs k)
 
-left_high : (p : ℕ) (line : Line) (evs : List Event) → InOrder line.entry p (gone line ∷ evs) → InOrder line.entry (max p (pair_beyond line)) evs
+pub left_high : (p : ℕ) (line : Line) (evs : List Event) → InOrder line.entry p (gone line ∷ evs) → InOrder line.entry (max p (pair_beyond line)) evs
 left_high p line evs h = subst (λ n. InOrder line.entry n evs) (let e : (if line.entry == line.entry then max p (pair_beyond line) else p) ≡ max p (pair_beyond line) = rw (eq-eqb line.entry line.entry refl) refl in e) h
 
-left_rest : (e p : ℕ) (line : Option Line) (evs : List Event) → InOrder e p (gone_events line ++ evs) → (q : ℕ) × InOrder e q evs
+pub left_rest : (e p : ℕ) (line : Option Line) (evs : List Event) → InOrder e p (gone_events line ++ evs) → (q : ℕ) × InOrder e q evs
 left_rest e p None evs h = (p, h)
 left_rest e p (Some line) evs h = (if line.entry == e then max p (pair_beyond line) else p, h)
 

@@ -11,6 +11,7 @@ use Rattle.run_model.specs.GoodRun.{IsGoodRun}
 use Rattle.run_model.specs.ShownStores.{NoStoreIsLostIn, ClearedBitsAreShown}
 use Rattle.run_model.specs.CommittedResizes.{ResizesKeepTranslations}
 use Rattle.run_model.specs.Landings.{AccessesLand, IsUnworn}
+use Rattle.run_model.specs.CachedAccesses.{AccessesUseCaches}
 use Rattle.run_model.specs.ParallelRun.{IsParallel}
 
 -- ---- which runs are good
@@ -84,3 +85,10 @@ NoEntryIsWorn =
     → IsAccepted t
     → IsGoodRun t rs
     → AllByRecursion IsUnworn rs
+
+-- In a good run a hit is by a cached line that is current at the hit's place, and a walk goes past a cached line only where its entry has left the line's stamp.
+abbrev pub CachedLinesAreCurrentOrGone : Type 0
+CachedLinesAreCurrentOrGone =
+    (t : AcceptedTrace) (rs : List Reply)
+    → IsGoodRun t rs
+    → AllByRecursion AccessesUseCaches (sections_of t rs)

@@ -9,5 +9,6 @@ pub mod ParallelRun
 pub mod ShownStores
 pub mod CommittedResizes
 pub mod Landings
+pub mod CachedAccesses
 pub mod Assurances
 pub mod Laws

@@ -1,6 +1,6 @@
 //! Laws of the runs of a trace. Each function does nothing, and its contract is the law.
 
-ghost use Rattle.run_model.specs.Laws.{SerialIsGood, ParallelIsGood, SerialIsParallel, SerialIsTheOneGoodRun, NoStoreIsLost, ClearingRepliesShow, ResizesKeepBoltedPages, AccessesLandByTheirEntries, NoEntryIsWorn};
+ghost use Rattle.run_model.specs.Laws.{SerialIsGood, ParallelIsGood, SerialIsParallel, SerialIsTheOneGoodRun, NoStoreIsLost, ClearingRepliesShow, ResizesKeepBoltedPages, AccessesLandByTheirEntries, CachedLinesAreCurrentOrGone, NoEntryIsWorn};
 
 /// The serial run of a trace is a good run.
 pub fn serial_is_good()
@@ -43,6 +43,12 @@ pub fn resizes_keep_bolted_pages()
 /// in a grant and in no table.
 pub fn accesses_land_by_their_entries()
     ensures { AccessesLandByTheirEntries }
+{}
+
+/// In a good run a hit is by a cached line that is current at the hit's place, and a walk goes past a
+/// cached line only where its entry has left the line's stamp.
+pub fn cached_lines_are_current_or_gone()
+    ensures { CachedLinesAreCurrentOrGone }
 {}
 
 /// In a good run no reply is H_HARDWARE.

@@ -1,5 +1,5 @@
 -- A section: its processors, what they made together, and what it leaves.
-use Rattle.std.specs.Prelude.{IsSomeAnd}
+use Rattle.std.specs.Prelude.{IsSomeAnd, IfSome, is_some, if◌then◌else◌}
 use Rattle.std.specs.Prelude.{◌≡◌, ◌⊎◌, ℕ, zero, suc, ◌+◌, ◌<◌, List, [], ◌∷◌, ◌++◌, length, map, reverse, slice_index_or, Vec, Option, Some, None}
 use Rattle.std.specs.List.{AllByRecursion}
 use Rattle.std.specs.Global.{Global}
@@ -23,9 +23,14 @@ use Rattle.trace_runner.specs.declared.worker.Worker.{Worker}
 use Rattle.trace_runner.specs.Workers.{lines_of_cpu, replied_lines_of_cpu}
 
 -- ---- passes
--- The worker has a pass of this table with one share.
-abbrev pub HasPass : LockTable → Worker → Type 0
-HasPass table w = IsSomeAnd w.pass (λ pass. IsOf table pass × (pass.shares ≡ 1))
+-- A worker's pass, if it has one, is of this table, with one share.
+abbrev pub HasNoOtherPass : LockTable → Worker → Type 0
+HasNoOtherPass table w = IfSome w.pass (λ pass. IsOf table pass × (pass.shares ≡ 1))
+
+-- How many of the workers have a pass.
+abbrev pub pass_count : List Worker → ℕ
+pass_count [] = 0
+pass_count (w ∷ ws) = (if is_some w.pass then 1 else 0) + pass_count ws
 
 -- The receipts that a worker's pass made.
 abbrev pub made_in : Option Pass → List Receipt
@@ -50,10 +55,10 @@ AnySeen opening line (w ∷ ws) =
     IsSomeAnd w.pass (λ pass. IsSeen (view_of pass).actor.lines opening line)
     ⊎ AnySeen opening line ws
 
--- The pass into which those of all workers were joined.
+-- The pass into which all that workers had were joined.
 pub record IsJoinOf (table : LockTable) (ws : List Worker) (pass : Pass) : Type 0 where
   pub of : IsOf table pass
-  pub shares : pass.shares ≡ length ws
+  pub shares : pass.shares ≡ pass_count ws
   pub made : (view_of pass).actor.receipts ≡ all_made ws
   pub gone : (line : Line) → AnyGone line ws → IsGone (view_of pass).fronts line
   pub seen :

@@ -1,6 +1,6 @@
 -- The workers of a section: a processor each, with a pass of its own.
 use Rattle.std.specs.Prelude.{IsSomeAnd}
-use Rattle.std.specs.Prelude.{◌≡◌, ◌≢◌, ℕ, zero, suc, ◌+◌, ◌-◌, ◌^◌, ◌<◌, ◌≤◌, ◌==◌, List, [], ◌∷◌, ◌++◌, length, filter, reverse, map, vec_capacity, Option, Some, None, false}
+use Rattle.std.specs.Prelude.{◌≡◌, ◌≢◌, ℕ, zero, suc, ◌+◌, ◌-◌, ◌^◌, ◌<◌, ◌≤◌, ◌==◌, ◌⊎◌, List, [], ◌∷◌, ◌++◌, length, filter, reverse, map, min, vec_capacity, Option, Some, None, false}
 use Rattle.std.specs.List.{AllByRecursion}
 use Rattle.hpte_fields.specs.TableSize.{entry_count}
 use Rattle.entry_model.specs.State.{State}
@@ -22,6 +22,7 @@ use Rattle.run_model.specs.Sections.{processor_after_lines}
 use Rattle.run_model.specs.Histories.{receipts_by}
 use Rattle.run_model.specs.ParallelRun.{Works}
 use Rattle.trace_runner.specs.declared.worker.Worker.{Worker}
+use Rattle.trace_runner.specs.MachineState.{Holding}
 
 -- A line with its reply.
 abbrev pub replied_line : TraceLine → Reply → RepliedLine
@@ -74,8 +75,16 @@ pub record HasRun
         w.cpu ≡ processor_after_lines w.before.value (replied_lines_of_cpu cpu lines replies)
     pub seen : AllCached (IsSeenBy table pass) w.cpu.cache
 
--- It has a pass, no reply, and room for the replies to its lines.
-pub record IsReady
+-- It has no line among these, and so neither a pass nor a reply: it stays as it was before.
+pub record IsIdle (table : LockTable) (cpu : ℕ) (lines : List TraceLine) (w : Worker) : Type 0 where
+  pub no_line : lines_of_cpu cpu lines ≡ []
+  pub no_pass : w.pass ≡ None
+  pub none : w.replies.items ≡ []
+  pub processor : w.cpu ≡ w.before.value
+  pub hold : AllCached (Holding table.opening.items) w.cpu.cache
+
+-- It has a line, a pass, no reply, and room for the replies to its lines.
+pub record HasStart
     (context : AccessContext)
     (table : LockTable)
     (cpu : ℕ)
@@ -83,14 +92,30 @@ pub record IsReady
     (w : Worker)
     : Type 0
   where
+    pub some : lines_of_cpu cpu lines ≢ []
     pub fresh : IsSomeAnd w.pass (HasRun context table cpu [] [] w)
     pub none : w.replies.items ≡ []
     pub room : length (lines_of_cpu cpu lines) ≤ vec_capacity w.replies
 
--- It has run all of them. The last of its replies is the one to its first line.
+-- A worker before the section: it has a pass exactly where it has a line.
+abbrev pub IsReady : AccessContext → LockTable → ℕ → List TraceLine → Worker → Type 0
+IsReady context table cpu lines w = IsIdle table cpu lines w ⊎ HasStart context table cpu lines w
+
+-- It has run all of its lines. The last of its replies is the one to its first line.
+pub record HasEnd
+    (context : AccessContext)
+    (table : LockTable)
+    (cpu : ℕ)
+    (lines : List TraceLine)
+    (w : Worker)
+    : Type 0
+  where
+    pub some : lines_of_cpu cpu lines ≢ []
+    pub run : IsSomeAnd w.pass (HasRun context table cpu lines (reverse w.replies.items) w)
+
+-- A worker behind the section.
 abbrev pub IsDone : AccessContext → LockTable → ℕ → List TraceLine → Worker → Type 0
-IsDone context table cpu lines w =
-    IsSomeAnd w.pass (HasRun context table cpu lines (reverse w.replies.items) w)
+IsDone context table cpu lines w = IsIdle table cpu lines w ⊎ HasEnd context table cpu lines w
 
 -- A fact of each of a list, by its number from one on.
 abbrev pub AllNumbered : {A : Type 0} → (ℕ → A → Type 0) → ℕ → List A → Type 0
@@ -110,3 +135,9 @@ AreDone context table lines ws =
 -- What the processors were before the section's first line.
 abbrev pub processors_before : List Worker → List Processor
 processors_before ws = map (λ (w : Worker). w.before.value) ws
+
+-- How many of so many processors from one on have a line among these.
+abbrev pub count_with_lines : ℕ → ℕ → List TraceLine → ℕ
+count_with_lines zero cpu lines = 0
+count_with_lines (suc n) cpu lines =
+    min 1 (length (lines_of_cpu cpu lines)) + count_with_lines n (suc cpu) lines

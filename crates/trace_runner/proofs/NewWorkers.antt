@@ -1,6 +1,6 @@
 -- A processor that gets a pass is ready.
 use Rattle.std.specs.Prelude.{IsSomeAnd}
-use Rattle.std.proofs.Common.{◌≡◌, ℕ, zero, suc, ◌+◌, ◌-◌, ◌^◌, ◌<◌, ◌≤◌, List, [], ◌∷◌, ◌++◌, length, map, get_or, true, false, ap, sym, ◌∙◌, refl, subst, ◌⊎◌, inl, inr, arith, Option, Some, append_assoc, vec_capacity}
+use Rattle.std.proofs.Common.{◌≡◌, ℕ, zero, suc, ◌+◌, ◌-◌, ◌^◌, ◌<◌, ◌≤◌, List, [], ◌∷◌, ◌++◌, length, map, get_or, true, false, ap, sym, ◌∙◌, refl, subst, ◌⊎◌, inl, inr, arith, Option, Some, None, append_assoc, vec_capacity}
 use Rattle.std.specs.List.{AllByRecursion}
 use Rattle.std.proofs.lemmas.List.{length-map, get_or_past}
 use Rattle.entry_model.specs.State.{State, empty_state}
@@ -19,8 +19,7 @@ use Rattle.tlb_model.specs.Processor.{Processor}
 use Rattle.trace_read.specs.declared.trace.TraceLine.{TraceLine}
 use Rattle.trace_runner.specs.declared.worker.Worker.{Worker}
 use Rattle.trace_runner.specs.MachineState.{Holding}
-use Rattle.trace_runner.specs.Workers.{lines_of_cpu, IsSeenBy, HasRun, IsReady, AllNumbered}
-use Rattle.trace_runner.specs.SectionRun.{}
+use Rattle.trace_runner.specs.Workers.{lines_of_cpu, IsFresh, IsRest, IsSeenBy, HasRun, IsReady, AllNumbered}
 use Rattle.trace_runner.proofs.SectionWork.{below_or}
 
 pub holds_inside : (a : List State) (line : Line) → Holding a line → line.entry < length a
@@ -32,21 +31,19 @@ holds_inside a line h = at (below_or line.entry (length a)) where
     never (inl less) = absurd (omega (arith, less))
     never (inr current) = let clash : false ≡ true = current.valid in cc
 
--- What the pass is at first.
-pub record First (table : LockTable) (pass : Pass) : Type 0 where
-  pub of : IsOf table pass
-  pub share : pass.shares ≡ 1
-  pub made : (view_of pass).actor.receipts ≡ []
-  pub fronts : (view_of pass).fronts ≡ opening_fronts table.opening.items
+pub nil_of : {A : Type 0} (xs : List A) → length xs ≡ 0 → xs ≡ []
+nil_of [] e = refl
+nil_of (x ∷ xs) e = absurd (omega (arith, e))
 
-pub worker_ready : (set : AccessContext) (table : LockTable) (n j : ℕ) (lines : List TraceLine) (w : Worker) (pass : Pass) (cpu : Processor)
-    → length table.opening.items ≡ 2 ^ (table.order - 4) → AllCached (Holding table.opening.items) cpu.cache → First table pass
-    → (w.cpu ≡ cpu) × (w.before.value ≡ cpu) → w.pass ≡ Some pass → w.replies.items ≡ [] → n ≡ j → length (lines_of_cpu n lines) ≤ vec_capacity w.replies
-    → IsReady set table j lines w
-worker_ready set table n j lines w pass cpu size holds first processors is none number room = record {
-  fresh = subst (λ (o : Option Pass). IsSomeAnd o (HasRun set table j [] [] w)) (sym is) (record {
+pub worker_starts : (set : AccessContext) (table : LockTable) (n : ℕ) (lines : List TraceLine) (w : Worker) (pass : Pass) (cpu : Processor)
+    → length table.opening.items ≡ 2 ^ (table.order - 4) → AllCached (Holding table.opening.items) cpu.cache → IsFresh table 1 pass
+    → (w.cpu ≡ cpu) × (w.before.value ≡ cpu) → w.pass ≡ Some pass → w.replies.items ≡ [] → 0 < length (lines_of_cpu n lines) → length (lines_of_cpu n lines) ≤ vec_capacity w.replies
+    → IsReady set table n lines w
+worker_starts set table n lines w pass cpu size holds first processors is none some room = inr (record {
+  some = λ e. absurd (let zero_count = ap length e in omega (arith, some, zero_count));
+  fresh = subst (λ (o : Option Pass). IsSomeAnd o (HasRun set table n [] [] w)) (sym is) (record {
     of = first.of;
-    share = first.share;
+    share = first.count;
     made = first.made;
     kinds = tt;
     works = first.fronts;
@@ -55,9 +52,26 @@ worker_ready set table n j lines w pass cpu size holds first processors is none 
     seen = subst (λ (s : Processor). AllCached (IsSeenBy table pass) s.cache) (sym processors.0) (all_cached_weaker (Holding table.opening.items) (IsSeenBy table pass) (λ line h. record { inside = subst (λ m. line.entry < m) size (holds_inside table.opening.items line h); seen = inr h }) cpu.cache holds);
   });
   none = none;
-  room = subst (λ m. length (lines_of_cpu m lines) ≤ vec_capacity w.replies) number room;
-}
+  room = room;
+})
 
+pub worker_idles : (set : AccessContext) (table : LockTable) (n : ℕ) (lines : List TraceLine) (w : Worker) (cpu : Processor)
+    → AllCached (Holding table.opening.items) cpu.cache → (w.cpu ≡ cpu) × (w.before.value ≡ cpu) → w.pass ≡ None → w.replies.items ≡ [] → length (lines_of_cpu n lines) ≡ 0
+    → IsReady set table n lines w
+worker_idles set table n lines w cpu holds processors is none no_line = inl (record {
+  no_line = nil_of (lines_of_cpu n lines) no_line;
+  no_pass = is;
+  none = none;
+  processor = processors.0 ∙ sym processors.1;
+  hold = subst (λ (s : Processor). AllCached (Holding table.opening.items) s.cache) (sym processors.0) holds;
+})
+
+-- The opening pass is all of the shares.
+pub first_rest : (table : LockTable) (n : ℕ) (pass : Pass) → 0 < n → IsFresh table n pass → IsRest table n (Some pass)
+first_rest table zero pass some h = absurd (omega (arith, some))
+first_rest table (suc n) pass some h = h
+
+-- ---- lists
 pub all_push : {A : Type 0} (P : ℕ → A → Type 0) (n : ℕ) (xs : List A) (x : A) → AllNumbered P n xs → P (n + length xs) x → AllNumbered P n (xs ++ x ∷ [])
 all_push P n [] x h k = let e : n + 0 ≡ n = omega arith in (subst (λ m. P m x) e k, tt)
 all_push P n (y ∷ ys) x h k = let e : n + suc (length ys) ≡ suc n + length ys = omega arith in (h.0, all_push P (suc n) ys x h.1 (subst (λ m. P m x) e k))

@@ -1,6 +1,6 @@
 -- What the processors of a section did together, and the run_state behind it.
-use Rattle.std.specs.Prelude.{IsSomeAnd}
-use Rattle.std.proofs.Common.{◌≡◌, ℕ, zero, suc, ◌+◌, ◌-◌, ◌*◌, ◌^◌, ◌<◌, ◌≤◌, List, [], ◌∷◌, ◌++◌, length, map, reverse, get_or, true, false, ap, sym, ◌∙◌, refl, subst, ◌⊎◌, inl, inr, eqb, arith, Option, Some, None, Vec, Global}
+use Rattle.std.specs.Prelude.{IsSomeAnd, is_some, min, ◌≢◌}
+use Rattle.std.proofs.Common.{◌≡◌, ℕ, zero, suc, ◌+◌, ◌-◌, ◌*◌, ◌^◌, ◌<◌, ◌≤◌, List, [], ◌∷◌, ◌++◌, length, map, reverse, get_or, true, false, ap, sym, ◌∙◌, refl, subst, ◌⊎◌, inl, inr, eqb, cond, arith, Option, Some, None, Vec, Global}
 use Rattle.std.specs.List.{AllByRecursion}
 use Rattle.std.proofs.lemmas.Bool.{cases_Bool, eqb-true}
 use Rattle.std.proofs.lemmas.List.{length-map, length-set}
@@ -34,8 +34,8 @@ use Rattle.run_model.proofs.Each.{each_append}
 use Rattle.run_model.proofs.LinesByProcessor.{own_no}
 use Rattle.trace_runner.specs.declared.worker.Worker.{Worker}
 use Rattle.trace_runner.specs.MachineState.{Holding, AllHold}
-use Rattle.trace_runner.specs.Workers.{lines_of_cpu, replied_lines_of_cpu, IsSeenBy, HasRun, IsDone, AllNumbered}
-use Rattle.trace_runner.specs.SectionRun.{made_in, all_made, AnyGone, AnySeen, IsJoinOf, IsQueue, IsMerged, Sectioned}
+use Rattle.trace_runner.specs.Workers.{lines_of_cpu, replied_lines_of_cpu, count_with_lines, IsSeenBy, HasRun, IsIdle, IsDone, AllNumbered}
+use Rattle.trace_runner.specs.SectionRun.{made_in, all_made, pass_count, IsGoneFor, IsSeenFor, AnyGone, AnySeen, IsJoinOf, IsQueue, IsMerged, Sectioned}
 
 abbrev Queue : Type 0
 Queue = Vec Reply Global
@@ -74,25 +74,40 @@ map_same f [] (y ∷ ys) e h = absurd (omega (arith, e))
 map_same f (x ∷ xs) [] e h = absurd (omega (arith, e))
 map_same f (x ∷ xs) (y ∷ ys) e h = (λ j. h 0 x (omega arith) j ∷ map_same f xs ys (omega (arith, e)) (λ k d within. h (suc k) d (omega (arith, within))) j)
 
+-- ---- fronts of a processor
+works_below : (set : AccessContext) (f g : List ℕ) (processor : Processor) (ts : List RepliedLine) → Works set f processor ts g → AreBelow f g
+works_below set f g processor [] h = subst (AreBelow f) (sym h) (below_self f)
+works_below set f g processor (t ∷ ts) h = below_on f h.0 g (keeps_below f h.0 (receipts_in t.reply) h.1.keeps) (works_below set h.0 g (processor_after processor t.line.act t.reply) ts h.2)
+
 -- ---- one processor
 module _ (set : AccessContext) (table : LockTable) (lines : List TraceLine) (ts : List RepliedLine) where
   abbrev a : List State
   a = table.opening.items
 
-  -- It ran its lines, and they are its own among all.
+  -- It is done, and its lines are its own among all.
   abbrev pub IsPart : ℕ → Worker → Type 0
-  IsPart cpu w = IsSomeAnd w.pass (HasRun set table cpu lines (reverse w.replies.items) w) × (lines_of_processor cpu ts ≡ replied_lines_of_cpu cpu lines (reverse w.replies.items))
+  IsPart cpu w = IsDone set table cpu lines w × (lines_of_processor cpu ts ≡ replied_lines_of_cpu cpu lines (reverse w.replies.items))
+
+  abbrev Run : ℕ → Worker → Pass → Type 0
+  Run cpu w = HasRun set table cpu lines (reverse w.replies.items) w
 
   -- a fact of its pass, by the pass's case
   by_pass : (o : Option Pass) (P : Pass → Type 0) (Q : Option Pass → Type 0) → ((p : Pass) → P p → Q (Some p)) → IsSomeAnd o P → Q o
   by_pass None P Q f h = absurd h
   by_pass (Some p) P Q f h = f p h
 
+  by_done : (cpu : ℕ) (w : Worker) (Q : Option Pass → Type 0) → ((p : Pass) → Run cpu w p → Q (Some p)) → (IsIdle table cpu lines w → Q None) → IsDone set table cpu lines w → Q w.pass
+  by_done cpu w Q f g (inl idle) = subst Q (sym idle.no_pass) (g idle)
+  by_done cpu w Q f g (inr ended) = by_pass w.pass (Run cpu w) Q f ended.run
+
+  idle_lines : (cpu : ℕ) (w : Worker) → IsPart cpu w → IsIdle table cpu lines w → lines_of_processor cpu ts ≡ []
+  idle_lines cpu w h idle = h.1 ∙ ap (λ ls. lines_with_replies ls (reverse w.replies.items)) idle.no_line
+
   part_made : (cpu : ℕ) (w : Worker) → IsPart cpu w → made_in w.pass ≡ receipts_by (lines_of_processor cpu ts)
-  part_made cpu w h = by_pass w.pass (HasRun set table cpu lines (reverse w.replies.items) w) (λ o. made_in o ≡ receipts_by (lines_of_processor cpu ts)) (λ p run. run.made ∙ ap receipts_by (sym h.1)) h.0
+  part_made cpu w h = by_done cpu w (λ o. made_in o ≡ receipts_by (lines_of_processor cpu ts)) (λ p run. run.made ∙ ap receipts_by (sym h.1)) (λ idle. ap receipts_by (sym (idle_lines cpu w h idle))) h.0
 
   part_processor : (cpu : ℕ) (w : Worker) → IsPart cpu w → processor_after_lines w.before.value (lines_of_processor cpu ts) ≡ w.cpu
-  part_processor cpu w h = by_pass w.pass (HasRun set table cpu lines (reverse w.replies.items) w) (λ o. processor_after_lines w.before.value (lines_of_processor cpu ts) ≡ w.cpu) (λ p run. ap (processor_after_lines w.before.value) h.1 ∙ sym run.processor) h.0
+  part_processor cpu w h = by_done cpu w (λ o. processor_after_lines w.before.value (lines_of_processor cpu ts) ≡ w.cpu) (λ p run. ap (processor_after_lines w.before.value) h.1 ∙ sym run.processor) (λ idle. ap (processor_after_lines w.before.value) (idle_lines cpu w h idle) ∙ sym idle.processor) h.0
 
   -- ---- all processors
   pub made_is : (n : ℕ) (ws : List Worker) → AllNumbered IsPart n ws → all_made ws ≡ receipts_from_processor (length ws) n ts
@@ -113,11 +128,14 @@ module _ (set : AccessContext) (table : LockTable) (lines : List TraceLine) (ts 
   fronts_of (w ∷ ws) zero = fronts_in w.pass
   fronts_of (w ∷ ws) (suc cpu) = fronts_of ws cpu
 
+  part_works : (cpu : ℕ) (w : Worker) → IsPart cpu w → Works set (opening_fronts a) w.before.value (lines_of_processor cpu ts) (fronts_in w.pass)
+  part_works cpu w h = by_done cpu w (λ o. Works set (opening_fronts a) w.before.value (lines_of_processor cpu ts) (fronts_in o)) (λ p run. subst (λ us. Works set (opening_fronts a) w.before.value us (view_of p).fronts) (sym h.1) run.works) (λ idle. subst (λ us. Works set (opening_fronts a) w.before.value us (opening_fronts a)) (sym (idle_lines cpu w h idle)) refl) h.0
+
   pub works_at : (n cpu : ℕ) (ws : List Worker) → AllNumbered IsPart n ws → cpu < length ws → Works set (opening_fronts a) (processor_at (map (λ (w : Worker). w.before.value) ws) cpu) (lines_of_processor (n + cpu) ts) (fronts_of ws cpu)
   works_at n cpu [] h within = absurd (omega arith)
   works_at n zero (w ∷ ws) h within =
       let e : n ≡ n + 0 = omega arith in
-      subst (λ k. Works set (opening_fronts a) w.before.value (lines_of_processor k ts) (fronts_in w.pass)) e (by_pass w.pass (HasRun set table n lines (reverse w.replies.items) w) (λ o. Works set (opening_fronts a) w.before.value (lines_of_processor n ts) (fronts_in o)) (λ p run. subst (λ us. Works set (opening_fronts a) w.before.value us (view_of p).fronts) (sym h.0.1) run.works) h.0.0)
+      subst (λ k. Works set (opening_fronts a) w.before.value (lines_of_processor k ts) (fronts_in w.pass)) e (part_works n w h.0)
   works_at n (suc cpu) (w ∷ ws) h within =
       let e : suc n + cpu ≡ n + suc cpu = omega arith in
       subst (λ k. Works set (opening_fronts a) (processor_at (map (λ (w : Worker). w.before.value) ws) cpu) (lines_of_processor k ts) (fronts_of ws cpu)) e (works_at (suc n) cpu ws h.1 (omega arith))
@@ -127,18 +145,60 @@ module _ (set : AccessContext) (table : LockTable) (lines : List TraceLine) (ts 
   fronts_past (w ∷ ws) zero h = absurd (omega arith)
   fronts_past (w ∷ ws) (suc cpu) h = fronts_past ws cpu (omega arith)
 
-  pub any_gone : (n cpu : ℕ) (ws : List Worker) (line : Line) → AllNumbered IsPart n ws → cpu < length ws → IsGone (fronts_of ws cpu) line → AnyGone line ws
-  any_gone n cpu [] line h within gone = absurd (omega arith)
-  any_gone n zero (w ∷ ws) line h within gone = inl (by_pass w.pass (HasRun set table n lines (reverse w.replies.items) w) (λ o. IsGone (fronts_in o) line → IsSomeAnd o (λ p. IsGone (view_of p).fronts line)) (λ p run g. g) h.0.0 gone)
-  any_gone n (suc cpu) (w ∷ ws) line h within gone = inr (any_gone (suc n) cpu ws line h.1 (omega arith) gone)
+  -- ---- lines that are gone
+  -- What is gone by a processor's fronts is so for its pass, or by the opening fronts.
+  gone_by : (o : Option Pass) (line : Line) → IsGone (fronts_in o) line → IsGoneFor o line ⊎ IsGone (opening_fronts a) line
+  gone_by None line gone = inr gone
+  gone_by (Some p) line gone = inl gone
+
+  first_gone : (line : Line) (w : Worker) (ws : List Worker) → IsGoneFor w.pass line ⊎ IsGone (opening_fronts a) line → AnyGone line (w ∷ ws) ⊎ IsGone (opening_fronts a) line
+  first_gone line w ws (inl own) = inl (inl own)
+  first_gone line w ws (inr gone) = inr gone
+
+  later_gone : (line : Line) (w : Worker) (ws : List Worker) → AnyGone line ws ⊎ IsGone (opening_fronts a) line → AnyGone line (w ∷ ws) ⊎ IsGone (opening_fronts a) line
+  later_gone line w ws (inl any) = inl (inr any)
+  later_gone line w ws (inr gone) = inr gone
+
+  pub gone_case : (cpu : ℕ) (ws : List Worker) (line : Line) → IsGone (fronts_of ws cpu) line → AnyGone line ws ⊎ IsGone (opening_fronts a) line
+  gone_case cpu [] line gone = inr gone
+  gone_case zero (w ∷ ws) line gone = first_gone line w ws (gone_by w.pass line gone)
+  gone_case (suc cpu) (w ∷ ws) line gone = later_gone line w ws (gone_case cpu ws line gone)
+
+  -- A line that is gone by the opening fronts is gone for each pass.
+  pub opening_gone : (n : ℕ) (ws : List Worker) (line : Line) → AllNumbered IsPart n ws → 0 < pass_count ws → IsGone (opening_fronts a) line → AnyGone line ws
+  opening_gone n [] line h some gone = absurd (omega arith)
+  opening_gone n (w ∷ ws) line h some gone = by_case w.pass (part_works n w h.0) (opening_gone (suc n) ws line h.1) some where
+    by_case : (o : Option Pass) → Works set (opening_fronts a) w.before.value (lines_of_processor n ts) (fronts_in o) → (0 < pass_count ws → IsGone (opening_fronts a) line → AnyGone line ws) → 0 < cond (is_some o) 1 0 + pass_count ws → IsGoneFor o line ⊎ AnyGone line ws
+    by_case None works rest low = inr (rest (omega (arith, low)) gone)
+    by_case (Some p) works rest low = inl (gone_on (opening_fronts a) (view_of p).fronts line (works_below set (opening_fronts a) (view_of p).fronts w.before.value (lines_of_processor n ts) works) gone)
 
   -- ---- cached lines
-  part_holds : (b : List State) (n : ℕ) (w : Worker) → IsPart n w → ((line : Line) → line.entry < 2 ^ (table.order - 4) → IsSomeAnd w.pass (λ p. IsSeen (view_of p).actor.lines a line) → Holding b line) → AllCached (Holding b) w.cpu.cache
-  part_holds b n w h f = by_pass w.pass (HasRun set table n lines (reverse w.replies.items) w) (λ o. ((line : Line) → line.entry < 2 ^ (table.order - 4) → IsSomeAnd o (λ p. IsSeen (view_of p).actor.lines a line) → Holding b line) → AllCached (Holding b) w.cpu.cache) (λ p run g. all_cached_weaker (IsSeenBy table p) (Holding b) (λ line s. g line s.inside s.seen) w.cpu.cache run.seen) h.0 f
+  part_holds : (b : List State) (n : ℕ) (w : Worker) → IsPart n w → ((line : Line) → line.entry < 2 ^ (table.order - 4) → IsSeenFor a w.pass line → Holding b line) → ((line : Line) → Holding a line → Holding b line) → AllCached (Holding b) w.cpu.cache
+  part_holds b n w h f kept = by_done n w (λ o. ((line : Line) → line.entry < 2 ^ (table.order - 4) → IsSeenFor a o line → Holding b line) → AllCached (Holding b) w.cpu.cache) (λ p run g. all_cached_weaker (IsSeenBy table p) (Holding b) (λ line s. g line s.inside s.seen) w.cpu.cache run.seen) (λ idle g. all_cached_weaker (Holding a) (Holding b) kept w.cpu.cache idle.hold) h.0 f
 
-  pub all_hold : (b : List State) (n : ℕ) (ws : List Worker) → AllNumbered IsPart n ws → ((line : Line) → line.entry < 2 ^ (table.order - 4) → AnySeen a line ws → Holding b line) → AllHold b (map (λ (w : Worker). w.cpu) ws)
-  all_hold b n [] h f = tt
-  all_hold b n (w ∷ ws) h f = (part_holds b n w h.0 (λ line inside s. f line inside (inl s)), all_hold b (suc n) ws h.1 (λ line inside s. f line inside (inr s)))
+  pub all_hold : (b : List State) (n : ℕ) (ws : List Worker) → AllNumbered IsPart n ws → ((line : Line) → line.entry < 2 ^ (table.order - 4) → AnySeen a line ws → Holding b line) → ((line : Line) → Holding a line → Holding b line) → AllHold b (map (λ (w : Worker). w.cpu) ws)
+  all_hold b n [] h f kept = tt
+  all_hold b n (w ∷ ws) h f kept = (part_holds b n w h.0 (λ line inside s. f line inside (inl s)) kept, all_hold b (suc n) ws h.1 (λ line inside s. f line inside (inr s)) kept)
+
+  -- ---- how many have passes
+  abbrev counted : Option Pass → ℕ
+  counted o = cond (is_some o) 1 0
+
+  some_pass : (o : Option Pass) (P : Pass → Type 0) → IsSomeAnd o P → counted o ≡ 1
+  some_pass None P h = absurd h
+  some_pass (Some p) P h = refl
+
+  some_lines : (ls : List TraceLine) → ls ≢ [] → min 1 (length ls) ≡ 1
+  some_lines [] h = absurd (h refl)
+  some_lines (l ∷ ls) h = omega arith
+
+  part_count : (n : ℕ) (w : Worker) → IsDone set table n lines w → counted w.pass ≡ min 1 (length (lines_of_cpu n lines))
+  part_count n w (inl idle) = ap counted idle.no_pass ∙ sym (ap (λ ls. min 1 (length ls)) idle.no_line)
+  part_count n w (inr ended) = some_pass w.pass (Run n w) ended.run ∙ sym (some_lines (lines_of_cpu n lines) ended.some)
+
+  pub passes_counted : (n : ℕ) (ws : List Worker) → AllNumbered (λ j w. IsDone set table j lines w) n ws → pass_count ws ≡ count_with_lines (length ws) n lines
+  passes_counted n [] h = refl
+  passes_counted n (w ∷ ws) h = (λ j. part_count n w h.0 j + passes_counted (suc n) ws h.1 j)
 
 -- ---- lines of no processor
 pub own_none : (n cpu : ℕ) (lines : List TraceLine) (rs : List Reply) → AllByRecursion (λ (l : TraceLine). l.cpu < n) lines → n ≤ cpu → lines_of_processor cpu (lines_with_replies lines rs) ≡ []
@@ -149,11 +209,7 @@ own_none n cpu (l ∷ ls) (r ∷ rs) h past = at (cases_Bool (eqb l.cpu cpu)) (o
   at (inl same) rest = let e : l.cpu ≡ cpu = eqb-true l.cpu cpu same in absurd (omega (arith, h.0))
   at (inr other) rest = own_no cpu (record { line = l; reply = r }) (lines_with_replies ls rs) other ∙ rest
 
--- ---- fronts and receipts of a processor
-works_below : (set : AccessContext) (f g : List ℕ) (processor : Processor) (ts : List RepliedLine) → Works set f processor ts g → AreBelow f g
-works_below set f g processor [] h = subst (AreBelow f) (sym h) (below_self f)
-works_below set f g processor (t ∷ ts) h = below_on f h.0 g (keeps_below f h.0 (receipts_in t.reply) h.1.keeps) (works_below set h.0 g (processor_after processor t.line.act t.reply) ts h.2)
-
+-- ---- receipts of a processor
 works_inside : (set : AccessContext) (n : ℕ) (f g : List ℕ) (processor : Processor) (ts : List RepliedLine) → length f ≡ n → Works set f processor ts g → AllByRecursion (λ (r : Receipt). r.entry < n) (receipts_by ts)
 works_inside set n f g processor [] size h = tt
 works_inside set n f g processor (t ∷ ts) size h =
@@ -202,7 +258,7 @@ own_parts lines news ws merged = own_from lines (lines_with_replies lines news) 
 
 -- ---- the section
 pub sectioned : (w later : RunState) (table : LockTable) (lines : List TraceLine) (news : List Reply) (ws : List Worker) (all : Pass) (b : List State)
-    → table.opening.items ≡ states_of w → table.order ≡ w.memory.table.order → 0 < length ws
+    → table.opening.items ≡ states_of w → table.order ≡ w.memory.table.order → 0 < pass_count ws
     → map (λ (x : Worker). x.before.value) ws ≡ w.processors → AllByRecursion (λ (l : TraceLine). l.cpu < length ws) lines
     → AllNumbered (λ j x. IsDone (context_of w) table j lines x) 0 ws → IsMerged lines (map (λ (x : Worker). x.replies) ws) news
     → IsJoinOf table ws all → Closes table.opening.items (view_of all) b
@@ -217,7 +273,7 @@ sectioned w later table lines news ws all b opening order some before cpus done 
     size = closes.size ∙ ap length opening;
     in_table = subst (λ n. AllByRecursion (λ (r : Receipt). r.entry < length (states_of w)) (receipts_from_processor n 0 ts)) count (listed_inside (length (states_of w)) (length ws) 0 ts (λ k low. let e : k ≡ 0 + k = omega arith in subst (λ n. AllByRecursion (λ (r : Receipt). r.entry < length (states_of w)) (receipts_by (lines_of_processor n ts))) e (works_inside set (length (states_of w)) (opening_fronts a) (fronts k) (processor_at w.processors k) (lines_of_processor k ts) sizes (here k low))));
     legal = λ entry low. rw (sym made) (subst (λ l. IsLegal (state_at l entry) (history entry (view_of all).actor.receipts) (state_at b entry)) opening (closes.legal entry (subst (λ l. entry < length l) (sym opening) low)));
-    gone = λ cpu line gone. at cpu line gone (below_or cpu (length ws));
+    gone = λ cpu line gone. at line (inside_of cpu line gone) (gone_case set table lines ts cpu ws line gone);
   };
   run_state = run_state ∙ ap (λ (s : List Processor). record w { memory = with_states w.memory b; processors = s }) (sym (processors_are set table lines ts 0 ws parts) ∙ ap (λ s. processors_after_lines 0 s ts) before);
 } where
@@ -257,14 +313,16 @@ sectioned w later table lines news ws all b opening order some before cpus done 
   closing : (line : Line) → line.entry < length a → AnyGone line ws → line.stamp < (state_at b line.entry).stamp
   closing line inside any = closes.gone line inside (gathered.gone line any)
 
-  front_size : (cpu : ℕ) → cpu < length ws → length (fronts cpu) ≡ length a
-  front_size cpu low = (works_below set (opening_fronts a) (fronts cpu) (processor_at w.processors cpu) (lines_of_processor cpu ts) (here cpu low)).size ∙ length-map a pair_of
+  opening_size : length (opening_fronts a) ≡ length a
+  opening_size = length-map a pair_of
 
-  one : (cpu : ℕ) (line : Line) → IsGone (fronts cpu) line → cpu < length ws → line.stamp < (state_at b line.entry).stamp
-  one cpu line gone low = closing line (subst (λ n. line.entry < n) (front_size cpu low) (gone_inside (fronts cpu) line gone)) (any_gone set table lines ts 0 cpu ws line parts low gone)
+  front_size : (cpu : ℕ) → (cpu < length ws) ⊎ (length ws ≤ cpu) → length (fronts cpu) ≡ length a
+  front_size cpu (inl low) = (works_below set (opening_fronts a) (fronts cpu) (processor_at w.processors cpu) (lines_of_processor cpu ts) (here cpu low)).size ∙ opening_size
+  front_size cpu (inr past) = ap length (fronts_past set table lines ts ws cpu past) ∙ opening_size
 
-  at : (cpu : ℕ) (line : Line) → IsGone (fronts cpu) line → (cpu < length ws) ⊎ (length ws ≤ cpu) → line.stamp < (state_at b line.entry).stamp
-  at cpu line gone (inl low) = one cpu line gone low
-  at cpu line gone (inr past) =
-      let left : IsGone (opening_fronts a) line = subst (λ f. IsGone f line) (fronts_past set table lines ts ws cpu past) gone in
-      one 0 line (gone_on (opening_fronts a) (fronts 0) line (works_below set (opening_fronts a) (fronts 0) (processor_at w.processors 0) (lines_of_processor 0 ts) (here 0 some)) left) some
+  inside_of : (cpu : ℕ) (line : Line) → IsGone (fronts cpu) line → line.entry < length a
+  inside_of cpu line gone = subst (λ n. line.entry < n) (front_size cpu (below_or cpu (length ws))) (gone_inside (fronts cpu) line gone)
+
+  at : (line : Line) → line.entry < length a → AnyGone line ws ⊎ IsGone (opening_fronts a) line → line.stamp < (state_at b line.entry).stamp
+  at line inside (inl any) = closing line inside any
+  at line inside (inr gone) = closing line inside (opening_gone set table lines ts 0 ws line parts some gone)

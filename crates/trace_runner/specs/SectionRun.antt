@@ -42,18 +42,40 @@ abbrev pub all_made : List Worker → List Receipt
 all_made [] = []
 all_made (w ∷ ws) = made_in w.pass ++ all_made ws
 
+-- The line is gone for this pass, if there is one.
+abbrev pub IsGoneFor : Option Pass → Line → Type 0
+IsGoneFor pass line = IsSomeAnd pass (λ pass. IsGone (view_of pass).fronts line)
+
 -- The line is gone for one of them.
 abbrev pub AnyGone : Line → List Worker → Type 0
 AnyGone line [] = ⊥
-AnyGone line (w ∷ ws) =
-    IsSomeAnd w.pass (λ pass. IsGone (view_of pass).fronts line) ⊎ AnyGone line ws
+AnyGone line (w ∷ ws) = IsGoneFor w.pass line ⊎ AnyGone line ws
+
+-- This pass, if there is one, has seen the line.
+abbrev pub IsSeenFor : List State → Option Pass → Line → Type 0
+IsSeenFor opening pass line =
+    IsSomeAnd pass (λ pass. IsSeen (view_of pass).actor.lines opening line)
 
 -- One of them has seen the line.
 abbrev pub AnySeen : List State → Line → List Worker → Type 0
 AnySeen opening line [] = ⊥
-AnySeen opening line (w ∷ ws) =
-    IsSomeAnd w.pass (λ pass. IsSeen (view_of pass).actor.lines opening line)
-    ⊎ AnySeen opening line ws
+AnySeen opening line (w ∷ ws) = IsSeenFor opening w.pass line ⊎ AnySeen opening line ws
+
+-- How many shares the pass has, if there is one.
+abbrev pub shares_in : Option Pass → ℕ
+shares_in None = 0
+shares_in (Some pass) = pass.shares
+
+-- Two passes of the table, of which there may be none or one, became one.
+pub record IsPairJoined (table : LockTable) (one other both : Option Pass) : Type 0 where
+  pub of : IfSome both (IsOf table)
+  pub shares : shares_in both ≡ shares_in one + shares_in other
+  pub made : made_in both ≡ made_in one ++ made_in other
+  pub gone : (line : Line) → IsGoneFor one line ⊎ IsGoneFor other line → IsGoneFor both line
+  pub seen :
+      (opening : List State) (line : Line)
+      → IsSeenFor opening one line ⊎ IsSeenFor opening other line
+      → IsSeenFor opening both line
 
 -- The pass into which all that workers had were joined.
 pub record IsJoinOf (table : LockTable) (ws : List Worker) (pass : Pass) : Type 0 where

@@ -75,6 +75,7 @@ pub record HasRun
         w.cpu ≡ processor_after_lines w.before.value (replied_lines_of_cpu cpu lines replies)
     pub seen : AllCached (IsSeenBy table pass) w.cpu.cache
 
+-- ---- ready and done
 -- It has no line among these, and so neither a pass nor a reply: it stays as it was before.
 pub record IsIdle (table : LockTable) (cpu : ℕ) (lines : List TraceLine) (w : Worker) : Type 0 where
   pub no_line : lines_of_cpu cpu lines ≡ []
@@ -141,3 +142,15 @@ abbrev pub count_with_lines : ℕ → ℕ → List TraceLine → ℕ
 count_with_lines zero cpu lines = 0
 count_with_lines (suc n) cpu lines =
     min 1 (length (lines_of_cpu cpu lines)) + count_with_lines n (suc cpu) lines
+
+-- A pass with so many shares that has made no step.
+pub record IsFresh (table : LockTable) (shares : ℕ) (pass : Pass) : Type 0 where
+  pub of : IsOf table pass
+  pub count : pass.shares ≡ shares
+  pub made : (view_of pass).actor.receipts ≡ []
+  pub fronts : (view_of pass).fronts ≡ opening_fronts table.opening.items
+
+-- What is left of the opening pass: so many shares, and no pass where that is none.
+abbrev pub IsRest : LockTable → ℕ → Option Pass → Type 0
+IsRest table zero rest = rest ≡ None
+IsRest table (suc n) rest = IsSomeAnd rest (IsFresh table (suc n))

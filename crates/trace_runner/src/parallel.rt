@@ -14,7 +14,8 @@ ghost use Rattle.trace_runner.specs.SectionRun.{RunsSection, Runs};
 use crate::gate::Gate;
 use crate::machine::Machine;
 use crate::opening::open_machine;
-use crate::section::{join_workers, make_workers, merge_replies, run_workers};
+use crate::new_workers::{count_workers, make_workers};
+use crate::section::{join_workers, merge_replies, run_workers};
 use entry_lock::LockTable;
 use std::alloc::{AllocError, Global};
 use std::sync::Wait;
@@ -46,10 +47,9 @@ fn section<R: Threads + Wait + Sync, G: Gate + Sync>(
         mut cpus,
     } = machine;
     let order = partition.order();
-    let count = cpus.len();
-    let mut queues = Vec::with_capacity(alloc, count)?;
-    let Ok((table, pass)) = LockTable::open(alloc, partition.take_states(), order, count as u32)
-    else {
+    let mut queues = Vec::with_capacity(alloc, cpus.len())?;
+    let passes = count_workers(cpus.len(), lines);
+    let Ok((table, pass)) = LockTable::open(alloc, partition.take_states(), order, passes) else {
         return Err(AllocError);
     };
     let mut workers = make_workers(alloc, &table, pass, &mut cpus, lines)?;

@@ -1,5 +1,5 @@
 //! A section: the lines between two quiet ones, with a thread for each processor.
-ghost use Rattle.std.specs.Prelude.{◌≡◌, ℕ, ◌+◌, ◌<◌, ◌≤◌, ◌++◌, [], length, map, vec_capacity, Some, IfOk, OnOk};
+ghost use Rattle.std.specs.Prelude.{◌≡◌, ℕ, ◌+◌, ◌<◌, ◌≤◌, ◌++◌, [], length, map, vec_capacity, Some, IfOk, IfSome, OnOk};
 ghost use Rattle.std.specs.List.{AllByRecursion};
 ghost use Rattle.std.specs.Thread.{IsSync};
 ghost use Rattle.hpt_walk.specs.Access.{AccessContext};
@@ -10,7 +10,7 @@ ghost use Rattle.trace_runner.specs.declared.worker.Worker.{Worker as WorkerOf};
 ghost use Rattle.hpt_walk.specs.Access.{access_context};
 ghost use Rattle.trace_runner.specs.MachineState.{AllHold};
 ghost use Rattle.trace_runner.specs.Workers.{lines_of_cpu, processors_before, AllNumbered, AreDone, AreReady, IsDone, IsReady, NoneQuiet};
-ghost use Rattle.trace_runner.specs.SectionRun.{HasPass, IsJoinOf, IsQueue, AddsReplies, Sectioned};
+ghost use Rattle.trace_runner.specs.SectionRun.{pass_count, HasNoOtherPass, IsJoinOf, IsPairJoined, IsQueue, AddsReplies, Sectioned};
 
 use crate::gate::Gate;
 use crate::machine::Machine;
@@ -25,77 +25,6 @@ use std::thread::Threads;
 use trace_read::TraceLine;
 use trace_reply::{Replies, Reply};
 use vcpu::Cpu;
-
-/// How many of the lines are this processor's.
-fn count_lines_of(number: u32, lines: &[TraceLine]) -> usize
-    ensures { result ≡ length (lines_of_cpu number lines.now) }
-{
-    let mut count = 0;
-    for line in lines {
-        if line.cpu == number {
-            count += 1;
-        }
-    }
-    count
-}
-
-/// A processor with this pass, and with room for the replies to its lines.
-fn worker_with(
-    alloc: Global,
-    cpu: Cpu,
-    pass: Pass,
-    number: u32,
-    lines: &[TraceLine],
-) -> Result<Worker, AllocError>
-    ensures cpu { IfOk result (λ w. (w.cpu ≡ cpu) × (w.before.value ≡ cpu)) }
-    ensures pass { IfOk result (λ w. w.pass ≡ Some pass) }
-    ensures none { IfOk result (λ w. w.replies.items ≡ []) }
-    ensures room { IfOk result (λ w. length (lines_of_cpu number lines.now) ≤ vec_capacity w.replies) }
-{
-    let replies = Vec::with_capacity(alloc, count_lines_of(number, lines))?;
-    let before = Snapshot::of(&cpu);
-    Ok(Worker {
-        cpu,
-        before,
-        pass: Some(pass),
-        replies,
-    })
-}
-
-/// A worker for each processor: the first with the pass that is given, and each other with one that is
-/// split off. They have room for the replies to their lines.
-pub fn make_workers(
-    alloc: Global,
-    table: &LockTable,
-    pass: Pass,
-    cpus: &mut Vec<Cpu>,
-    lines: &[TraceLine],
-) -> Result<Vec<Worker>, AllocError>
-    requires of { IsOf table.now pass }
-    requires shares { pass.shares ≡ length cpus.old.items }
-    requires some { 0 < length cpus.old.items }
-    requires few { length cpus.old.items ≤ 64 }
-    requires receipts { (view_of pass).actor.receipts ≡ [] }
-    requires fronts { (view_of pass).fronts ≡ opening_fronts table.now.opening.items }
-    requires hold { AllHold table.now.opening.items cpus.old.items }
-    ensures ready { IfOk result
-        (λ ws. (context : AccessContext) → AreReady context table.now lines.now ws.items) }
-    ensures before { IfOk result (λ ws. processors_before ws.items ≡ cpus.old.items) }
-    ensures none { IfOk result (λ ws. cpus.new.items ≡ []) }
-{
-    let mut rest = pass;
-    let others = cpus.len() - 1;
-    let first = cpus.remove(0);
-    let mut workers = Vec::with_capacity(alloc, others + 1)?;
-    for i in 0..others {
-        let part = rest.split(table);
-        let worker = worker_with(alloc, cpus.remove(0), part, i as u32 + 1, lines)?;
-        workers.push(worker)?;
-    }
-    let worker = worker_with(alloc, first, rest, 0, lines)?;
-    workers.insert(0, worker)?;
-    Ok(workers)
-}
 
 /// Runs the lines, each processor's in a thread of its own. It takes no memory for replies or receipts.
 pub fn run_workers<R: Threads + Wait + Sync, G: Gate + Sync>(
@@ -145,6 +74,22 @@ pub fn run_workers<R: Threads + Wait + Sync, G: Gate + Sync>(
     );
 }
 
+/// Joins a pass and a further one, where there are both.
+fn joined(table: &LockTable, one: Option<Pass>, other: Option<Pass>) -> Option<Pass>
+    requires one { IfSome one (IsOf table.now) }
+    requires other { IfSome other (IsOf table.now) }
+    ensures { IsPairJoined table.now one other result }
+{
+    let Some(other) = other else {
+        return one;
+    };
+    let Some(mut both) = one else {
+        return Some(other);
+    };
+    both.join(table, other);
+    Some(both)
+}
+
 /// Joins all passes in the order of processors, and takes the processors and their replies out.
 pub fn join_workers(
     table: &LockTable,
@@ -152,8 +97,8 @@ pub fn join_workers(
     cpus: &mut Vec<Cpu>,
     queues: &mut Vec<Vec<Reply>>,
 ) -> Result<Pass, AllocError>
-    requires some { 0 < length workers.items }
-    requires passes { AllByRecursion (HasPass table.now) workers.items }
+    requires some { 0 < pass_count workers.items }
+    requires passes { AllByRecursion (HasNoOtherPass table.now) workers.items }
     ensures all { IfOk result (IsJoinOf table.now workers.items) }
     ensures cpus { IfOk result
         (λ pass. cpus.new.items ≡ cpus.old.items ++ map (λ (w : WorkerOf). w.cpu) workers.items) }
@@ -162,17 +107,8 @@ pub fn join_workers(
         ≡ queues.old.items ++ map (λ (w : WorkerOf). w.replies) workers.items) }
 {
     let mut rest = workers;
-    let others = rest.len() - 1;
-    let Worker {
-        cpu,
-        before: _,
-        pass,
-        replies,
-    } = rest.remove(0);
-    cpus.push(cpu)?;
-    queues.push(replies)?;
-    let mut all = pass.unwrap();
-    for _ in 0..others {
+    let mut all = None;
+    for _ in 0..rest.len() {
         let Worker {
             cpu,
             before: _,
@@ -181,9 +117,9 @@ pub fn join_workers(
         } = rest.remove(0);
         cpus.push(cpu)?;
         queues.push(replies)?;
-        all.join(table, pass.unwrap());
+        all = joined(table, all, pass);
     }
-    Ok(all)
+    Ok(all.unwrap())
 }
 
 /// Puts the replies to these lines, of which each processor has its own with the first one last, in file

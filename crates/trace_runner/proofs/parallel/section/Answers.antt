@@ -12,10 +12,11 @@ use Rattle.trace_runner.specs.declared.worker.Worker.{Worker}
 use Rattle.hpt_walk.specs.Access.{access_context}
 use Rattle.trace_runner.specs.MachineState.{run_state_of, AllHold}
 use Rattle.trace_runner.specs.Workers.{IsReady, IsDone, AllNumbered}
-use Rattle.trace_runner.specs.SectionRun.{HasPass, IsJoinOf, IsQueue, AddsReplies, RunsSection}
-use Rattle.trace_runner.proofs.JoinedWorkers.{nil_of}
+use Rattle.trace_runner.specs.SectionRun.{HasNoOtherPass, IsJoinOf, IsQueue, AddsReplies, RunsSection}
+use Rattle.trace_runner.proofs.NewWorkers.{nil_of}
+use Rattle.trace_runner.proofs.CountedWorkers.{some_worker, few_workers}
 use Rattle.trace_runner.proofs.SectionsRun.{empty_section}
-use Rattle.trace_runner.proofs.SectionPromises.{Ran, refilled, done_passes, done_queues, workers_count, section_extends, section_holds}
+use Rattle.trace_runner.proofs.SectionPromises.{Ran, refilled, some_passes, not_empty, passes_are, done_passes, done_queues, workers_count, section_extends, section_holds}
 use Rattle.trace_runner.proofs.parallel.section.Goals as goal
 
 pub returns-then-is_empty : goal.returns-then-is_empty
@@ -30,7 +31,7 @@ run_workers-requires-clause-ready g c κs within =
 pub join_workers-requires-clause-passes : goal.join_workers-requires-clause-passes
 join_workers-requires-clause-passes g c =
     let same = refilled c.in_ok-workers.workers.len c.run_workers.new.workers c.in_ok-workers.workers.items c.in_ok-workers.workers.ok.0 (c.run_workers.auto.workers ∙ ap length c.as_mut_slice.ensures.value) in
-    subst (AllByRecursion (HasPass c.in-Ok.table)) (sym same) (done_passes (access_context c.in-Ok.table.order c.grants.result.now.grants) c.in-Ok.table c.args.lines.now c.run_workers.new.workers c.run_workers.ensures.done)
+    subst (AllByRecursion (HasNoOtherPass c.in-Ok.table)) (sym same) (done_passes (access_context c.in-Ok.table.order c.grants.result.now.grants) c.in-Ok.table c.args.lines.now c.run_workers.new.workers c.run_workers.ensures.done)
 
 pub merge_replies-requires-clause-cpus : goal.merge_replies-requires-clause-cpus
 merge_replies-requires-clause-cpus g c =
@@ -56,13 +57,15 @@ invariant_of-result g c =
     let same = refilled c.in_ok-workers.workers.len ws c.in_ok-workers.workers.items c.in_ok-workers.workers.ok.0 (c.run_workers.auto.workers ∙ ap length c.as_mut_slice.ensures.value) in
     let order : table.order ≡ partition.memory.table.order = c.in-Ok.ensures.order ∙ c.order-order.ensures.value in
     let granted : c.grants.result.now ≡ partition.granted = c.grants.ensures ∙ ap (λ (p : PartitionState). p.granted) c.take_states.ensures.out in
+    let before = c.run_workers.ensures.before ∙ ap (map (λ (w : Worker). w.before.value)) c.as_mut_slice.ensures.value ∙ c.in_ok-workers.ensures.before in
+    let on_cpus = subst (λ (v : RunState). AllByRecursion (λ (l : TraceLine). l.cpu < length v.processors) c.args.lines.now) (sym c.machine.view_is) c.requires.cpus in
     let ran : Ran partition c.put_states.new.self processors c.join_workers.new.cpus.items set table c.args.lines.now c.args.replies.now.items c.merge_replies.new.replies.items ws c.join_workers.new.queues.items c.in_ok-pass.pass c.close-closed.result.closing.items = record {
       context = λ j. access_context (order j) (granted j).grants;
       opening = c.in-Ok.ensures.opening ∙ c.take_states.ensures.states;
       order = order;
-      some = subst (λ (v : RunState). 0 < length v.processors) (sym c.machine.view_is) c.requires.some;
-      before = c.run_workers.ensures.before ∙ ap (map (λ (w : Worker). w.before.value)) c.as_mut_slice.ensures.value ∙ c.in_ok-workers.ensures.before;
-      on_cpus = subst (λ (v : RunState). AllByRecursion (λ (l : TraceLine). l.cpu < length v.processors) c.args.lines.now) (sym c.machine.view_is) c.requires.cpus;
+      some = some_passes set table c.args.lines.now ws processors before c.run_workers.ensures.done (not_empty c.args.lines.now (sym c.is_empty.ensures ∙ c.if-is_empty.false)) on_cpus;
+      before = before;
+      on_cpus = on_cpus;
       done = c.run_workers.ensures.done;
       are_queues = c.in_ok-pass.ensures.queues ∙ (λ j. c.in_ok-queues.ensures.items j ++ map (λ (w : Worker). w.replies) (same j));
       news = c.in_ok-merge_replies.ensures.merged;
@@ -86,13 +89,15 @@ returns g c =
     let same = refilled c.in_ok-workers.workers.len ws c.in_ok-workers.workers.items c.in_ok-workers.workers.ok.0 (c.run_workers.auto.workers ∙ ap length c.as_mut_slice.ensures.value) in
     let order : table.order ≡ partition.memory.table.order = c.in-Ok.ensures.order ∙ c.order-order.ensures.value in
     let granted : c.grants.result.now ≡ partition.granted = c.grants.ensures ∙ ap (λ (p : PartitionState). p.granted) c.take_states.ensures.out in
+    let before = c.run_workers.ensures.before ∙ ap (map (λ (w : Worker). w.before.value)) c.as_mut_slice.ensures.value ∙ c.in_ok-workers.ensures.before in
+    let on_cpus = subst (λ (v : RunState). AllByRecursion (λ (l : TraceLine). l.cpu < length v.processors) c.args.lines.now) (sym c.machine.view_is) c.requires.cpus in
     let ran : Ran partition c.put_states.new.self processors c.join_workers.new.cpus.items set table c.args.lines.now c.args.replies.now.items c.merge_replies.new.replies.items ws c.join_workers.new.queues.items c.in_ok-pass.pass c.close-closed.result.closing.items = record {
       context = λ j. access_context (order j) (granted j).grants;
       opening = c.in-Ok.ensures.opening ∙ c.take_states.ensures.states;
       order = order;
-      some = subst (λ (v : RunState). 0 < length v.processors) (sym c.machine.view_is) c.requires.some;
-      before = c.run_workers.ensures.before ∙ ap (map (λ (w : Worker). w.before.value)) c.as_mut_slice.ensures.value ∙ c.in_ok-workers.ensures.before;
-      on_cpus = subst (λ (v : RunState). AllByRecursion (λ (l : TraceLine). l.cpu < length v.processors) c.args.lines.now) (sym c.machine.view_is) c.requires.cpus;
+      some = some_passes set table c.args.lines.now ws processors before c.run_workers.ensures.done (not_empty c.args.lines.now (sym c.is_empty.ensures ∙ c.if-is_empty.false)) on_cpus;
+      before = before;
+      on_cpus = on_cpus;
       done = c.run_workers.ensures.done;
       are_queues = c.in_ok-pass.ensures.queues ∙ (λ j. c.in_ok-queues.ensures.items j ++ map (λ (w : Worker). w.replies) (same j));
       news = c.in_ok-merge_replies.ensures.merged;

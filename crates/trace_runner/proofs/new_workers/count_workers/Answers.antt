@@ -1,0 +1,27 @@
+use Rattle.std.proofs.Common.{◌≡◌, ◌+◌, ◌-◌, ◌<◌, sym, subst, arith, length}
+use Rattle.std.specs.Prelude.{min}
+use Rattle.trace_runner.specs.Workers.{count_with_lines, lines_of_cpu}
+use Rattle.trace_runner.proofs.CountedWorkers.{count_all, count_step, count_none}
+use Rattle.trace_runner.proofs.new_workers.count_workers.Goals as goal
+use Rattle.trace_runner.proofs.new_workers.count_workers.Goals.{then-count_lines_of-gt0, else-count_lines_of-gt0}
+
+pub loop-number-init : goal.loop-number-init
+loop-number-init c = record { count = omega (arith, count_all c.args.cpus c.args.lines.now); low = omega arith }
+
+pub overflow_add-count : goal.overflow_add-count
+overflow_add-count c = omega (arith, c.loop-number.invariant.low, c.loop-number-test.true, c.requires.few)
+
+pub loop-number-preserved : goal.loop-number-preserved
+loop-number-preserved c =
+    let i = c.loop-number.invariant in
+    let step = count_step c.args.cpus c.loop-number.number c.args.lines.now c.loop-number-test.true in
+    elim c.if-count_lines_of-gt0.branch [
+      | then-count_lines_of-gt0 w ↦ record { count = omega (arith, w.count-is, i.count, step, c.count_lines_of.ensures, w.if-count_lines_of-gt0.true); low = omega (arith, w.count-is, i.low) }
+      | else-count_lines_of-gt0 w ↦ record { count = omega (arith, w.count-is, i.count, step, c.count_lines_of.ensures, w.if-count_lines_of-gt0.false); low = omega (arith, w.count-is, i.low) }
+    ]
+
+pub returns : goal.returns
+returns c =
+    let i = c.loop-number.invariant in
+    let none = count_none c.args.cpus c.loop-number.number c.args.lines.now (omega (arith, c.loop-number-test.false)) in
+    record { count = omega (arith, i.count, none) }

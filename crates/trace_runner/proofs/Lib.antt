@@ -11,6 +11,8 @@ pub mod WorkSteps
 pub mod NewWorkers
 pub mod JoinedWorkers
 pub mod MergedReplies
+pub mod Numbered
+pub mod WorkerGroups
 pub mod SectionWork
 pub mod SectionPromises
 pub mod SectionsRun

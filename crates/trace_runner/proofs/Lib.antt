@@ -12,6 +12,8 @@ pub mod NewWorkers
 pub mod CountedWorkers
 pub mod JoinedWorkers
 pub mod MergedReplies
+pub mod Numbered
+pub mod WorkerGroups
 pub mod SectionWork
 pub mod SectionPromises
 pub mod SectionsRun

@@ -1,3 +1,4 @@
 pub mod MachineState
 pub mod Workers
 pub mod SectionRun
+pub mod WorkerGroup

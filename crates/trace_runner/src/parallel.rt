@@ -13,9 +13,10 @@ ghost use Rattle.trace_runner.specs.SectionRun.{RunsSection, Runs};
 
 use crate::gate::Gate;
 use crate::machine::Machine;
-use crate::opening::open_machine;
 use crate::new_workers::{count_workers, make_workers};
-use crate::section::{join_workers, merge_replies, run_workers};
+use crate::opening::open_machine;
+use crate::section::{join_workers, merge_replies};
+use crate::threads::run_workers;
 use entry_lock::LockTable;
 use std::alloc::{AllocError, Global};
 use std::sync::Wait;

@@ -1,78 +1,18 @@
-//! A section: the lines between two quiet ones, with a thread for each processor.
-ghost use Rattle.std.specs.Prelude.{◌≡◌, ℕ, ◌+◌, ◌<◌, ◌≤◌, ◌++◌, [], length, map, vec_capacity, Some, IfOk, IfSome, OnOk};
+//! A section: the lines between two quiet ones, with a worker for each processor.
+ghost use Rattle.std.specs.Prelude.{◌≡◌, ℕ, ◌<◌, ◌++◌, length, map, IfOk, IfSome, OnOk};
 ghost use Rattle.std.specs.List.{AllByRecursion};
-ghost use Rattle.std.specs.Thread.{IsSync};
-ghost use Rattle.hpt_walk.specs.Access.{AccessContext};
-ghost use Rattle.entry_model.specs.Fronts.{opening_fronts};
-ghost use Rattle.entry_lock.specs.PassOfTable.{IsOf, view_of};
+ghost use Rattle.entry_lock.specs.PassOfTable.{IsOf};
 ghost use Rattle.trace_read.specs.declared.trace.TraceLine.{TraceLine as LineOf};
 ghost use Rattle.trace_runner.specs.declared.worker.Worker.{Worker as WorkerOf};
-ghost use Rattle.hpt_walk.specs.Access.{access_context};
-ghost use Rattle.trace_runner.specs.MachineState.{AllHold};
-ghost use Rattle.trace_runner.specs.Workers.{lines_of_cpu, processors_before, AllNumbered, AreDone, AreReady, IsDone, IsReady, NoneQuiet};
-ghost use Rattle.trace_runner.specs.SectionRun.{pass_count, HasNoOtherPass, IsJoinOf, IsPairJoined, IsQueue, AddsReplies, Sectioned};
+ghost use Rattle.trace_runner.specs.Workers.{AllNumbered};
+ghost use Rattle.trace_runner.specs.SectionRun.{pass_count, HasNoOtherPass, IsJoinOf, IsPairJoined, IsQueue, AddsReplies};
 
-use crate::gate::Gate;
-use crate::machine::Machine;
-use crate::worker::{Worker, work};
+use crate::worker::Worker;
 use entry_lock::{LockTable, Pass};
-use frame_grants::Grants;
-use std::alloc::{AllocError, Global};
-use std::snapshot::Snapshot;
-use std::sync::Wait;
-use std::thread;
-use std::thread::Threads;
+use std::alloc::AllocError;
 use trace_read::TraceLine;
 use trace_reply::{Replies, Reply};
 use vcpu::Cpu;
-
-/// Runs the lines, each processor's in a thread of its own. It takes no memory for replies or receipts.
-pub fn run_workers<R: Threads + Wait + Sync, G: Gate + Sync>(
-    rt: &R,
-    table: &LockTable,
-    gate: &G,
-    grants: &Grants,
-    lines: &[TraceLine],
-    workers: &mut [Worker],
-)
-    requires none_quiet { NoneQuiet lines.now }
-    requires some { 0 < length workers.old }
-    requires few { length workers.old ≤ 64 }
-    requires ready { AreReady
-        (access_context table.now.order grants.now.grants)
-        table.now
-        lines.now
-        workers.old }
-    ensures done { AreDone
-        (access_context table.now.order grants.now.grants)
-        table.now
-        lines.now
-        workers.new }
-    ensures before { processors_before workers.new ≡ processors_before workers.old }
-{
-    let threads = workers.len();
-    thread::for_each_mut(
-        rt,
-        workers,
-        threads,
-        &|i: usize, worker: &mut Worker|
-            requires { IsSync R.row × IsSync G.row × (i < 64) × NoneQuiet lines.now
-                × IsReady
-                (access_context table.now.order grants.now.grants)
-                table.now
-                i
-                lines.now
-                worker.old }
-            ensures { IsDone
-                (access_context table.entry.now.order grants.entry.now.grants)
-                table.entry.now
-                i
-                lines.entry.now
-                worker.exit.now
-                × (worker.exit.now.before.value ≡ worker.entry.now.before.value) }
-        { work(rt, table, gate, grants, lines, i as u32, worker) },
-    );
-}
 
 /// Joins a pass and a further one, where there are both.
 fn joined(table: &LockTable, one: Option<Pass>, other: Option<Pass>) -> Option<Pass>

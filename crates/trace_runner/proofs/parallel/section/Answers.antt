@@ -1,4 +1,4 @@
-use Rattle.std.proofs.Common.{◌≡◌, ◌-◌, ◌^◌, ◌<◌, ◌++◌, ◌∙◌, sym, ap, subst, refl, length, map, take, drop, List, [], arith, append-nil}
+use Rattle.std.proofs.Common.{◌≡◌, ◌-◌, ◌^◌, ◌<◌, ◌≤◌, ◌++◌, ◌∙◌, sym, ap, subst, refl, length, map, take, drop, List, [], false, arith, append-nil}
 use Rattle.std.proofs.lemmas.Bool.{eqb-true}
 use Rattle.std.proofs.lemmas.List.{length-map}
 use Rattle.std.specs.List.{AllByRecursion}
@@ -11,8 +11,8 @@ use Rattle.run_model.specs.RunState.{RunState}
 use Rattle.trace_runner.specs.declared.worker.Worker.{Worker}
 use Rattle.hpt_walk.specs.Access.{access_context}
 use Rattle.trace_runner.specs.MachineState.{run_state_of, AllHold}
-use Rattle.trace_runner.specs.Workers.{IsReady, IsDone, AllNumbered}
-use Rattle.trace_runner.specs.SectionRun.{HasNoOtherPass, IsJoinOf, IsQueue, AddsReplies, RunsSection}
+use Rattle.trace_runner.specs.Workers.{count_with_lines, IsReady, IsDone, AllNumbered}
+use Rattle.trace_runner.specs.SectionRun.{pass_count, HasNoOtherPass, IsJoinOf, IsQueue, AddsReplies, RunsSection}
 use Rattle.trace_runner.proofs.NewWorkers.{nil_of}
 use Rattle.trace_runner.proofs.CountedWorkers.{some_worker, few_workers}
 use Rattle.trace_runner.proofs.SectionsRun.{empty_section}
@@ -27,6 +27,38 @@ returns-then-is_empty g c =
 pub run_workers-requires-clause-ready : goal.run_workers-requires-clause-ready
 run_workers-requires-clause-ready g c κs within =
     subst (AllNumbered (λ j w. IsReady (access_context c.in-Ok.table.order c.grants.result.now.grants) c.in-Ok.table j c.args.lines.now w) 0) (sym c.as_mut_slice.ensures.value) (c.in_ok-workers.ensures.ready (access_context c.in-Ok.table.order c.grants.result.now.grants))
+
+pub open-requires-clause-some_pass : goal.open-requires-clause-some_pass
+open-requires-clause-some_pass g c =
+    let some = not_empty c.args.lines.now (sym c.is_empty.ensures ∙ c.if-is_empty.false) in
+    let on_cpus = subst (λ (v : RunState). AllByRecursion (λ (l : TraceLine). l.cpu < length v.processors) c.args.lines.now) (sym c.machine.view_is) c.requires.cpus in
+    let same : c.len-2.result ≡ length c.machine.inside.cpus.items = omega arith in
+    let count = c.count_workers-passes.ensures.count ∙ ap (λ n. count_with_lines n 0 c.args.lines.now) same in
+    omega (arith, count, some_worker (length c.machine.inside.cpus.items) c.args.lines.now some on_cpus)
+
+pub open-requires-clause-few : goal.open-requires-clause-few
+open-requires-clause-few g c =
+    let few = subst (λ (v : RunState). length v.processors ≤ 64) (sym c.machine.view_is) c.requires.few in
+    omega (arith, c.count_workers-passes.ensures.count, few_workers c.len-2.result 0 c.args.lines.now, few)
+
+pub join_workers-requires-clause-some : goal.join_workers-requires-clause-some
+join_workers-requires-clause-some g c =
+    let set = access_context c.in-Ok.table.order c.grants.result.now.grants in
+    let ws = c.run_workers.new.workers in
+    let same = refilled c.in_ok-workers.workers.len ws c.in_ok-workers.workers.items c.in_ok-workers.workers.ok.0 (c.run_workers.auto.workers ∙ ap length c.as_mut_slice.ensures.value) in
+    let before = c.run_workers.ensures.before ∙ ap (map (λ (w : Worker). w.before.value)) c.as_mut_slice.ensures.value ∙ c.in_ok-workers.ensures.before in
+    let on_cpus = subst (λ (v : RunState). AllByRecursion (λ (l : TraceLine). l.cpu < length v.processors) c.args.lines.now) (sym c.machine.view_is) c.requires.cpus in
+    subst (λ l. 0 < pass_count l) (sym same) (some_passes set c.in-Ok.table c.args.lines.now ws c.machine.inside.cpus.items before c.run_workers.ensures.done (not_empty c.args.lines.now (sym c.is_empty.ensures ∙ c.if-is_empty.false)) on_cpus)
+
+pub close-closed-requires-clause-all : goal.close-closed-requires-clause-all
+close-closed-requires-clause-all g c =
+    let set = access_context c.in-Ok.table.order c.grants.result.now.grants in
+    let ws = c.run_workers.new.workers in
+    let same = refilled c.in_ok-workers.workers.len ws c.in_ok-workers.workers.items c.in_ok-workers.workers.ok.0 (c.run_workers.auto.workers ∙ ap length c.as_mut_slice.ensures.value) in
+    let before = c.run_workers.ensures.before ∙ ap (map (λ (w : Worker). w.before.value)) c.as_mut_slice.ensures.value ∙ c.in_ok-workers.ensures.before in
+    let all = passes_are set c.in-Ok.table c.args.lines.now ws c.machine.inside.cpus.items before c.run_workers.ensures.done in
+    let size : length c.machine.inside.cpus.items ≡ c.len-2.result = omega arith in
+    c.in_ok-pass.ensures.all.shares ∙ ap pass_count same ∙ all ∙ ap (λ n. count_with_lines n 0 c.args.lines.now) size ∙ sym c.count_workers-passes.ensures.count ∙ sym c.in-Ok.ensures.passes
 
 pub join_workers-requires-clause-passes : goal.join_workers-requires-clause-passes
 join_workers-requires-clause-passes g c =

@@ -1,5 +1,4 @@
-use Rattle.std.proofs.Common.{◌≡◌, sym, refl, subst, arith, length, ◌≤◌}
-use Rattle.std.specs.Prelude.{vec_capacity}
+use Rattle.std.proofs.Common.{sym, refl, subst, arith, length, ◌≤◌}
 use Rattle.std.proofs.lemmas.Bool.{eq-eqb}
 use Rattle.hpt_walk.specs.Access.{access_context}
 use Rattle.trace_runner.specs.Workers.{lines_of_cpu}

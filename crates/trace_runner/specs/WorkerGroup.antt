@@ -1,0 +1,33 @@
+-- A group of workers side by side, which run together.
+use Rattle.std.specs.Prelude.{◌≡◌, ℕ, ◌+◌, ◌<◌, ◌≤◌, List, length}
+use Rattle.entry_lock.specs.declared.table.LockTable.{LockTable}
+use Rattle.hpt_walk.specs.Access.{AccessContext}
+use Rattle.trace_read.specs.declared.trace.TraceLine.{TraceLine}
+use Rattle.trace_runner.specs.declared.worker.Worker.{Worker}
+use Rattle.trace_runner.specs.Workers.{IsReady, IsDone, AllNumbered, processors_before}
+
+-- There is one, and they are ready, the first as the processor of this number.
+pub record IsReadyGroup
+    (context : AccessContext)
+    (table : LockTable)
+    (lines : List TraceLine)
+    (first : ℕ)
+    (ws : List Worker)
+    : Type 0
+  where
+    pub some : 0 < length ws
+    pub few : first + length ws ≤ 64
+    pub ready : AllNumbered (λ cpu w. IsReady context table cpu lines w) first ws
+
+-- They have run their lines, each at its place.
+pub record RunsGroup
+    (context : AccessContext)
+    (table : LockTable)
+    (lines : List TraceLine)
+    (first : ℕ)
+    (old new : List Worker)
+    : Type 0
+  where
+    pub count : length new ≡ length old
+    pub done : AllNumbered (λ cpu w. IsDone context table cpu lines w) first new
+    pub before : processors_before new ≡ processors_before old

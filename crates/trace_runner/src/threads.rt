@@ -1,0 +1,170 @@
+//! The threads of a section: one for each processor that has a pass.
+ghost use Rattle.std.specs.Prelude.{◌≡◌, ℕ, ◌<◌, ◌≤◌, length, is_some};
+ghost use Rattle.std.specs.List.{list_any};
+ghost use Rattle.std.specs.Thread.{IsSync};
+ghost use Rattle.hpt_walk.specs.Access.{access_context};
+ghost use Rattle.trace_runner.specs.declared.worker.Worker.{Worker as WorkerOf};
+ghost use Rattle.trace_runner.specs.Workers.{processors_before, AreDone, AreReady, NoneQuiet};
+ghost use Rattle.trace_runner.specs.WorkerGroup.{IsReadyGroup, RunsGroup};
+
+use crate::gate::Gate;
+use crate::worker::{Worker, work};
+use entry_lock::LockTable;
+use frame_grants::Grants;
+use std::sync::Wait;
+use std::thread::{Threads, join_mut};
+use trace_read::TraceLine;
+
+/// Runs the lines, each processor's in a thread of its own; a processor without lines gets none. It
+/// takes no memory for replies or receipts.
+pub fn run_workers<R: Threads + Wait + Sync, G: Gate + Sync>(
+    rt: &R,
+    table: &LockTable,
+    gate: &G,
+    grants: &Grants,
+    lines: &[TraceLine],
+    workers: &mut [Worker],
+)
+    requires none_quiet { NoneQuiet lines.now }
+    requires some { 0 < length workers.old }
+    requires few { length workers.old ≤ 64 }
+    requires ready { AreReady
+        (access_context table.now.order grants.now.grants)
+        table.now
+        lines.now
+        workers.old }
+    ensures done { AreDone
+        (access_context table.now.order grants.now.grants)
+        table.now
+        lines.now
+        workers.new }
+    ensures before { processors_before workers.new ≡ processors_before workers.old }
+{
+    run_from(rt, table, gate, grants, lines, 0, workers);
+}
+
+/// Runs the lines of these workers, of which the first has this number. Where only one half of them has
+/// passes, that half runs in this thread, and the other stays as it is.
+#[cycle(halves)]
+fn run_from<R: Threads + Wait + Sync, G: Gate + Sync>(
+    rt: &R,
+    table: &LockTable,
+    gate: &G,
+    grants: &Grants,
+    lines: &[TraceLine],
+    first: u32,
+    workers: &mut [Worker],
+)
+    requires none_quiet { NoneQuiet lines.now }
+    requires ready { IsReadyGroup
+        (access_context table.now.order grants.now.grants)
+        table.now
+        lines.now
+        first
+        workers.old }
+    ensures { RunsGroup
+        (access_context table.now.order grants.now.grants)
+        table.now
+        lines.now
+        first
+        workers.old
+        workers.new }
+{
+    if workers.len() == 1 {
+        work(rt, table, gate, grants, lines, first, &mut workers[0]);
+        return;
+    }
+    let middle = workers.len() / 2;
+    let second = first + middle as u32;
+    let (front, back) = workers.split_at_mut(middle);
+    if !any_has_pass(front) {
+        run_from(rt, table, gate, grants, lines, second, back);
+    } else if !any_has_pass(back) {
+        run_from(rt, table, gate, grants, lines, first, front);
+    } else {
+        both_halves(rt, table, gate, grants, lines, first, front, second, back);
+    }
+}
+
+/// Runs the lines of both halves, of one in a thread of its own.
+#[cycle(halves)]
+fn both_halves<R: Threads + Wait + Sync, G: Gate + Sync>(
+    rt: &R,
+    table: &LockTable,
+    gate: &G,
+    grants: &Grants,
+    lines: &[TraceLine],
+    first: u32,
+    front: &mut [Worker],
+    second: u32,
+    back: &mut [Worker],
+)
+    requires none_quiet { NoneQuiet lines.now }
+    requires front { IsReadyGroup
+        (access_context table.now.order grants.now.grants)
+        table.now
+        lines.now
+        first
+        front.old }
+    requires back { IsReadyGroup
+        (access_context table.now.order grants.now.grants)
+        table.now
+        lines.now
+        second
+        back.old }
+    ensures front { RunsGroup
+        (access_context table.now.order grants.now.grants)
+        table.now
+        lines.now
+        first
+        front.old
+        front.new }
+    ensures back { RunsGroup
+        (access_context table.now.order grants.now.grants)
+        table.now
+        lines.now
+        second
+        back.old
+        back.new }
+{
+    let mut low = ||
+        requires { IsSync R.row × IsSync G.row × NoneQuiet lines.now
+            × IsReadyGroup
+            (access_context table.now.order grants.now.grants)
+            table.now
+            lines.now
+            first
+            front.now }
+        ensures { RunsGroup
+            (access_context table.entry.now.order grants.entry.now.grants)
+            table.entry.now
+            lines.entry.now
+            first
+            front.entry.now
+            front.exit.now }
+    { run_from(rt, table, gate, grants, lines, first, front) };
+    let mut high = ||
+        requires { IsSync R.row × IsSync G.row × NoneQuiet lines.now
+            × IsReadyGroup
+            (access_context table.now.order grants.now.grants)
+            table.now
+            lines.now
+            second
+            back.now }
+        ensures { RunsGroup
+            (access_context table.entry.now.order grants.entry.now.grants)
+            table.entry.now
+            lines.entry.now
+            second
+            back.entry.now
+            back.exit.now }
+    { run_from(rt, table, gate, grants, lines, second, back) };
+    join_mut(rt, &mut low, &mut high);
+}
+
+/// Whether one of the workers has a pass.
+fn any_has_pass(workers: &[Worker]) -> bool
+    ensures { result ≡ list_any (λ (w : WorkerOf). is_some w.pass) workers.now }
+{
+    workers.iter().any(|worker| worker.pass.is_some())
+}

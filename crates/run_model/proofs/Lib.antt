@@ -24,6 +24,7 @@ pub mod AllSafe
 pub mod ClearedBits
 pub mod SmallPartition
 mod AssuranceRows
+mod CachedAccessRows
 mod HistoryRows
 mod SectionRows
 mod ParallelRows

@@ -1,11 +1,10 @@
 -- The passes of all processors become one.
-use Rattle.std.specs.Prelude.{IsSomeAnd, IfSome, is_some}
-use Rattle.std.proofs.Common.{◌≡◌, ℕ, zero, suc, ◌+◌, ◌<◌, List, [], ◌∷◌, ◌++◌, length, map, get_or, remove, ap, sym, ◌∙◌, refl, subst, true, cond, ◌⊎◌, inl, inr, Option, Some, None, arith, append_assoc, append-nil}
+use Rattle.std.specs.Prelude.{IfSome, is_some}
+use Rattle.std.proofs.Common.{◌≡◌, ◌+◌, ◌<◌, List, [], ◌∷◌, ◌++◌, length, map, get_or, remove, ap, sym, ◌∙◌, refl, subst, true, cond, ◌⊎◌, inl, inr, Option, Some, None, arith, append_assoc, append-nil}
 use Rattle.std.specs.List.{AllByRecursion}
 use Rattle.std.proofs.lemmas.List.Elements.{Contains-append_left, Contains-append_right}
 use Rattle.entry_model.specs.State.{State}
 use Rattle.entry_model.specs.declared.line.Line.{Line}
-use Rattle.entry_model.specs.declared.receipt.Receipt.{Receipt}
 use Rattle.entry_model.specs.Fronts.{IsGone}
 use Rattle.lock_core.specs.declared.sighting.Sighting.{Sighting}
 use Rattle.lock_core.specs.Laws.{sighting_by}

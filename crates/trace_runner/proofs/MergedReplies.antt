@@ -6,11 +6,11 @@ use Rattle.std.proofs.lemmas.List.{drop_more, take_more, drop_all, take_all, get
 use Rattle.std.proofs.lemmas.List.Elements.{filter-append}
 use Rattle.trace_read.specs.declared.trace.TraceLine.{TraceLine}
 use Rattle.trace_reply.specs.declared.reply.Reply.{Reply}
-use Rattle.trace_reply.specs.Replies.{RepliedLine, IsOfKind, AreReplies, lines_with_replies}
+use Rattle.trace_reply.specs.Replies.{RepliedLine, AreReplies, lines_with_replies}
 use Rattle.run_model.specs.Histories.{lines_of_processor}
 use Rattle.run_model.proofs.LinesByProcessor.{own_yes, own_no}
 use Rattle.trace_runner.specs.Workers.{replied_line, lines_of_cpu, replied_lines_of_cpu, AllNumbered}
-use Rattle.trace_runner.specs.SectionRun.{IsQueue, IsMerged, AddsReplies}
+use Rattle.trace_runner.specs.SectionRun.{IsQueue, AddsReplies}
 use Rattle.trace_runner.proofs.WorkSteps.{replied_lines_more, kinds_more}
 
 abbrev Queue : Type 0

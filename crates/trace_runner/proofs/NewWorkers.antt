@@ -1,19 +1,15 @@
 -- A processor that gets a pass is ready.
 use Rattle.std.specs.Prelude.{IsSomeAnd}
-use Rattle.std.proofs.Common.{◌≡◌, ℕ, zero, suc, ◌+◌, ◌-◌, ◌^◌, ◌<◌, ◌≤◌, List, [], ◌∷◌, ◌++◌, length, map, get_or, true, false, ap, sym, ◌∙◌, refl, subst, ◌⊎◌, inl, inr, arith, Option, Some, None, append_assoc, vec_capacity}
-use Rattle.std.specs.List.{AllByRecursion}
+use Rattle.std.proofs.Common.{◌≡◌, ℕ, zero, suc, ◌+◌, ◌-◌, ◌^◌, ◌<◌, ◌≤◌, List, [], ◌∷◌, ◌++◌, length, map, true, false, ap, sym, ◌∙◌, refl, subst, ◌⊎◌, inl, inr, arith, Option, Some, None, vec_capacity}
 use Rattle.std.proofs.lemmas.List.{length-map, get_or_past}
 use Rattle.entry_model.specs.State.{State, empty_state}
 use Rattle.entry_model.specs.declared.line.Line.{Line}
 use Rattle.tlb_model.specs.Cache.{AllCached}
-use Rattle.entry_model.specs.Run.{state_at}
 use Rattle.entry_model.specs.CachedLines.{Holds}
 use Rattle.entry_model.specs.History.{pair_of}
-use Rattle.entry_model.specs.Fronts.{opening_fronts}
 use Rattle.tlb_model.proofs.CachedPages.{all_cached_weaker}
 use Rattle.entry_lock.specs.declared.table.LockTable.{LockTable}
 use Rattle.entry_lock.specs.declared.table.Pass.{Pass}
-use Rattle.entry_lock.specs.PassOfTable.{IsOf, view_of}
 use Rattle.hpt_walk.specs.Access.{AccessContext}
 use Rattle.tlb_model.specs.Processor.{Processor}
 use Rattle.trace_read.specs.declared.trace.TraceLine.{TraceLine}
@@ -72,10 +68,6 @@ first_rest table zero pass some h = absurd (omega (arith, some))
 first_rest table (suc n) pass some h = h
 
 -- ---- lists
-pub all_push : {A : Type 0} (P : ℕ → A → Type 0) (n : ℕ) (xs : List A) (x : A) → AllNumbered P n xs → P (n + length xs) x → AllNumbered P n (xs ++ x ∷ [])
-all_push P n [] x h k = let e : n + 0 ≡ n = omega arith in (subst (λ m. P m x) e k, tt)
-all_push P n (y ∷ ys) x h k = let e : n + suc (length ys) ≡ suc n + length ys = omega arith in (h.0, all_push P (suc n) ys x h.1 (subst (λ m. P m x) e k))
-
 pub size_push : {A : Type 0} (xs : List A) (x : A) → length (xs ++ x ∷ []) ≡ length xs + 1
 size_push [] x = omega arith
 size_push (y ∷ ys) x = let e = size_push ys x in omega (arith, e)

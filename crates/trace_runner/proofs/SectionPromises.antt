@@ -1,9 +1,8 @@
 -- A section, from what its calls promise.
 use Rattle.std.specs.Prelude.{IsSomeAnd, IfSome, ◌≢◌}
-use Rattle.std.proofs.Common.{◌≡◌, ℕ, ◌+◌, ◌-◌, ◌^◌, ◌<◌, ◌≤◌, List, [], ◌∷◌, ◌++◌, length, map, take, drop, zero, suc, ap, sym, ◌∙◌, refl, subst, inl, inr, true, false, eqb, arith, Option, Some, None, Vec, Global, reverse}
+use Rattle.std.proofs.Common.{◌≡◌, ℕ, ◌-◌, ◌^◌, ◌<◌, List, [], ◌∷◌, ◌++◌, length, map, take, drop, ap, sym, ◌∙◌, refl, subst, inl, inr, true, false, eqb, arith, Option, Some, None, Vec, Global, reverse}
 use Rattle.std.specs.List.{AllByRecursion}
 use Rattle.std.proofs.lemmas.List.{length-map}
-use Rattle.frame_grants.specs.declared.grant.Grant.{Grant}
 use Rattle.entry_model.specs.State.{State}
 use Rattle.entry_lock.specs.declared.table.LockTable.{LockTable}
 use Rattle.entry_lock.specs.declared.table.Pass.{Pass}
@@ -16,14 +15,14 @@ use Rattle.hpt_resize.specs.TableMemory.{with_states}
 use Rattle.trace_read.specs.declared.trace.TraceLine.{TraceLine}
 use Rattle.trace_reply.specs.declared.reply.Reply.{Reply}
 use Rattle.trace_reply.specs.Replies.{lines_with_replies}
-use Rattle.run_model.specs.RunState.{RunState}
 use Rattle.trace_runner.specs.declared.worker.Worker.{Worker}
 use Rattle.hpt_walk.specs.Access.{access_context}
 use Rattle.trace_runner.specs.MachineState.{run_state_of, AllHold}
 use Rattle.trace_runner.specs.Workers.{count_with_lines, HasRun, IsDone, AllNumbered}
 use Rattle.trace_reply.specs.Replies.{AreReplies}
 use Rattle.trace_runner.specs.SectionRun.{HasNoOtherPass, pass_count, IsJoinOf, IsQueue, AddsReplies, RunsSection}
-use Rattle.trace_runner.proofs.SectionWork.{all_weaker, all_plain, all_both, all_mapped, own_parts, all_hold, passes_counted, sectioned}
+use Rattle.trace_runner.proofs.Numbered.{all_weaker, all_plain, all_both, all_mapped}
+use Rattle.trace_runner.proofs.SectionWork.{own_parts, all_hold, passes_counted, sectioned}
 use Rattle.trace_runner.proofs.NewWorkers.{holds_inside}
 use Rattle.trace_runner.proofs.CountedWorkers.{some_worker}
 

@@ -1,78 +1,43 @@
 -- What the processors of a section did together, and the run_state behind it.
 use Rattle.std.specs.Prelude.{IsSomeAnd, is_some, min, ◌≢◌}
-use Rattle.std.proofs.Common.{◌≡◌, ℕ, zero, suc, ◌+◌, ◌-◌, ◌*◌, ◌^◌, ◌<◌, ◌≤◌, List, [], ◌∷◌, ◌++◌, length, map, reverse, get_or, true, false, ap, sym, ◌∙◌, refl, subst, ◌⊎◌, inl, inr, eqb, cond, arith, Option, Some, None, Vec, Global}
+use Rattle.std.proofs.Common.{◌≡◌, ℕ, zero, suc, ◌+◌, ◌-◌, ◌^◌, ◌<◌, ◌≤◌, List, [], ◌∷◌, ◌++◌, length, map, reverse, get_or, true, false, ap, sym, ◌∙◌, refl, subst, ◌⊎◌, inl, inr, eqb, cond, arith, Option, Some, None, Vec, Global}
 use Rattle.std.specs.List.{AllByRecursion}
 use Rattle.std.proofs.lemmas.Bool.{cases_Bool, eqb-true}
-use Rattle.std.proofs.lemmas.List.{length-map, length-set}
+use Rattle.std.proofs.lemmas.List.{length-map}
 use Rattle.entry_model.specs.State.{State}
 use Rattle.entry_model.specs.declared.line.Line.{Line}
 use Rattle.entry_model.specs.declared.receipt.Receipt.{Receipt}
 use Rattle.tlb_model.specs.Cache.{AllCached}
 use Rattle.entry_model.specs.Run.{state_at}
-use Rattle.entry_model.specs.CachedLines.{Holds}
 use Rattle.entry_model.specs.History.{pair_of, IsLegal, history}
 use Rattle.entry_model.specs.Fronts.{front_at, opening_fronts, AreBelow, IsGone}
 use Rattle.tlb_model.proofs.CachedPages.{all_cached_weaker}
 use Rattle.entry_model.proofs.FrontLaws.{keeps_below, below_self, below_on, gone_on}
 use Rattle.entry_lock.specs.declared.table.LockTable.{LockTable}
 use Rattle.entry_lock.specs.declared.table.Pass.{Pass}
-use Rattle.entry_lock.specs.PassOfTable.{IsOf, view_of}
+use Rattle.entry_lock.specs.PassOfTable.{view_of}
 use Rattle.entry_lock.specs.Closing.{Closes}
-use Rattle.entry_lock.specs.SeenLines.{IsSeen}
 use Rattle.hpt_walk.specs.Access.{AccessContext}
-use Rattle.tlb_model.specs.Processor.{Processor, new_processor}
+use Rattle.tlb_model.specs.Processor.{Processor}
 use Rattle.trace_read.specs.declared.trace.TraceLine.{TraceLine}
 use Rattle.trace_reply.specs.declared.reply.Reply.{Reply}
-use Rattle.trace_reply.specs.Replies.{RepliedLine, AreReplies, receipts_in, lines_with_replies}
+use Rattle.trace_reply.specs.Replies.{RepliedLine, receipts_in, lines_with_replies}
 use Rattle.run_model.specs.Processors.{processor_at, processor_after}
 use Rattle.run_model.specs.RunState.{RunState, context_of, states_of}
 use Rattle.hpt_resize.specs.TableMemory.{with_states}
 use Rattle.run_model.specs.Histories.{lines_of_processor, receipts_by, receipts_from_processor}
-use Rattle.run_model.specs.Sections.{processor_after_lines, processors_after_lines, receipts_made, section_end_on}
-use Rattle.run_model.specs.ParallelRun.{Works, AllWork, IsClosed}
+use Rattle.run_model.specs.Sections.{processor_after_lines, processors_after_lines, receipts_made}
+use Rattle.run_model.specs.ParallelRun.{Works, AllWork}
 use Rattle.run_model.proofs.Each.{each_append}
 use Rattle.run_model.proofs.LinesByProcessor.{own_no}
 use Rattle.trace_runner.specs.declared.worker.Worker.{Worker}
 use Rattle.trace_runner.specs.MachineState.{Holding, AllHold}
 use Rattle.trace_runner.specs.Workers.{lines_of_cpu, replied_lines_of_cpu, count_with_lines, IsSeenBy, HasRun, IsIdle, IsDone, AllNumbered}
-use Rattle.trace_runner.specs.SectionRun.{made_in, all_made, pass_count, IsGoneFor, IsSeenFor, AnyGone, AnySeen, IsJoinOf, IsQueue, IsMerged, Sectioned}
+use Rattle.trace_runner.proofs.Numbered.{all_both}
+use Rattle.trace_runner.specs.SectionRun.{made_in, all_made, pass_count, IsGoneFor, IsSeenFor, AnyGone, AnySeen, IsJoinOf, IsMerged, Sectioned}
 
 abbrev Queue : Type 0
 Queue = Vec Reply Global
-
--- ---- numbers
-pub all_at : {A : Type 0} (P : ℕ → A → Type 0) (n k : ℕ) (xs : List A) (d : A) → AllNumbered P n xs → k < length xs → P (n + k) (get_or xs k d)
-all_at P n k [] d h within = absurd (omega arith)
-all_at P n zero (x ∷ xs) d h within = let e : n + 0 ≡ n = omega arith in rw e h.0
-all_at P n (suc k) (x ∷ xs) d h within = let e : n + suc k ≡ suc n + k = omega arith in rw e (all_at P (suc n) k xs d h.1 (omega arith))
-
-pub all_from : {A : Type 0} (P : ℕ → A → Type 0) (n : ℕ) (xs : List A) → ((k : ℕ) (d : A) → k < length xs → P (n + k) (get_or xs k d)) → AllNumbered P n xs
-all_from P n [] h = tt
-all_from P n (x ∷ xs) h =
-    let e : n + 0 ≡ n = omega arith in
-    (subst (λ m. P m x) e (h 0 x (omega arith)), all_from P (suc n) xs (λ k d within. let s : n + suc k ≡ suc n + k = omega arith in subst (λ m. P m (get_or xs k d)) s (h (suc k) d (omega (arith, within)))))
-
-pub all_weaker : {A : Type 0} (P Q : ℕ → A → Type 0) (n : ℕ) (xs : List A) → ((k : ℕ) (x : A) → P k x → Q k x) → AllNumbered P n xs → AllNumbered Q n xs
-all_weaker P Q n [] f h = tt
-all_weaker P Q n (x ∷ xs) f h = (f n x h.0, all_weaker P Q (suc n) xs f h.1)
-
-pub all_both : {A : Type 0} (P Q : ℕ → A → Type 0) (n : ℕ) (xs : List A) → AllNumbered P n xs → AllNumbered Q n xs → AllNumbered (λ k x. P k x × Q k x) n xs
-all_both P Q n [] h k = tt
-all_both P Q n (x ∷ xs) h k = ((h.0, k.0), all_both P Q (suc n) xs h.1 k.1)
-
-pub all_plain : {A : Type 0} (P : ℕ → A → Type 0) (Q : A → Type 0) (n : ℕ) (xs : List A) → ((k : ℕ) (x : A) → P k x → Q x) → AllNumbered P n xs → AllByRecursion Q xs
-all_plain P Q n [] f h = tt
-all_plain P Q n (x ∷ xs) f h = (f n x h.0, all_plain P Q (suc n) xs f h.1)
-
-pub all_mapped : {A B : Type 0} (P : ℕ → B → Type 0) (f : A → B) (n : ℕ) (xs : List A) → AllNumbered (λ k x. P k (f x)) n xs → AllNumbered P n (map f xs)
-all_mapped P f n [] h = tt
-all_mapped P f n (x ∷ xs) h = (h.0, all_mapped P f (suc n) xs h.1)
-
-pub map_same : {A B : Type 0} (f : A → B) (xs ys : List A) → length xs ≡ length ys → ((k : ℕ) (d : A) → k < length xs → f (get_or xs k d) ≡ f (get_or ys k d)) → map f xs ≡ map f ys
-map_same f [] [] e h = refl
-map_same f [] (y ∷ ys) e h = absurd (omega (arith, e))
-map_same f (x ∷ xs) [] e h = absurd (omega (arith, e))
-map_same f (x ∷ xs) (y ∷ ys) e h = (λ j. h 0 x (omega arith) j ∷ map_same f xs ys (omega (arith, e)) (λ k d within. h (suc k) d (omega (arith, within))) j)
 
 -- ---- fronts of a processor
 works_below : (set : AccessContext) (f g : List ℕ) (processor : Processor) (ts : List RepliedLine) → Works set f processor ts g → AreBelow f g

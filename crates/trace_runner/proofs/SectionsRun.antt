@@ -1,10 +1,9 @@
 -- The sections of a parallel run, one after the other.
 use Rattle.std.proofs.Common.{◌≡◌, ℕ, zero, suc, ◌+◌, ◌-◌, ◌*◌, ◌<◌, ◌≤◌, List, [], ◌∷◌, ◌++◌, length, take, drop, get_or, true, false, ap, sym, ◌∙◌, refl, subst, arith, append_assoc, append-nil, if◌then◌else◌, Bool}
 use Rattle.std.specs.List.{AllByRecursion}
-use Rattle.std.proofs.lemmas.List.{drop_more, take_more, drop-drop, take-append-drop, length-map}
+use Rattle.std.proofs.lemmas.List.{drop_more, take_more}
 use Rattle.entry_model.specs.State.{State}
 use Rattle.entry_model.specs.declared.line.Line.{Line}
-use Rattle.entry_model.specs.declared.receipt.Receipt.{Receipt}
 use Rattle.entry_model.specs.Run.{state_at}
 use Rattle.entry_model.specs.History.{pair_of, bits}
 use Rattle.entry_model.specs.Fronts.{front_at, opening_fronts, IsGone}
@@ -17,14 +16,12 @@ use Rattle.trace_read.specs.declared.trace.Act.TheVariants as acts
 use Rattle.trace_read.specs.declared.trace.TraceLine.{TraceLine}
 use Rattle.trace_read.specs.Trace.{is_quiet}
 use Rattle.trace_reply.specs.declared.reply.Reply.{Reply}
-use Rattle.trace_reply.specs.declared.reply.Reply.TheVariants as replies
 use Rattle.trace_reply.specs.Replies.{RepliedLine, IsOfKind, AreReplies, lines_with_replies}
-use Rattle.run_model.specs.RunState.{RunState, context_of, states_of, run_quiet_line, run_resize}
+use Rattle.run_model.specs.RunState.{RunState, states_of, run_quiet_line, run_resize}
 use Rattle.hpt_resize.specs.TableMemory.{with_states}
-use Rattle.run_model.specs.Histories.{lines_of_processor, receipts_by}
-use Rattle.run_model.specs.Sections.{cut, cut_before, receipts_made, processors_after_lines, section_end_on}
+use Rattle.run_model.specs.Sections.{cut, processors_after_lines, section_end_on}
 use Rattle.run_model.specs.SerialRun.{run_line}
-use Rattle.run_model.specs.ParallelRun.{AllWork, IsClosed, RunsParallel}
+use Rattle.run_model.specs.ParallelRun.{RunsParallel}
 use Rattle.run_model.proofs.LinesByProcessor.{own_processors}
 use Rattle.run_model.proofs.SectionGood.{section_legal}
 use Rattle.trace_runner.specs.Workers.{replied_line, NoneQuiet}

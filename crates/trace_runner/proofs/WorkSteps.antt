@@ -8,11 +8,11 @@ use Rattle.hpte_fields.specs.TableSize.{entry_count}
 use Rattle.entry_model.specs.CachedLines.{AllLater}
 use Rattle.run_model.specs.LineReplies.{IsCallReply, IsReplyToAccess}
 use Rattle.hpt_walk.specs.Access.{access_context}
-use Rattle.std.proofs.lemmas.Bool.{cases_Bool, eq-eqb, eqb-true}
+use Rattle.std.proofs.lemmas.Bool.{cases_Bool, eqb-true}
 use Rattle.std.proofs.lemmas.List.Elements.{filter_more}
 use Rattle.entry_model.specs.declared.receipt.Receipt.{Receipt}
 use Rattle.tlb_model.specs.Cache.{AllCached}
-use Rattle.entry_model.specs.Fronts.{opening_fronts, AreBelow, KeepsFronts, IsGone}
+use Rattle.entry_model.specs.Fronts.{opening_fronts, KeepsFronts, IsGone}
 use Rattle.entry_model.proofs.FrontLaws.{keeps_below}
 use Rattle.entry_lock.specs.declared.table.LockTable.{LockTable}
 use Rattle.entry_lock.specs.declared.table.Pass.{Pass}

@@ -1,11 +1,9 @@
 -- The workers of a section: a processor each, with a pass of its own.
 use Rattle.std.specs.Prelude.{IsSomeAnd}
-use Rattle.std.specs.Prelude.{◌≡◌, ◌≢◌, ℕ, zero, suc, ◌+◌, ◌-◌, ◌^◌, ◌<◌, ◌≤◌, ◌==◌, ◌⊎◌, List, [], ◌∷◌, ◌++◌, length, filter, reverse, map, min, vec_capacity, Option, Some, None, false}
+use Rattle.std.specs.Prelude.{◌≡◌, ◌≢◌, ℕ, zero, suc, ◌+◌, ◌≤◌, ◌==◌, ◌⊎◌, List, [], ◌∷◌, length, filter, reverse, map, min, vec_capacity, Option, None, false}
 use Rattle.std.specs.List.{AllByRecursion}
 use Rattle.hpte_fields.specs.TableSize.{entry_count}
-use Rattle.entry_model.specs.State.{State}
 use Rattle.entry_model.specs.declared.line.Line.{Line}
-use Rattle.entry_model.specs.declared.receipt.Receipt.{Receipt}
 use Rattle.tlb_model.specs.Cache.{AllCached}
 use Rattle.entry_model.specs.Fronts.{opening_fronts}
 use Rattle.entry_lock.specs.declared.table.LockTable.{LockTable}
@@ -17,7 +15,7 @@ use Rattle.tlb_model.specs.Processor.{Processor}
 use Rattle.trace_read.specs.declared.trace.TraceLine.{TraceLine}
 use Rattle.trace_read.specs.Trace.{is_quiet}
 use Rattle.trace_reply.specs.declared.reply.Reply.{Reply}
-use Rattle.trace_reply.specs.Replies.{RepliedLine, AreReplies, receipts_in, lines_with_replies}
+use Rattle.trace_reply.specs.Replies.{RepliedLine, AreReplies, lines_with_replies}
 use Rattle.run_model.specs.Sections.{processor_after_lines}
 use Rattle.run_model.specs.Histories.{receipts_by}
 use Rattle.run_model.specs.ParallelRun.{Works}

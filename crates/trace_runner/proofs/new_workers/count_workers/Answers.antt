@@ -1,6 +1,4 @@
-use Rattle.std.proofs.Common.{◌≡◌, ◌+◌, ◌-◌, ◌<◌, sym, subst, arith, length}
-use Rattle.std.specs.Prelude.{min}
-use Rattle.trace_runner.specs.Workers.{count_with_lines, lines_of_cpu}
+use Rattle.std.proofs.Common.{arith}
 use Rattle.trace_runner.proofs.CountedWorkers.{count_all, count_step, count_none}
 use Rattle.trace_runner.proofs.new_workers.count_workers.Goals as goal
 use Rattle.trace_runner.proofs.new_workers.count_workers.Goals.{then-count_lines_of-gt0, else-count_lines_of-gt0}

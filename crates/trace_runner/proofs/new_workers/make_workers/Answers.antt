@@ -1,11 +1,11 @@
-use Rattle.std.proofs.Common.{◌≡◌, ◌+◌, ◌-◌, ◌<◌, ◌∙◌, ◌++◌, sym, ap, refl, subst, arith, length, map, List, [], ◌∷◌, Some}
-use Rattle.std.specs.Prelude.{min}
+use Rattle.std.proofs.Common.{◌≡◌, ◌+◌, ◌-◌, ◌<◌, ◌∙◌, ◌++◌, sym, ap, refl, subst, arith, length, map, ◌∷◌, Some}
 use Rattle.trace_runner.specs.declared.worker.Worker.{Worker}
 use Rattle.trace_runner.specs.MachineState.{AllHold}
-use Rattle.trace_runner.specs.Workers.{count_with_lines, lines_of_cpu, IsReady, IsRest, AllNumbered}
+use Rattle.trace_runner.specs.Workers.{count_with_lines, IsReady, IsRest, AllNumbered}
 use Rattle.trace_runner.proofs.CountedWorkers.{count_all, count_step}
 use Rattle.trace_runner.proofs.JoinedWorkers.{split_first}
-use Rattle.trace_runner.proofs.NewWorkers.{first_rest, all_push, size_push, map_push, nil_of}
+use Rattle.trace_runner.proofs.Numbered.{all_push}
+use Rattle.trace_runner.proofs.NewWorkers.{first_rest, size_push, map_push}
 use Rattle.trace_runner.proofs.new_workers.make_workers.Goals as goal
 
 pub loop-i-init : goal.loop-i-init

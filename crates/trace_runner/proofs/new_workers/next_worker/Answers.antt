@@ -1,6 +1,4 @@
-use Rattle.std.proofs.Common.{◌≡◌, ◌+◌, ◌-◌, ◌^◌, ◌<◌, ◌∙◌, [], sym, ap, refl, subst, arith, length}
-use Rattle.hpt_walk.specs.Access.{AccessContext}
-use Rattle.trace_runner.specs.Workers.{IsReady}
+use Rattle.std.proofs.Common.{◌≡◌, ◌-◌, ◌^◌, ◌∙◌, ap, refl, arith, length}
 use Rattle.trace_runner.proofs.NewWorkers.{worker_starts, worker_idles}
 use Rattle.trace_runner.proofs.new_workers.next_worker.Goals as goal
 use Rattle.trace_runner.proofs.new_workers.next_worker.Goals.{then-count-gt0, else-count-gt0}

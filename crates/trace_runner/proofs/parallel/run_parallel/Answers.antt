@@ -1,6 +1,6 @@
-use Rattle.std.proofs.Common.{◌≡◌, ◌<◌, ◌≤◌, ◌∙◌, sym, ap, subst, length, arith, IfOk, Result, Ok, Err}
+use Rattle.std.proofs.Common.{◌≡◌, ◌∙◌, ap, length, arith}
 use Rattle.trace_read.specs.Trace.{AcceptedTrace}
-use Rattle.run_model.specs.RunState.{RunState, opening_run}
+use Rattle.run_model.specs.RunState.{RunState}
 use Rattle.run_model.proofs.SerialGood.{opening_processors}
 use Rattle.trace_runner.proofs.ParallelAssured.{parallel_counts, parallel_is_good, parallel_assures, parallel_is_serial}
 use Rattle.trace_runner.proofs.parallel.run_parallel.Goals as goal

@@ -1,12 +1,10 @@
-use Rattle.std.proofs.Common.{◌≡◌, ◌+◌, ◌-◌, ◌^◌, ◌<◌, ◌≤◌, ◌∙◌, sym, ap, subst, refl, get_or, false, length, take, drop, List, [], arith}
+use Rattle.std.proofs.Common.{◌≡◌, ◌+◌, ◌<◌, ◌≤◌, ◌∙◌, sym, subst, refl, get_or, false, length, [], arith}
 use Rattle.std.specs.List.{AllByRecursion}
 use Rattle.trace_read.specs.declared.trace.TraceLine.{TraceLine}
 use Rattle.trace_read.specs.declared.trace.Act.TheVariants.{Call}
-use Rattle.trace_reply.specs.Replies.{AreReplies, lines_with_replies}
 use Rattle.trace_runner.specs.Workers.{NoneQuiet}
-use Rattle.trace_runner.specs.SectionRun.{Sectioned, Runs}
 use Rattle.trace_runner.proofs.MergedReplies.{each_line}
-use Rattle.trace_runner.proofs.SectionsRun.{part, Done, Ended, done_none, done_more, done_end, no_quiet_more, no_quiet_yet, part_end, part_each, section_processors, section_number}
+use Rattle.trace_runner.proofs.SectionsRun.{part, Done, done_none, done_more, done_end, no_quiet_more, no_quiet_yet, part_each, section_processors, section_number}
 use Rattle.trace_runner.proofs.parallel.run_sections.Goals as goal
 use Rattle.trace_runner.proofs.parallel.run_sections.Goals.{then-is_quiet+in_ok-machine+in_ok-line+in_ok-push, else-is_quiet}
 

@@ -1,18 +1,16 @@
-use Rattle.std.proofs.Common.{◌≡◌, ◌-◌, ◌^◌, ◌<◌, ◌≤◌, ◌++◌, ◌∙◌, sym, ap, subst, refl, length, map, take, drop, List, [], false, arith, append-nil}
+use Rattle.std.proofs.Common.{◌≡◌, ◌<◌, ◌≤◌, ◌++◌, ◌∙◌, sym, ap, subst, length, map, [], arith, append-nil}
 use Rattle.std.proofs.lemmas.Bool.{eqb-true}
 use Rattle.std.proofs.lemmas.List.{length-map}
 use Rattle.std.specs.List.{AllByRecursion}
-use Rattle.entry_model.specs.State.{State}
-use Rattle.tlb_model.specs.Processor.{Processor}
 use Rattle.partition.specs.PartitionState.{PartitionState, with_memory}
 use Rattle.hpt_resize.specs.TableMemory.{with_states}
 use Rattle.trace_read.specs.declared.trace.TraceLine.{TraceLine}
 use Rattle.run_model.specs.RunState.{RunState}
 use Rattle.trace_runner.specs.declared.worker.Worker.{Worker}
 use Rattle.hpt_walk.specs.Access.{access_context}
-use Rattle.trace_runner.specs.MachineState.{run_state_of, AllHold}
-use Rattle.trace_runner.specs.Workers.{count_with_lines, IsReady, IsDone, AllNumbered}
-use Rattle.trace_runner.specs.SectionRun.{pass_count, HasNoOtherPass, IsJoinOf, IsQueue, AddsReplies, RunsSection}
+use Rattle.trace_runner.specs.MachineState.{run_state_of}
+use Rattle.trace_runner.specs.Workers.{count_with_lines, IsReady, AllNumbered}
+use Rattle.trace_runner.specs.SectionRun.{pass_count, HasNoOtherPass, IsJoinOf, IsQueue, RunsSection}
 use Rattle.trace_runner.proofs.NewWorkers.{nil_of}
 use Rattle.trace_runner.proofs.CountedWorkers.{some_worker, few_workers}
 use Rattle.trace_runner.proofs.SectionsRun.{empty_section}

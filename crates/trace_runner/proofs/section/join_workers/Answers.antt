@@ -1,7 +1,7 @@
-use Rattle.std.proofs.Common.{◌≡◌, ◌+◌, ◌-◌, ◌<◌, ◌∙◌, ◌++◌, sym, ap, refl, subst, arith, length, map, List, [], ◌∷◌, Option, Some, get_or}
+use Rattle.std.proofs.Common.{◌≡◌, ◌<◌, ◌∙◌, ◌++◌, sym, ap, refl, subst, arith, length, map, [], ◌∷◌}
 use Rattle.trace_runner.specs.declared.worker.Worker.{Worker}
 use Rattle.trace_runner.proofs.NewWorkers.{nil_of}
-use Rattle.trace_runner.proofs.JoinedWorkers.{Joining, split_first, own_of, first_passes, joining_none, joining_more, joining_all, joining_some, map_more}
+use Rattle.trace_runner.proofs.JoinedWorkers.{Joining, split_first, joining_more, joining_all, map_more}
 use Rattle.trace_runner.proofs.section.join_workers.Goals as goal
 
 pub loop-preserved : goal.loop-preserved

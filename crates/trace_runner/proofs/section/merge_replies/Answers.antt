@@ -1,4 +1,4 @@
-use Rattle.std.proofs.Common.{◌≡◌, ◌<◌, ◌+◌, ◌∙◌, [], false, set, ◌++◌, sym, ap, subst, length, get_or, option_to_list, Vec, Global}
+use Rattle.std.proofs.Common.{◌<◌, ◌+◌, ◌∙◌, [], false, set, ◌++◌, sym, ap, subst, length, get_or, option_to_list, Vec, Global}
 use Rattle.std.proofs.lemmas.List.{get_or_default}
 use Rattle.trace_read.specs.declared.trace.TraceLine.{TraceLine}
 use Rattle.trace_read.specs.declared.trace.Act.TheVariants.{Call}

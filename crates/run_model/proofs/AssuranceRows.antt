@@ -1,5 +1,5 @@
 -- Worked values of the claims, which the checker computes.
-use Rattle.std.proofs.Common.{◌≡◌, ℕ, ◌<◌, List, [], ◌∷◌, Bool, true, false, Some, None, refl, ap, arith}
+use Rattle.std.proofs.Common.{◌≡◌, ℕ, List, [], ◌∷◌, Bool, true, false, Some, None, refl, ap, arith}
 use Rattle.std.specs.Option.{option_map_or}
 use Rattle.power_addr.specs.Pages.{VirtualPage, virtual_page, tag_of}
 use Rattle.frame_grants.specs.declared.grant.Kind.{Kind}

@@ -7,7 +7,7 @@ use Rattle.entry_model.specs.declared.receipt.Receipt.{Receipt}
 use Rattle.entry_model.specs.declared.access_reply.By.TheVariants.{Hit, Walk}
 use Rattle.entry_model.specs.declared.operation.Op.TheVariants.{Read}
 use Rattle.entry_model.specs.Receipt.{receipt_of}
-use Rattle.run_model.specs.CachedAccesses.{IsByCurrentLine, UsesLine}
+use Rattle.run_model.specs.CachedAccesses.{UsesLine}
 
 abbrev line : Line
 line = record { page = virtual_page false 1 12 0; entry = 1; stamp = 2; dword0 = 0x1001; dword1 = 0x3012 }
@@ -22,7 +22,7 @@ on entry before = receipt_of entry before Read
 abbrev closing : ℕ → List State
 closing n = empty_state 0 ∷ at_stamp n ∷ []
 
-first_stamp : List Receipt → ℕ
+abbrev first_stamp : List Receipt → ℕ
 first_stamp [] = 0
 first_stamp (r ∷ rs) = r.before.stamp
 

@@ -1,6 +1,6 @@
 -- Each cached line holds of its entry's state, and each line that is run with nobody else at the table keeps this.
 use Rattle.std.specs.Prelude.{IfSome}
-use Rattle.std.proofs.Common.{◌≡◌, ℕ, ◌<◌, ◌≤◌, ◌-◌, ◌^◌, List, [], ◌∷◌, Bool, true, false, sym, ◌∙◌, refl, subst, ◌⊎◌, inl, inr, not, length, Option, Some, None}
+use Rattle.std.proofs.Common.{◌≡◌, ℕ, ◌<◌, ◌≤◌, ◌-◌, ◌^◌, List, [], ◌∷◌, true, false, sym, ◌∙◌, refl, subst, ◌⊎◌, inl, inr, not, length, Option, Some, None}
 use Rattle.std.specs.List.{AllByRecursion}
 use Rattle.std.proofs.lemmas.Bool.{cases_Bool}
 use Rattle.power_addr.specs.Pages.{VirtualPage}

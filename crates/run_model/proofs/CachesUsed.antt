@@ -1,8 +1,8 @@
 -- In a good run a hit is by a line that is current, and a walk goes past a line only where it is gone.
 use Rattle.std.specs.Prelude.{max, IfSome, MatchBool}
-use Rattle.std.proofs.Common.{◌≡◌, ℕ, ◌+◌, ◌*◌, ◌<◌, ◌≤◌, List, [], ◌∷◌, ◌++◌, Bool, true, false, ap, refl, sym, subst, ◌⊎◌, inl, inr, map, Option, Some, None, eqb, arith}
+use Rattle.std.proofs.Common.{◌≡◌, ℕ, ◌+◌, ◌*◌, ◌<◌, ◌≤◌, List, [], ◌∷◌, ◌++◌, Bool, true, false, refl, sym, subst, ◌⊎◌, inl, inr, map, Option, Some, None, eqb, arith}
 use Rattle.std.specs.List.{AllByRecursion}
-use Rattle.std.proofs.lemmas.Bool.{cases_Bool, eqb-true, eq-eqb}
+use Rattle.std.proofs.lemmas.Bool.{cases_Bool, eq-eqb}
 use Rattle.entry_model.specs.State.{State}
 use Rattle.entry_model.specs.declared.line.Line.{Line}
 use Rattle.entry_model.specs.declared.receipt.Receipt.{Receipt}
@@ -13,7 +13,7 @@ use Rattle.entry_model.specs.Receipt.{is_no_match, after_of}
 use Rattle.entry_model.specs.Run.{state_at}
 use Rattle.entry_model.specs.History.{pair_of}
 use Rattle.entry_model.specs.Fronts.{pair_beyond}
-use Rattle.entry_model.specs.CachedLines.{IsCurrent, IsLater, AllLater}
+use Rattle.entry_model.specs.CachedLines.{IsCurrent, AllLater}
 use Rattle.entry_model.specs.Trial.{IsTrial}
 use Rattle.entry_model.proofs.FrontLaws.{after_rises}
 use Rattle.slb_model.specs.declared.segment.Segment.{Segment}
@@ -33,7 +33,7 @@ use Rattle.run_model.specs.RunState.{context_of, states_of}
 use Rattle.run_model.specs.Histories.{lines_of_processor, Event, made, InOrder, gone_events, events_by}
 use Rattle.run_model.specs.Sections.{Section, section_end, sections_of}
 use Rattle.run_model.specs.GoodRun.{IsGoodRun, opening_states, AreInOrder, EachLineOfProcessor, IsAccessLine, AccessesAreReplied}
-use Rattle.run_model.specs.CachedAccesses.{IsByCurrentLine, IsPastLine, UsesLine, line_in, UsesItsCache, AccessesUseCaches}
+use Rattle.run_model.specs.CachedAccesses.{IsByCurrentLine, UsesLine, line_in, UsesItsCache, AccessesUseCaches}
 use Rattle.run_model.proofs.OneProcessor.{first_events, left_high, left_rest, receipts_rest, pair_stamp}
 use Rattle.trace_read.specs.declared.trace.Act.TheVariants as acts
 use Rattle.trace_reply.specs.declared.reply.Reply.TheVariants as replies

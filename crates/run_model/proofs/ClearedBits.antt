@@ -1,7 +1,7 @@
 -- The reply that clears a change bit shows it.
-use Rattle.std.specs.Prelude.{IsTrue, MatchBool, ◌==◌, ◌&&◌, bit_and, bit_or, nat_lt, not, slice_index, flat_map, if◌then◌else◌}
-use Rattle.std.proofs.Common.{◌≡◌, ℕ, ◌+◌, ◌*◌, ◌/◌, ◌%◌, ◌^◌, ◌<◌, List, [], ◌∷◌, Bool, true, false, ap, sym, ◌∙◌, refl, subst, ◌⊎◌, inl, inr, arith, map, Option, Some, None}
-use Rattle.std.specs.List.{AllByRecursion, list_any, range_with_len}
+use Rattle.std.specs.Prelude.{bit_or, nat_lt, slice_index, flat_map, if◌then◌else◌}
+use Rattle.std.proofs.Common.{◌≡◌, ℕ, List, [], ◌∷◌, Bool, true, false, ap, sym, ◌∙◌, refl, ◌⊎◌, inl, inr, map, Option, Some, None}
+use Rattle.std.specs.List.{AllByRecursion}
 use Rattle.std.proofs.lemmas.Bool.{cases_Bool, cond_both, eq-eqb}
 use Rattle.std.proofs.lemmas.Nat.{and_or_self}
 use Rattle.papr_codes.specs.declared.calls.Hcall.{Hcall}
@@ -10,7 +10,6 @@ use Rattle.papr_codes.specs.Hcalls.{hcall_of}
 use Rattle.hpte_fields.specs.TableSize.{entry_count}
 use Rattle.hpte_fields.specs.Fields.{is_changed, with_rc, normal_words}
 use Rattle.frame_grants.specs.declared.grant.Grant.{Grant}
-use Rattle.entry_model.specs.State.{State}
 use Rattle.entry_model.specs.declared.operation.Answer.{Answer}
 use Rattle.entry_model.specs.declared.operation.Op.{Op}
 use Rattle.entry_model.specs.declared.operation.Test.{Test}
@@ -22,7 +21,7 @@ use Rattle.h_enter.specs.Checks.{h_enter_plan, words_plan, suits_grants}
 use Rattle.h_enter.specs.Enter.{candidates, enter_plan}
 use Rattle.h_update.specs.Bulk.{h_bulk_remove_plan}
 use Rattle.h_update.proofs.Shown.{ShowsRemoved, removals_shown}
-use Rattle.h_update.specs.Single.{both_words, second_word, code_and_words, told_by, single_plan, remove_test, protect_test, h_remove_plan, h_protect_plan, h_clear_ref_plan, h_clear_mod_plan, h_read_plan, read_entries}
+use Rattle.h_update.specs.Single.{both_words, second_word, code_and_words, told_by, single_plan, remove_test, h_remove_plan, h_protect_plan, h_clear_ref_plan, h_clear_mod_plan, h_read_plan, read_entries}
 use Rattle.hpt_walk.specs.Access.{AccessContext}
 use Rattle.tlb_model.specs.Processor.{Processor}
 use Rattle.trace_read.specs.declared.trace.Act.{Act}
@@ -34,7 +33,7 @@ use Rattle.run_model.specs.LineReplies.{hcall_plan, IsCallReply}
 use Rattle.run_model.specs.RunState.{context_of}
 use Rattle.run_model.specs.Sections.{Section, sections_of}
 use Rattle.run_model.specs.GoodRun.{EachLineOfProcessor, CallsAreReplied, IsGoodRun}
-use Rattle.run_model.specs.ShownStores.{clears_by, clears, ShowsWhatItClears, ShowsClearedBits, ClearedBitsAreShown}
+use Rattle.run_model.specs.ShownStores.{clears_by, ShowsWhatItClears, ShowsClearedBits, ClearedBitsAreShown}
 use Rattle.run_model.proofs.Each.{each_map}
 use Rattle.papr_codes.specs.declared.calls.Hcall.TheVariants as calls
 use Rattle.papr_codes.specs.declared.codes.Rc.TheVariants as rc

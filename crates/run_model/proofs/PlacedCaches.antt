@@ -1,6 +1,6 @@
 -- Each cached line's entry stands in its page's group, and each access lands where its entry maps the page.
 use Rattle.std.specs.Prelude.{IfSome, IsTrue, find, if◌then◌else◌}
-use Rattle.std.proofs.Common.{◌≡◌, ℕ, zero, suc, ◌+◌, ◌<◌, List, [], ◌∷◌, Bool, true, false, not, ap, sym, ◌∙◌, refl, subst, ◌⊎◌, inl, inr, arith, length, map, replicate, filter, Option, Some, None}
+use Rattle.std.proofs.Common.{◌≡◌, ℕ, zero, suc, ◌+◌, ◌<◌, List, [], ◌∷◌, Bool, true, false, not, ap, sym, ◌∙◌, refl, subst, ◌⊎◌, inl, inr, arith, length, map, replicate, Option, Some, None}
 use Rattle.std.specs.List.{AllByRecursion}
 use Rattle.std.specs.Option.{option_and_then, option_map}
 use Rattle.std.proofs.lemmas.Bool.{cases_Bool}
@@ -25,7 +25,7 @@ use Rattle.entry_model.specs.declared.access_reply.Outcome.{Outcome}
 use Rattle.entry_model.specs.declared.receipt.Receipt.{Receipt}
 use Rattle.entry_model.specs.Receipt.{is_at, is_decided, is_no_match, found_of}
 use Rattle.entry_model.proofs.Heights.{at_valid}
-use Rattle.tlb_model.specs.Cache.{is_of, set_of, set_number, cached_line, without_page, empty_cache, AllInSet, AllCached}
+use Rattle.tlb_model.specs.Cache.{is_of, set_of, set_number, cached_line, without_page, AllInSet, AllCached}
 use Rattle.tlb_model.specs.CacheAfter.{kept_line, set_with, after_walk, cache_after}
 use Rattle.tlb_model.specs.Processor.{Processor, new_processor}
 use Rattle.tlb_model.proofs.CachedPages.{all_filter, all_put_last, all_in_set_of, all_written, all_cached, all_empty, cached_is_of}
@@ -39,10 +39,10 @@ use Rattle.hpt_walk.proofs.PageUses.{walks_use, hits_use}
 use Rattle.trace_read.specs.declared.trace.Act.{Act}
 use Rattle.trace_reply.specs.declared.reply.Reply.{Reply}
 use Rattle.trace_reply.specs.Replies.{RepliedLine, receipts_in}
-use Rattle.hpt_resize.specs.TableMemory.{TableMemory, prepare_result, commit_result}
+use Rattle.hpt_resize.specs.TableMemory.{TableMemory, commit_result}
 use Rattle.run_model.specs.Processors.{processor_at, processor_after}
 use Rattle.run_model.specs.LineReplies.{IsReplyToAccess}
-use Rattle.run_model.specs.RunState.{RunState, context_of, states_of, is_success, without_cache, run_resize, run_quiet_line}
+use Rattle.run_model.specs.RunState.{RunState, context_of, without_cache, run_resize, run_quiet_line}
 use Rattle.run_model.specs.Histories.{lines_of_processor, receipts_by}
 use Rattle.run_model.specs.Sections.{processor_after_lines, processors_after_lines}
 use Rattle.run_model.specs.GoodRun.{EachLineOfProcessor, IsAccessLine}

@@ -1,9 +1,7 @@
 -- What each reply enters, how far it raises stamps, and that it is safe where its receipts were made on states with low stamps.
-use Rattle.std.specs.Prelude.{IfSome}
-use Rattle.std.proofs.Common.{◌≡◌, ℕ, ◌*◌, ◌≤◌, ◌^◌, List, [], ◌∷◌, true, false, ap, sym, ◌∙◌, refl, subst, ◌⊎◌, inl, inr, arith, Option, Some, None}
+use Rattle.std.proofs.Common.{◌≡◌, ℕ, ◌*◌, ◌≤◌, ◌^◌, List, true, false, sym, refl, subst, arith, Option, Some, None}
 use Rattle.std.specs.List.{AllByRecursion, range_with_len}
 use Rattle.std.specs.Option.{option_map_or}
-use Rattle.std.proofs.lemmas.Bool.{cases_Bool}
 use Rattle.power_addr.specs.Pages.{VirtualPage}
 use Rattle.papr_codes.specs.declared.calls.Hcall.{Hcall}
 use Rattle.papr_codes.specs.Hcalls.{hcall_of}
@@ -12,22 +10,19 @@ use Rattle.page_sizes.specs.Sizes.{size_of}
 use Rattle.hpte_fields.specs.Fields.{frame_of, wimg_of}
 use Rattle.frame_grants.specs.declared.grant.Grant.{Grant}
 use Rattle.frame_grants.specs.declared.grant.Kind.{Kind}
-use Rattle.frame_grants.specs.Grants.{GrantedMemory, AreApart, machine_range}
-use Rattle.frame_grants.proofs.Landing.{lands_off_pool}
+use Rattle.frame_grants.specs.Grants.{GrantedMemory, machine_range}
 use Rattle.hpt_hash.specs.Hash.{group_of}
-use Rattle.entry_model.specs.State.{State}
 use Rattle.entry_model.specs.declared.operation.Op.{Op}
 use Rattle.entry_model.specs.declared.line.Line.{Line}
 use Rattle.entry_model.specs.declared.access_reply.AccessReply.{AccessReply}
 use Rattle.entry_model.specs.declared.access_reply.By.{By}
 use Rattle.entry_model.specs.declared.access_reply.By.TheVariants.{Hit, Walk}
-use Rattle.entry_model.specs.declared.access_reply.Outcome.{Outcome}
 use Rattle.entry_model.specs.declared.hreply.HReply.{HReply}
 use Rattle.entry_model.specs.declared.receipt.Receipt.{Receipt}
-use Rattle.entry_model.specs.Receipt.{is_at, is_no_match, found_of}
+use Rattle.entry_model.specs.Receipt.{is_no_match}
 use Rattle.tlb_model.specs.Cache.{cached_line}
 use Rattle.entry_model.specs.Trial.{Call, IsTrial, IsReplyOf, call}
-use Rattle.entry_model.proofs.Heights.{weight, calls_cost, trial_weight, at_valid, cost_append}
+use Rattle.entry_model.proofs.Heights.{weight, calls_cost, trial_weight, cost_append}
 use Rattle.entry_model.proofs.PlanBounds.{EntersOnly, IsTame, IsTameReply, answered_tame, tame_reply, trial_ops, each_call, entries_cost}
 use Rattle.h_enter.specs.Checks.{suits_grants, suits_size, suits_kind}
 use Rattle.h_enter.proofs.Suited.{IsSuited, h_enter_tame}
@@ -35,18 +30,17 @@ use Rattle.h_update.proofs.Tame.{h_remove_tame, h_protect_tame, h_read_tame, h_c
 use Rattle.slb_model.specs.declared.segment.Segment.{Segment}
 use Rattle.slb_model.specs.Buffer.{segment_of}
 use Rattle.hpt_walk.specs.Walk.{access_op, group_calls, walk_calls}
-use Rattle.hpt_walk.specs.Access.{AccessContext, logical_of, landing_at, outcome_by, outcome_of, hit_calls, IsByWay, IsAccessReply, request, mode_for}
+use Rattle.hpt_walk.specs.Access.{AccessContext, hit_calls, IsByWay, IsAccessReply, request, mode_for}
 use Rattle.hpt_walk.specs.declared.request.Request.{Request}
 use Rattle.tlb_model.specs.Processor.{Processor}
-use Rattle.hpt_walk.proofs.Found.{found-on, found-off}
-use Rattle.hpt_walk.proofs.Granted.{IsGrantedPage, IsGrantedWords, access_lands}
+use Rattle.hpt_walk.proofs.Granted.{IsGrantedPage, IsGrantedWords}
 use Rattle.trace_read.specs.declared.trace.Act.{Act}
 use Rattle.trace_reply.specs.declared.reply.Reply.{Reply}
 use Rattle.trace_reply.specs.Replies.{IsOfKind, receipts_in}
 use Rattle.run_model.specs.LineReplies.{hcall_plan, IsCallReply, IsReplyToAccess}
 use Rattle.run_model.specs.Landings.{IsUnworn}
 use Rattle.run_model.proofs.Each.{each_map, each_append}
-use Rattle.run_model.proofs.LowStamps.{IsLowStamp, top, EnterGranted, FromLowStamp, none_worn}
+use Rattle.run_model.proofs.LowStamps.{top, EnterGranted, FromLowStamp, none_worn}
 use Rattle.papr_codes.specs.declared.calls.Hcall.TheVariants as calls
 use Rattle.papr_codes.specs.declared.codes.Rc.TheVariants as rc
 use Rattle.entry_model.specs.declared.operation.Op.TheVariants as ops

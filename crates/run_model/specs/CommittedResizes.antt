@@ -1,10 +1,7 @@
 -- What quiet lines leave of the table: a committed resize keeps each bolted page's translation, and no other line changes the table.
-use Rattle.std.specs.Prelude.{◌≡◌, ◌≢◌, ℕ, ◌+◌, ◌^◌, ◌<◌, ◌≤◌, ◌==◌, Bool, true, false, not, List, [], ◌∷◌, length, Option, Some, None, MatchBool, MatchOption, if◌then◌else◌}
-use Rattle.std.specs.List.{AllByRecursion}
+use Rattle.std.specs.Prelude.{◌≡◌, Bool, true, false, not, List, [], ◌∷◌, Option, Some, None}
 use Rattle.papr_codes.specs.declared.calls.Hcall.{Hcall}
-use Rattle.papr_codes.specs.declared.codes.Rc.TheVariants.{Hardware}
 use Rattle.papr_codes.specs.Hcalls.{hcall_of}
-use Rattle.entry_model.specs.declared.access_reply.Outcome.TheVariants.{At, Ungranted}
 use Rattle.hpt_resize.specs.Resize.{Table}
 use Rattle.trace_read.specs.declared.trace.Act.{Act}
 use Rattle.trace_reply.specs.declared.reply.Reply.{Reply}
@@ -14,8 +11,6 @@ use Rattle.run_model.specs.Sections.{Section, section_end}
 use Rattle.run_model.specs.ShownStores.{has_table_of}
 use Rattle.hpt_resize.specs.Translations.{KeepsTranslations}
 use Rattle.papr_codes.specs.declared.calls.Hcall.TheVariants as calls
-use Rattle.entry_model.specs.declared.operation.Answer.TheVariants as answers
-use Rattle.entry_model.specs.declared.operation.Op.TheVariants as ops
 use Rattle.trace_read.specs.declared.trace.Act.TheVariants as acts
 use Rattle.trace_reply.specs.declared.reply.Reply.TheVariants as replies
 

@@ -1,5 +1,5 @@
 -- What the reply to a line that isn't quiet is, by its receipts.
-use Rattle.std.specs.Prelude.{◌≡◌, ℕ, Bool, List, slice_index, is_none, true}
+use Rattle.std.specs.Prelude.{◌≡◌, ℕ, List, slice_index, is_none, true}
 use Rattle.papr_codes.specs.declared.calls.Hcall.{Hcall}
 use Rattle.papr_codes.specs.Hcalls.{hcall_of}
 use Rattle.entry_model.specs.Trial.{Plan, IsReplyOf, plan_of_code}

@@ -83,7 +83,9 @@ impl Machine {
         requires cpu { line.now.cpu < length self.old.processors }
         requires number { self.old.memory.table.number < 2 ^ 32 - 1 }
         ensures reply { OnOk result ((reply.new, self.new) ≡ run_line self.old line.now) }
-        ensures number { OnOk result (self.new.memory.table.number ≤ self.old.memory.table.number + 1) }
+        ensures number { OnOk
+            result
+            (self.new.memory.table.number ≤ self.old.memory.table.number + 1) }
         ensures cpus { OnOk result (length self.new.processors ≡ length self.old.processors) }
     {
         if line.act.is_quiet() {
@@ -124,7 +126,9 @@ impl Machine {
         requires quiet { is_quiet act.now ≡ true }
         requires number { self.old.memory.table.number < 2 ^ 32 - 1 }
         ensures reply { OnOk result ((reply.new, self.new) ≡ run_quiet_line self.old act.now) }
-        ensures number { OnOk result (self.new.memory.table.number ≤ self.old.memory.table.number + 1) }
+        ensures number { OnOk
+            result
+            (self.new.memory.table.number ≤ self.old.memory.table.number + 1) }
         ensures cpus { OnOk result (length self.new.processors ≡ length self.old.processors) }
     {
         match *act {
@@ -143,7 +147,9 @@ impl Machine {
         ensures reply { IfOk
             result
             (λ reply. (Reply.Hcall reply, self.new) ≡ run_resize self.old hcall args.now) }
-        ensures number { OnOk result (self.new.memory.table.number ≤ self.old.memory.table.number + 1) }
+        ensures number { OnOk
+            result
+            (self.new.memory.table.number ≤ self.old.memory.table.number + 1) }
         ensures cpus { OnOk result (length self.new.processors ≡ length self.old.processors) }
     {
         match hcall {

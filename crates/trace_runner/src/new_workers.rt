@@ -43,7 +43,9 @@ pub fn count_workers(cpus: usize, lines: &[TraceLine]) -> u32
 
 /// A pass with one share of what is left.
 fn take_share(table: &LockTable, rest: &mut Option<Pass>) -> Pass
-    requires some { IsSomeAnd rest.old (λ pass. (0 < pass.shares) × IsFresh table.now pass.shares pass) }
+    requires some { IsSomeAnd
+        rest.old
+        (λ pass. (0 < pass.shares) × IsFresh table.now pass.shares pass) }
     ensures fresh { IsFresh table.now 1 result }
     ensures rest { (n : ℕ) → IsRest table.now (1 + n) rest.old → IsRest table.now n rest.new }
 {

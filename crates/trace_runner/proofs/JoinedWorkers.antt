@@ -1,6 +1,8 @@
 -- The passes of all processors become one.
 use Rattle.std.specs.Prelude.{IfSome, is_some}
-use Rattle.std.proofs.Common.{◌≡◌, ◌+◌, ◌<◌, List, [], ◌∷◌, ◌++◌, length, map, get_or, remove, ap, sym, ◌∙◌, refl, subst, true, cond, ◌⊎◌, inl, inr, Option, Some, None, arith, append_assoc, append-nil}
+use Rattle.std.specs.Option.{option_to_list}
+use Rattle.std.proofs.lemmas.List.{reverse-append, length-append}
+use Rattle.std.proofs.Common.{◌≡◌, ◌+◌, ◌<◌, List, [], ◌∷◌, ◌++◌, length, map, ap, sym, ◌∙◌, refl, subst, reverse, true, cond, ◌⊎◌, inl, inr, Option, Some, None, arith, append_assoc, append-nil}
 use Rattle.std.specs.List.{AllByRecursion}
 use Rattle.std.proofs.lemmas.List.Elements.{Contains-append_left, Contains-append_right}
 use Rattle.entry_model.specs.State.{State}
@@ -16,9 +18,12 @@ use Rattle.trace_runner.specs.declared.worker.Worker.{Worker}
 use Rattle.trace_runner.specs.SectionRun.{HasNoOtherPass, IsGoneFor, IsSeenFor, IsPairJoined, made_in, shares_in, all_made, pass_count, AnyGone, AnySeen, IsJoinOf}
 
 -- ---- the first of a list
-pub split_first : {A : Type 0} (xs : List A) (x : A) → 0 < length xs → x ≡ get_or xs 0 x → xs ≡ x ∷ remove xs 0
-split_first [] x h e = absurd (omega arith)
-split_first (y ∷ ys) x h e = ap (λ z. z ∷ ys) (sym e)
+-- What is popped of a list was the first of it in reverse.
+pub popped_first : {A : Type 0} (old new : List A) (o : Option A) (x : A) → old ≡ new ++ option_to_list o → o ≡ Some x → reverse old ≡ x ∷ reverse new
+popped_first old new o x e is = ap reverse (e ∙ ap (λ z. new ++ option_to_list z) is) ∙ reverse-append new (x ∷ [])
+
+pub popped_count : {A : Type 0} (old new : List A) (o : Option A) (x : A) → old ≡ new ++ option_to_list o → o ≡ Some x → length old ≡ length new + 1
+popped_count old new o x e is = ap length (e ∙ ap (λ z. new ++ option_to_list z) is) ∙ length-append new (x ∷ [])
 
 -- ---- joins
 -- The pass so far, if there is one, and those of the workers that are left are those of all.

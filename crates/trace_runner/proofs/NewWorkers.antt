@@ -15,7 +15,7 @@ use Rattle.tlb_model.specs.Processor.{Processor}
 use Rattle.trace_read.specs.declared.trace.TraceLine.{TraceLine}
 use Rattle.trace_runner.specs.declared.worker.Worker.{Worker}
 use Rattle.trace_runner.specs.MachineState.{Holding}
-use Rattle.trace_runner.specs.Workers.{lines_of_cpu, IsFresh, IsRest, IsSeenBy, HasRun, IsReady, AllNumbered}
+use Rattle.trace_runner.specs.Workers.{lines_of_cpu, IsFresh, IsRest, IsSeenBy, HasRun, IsReady}
 use Rattle.trace_runner.proofs.SectionWork.{below_or}
 
 pub holds_inside : (a : List State) (line : Line) → Holding a line → line.entry < length a

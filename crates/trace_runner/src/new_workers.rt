@@ -119,8 +119,10 @@ pub fn make_workers(
     let count = cpus.len();
     let mut rest = Some(pass);
     let mut workers = Vec::with_capacity(alloc, count)?;
+    // The last one is taken without moving the others.
+    cpus.reverse();
     for i in 0..count {
-        let cpu = cpus.remove(0);
+        let cpu = cpus.pop().unwrap();
         let worker = next_worker(alloc, table, cpu, &mut rest, i as u32, lines)?;
         workers.push(worker)?;
     }

@@ -46,7 +46,9 @@ pub fn join_workers(
         (λ pass. queues.new.items
         ≡ queues.old.items ++ map (λ (w : WorkerOf). w.replies) workers.items) }
 {
+    // The last one is taken without moving the others.
     let mut rest = workers;
+    rest.reverse();
     let mut all = None;
     for _ in 0..rest.len() {
         let Worker {
@@ -54,7 +56,7 @@ pub fn join_workers(
             before: _,
             pass,
             replies,
-        } = rest.remove(0);
+        } = rest.pop().unwrap();
         cpus.push(cpu)?;
         queues.push(replies)?;
         all = joined(table, all, pass);

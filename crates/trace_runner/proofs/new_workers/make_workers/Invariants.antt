@@ -1,4 +1,4 @@
-use Rattle.std.proofs.Common.{◌≡◌, ◌+◌, ◌-◌, ◌++◌, length, map}
+use Rattle.std.proofs.Common.{◌≡◌, ◌+◌, ◌-◌, ◌++◌, length, map, reverse}
 use Rattle.hpt_walk.specs.Access.{AccessContext}
 use Rattle.trace_runner.specs.declared.worker.Worker.{Worker}
 use Rattle.trace_runner.specs.MachineState.{AllHold}
@@ -8,9 +8,9 @@ use Rattle.trace_runner.proofs.new_workers.make_workers.Given as goal
 abbrev pub invariant-loop-i : goal.invariant-loop-i
 invariant-loop-i l = record {
   rest : IsRest l.table (count_with_lines (l.count - l.i) l.i l.lines) l.rest;
-  hold : AllHold l.table.opening.items l.cpus.items;
+  hold : AllHold l.table.opening.items (reverse l.cpus.items);
   count : length l.cpus.items + l.i ≡ l.count;
   size : length l.workers.items ≡ l.i;
-  before : map (λ (w : Worker). w.before.value) l.workers.items ++ l.cpus.items ≡ l.fn.cpus.items;
+  before : map (λ (w : Worker). w.before.value) l.workers.items ++ reverse l.cpus.items ≡ l.fn.cpus.items;
   ready : (set : AccessContext) → AllNumbered (λ j w. IsReady set l.table j l.lines w) 0 l.workers.items;
 }

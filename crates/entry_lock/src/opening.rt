@@ -56,7 +56,8 @@ struct Prepared {
 /// Takes all the memory that a table needs.
 fn prepare(alloc: Global, states: &Vec<EntryState>, passes: u32) -> Result<Prepared, AllocError>
     requires { 0 < passes }
-    ensures words { IfOk result (λ p. p.table.shared.table_id.words ≡ 3 * length states.now.items + 1) }
+    ensures words { IfOk result
+        (λ p. p.table.shared.table_id.words ≡ 3 * length states.now.items + 1) }
     ensures slots { IfOk result (λ p. p.table.shared.table_id.slots ≡ 0) }
     ensures key { IfOk result
         (λ p. (states_of p.table.shared.key ≡ states.now.items)

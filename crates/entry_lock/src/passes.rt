@@ -50,8 +50,10 @@ impl Pass {
         ensures receipt { IfOk result (λ r. IsReceiptOf entry op r) }
         ensures made { IfOk result (λ r. MadeReceipt (view_of self.old) (view_of self.new) r) }
         ensures same { IfErr result (λ b. MadeNothing (view_of self.old) (view_of self.new)) }
-        ensures last { IfErr result (λ b. TellsLastStep (view_of self.old) (view_of self.new) entry b) }
-        ensures cause { IfErr result (λ b. MatchBool (is_access_of op) (IsChanging b) (IsHeldElsewhere b)) }
+        ensures last { IfErr result
+            (λ b. TellsLastStep (view_of self.old) (view_of self.new) entry b) }
+        ensures cause { IfErr result
+            (λ b. MatchBool (is_access_of op) (IsChanging b) (IsHeldElsewhere b)) }
         ensures alone { self.old.shares ≡ table.now.passes → IsOk result }
     {
         if is_access(&op) {
@@ -74,8 +76,10 @@ impl Pass {
         ensures receipt { IfOk result (λ r. IsReceiptOf entry op r) }
         ensures made { IfOk result (λ r. MadeReceipt (view_of self.old) (view_of self.new) r) }
         ensures same { IfErr result (λ b. MadeNothing (view_of self.old) (view_of self.new)) }
-        ensures last { IfErr result (λ b. TellsLastStep (view_of self.old) (view_of self.new) entry b) }
-        ensures cause { IfErr result (λ b. MatchBool (is_access_of op) (IsChanging b) (IsHeldElsewhere b)) }
+        ensures last { IfErr result
+            (λ b. TellsLastStep (view_of self.old) (view_of self.new) entry b) }
+        ensures cause { IfErr result
+            (λ b. MatchBool (is_access_of op) (IsChanging b) (IsHeldElsewhere b)) }
         ensures alone { self.old.shares ≡ table.now.passes → IsOk result }
     {
         self.try_with(table, entry, op, &NoPause)
@@ -101,8 +105,10 @@ impl Pass {
         ensures shares { self.new.shares ≡ self.old.shares }
         ensures receipt { IfOk result (λ o. IfSome o (λ r. IsReceiptOf known.now.entry op r)) }
         ensures current { IfOk result (λ o. IfSome o (λ r. IsCurrent known.now r.before)) }
-        ensures made { IfOk result (λ o. IfSome o (λ r. MadeReceipt (view_of self.old) (view_of self.new) r)) }
-        ensures gone { IfOk result (λ o. IfNone o (FindsGone (view_of self.old) (view_of self.new) known.now)) }
+        ensures made { IfOk result
+            (λ o. IfSome o (λ r. MadeReceipt (view_of self.old) (view_of self.new) r)) }
+        ensures gone { IfOk result
+            (λ o. IfNone o (FindsGone (view_of self.old) (view_of self.new) known.now)) }
         ensures same { IfErr result (λ b. MadeNothing (view_of self.old) (view_of self.new)) }
         ensures last { IfErr result
             (λ b. TellsLastStep (view_of self.old) (view_of self.new) known.now.entry b) }
@@ -143,7 +149,8 @@ impl Pass {
             ≡ (view_of self.old).actor.receipts ++ (view_of other).actor.receipts }
         ensures seen { (view_of self.new).actor.lines
             ≡ (view_of self.old).actor.lines ++ (view_of other).actor.lines }
-        ensures fronts { (view_of self.new).fronts ≡ larger (view_of self.old).fronts (view_of other).fronts }
+        ensures fronts { (view_of self.new).fronts
+            ≡ larger (view_of self.old).fronts (view_of other).fronts }
         ensures gone { (cached : LineOf)
             → IsGone (view_of self.old).fronts cached ⊎ IsGone (view_of other).fronts cached
             → IsGone (view_of self.new).fronts cached }

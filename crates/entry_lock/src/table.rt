@@ -17,7 +17,12 @@ pub struct LockTable {
     pub(crate) opening: Vec<EntryState>,
     pub(crate) closing: Vec<EntryState>,
     pub ghost sized: { IsSized table.shared.table_id table.shared.key order },
-    pub ghost lists: { HasLists table.shared.key passes opening.items closing.items (vec_capacity closing) },
+    pub ghost lists: { HasLists
+        table.shared.key
+        passes
+        opening.items
+        closing.items
+        (vec_capacity closing) },
 }
 
 /// The right to take steps on a table. It has shares, of as many as the table has passes, and knows

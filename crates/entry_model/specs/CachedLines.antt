@@ -1,7 +1,7 @@
 -- Cached lines: what a cached translation says of its entry.
 use Rattle.std.specs.Prelude.{◌≡◌, ℕ, ◌<◌, ◌⊎◌, List, [], ◌∷◌, IsTrue}
 use Rattle.std.specs.List.{AllByRecursion}
-use Rattle.power_addr.specs.Pages.{VirtualPage}
+use Rattle.power_addr.specs.Pages.{VirtualPage, first_page}
 use Rattle.entry_model.specs.State.{State}
 use Rattle.entry_model.specs.declared.line.Line.{Line}
 use Rattle.entry_model.specs.declared.operation.Op.{Op}
@@ -9,6 +9,11 @@ use Rattle.entry_model.specs.declared.operation.Op.TheVariants.{Access}
 use Rattle.entry_model.specs.declared.receipt.Receipt.{Receipt}
 use Rattle.entry_model.specs.Reply.{compared_bits, has_base}
 use Rattle.entry_model.specs.Receipt.{is_decided}
+
+-- A line of the first page by entry 0, with nothing in its doublewords: what a set of lines holds
+-- past its end.
+abbrev pub blank_line : Line
+blank_line = record { page = first_page; entry = 0; stamp = 0; dword0 = 0; dword1 = 0 }
 
 -- ---- a line and a state of its entry
 -- The state is valid, with the line's stamp and doublewords.

@@ -1,6 +1,7 @@
 pub mod State
 pub mod Reply
 pub mod Receipt
+pub mod Replies
 pub mod CachedLines
 pub mod Run
 pub mod Trial

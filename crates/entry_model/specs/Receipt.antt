@@ -1,10 +1,10 @@
 -- Receipts: one operation that was made on one entry.
 use Rattle.std.specs.Prelude.{refl, ◌≡◌, ℕ, Some, Bool, true, false, List, Option, find, not}
-use Rattle.entry_model.specs.State.{State}
+use Rattle.entry_model.specs.State.{State, empty_state}
 use Rattle.entry_model.specs.declared.operation.Answer.{Answer}
 use Rattle.entry_model.specs.declared.operation.Answer.TheVariants.{Entered, Taken, Worn, NotFound, NoMatch, Denied, At}
 use Rattle.entry_model.specs.declared.operation.Op.{Op}
-use Rattle.entry_model.specs.declared.operation.Op.TheVariants.{Enter, Access}
+use Rattle.entry_model.specs.declared.operation.Op.TheVariants.{Enter, Read, Access}
 use Rattle.entry_model.specs.declared.receipt.Receipt.{Receipt}
 use Rattle.entry_model.specs.Reply.{reply_of}
 use Rattle.hpte_fields.specs.Fields.{normal_words}
@@ -22,6 +22,10 @@ receipt_of e s op = record {
   answer = (reply_of s op).0;
   lawful = refl;
 }
+
+-- A read of an empty entry 0: what a list of receipts holds past its end.
+abbrev pub blank_receipt : Receipt
+blank_receipt = receipt_of 0 (empty_state 0) Read
 
 -- This receipt is of this entry and this operation.
 pub record IsReceiptOf (e : ℕ) (o : Op) (r : Receipt) : Type 0 where

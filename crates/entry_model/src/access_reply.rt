@@ -1,3 +1,5 @@
+ghost use Rattle.std.specs.Prelude.{◌≡◌};
+
 use crate::lists::Receipts;
 
 /// How an access of the processor ended.
@@ -22,6 +24,29 @@ pub enum By {
     Hit,
     /// A walk of the page's two groups.
     Walk,
+}
+
+/// How an access ended, and by what, where a segment was found. With the receipts of its operations
+/// it is the access's reply.
+#[derive(Clone, Copy, PartialEq, Eq, Debug)]
+pub struct AccessEnd {
+    pub outcome: Outcome,
+    pub by: Option<By>,
+}
+
+impl AccessEnd {
+    ghost use Rattle.entry_model.specs.Replies.{access_reply_with};
+
+    /// The reply to an access that ended so and made these receipts.
+    pub fn into_reply(self, receipts: Receipts) -> AccessReply
+        ensures { result ≡ access_reply_with self receipts }
+    {
+        AccessReply {
+            outcome: self.outcome,
+            by: self.by,
+            receipts,
+        }
+    }
 }
 
 /// The reply to an access: how it ended, by what, where a segment was found, and the receipts of

@@ -19,7 +19,8 @@ pub fn accessed(
     no_execute: bool,
     want: Want,
 ) -> (Answer, EntryState)
-    ensures { result ≡ table.answer_of_access before.now tag base (table.access_mode key no_execute want) }
+    ensures { result
+        ≡ table.answer_of_access before.now tag base (table.access_mode key no_execute want) }
 {
     if before.valid && before.dword0 & COMPARED == tag && has_base(before, base) {
         matched(before, key, no_execute, want)

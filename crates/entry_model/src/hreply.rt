@@ -1,5 +1,41 @@
+ghost use Rattle.std.specs.Prelude.{◌≡◌, []};
+
 use crate::lists::{Receipts, ReplyWords};
 use papr_codes::Rc;
+
+/// What a hypervisor call leaves in registers: its return code in register 3, and the words in
+/// register 4 and those behind it. With the receipts of its operations it is the call's reply.
+#[derive(Drop)]
+pub struct Registers {
+    pub rc: Rc,
+    pub words: ReplyWords,
+}
+
+impl Registers {
+    ghost use Rattle.entry_model.specs.Replies.{reply_with};
+
+    /// A return code alone.
+    pub fn with_code(rc: Rc) -> Registers
+        ensures rc { result.rc ≡ rc }
+        ensures words { result.words ≡ [] }
+    {
+        Registers {
+            rc,
+            words: ReplyWords::new(),
+        }
+    }
+
+    /// The reply of a call that left these registers and made these receipts.
+    pub fn into_reply(self, receipts: Receipts) -> HReply
+        ensures { result ≡ reply_with self receipts }
+    {
+        HReply {
+            rc: self.rc,
+            words: self.words,
+            receipts,
+        }
+    }
+}
 
 /// The reply of a hypervisor call: its return code, the words in register 4 and those behind it, and
 /// the receipts of the operations that it made, in their order.

@@ -20,9 +20,9 @@ mod state;
 mod store;
 mod trial;
 
-pub use access_reply::{AccessReply, By, Outcome};
+pub use access_reply::{AccessEnd, AccessReply, By, Outcome};
 pub use answering::reply;
-pub use hreply::HReply;
+pub use hreply::{HReply, Registers};
 pub use laws::{
     accesses_only_raise_bits, decided_is_valid, empty_stays_empty, fronts_compose,
     fronts_never_fall, logged_histories_are_legal, only_at_touches, others_ignore_bits,

@@ -1,3 +1,6 @@
+ghost use Rattle.std.specs.Prelude.{◌≡◌};
+ghost use Rattle.entry_model.specs.CachedLines.{blank_line};
+
 use power_addr::Page;
 
 /// One cached translation: the page, and the entry that translated it, at the stamp and with the
@@ -13,7 +16,10 @@ pub struct Line {
     pub dword1: u64,
 }
 
+/// What a set of cached lines holds past its end.
 impl Default for Line {
+    ghost is_default = { λ line. line ≡ blank_line };
+
     fn default() -> Self {
         Line {
             page: Page::default(),

@@ -1,4 +1,5 @@
 ghost use Rattle.std.specs.Prelude.{◌≡◌, ◌<◌, ◌++◌, [], ◌∷◌, length};
+ghost use Rattle.entry_model.specs.Receipt.{blank_receipt};
 
 use crate::operation::{Answer, Op};
 use crate::receipt::Receipt;
@@ -6,7 +7,10 @@ use crate::state::EntryState;
 use arrayvec::ArrayVec;
 use std::marker::Model;
 
+/// What a list of receipts holds past its end.
 impl Default for Receipt {
+    ghost is_default = { λ receipt. receipt ≡ blank_receipt };
+
     fn default() -> Self {
         Receipt {
             entry: 0,
@@ -39,6 +43,13 @@ impl Receipts {
         Receipts {
             items: ArrayVec::new(),
         }
+    }
+
+    /// Takes all receipts out, so that the list can serve for the next call.
+    pub fn clear(&mut self)
+        ensures { self.new ≡ [] }
+    {
+        self.items.clear();
     }
 
     /// Appends a receipt.

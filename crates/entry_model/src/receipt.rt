@@ -7,10 +7,11 @@ use crate::state::EntryState;
 /// One operation that was made on one entry: the state it found, and what it was answered.
 #[derive(Clone, Copy, Debug)]
 pub struct Receipt {
-    /// The entry's index in its table.
-    pub entry: u32,
+    // Fields lie in memory in this order: the wide ones first, so that no room is lost.
     pub before: EntryState,
     pub op: Op,
+    /// The entry's index in its table.
+    pub entry: u32,
     pub answer: Answer,
 
     // The answer is the entry's own to this operation on that state.

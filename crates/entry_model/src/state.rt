@@ -7,16 +7,17 @@ use std::marker::Model;
 /// doubleword 1, and an entry that isn't valid has neither words nor bits.
 #[derive(Clone, Copy, PartialEq, Eq, Debug)]
 pub struct EntryState {
-    pub valid: bool,
+    // Fields lie in memory in this order: the wide ones first, so that no room is lost.
     pub dword0: u64,
     /// Doubleword 1, with R and C clear.
     pub dword1: u64,
+    /// How often the entry has changed, but for R and C that accesses set.
+    pub stamp: u32,
+    pub valid: bool,
     /// R: the page was referenced.
     pub referenced: bool,
     /// C: the page was changed.
     pub changed: bool,
-    /// How often the entry has changed, but for R and C that accesses set.
-    pub stamp: u32,
 }
 
 impl Model for EntryState {

@@ -56,7 +56,8 @@ pub fn try_entries<T: EntryStore>(
         (goes_after goes_on)
         (map (call op) (range_with_len first count))
         (receipts_added receipts.old receipts.new) }
-    ensures ending { result ≡ ending_of (goes_after goes_on) (receipts_added receipts.old receipts.new) }
+    ensures ending { result
+        ≡ ending_of (goes_after goes_on) (receipts_added receipts.old receipts.new) }
 {
     for i in 0..count {
         let made = store.apply(first + i, op);

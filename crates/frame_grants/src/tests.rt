@@ -3,7 +3,8 @@ ghost use Rattle.std.specs.Prelude.{◌≡◌};
 use crate::{Grant, GrantError, Grants, Kind};
 
 fn ram(logical: u64, machine: u64, length: u64) -> Grant
-    ensures { result ≡ record { logical = logical; machine = machine; length = length; kind = Kind.Ram } }
+    ensures { result
+        ≡ record { logical = logical; machine = machine; length = length; kind = Kind.Ram } }
 {
     Grant {
         logical,

@@ -152,7 +152,9 @@ fn ended(rc: Rc, mut words: ReplyWords, unchanged: &[u64], receipts: Receipts) -
 #[inline(never)]
 pub fn h_bulk_remove<T: EntryStore>(store: &mut T, pairs: &[u64; 8]) -> HReply
     ensures made { T.made store.old store.new result.receipts }
-    ensures reply { IsReplyOf (plans.h_bulk_remove_plan (T.table_order store.old) pairs.now) result }
+    ensures reply { IsReplyOf
+        (plans.h_bulk_remove_plan (T.table_order store.old) pairs.now)
+        result }
 {
     let order = store.order();
     let mut words = ReplyWords::new();

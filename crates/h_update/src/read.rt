@@ -29,7 +29,8 @@ fn read_from<T: EntryStore>(store: &mut T, first: u32, count: u32) -> HReply
     requires in_table { first + count ≤ table.entry_count (T.table_order store.old) }
     requires small { first + count ≤ 2 ^ 22 }
     ensures made { T.made store.old store.new result.receipts }
-    ensures trial { IsTrial (λ answer. true) (map (call Read) (range_with_len first count)) result.receipts }
+    ensures trial { IsTrial
+        (λ answer. true) (map (call Read) (range_with_len first count)) result.receipts }
     ensures code { result.rc ≡ Rc.Success }
     ensures words { result.words ≡ flat_map both_words result.receipts }
 {

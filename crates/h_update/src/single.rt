@@ -81,7 +81,9 @@ fn where_flag(flags: CallFlags, flag: CallFlags, word: u64) -> Option<u64>
 #[tactic(auto, unfolding(crate::specs::Single::h_remove_plan))]
 pub fn h_remove<T: EntryStore>(store: &mut T, flags: u64, ptex: u64, avpn: u64) -> HReply
     ensures made { T.made store.old store.new result.receipts }
-    ensures reply { IsReplyOf (plans.h_remove_plan (T.table_order store.old) flags ptex avpn) result }
+    ensures reply { IsReplyOf
+        (plans.h_remove_plan (T.table_order store.old) flags ptex avpn)
+        result }
 {
     let known = CallFlags::of(flags);
     let test = Test {
@@ -98,7 +100,9 @@ pub fn h_remove<T: EntryStore>(store: &mut T, flags: u64, ptex: u64, avpn: u64) 
 #[tactic(auto, unfolding(crate::specs::Single::h_protect_plan))]
 pub fn h_protect<T: EntryStore>(store: &mut T, flags: u64, ptex: u64, avpn: u64) -> HReply
     ensures made { T.made store.old store.new result.receipts }
-    ensures reply { IsReplyOf (plans.h_protect_plan (T.table_order store.old) flags ptex avpn) result }
+    ensures reply { IsReplyOf
+        (plans.h_protect_plan (T.table_order store.old) flags ptex avpn)
+        result }
 {
     let test = Test {
         avpn: where_flag(CallFlags::of(flags), CallFlags::AVPN, avpn),

@@ -44,7 +44,8 @@ pub fn rehash(
         (λ _. IsPlacedBelow order_from order_to states.now into.new.items (length states.now))
         (λ collision.
         IsPlacedBelow order_from order_to states.now into.new.items collision.second) }
-    ensures carried { OnOk result (into.new.items ≡ rehashed_states order_from order_to states.now) }
+    ensures carried { OnOk result
+        (into.new.items ≡ rehashed_states order_from order_to states.now) }
     ensures never { order_from ≤ order_to → IsOk result }
     ensures length { vec_len into.new ≡ vec_len into.old }
     ensures capacity { vec_capacity into.new ≡ vec_capacity into.old }

@@ -23,7 +23,8 @@ impl Model for Pending {
 
     ghost Value = { PendingTable };
 
-    ghost view = { λ p. record { order = p.order; place = p.place; ready = length p.states.items } };
+    ghost view = { λ p.
+        record { order = p.order; place = p.place; ready = length p.states.items } };
 
     ghost invariant = { λ p. IsPreparing p.order p.states.items (vec_capacity p.states) };
 }

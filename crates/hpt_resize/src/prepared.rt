@@ -115,7 +115,8 @@ impl Resize {
             result
             (λ _. commit_refusal flags shift self.now ≡ None)
             (λ rc. commit_refusal flags shift self.now ≡ Some rc) }
-        ensures ready { OnOk result (ForSome self.now (λ table. table.ready ≡ entry_count table.order)) }
+        ensures ready { OnOk result (ForSome self.now
+            (λ table. table.ready ≡ entry_count table.order)) }
     {
         if flags != 0 || shift < 18 || shift > 46 {
             return Err(Rc::Parameter);

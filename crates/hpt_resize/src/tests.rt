@@ -26,7 +26,8 @@ fn entry(dword0: u64, dword1: u64) -> EntryState
 fn empty_table(alloc: Global, order: u8) -> Result<Vec<EntryState>, AllocError>
     requires low { 18 ≤ order }
     requires high { order ≤ 22 }
-    ensures empty { IfOk result (λ states. states.items ≡ replicate (entry_count order) (empty_state 0)) }
+    ensures empty { IfOk result
+        (λ states. states.items ≡ replicate (entry_count order) (empty_state 0)) }
     ensures long { IfOk result (λ states. vec_len states ≡ entry_count order) }
 {
     vec![in alloc; EntryState::empty(0); 1 << (order - 4)]

@@ -75,7 +75,10 @@ fn search<T: EntryStore>(
     ensures behind { receipts.new ≡ receipts.old ++ receipts_added receipts.old receipts.new }
     ensures few { length receipts.new ≤ length receipts.old + 8 }
     ensures made { T.made store.old store.new (receipts_added receipts.old receipts.new) }
-    ensures trial { IsTrial is_no_match (group_calls op group) (receipts_added receipts.old receipts.new) }
+    ensures trial { IsTrial
+        is_no_match
+        (group_calls op group)
+        (receipts_added receipts.old receipts.new) }
     ensures found { result ≡ found_of (receipts_added receipts.old receipts.new) }
 {
     try_entries(

@@ -22,7 +22,8 @@ impl Model for PlainTable {
 
     ghost view = { λ t. record { states = t.states.items; order = t.order } };
 
-    ghost invariant = { λ t. (18 ≤ t.order) × (t.order ≤ 22) × (vec_len t.states ≡ entry_count t.order) };
+    ghost invariant = { λ t.
+        (18 ≤ t.order) × (t.order ≤ 22) × (vec_len t.states ≡ entry_count t.order) };
 }
 
 impl PlainTable {
@@ -107,7 +108,8 @@ impl EntryStore for PlainTable {
 
     ghost seen_stays = { λ a b xs line h seen. run_holds a.states b.states xs line h.run seen };
 
-    ghost shown_is_seen = { λ a b xs line h shows. run_shows a.states b.states xs line h.run shows };
+    ghost shown_is_seen = { λ a b xs line h shows.
+        run_shows a.states b.states xs line h.run shows };
 
     ghost gone_stays = { λ a b xs line h gone. run_leaves a.states b.states xs line h.run gone };
 

@@ -171,7 +171,8 @@ impl Partition {
         requires has_states { HasStates self.old }
         requires number { self.old.memory.table.number < 2 ^ 32 - 1 }
         ensures reply { result ≡ reply_of_code (commit_result self.old.memory flags shift).0 }
-        ensures after { self.new ≡ with_memory self.old (commit_result self.old.memory flags shift).1 }
+        ensures after { self.new
+            ≡ with_memory self.old (commit_result self.old.memory flags shift).1 }
         ensures has_states { HasStates self.new }
         ensures sound { IsPartition self.new }
         ensures number { CountsTables result.rc self.old self.new }

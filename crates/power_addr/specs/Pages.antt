@@ -20,6 +20,10 @@ virtual_page one_tb vsid shift index = record {
   index = index;
 }
 
+-- The first page of the first segment of 256 MB, in pages of 4 KB.
+abbrev pub first_page : VirtualPage
+first_page = virtual_page false 0 12 0
+
 -- ---- the ranges
 -- The bits of an offset in a segment.
 abbrev pub offset_bits : Bool → ℕ

@@ -1,5 +1,5 @@
 ghost use Rattle.std.specs.Prelude.{◌≡◌, ◌%◌, ◌^◌, Some, IfSome};
-ghost use Rattle.power_addr.specs.Pages.{IsPage, virtual_page, page_of_parts, page_of_address, is_vsid, is_base_shift, offset_bits, segment_code_of, tag_of};
+ghost use Rattle.power_addr.specs.Pages.{IsPage, virtual_page, first_page, page_of_parts, page_of_address, is_vsid, is_base_shift, offset_bits, segment_code_of, tag_of};
 
 use std::marker::Model;
 
@@ -142,7 +142,7 @@ impl Page {
 
 /// The first page of the first segment of 256 MB, in pages of 4 KB.
 impl Default for Page {
-    ghost is_default = { λ p. IsPage p };
+    ghost is_default = { λ page. page ≡ first_page };
 
     fn default() -> Self {
         Page {

@@ -49,7 +49,8 @@ impl Slb {
     /// describe. Without V in `rb` the slot is then invalid, and the rest of the words isn't read.
     #[tactic(auto, unfolding(crate::specs::Refusals::mte_refusal, crate::specs::Buffer::slots_after))]
     pub fn mte(&mut self, rb: u64, rs: u64) -> Result<(), BadSlb>
-        ensures told { MatchResult result (λ _. mte_refusal rb rs ≡ None) (λ e. mte_refusal rb rs ≡ Some e) }
+        ensures told { MatchResult result
+            (λ _. mte_refusal rb rs ≡ None) (λ e. mte_refusal rb rs ≡ Some e) }
         ensures ok { OnOk result (self.new ≡ slots_after self.old rb rs) }
         ensures err { OnErr result (self.new ≡ self.old) }
     {

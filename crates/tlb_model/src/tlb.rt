@@ -49,7 +49,8 @@ impl Tlb {
     /// that was filled first goes.
     pub fn fill(&mut self, line: Line)
         requires { cached_line self.old line.page ≡ None }
-        ensures { self.new ≡ with_set line.page (put_last line (set_of self.old line.page)) self.old }
+        ensures { self.new
+            ≡ with_set line.page (put_last line (set_of self.old line.page)) self.old }
     {
         let number = set_number(&line.page);
         self.sets[number].fill(line);
@@ -57,7 +58,8 @@ impl Tlb {
 
     /// Takes out the line of the page, if there is one; the others keep their order.
     pub fn drop_line(&mut self, page: &Page)
-        ensures { self.new ≡ with_set page.now (without_page page.now (set_of self.old page.now)) self.old }
+        ensures { self.new
+            ≡ with_set page.now (without_page page.now (set_of self.old page.now)) self.old }
     {
         self.sets[set_number(page)].drop_line(page);
     }

@@ -16,7 +16,8 @@ impl Model for Replies {
 
     ghost Value = { ReplyList };
 
-    ghost view = { λ r. record { items = r.items.items; spare = vec_capacity r.items - vec_len r.items } };
+    ghost view = { λ r.
+        record { items = r.items.items; spare = vec_capacity r.items - vec_len r.items } };
 }
 
 impl Replies {

@@ -17,7 +17,8 @@ pub fn key(segment: &Segment, user: bool) -> bool
 /// The access as an operation on an entry of the page, which stands in the page's secondary group
 /// where `secondary` says so.
 pub fn operation(segment: &Segment, request: &Request, secondary: bool) -> Op
-    ensures op { result ≡ table.access_op segment.now.page (mode_for segment.now request.now) secondary }
+    ensures op { result
+        ≡ table.access_op segment.now.page (mode_for segment.now request.now) secondary }
     ensures normal { IsNormal result }
 {
     access_op(

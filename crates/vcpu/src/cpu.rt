@@ -48,8 +48,10 @@ impl Cpu {
 
     /// The instruction `slbmte`.
     pub fn mte(&mut self, rb: u64, rs: u64) -> Result<(), BadSlb>
-        ensures told { MatchResult result (λ _. mte_refusal rb rs ≡ None) (λ e. mte_refusal rb rs ≡ Some e) }
-        ensures ok { OnOk result (self.new ≡ record self.old { slots = slots_after self.old.slots rb rs }) }
+        ensures told { MatchResult result
+            (λ _. mte_refusal rb rs ≡ None) (λ e. mte_refusal rb rs ≡ Some e) }
+        ensures ok { OnOk result
+            (self.new ≡ record self.old { slots = slots_after self.old.slots rb rs }) }
         ensures err { OnErr result (self.new ≡ self.old) }
     {
         self.slb.mte(rb, rs)

@@ -37,7 +37,9 @@ pub fn in_segment<T: EntryStore>(
     ensures comes_later { IfSome
         (gone_by_way result.by (cached_line tlb.old segment.now.page))
         (λ line. AllLater line result.receipts) }
-    ensures gone { IfSome (gone_by_way result.by (cached_line tlb.old segment.now.page)) (T.gone store.new) }
+    ensures gone { IfSome
+        (gone_by_way result.by (cached_line tlb.old segment.now.page))
+        (T.gone store.new) }
 {
     let line = tlb.find(&segment.page);
     if let Some(reply) = by_cache(store, grants, segment, request, &line) {

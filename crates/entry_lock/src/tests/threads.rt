@@ -107,11 +107,13 @@ fn run_two<R: Threads + Sync>(
         rt,
         move || -> Result<Tried, AllocError>
             requires { IsOf shared.now pass × (shared.now.order ≡ 18) }
-            ensures { IfOk result (λ t. IsOf shared.entry.now t.pass × (t.pass.shares ≡ pass.shares)) }
+            ensures { IfOk result
+                (λ t. IsOf shared.entry.now t.pass × (t.pass.shares ≡ pass.shares)) }
         { work_on(alloc, shared, pass, works.0) },
         move || -> Result<Tried, AllocError>
             requires { IsOf shared.now other × (shared.now.order ≡ 18) }
-            ensures { IfOk result (λ t. IsOf shared.entry.now t.pass × (t.pass.shares ≡ other.shares)) }
+            ensures { IfOk result
+                (λ t. IsOf shared.entry.now t.pass × (t.pass.shares ≡ other.shares)) }
         { work_on(alloc, shared, other, works.1) },
     );
     let Tried {

@@ -55,7 +55,8 @@ fn blocks(rt: HostRuntime) -> Result<(), Fail> {
 fn new_states(alloc: Global, order: u8) -> Result<Vec<EntryState>, AllocError>
     requires low { 18 ≤ order }
     requires high { order ≤ 22 }
-    ensures empty { IfOk result (λ states. states.items ≡ replicate (entry_count order) (empty_state 0)) }
+    ensures empty { IfOk result
+        (λ states. states.items ≡ replicate (entry_count order) (empty_state 0)) }
     ensures whole { IfOk result (λ states. vec_len states ≡ entry_count order) }
 {
     vec![in alloc; EntryState::empty(0); 1 << (order - 4)]

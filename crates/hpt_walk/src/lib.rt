@@ -15,4 +15,4 @@ pub use laws::{
     only_at_changes_entries, walk_finds_first, walks_give_lines, walks_use_their_page,
 };
 pub use request::Request;
-pub use walking::{WalkAnswer, walk};
+pub use walking::{WalkAnswer, walk, walk_into};

@@ -26,7 +26,6 @@ pub struct WalkAnswer {
 /// group, in slot order, up to the first that translates the page. `key` is the segment's key for
 /// the state of the processor, and `no_execute` says whether the segment refuses instruction
 /// fetches.
-#[tactic(auto, unfolding(crate::specs::Walk::walk_calls))]
 pub fn walk<T: EntryStore>(
     store: &mut T,
     page: &Page,
@@ -46,18 +45,42 @@ pub fn walk<T: EntryStore>(
     ensures shown { IfSome result.found (λ r. ShowsLine (line_of page.now r) result.receipts) }
     ensures translates { IfSome result.found (λ r. TranslatesItsPage (line_of page.now r)) }
 {
-    let (primary, secondary) = groups(page, store.order());
     let mut receipts = Receipts::new();
+    let found = walk_into(store, page, want, key, no_execute, &mut receipts);
+    WalkAnswer { found, receipts }
+}
+
+/// The same walk, whose receipts take the place of what is in `receipts`. Gives back the receipt of
+/// the entry that translates the page: the last one, which says At or Denied.
+#[tactic(auto, unfolding(crate::specs::Walk::walk_calls))]
+pub fn walk_into<T: EntryStore>(
+    store: &mut T,
+    page: &Page,
+    want: Want,
+    key: bool,
+    no_execute: bool,
+    receipts: &mut Receipts,
+) -> Option<Receipt>
+    ensures made { T.made store.old store.new receipts.new }
+    ensures trial { IsTrial
+        is_no_match
+        (walk_calls (T.table_order store.old) page.now (access_mode key no_execute want))
+        receipts.new }
+    ensures found { result ≡ found_of receipts.new }
+    ensures none { IsNone result ↔ AreAllNoMatch receipts.new }
+
+    // What a cache may keep of the entry.
+    ensures shown { IfSome result (λ r. ShowsLine (line_of page.now r) receipts.new) }
+    ensures translates { IfSome result (λ r. TranslatesItsPage (line_of page.now r)) }
+{
+    receipts.clear();
+    let (primary, secondary) = groups(page, store.order());
     let op = access_op(page, key, no_execute, want, false);
-    if let Some(receipt) = search(store, primary as u32, op, &mut receipts) {
-        return WalkAnswer {
-            found: Some(receipt),
-            receipts,
-        };
+    if let Some(receipt) = search(store, primary as u32, op, receipts) {
+        return Some(receipt);
     }
     let op = access_op(page, key, no_execute, want, true);
-    let found = search(store, secondary as u32, op, &mut receipts);
-    WalkAnswer { found, receipts }
+    search(store, secondary as u32, op, receipts)
 }
 
 /// Makes an access on the entries of a group, in slot order, up to the first that doesn't say

@@ -1,46 +1,49 @@
 ghost use Rattle.std.specs.Prelude.{◌≡◌, [], Some, IfSome, IfNone};
 ghost use Rattle.entry_model.specs.declared.access_reply.By.TheVariants.{Hit};
+ghost use Rattle.entry_model.specs.Replies.{access_reply_with};
 ghost use Rattle.hpt_walk.specs.Translations.{TranslatesItsPage};
 ghost use Rattle.hpt_walk.specs.Access.{IsHit, IsByWay, access_context};
 
 use crate::asking::operation;
 use crate::landing::outcome_at;
-use entry_model::{AccessReply, By, EntryStore, Line, Receipts};
+use entry_model::{AccessEnd, By, EntryStore, Line, Receipts};
 use frame_grants::Grants;
 use hpt_walk::Request;
 use hpte_fields::secondary;
 use slb_model::Segment;
 
-/// The access by the line of its page that is cached. `None` where no line is, or where the line's
-/// entry has left the line's stamp; then nothing was made.
+/// The access by the line of its page that is cached, with its receipt in place of what is in
+/// `receipts`. `None` where no line is, or where the line's entry has left the line's stamp; then
+/// nothing was made.
 pub fn by_cache<T: EntryStore>(
     store: &mut T,
     grants: &Grants,
     segment: &Segment,
     request: &Request,
     cached: &Option<Line>,
-) -> Option<AccessReply>
+    receipts: &mut Receipts,
+) -> Option<AccessEnd>
     requires seen { IfSome cached.now (T.seen store.old) }
     requires translates { IfSome cached.now TranslatesItsPage }
     requires page { IfSome cached.now (λ line. line.page ≡ segment.now.page) }
     ensures reply { IfSome
         result
-        (λ r.
+        (λ end.
         IsByWay
         (access_context (T.table_order store.old) grants.now.grants)
         segment.now
         request.now
         cached.now
-        r.by
-        r) }
-    ensures by { IfSome result (λ r. r.by ≡ Some Hit) }
-    ensures made { IfSome result (λ r. T.made store.old store.new r.receipts) }
+        end.by
+        (access_reply_with end receipts.new)) }
+    ensures by { IfSome result (λ end. end.by ≡ Some Hit) }
+    ensures made { IfSome result (λ end. T.made store.old store.new receipts.new) }
     ensures nothing { IfNone result (T.made store.old store.new []) }
     ensures is_gone { IfNone result (IfSome cached.now (T.gone store.new)) }
 {
     match cached {
         None => None,
-        Some(line) => by_line(store, grants, segment, request, line),
+        Some(line) => by_line(store, grants, segment, request, line, receipts),
     }
 }
 
@@ -50,21 +53,22 @@ fn by_line<T: EntryStore>(
     segment: &Segment,
     request: &Request,
     line: &Line,
-) -> Option<AccessReply>
+    receipts: &mut Receipts,
+) -> Option<AccessEnd>
     requires seen { T.seen store.old line.now }
     requires translates { TranslatesItsPage line.now }
     requires page { line.now.page ≡ segment.now.page }
     ensures hit { IfSome
         result
-        (λ r.
+        (λ end.
         IsHit
         (access_context (T.table_order store.old) grants.now.grants)
         segment.now
         request.now
         line.now
-        r) }
-    ensures by { IfSome result (λ r. r.by ≡ Some Hit) }
-    ensures made { IfSome result (λ r. T.made store.old store.new r.receipts) }
+        (access_reply_with end receipts.new)) }
+    ensures by { IfSome result (λ end. end.by ≡ Some Hit) }
+    ensures made { IfSome result (λ end. T.made store.old store.new receipts.new) }
     ensures nothing { IfNone result (T.made store.old store.new []) }
     ensures is_gone { IfNone result (T.gone store.new line.now) }
 {
@@ -73,12 +77,11 @@ fn by_line<T: EntryStore>(
         None => None,
         Some(receipt) => {
             let outcome = outcome_at(grants, request.ea, &receipt);
-            let mut receipts = Receipts::new();
+            receipts.clear();
             receipts.push(receipt);
-            Some(AccessReply {
+            Some(AccessEnd {
                 outcome,
                 by: Some(By::Hit),
-                receipts,
             })
         }
     }

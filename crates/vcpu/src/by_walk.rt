@@ -2,53 +2,61 @@ ghost use Rattle.std.specs.Prelude.{◌≡◌, Some, IfSome};
 ghost use Rattle.entry_model.specs.declared.access_reply.By.TheVariants.{Walk};
 ghost use Rattle.hpt_walk.specs.Translations.{TranslatesItsPage};
 ghost use Rattle.entry_model.specs.Receipt.{found_of};
+ghost use Rattle.entry_model.specs.Replies.{access_reply_with};
 ghost use Rattle.hpt_walk.specs.Access.{IsWalk, access_context};
 ghost use Rattle.tlb_model.specs.CacheAfter as cache;
 
 use crate::asking::key;
 use crate::landing::outcome;
-use entry_model::{AccessReply, By, EntryStore, Line, Outcome, Receipt};
+use entry_model::{AccessEnd, By, EntryStore, Line, Outcome, Receipt, Receipts};
 use frame_grants::Grants;
-use hpt_walk::{Request, walk};
+use hpt_walk::{Request, walk_into};
 use power_addr::Page;
 use slb_model::Segment;
 
-/// The reply to an access by a walk, and the line that the cache gets.
-#[derive(Drop)]
+/// How an access by a walk ended, and the line that the cache gets.
 pub struct Walked {
-    pub reply: AccessReply,
+    pub end: AccessEnd,
     pub line: Option<Line>,
 }
 
-/// The access by a walk of the page's two groups.
+/// The access by a walk of the page's two groups, with its receipts in place of what is in
+/// `receipts`.
 #[tactic(auto, unfolding(hpt_walk::specs::Access::outcome_of))]
 pub fn by_walk<T: EntryStore>(
     store: &mut T,
     grants: &Grants,
     segment: &Segment,
     request: &Request,
+    receipts: &mut Receipts,
 ) -> Walked
     ensures walk { IsWalk
         (access_context (T.table_order store.old) grants.now.grants)
         segment.now
         request.now
-        result.reply }
-    ensures by { result.reply.by ≡ Some Walk }
-    ensures made { T.made store.old store.new result.reply.receipts }
+        (access_reply_with result.end receipts.new) }
+    ensures by { result.end.by ≡ Some Walk }
+    ensures made { T.made store.old store.new receipts.new }
     ensures line { result.line
-        ≡ cache.kept_line segment.now.page result.reply.outcome (found_of result.reply.receipts) }
+        ≡ cache.kept_line segment.now.page result.end.outcome (found_of receipts.new) }
     ensures seen { IfSome result.line (T.seen store.new) }
     ensures translates { IfSome result.line TranslatesItsPage }
 {
     let key = key(segment, request.user);
-    let answer = walk(store, &segment.page, request.want, key, segment.no_execute);
-    let outcome = outcome(grants, request.ea, &answer.found);
-    let line = kept_line(&segment.page, outcome, &answer.found);
+    let found = walk_into(
+        store,
+        &segment.page,
+        request.want,
+        key,
+        segment.no_execute,
+        receipts,
+    );
+    let outcome = outcome(grants, request.ea, &found);
+    let line = kept_line(&segment.page, outcome, &found);
     Walked {
-        reply: AccessReply {
+        end: AccessEnd {
             outcome,
             by: Some(By::Walk),
-            receipts: answer.receipts,
         },
         line,
     }

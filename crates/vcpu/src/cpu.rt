@@ -3,11 +3,12 @@ ghost use Rattle.slb_model.specs.Buffer.{no_slots, slots_after, segment_of};
 ghost use Rattle.slb_model.specs.Refusals.{mte_refusal};
 ghost use Rattle.tlb_model.specs.Cache.{AllCached, cached_line, empty_cache};
 ghost use Rattle.entry_model.specs.CachedLines.{AllLater};
+ghost use Rattle.entry_model.specs.Replies.{access_reply_with};
 ghost use Rattle.hpt_walk.specs.Access.{IsAccessReply, access_context, request};
 ghost use Rattle.tlb_model.specs.CacheAfter.{cache_after, gone_line};
 
 use crate::passing::in_segment;
-use entry_model::{AccessReply, EntryStore, Outcome, Receipts};
+use entry_model::{AccessEnd, AccessReply, EntryStore, Outcome, Receipts};
 use frame_grants::Grants;
 use hpt_walk::Request;
 use slb_model::{BadSlb, Slb};
@@ -77,8 +78,6 @@ impl Cpu {
     /// Without a segment it ends at once. By the line of its page that is cached, one operation is
     /// made on the line's entry; where there is none, or its entry was changed since, the line goes
     /// and a walk follows, and where it ended at a machine address the entry's line is cached.
-    // Out of line: docs/PERFORMANCE.md says why.
-    #[inline(never)]
     pub fn access<T: EntryStore>(
         &mut self,
         store: &mut T,
@@ -108,15 +107,65 @@ impl Cpu {
             (gone_line self.old.cache (segment_of self.old.slots ea) result)
             (T.gone store.new) }
     {
+        let mut receipts = Receipts::new();
+        let end = self.access_into(store, grants, ea, want, user, &mut receipts);
+        end.into_reply(receipts)
+    }
+
+    /// The same access, whose receipts take the place of what is in `receipts`.
+    // Out of line: docs/PERFORMANCE.md says why.
+    #[inline(never)]
+    pub fn access_into<T: EntryStore>(
+        &mut self,
+        store: &mut T,
+        grants: &Grants,
+        ea: u64,
+        want: Want,
+        user: bool,
+        receipts: &mut Receipts,
+    ) -> AccessEnd
+        requires seen { AllCached (T.seen store.old) self.old.cache }
+        ensures made { T.made store.old store.new receipts.new }
+        ensures reply { IsAccessReply
+            (access_context (T.table_order store.old) grants.now.grants)
+            (cached_line self.old.cache)
+            (request want ea user)
+            (segment_of self.old.slots ea)
+            (access_reply_with result receipts.new) }
+        ensures slots { self.new.slots ≡ self.old.slots }
+        ensures cache { self.new.cache
+            ≡ cache_after
+            self.old.cache
+            (segment_of self.old.slots ea)
+            result.by
+            (access_reply_with result receipts.new) }
+        ensures seen { AllCached (T.seen store.new) self.new.cache }
+
+        // Where it was by Walk, the line of the page that was cached had left its stamp.
+        ensures comes_later { IfSome
+            (gone_line
+            self.old.cache
+            (segment_of self.old.slots ea)
+            (access_reply_with result receipts.new))
+            (λ line. AllLater line receipts.new) }
+        ensures gone { IfSome
+            (gone_line
+            self.old.cache
+            (segment_of self.old.slots ea)
+            (access_reply_with result receipts.new))
+            (T.gone store.new) }
+    {
         match self.slb.segment(ea) {
-            None => AccessReply {
-                outcome: Outcome::NoSegment,
-                by: None,
-                receipts: Receipts::new(),
-            },
+            None => {
+                receipts.clear();
+                AccessEnd {
+                    outcome: Outcome::NoSegment,
+                    by: None,
+                }
+            }
             Some(segment) => {
                 let request = Request { want, ea, user };
-                in_segment(&mut self.tlb, store, grants, &segment, &request)
+                in_segment(&mut self.tlb, store, grants, &segment, &request, receipts)
             }
         }
     }

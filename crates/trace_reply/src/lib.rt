@@ -5,10 +5,12 @@
 //! the receipts of their operations on entries.
 #![tactic(auto)]
 
+mod place;
 mod replies;
 mod reply;
 mod shown;
 
+pub use place::{ReplyEnd, ReplyPlace};
 pub use replies::Replies;
 pub use reply::Reply;
 pub use shown::{Shown, ShownStates};

@@ -1,0 +1,20 @@
+-- Places that the replies to many lines take in turn.
+use Rattle.std.specs.Prelude.{List}
+use Rattle.entry_model.specs.declared.receipt.Receipt.{Receipt}
+use Rattle.entry_model.specs.Replies.{reply_with, access_reply_with}
+use Rattle.trace_reply.specs.declared.place.ReplyEnd.{ReplyEnd}
+use Rattle.trace_reply.specs.declared.place.ReplyPlace.{ReplyPlace}
+use Rattle.trace_reply.specs.declared.reply.Reply.{Reply}
+use Rattle.trace_reply.specs.declared.place.ReplyEnd.TheVariants as ends
+use Rattle.trace_reply.specs.declared.reply.Reply.TheVariants as replies
+
+-- The reply that ends so, with these receipts where it has any.
+abbrev pub reply_ended : ReplyEnd → List Receipt → Reply
+reply_ended (ends.Hcall registers) rs = replies.Hcall (reply_with registers rs)
+reply_ended (ends.Access end) rs = replies.Access (access_reply_with end rs)
+reply_ended (ends.Segment accepted) rs = replies.Segment accepted
+reply_ended (ends.Dump shown) rs = replies.Dump shown
+
+-- The reply that has the place.
+abbrev pub reply_in : ReplyPlace → Reply
+reply_in place = reply_ended place.end place.receipts

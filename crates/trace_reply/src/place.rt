@@ -1,0 +1,52 @@
+ghost use Rattle.std.specs.Prelude.{◌≡◌, true};
+ghost use Rattle.trace_reply.specs.Places.{reply_in};
+
+use crate::reply::Reply;
+use crate::shown::Shown;
+use entry_model::{AccessEnd, Receipts, Registers};
+
+/// What a reply tells beside its receipts.
+#[derive(Drop)]
+pub enum ReplyEnd {
+    /// Of a hypervisor call.
+    Hcall(Registers),
+    /// Of an access to memory.
+    Access(AccessEnd),
+    /// Of a change of the segment lookaside buffer: whether it was accepted.
+    Segment(bool),
+    /// Of a dump.
+    Dump(Shown),
+}
+
+/// A place that the replies to many lines take one after the other, so that the room for receipts is
+/// made once. Where the reply has none, what lies in `receipts` isn't part of it.
+#[derive(Drop)]
+pub struct ReplyPlace {
+    pub end: ReplyEnd,
+    pub receipts: Receipts,
+}
+
+impl ReplyPlace {
+    /// A place, with a change of segments that was accepted as its first reply.
+    pub fn new() -> ReplyPlace
+        ensures { reply_in result ≡ Reply.Segment true }
+    {
+        ReplyPlace {
+            end: ReplyEnd::Segment(true),
+            receipts: Receipts::new(),
+        }
+    }
+
+    /// The reply that has the place.
+    pub fn into_reply(self) -> Reply
+        ensures { result ≡ reply_in self }
+    {
+        let ReplyPlace { end, receipts } = self;
+        match end {
+            ReplyEnd::Hcall(registers) => Reply::Hcall(registers.into_reply(receipts)),
+            ReplyEnd::Access(end) => Reply::Access(end.into_reply(receipts)),
+            ReplyEnd::Segment(accepted) => Reply::Segment(accepted),
+            ReplyEnd::Dump(shown) => Reply::Dump(shown),
+        }
+    }
+}

@@ -51,7 +51,7 @@ pub fn rehash(
     ensures capacity { vec_capacity into.new ≡ vec_capacity into.old }
 {
     for index in 0..states.len() {
-        if let Some(target) = target_index(order_from, order_to, states[index], index) {
+        if let Some(target) = target_index(order_from, order_to, &states[index], index) {
             if into[target].valid {
                 return Err(Collision {
                     first: first(order_from, order_to, states, index, target) as u32,
@@ -65,15 +65,17 @@ pub fn rehash(
     Ok(())
 }
 
-// Where the entry of this state and index is carried, if it is.
+// Where the entry of this state and index is carried, if it is. In line, since it is asked of every
+// entry of a table, and most of them are carried nowhere.
+#[inline(always)]
 #[tactic(auto, unfolding(crate::specs::Rehash::target_of, crate::specs::Rehash::carried_page))]
-fn target_index(order_from: u8, order_to: u8, state: EntryState, index: usize) -> Option<usize>
+fn target_index(order_from: u8, order_to: u8, state: &EntryState, index: usize) -> Option<usize>
     requires from_low { 18 ≤ order_from }
     requires from_high { order_from ≤ 22 }
     requires to_low { 18 ≤ order_to }
     requires to_high { order_to ≤ 22 }
     requires in_table { index < entry_count order_from }
-    ensures value { result ≡ target_of order_from order_to state index }
+    ensures value { result ≡ target_of order_from order_to state.now index }
     ensures in_new_table { MatchOption result (Unit {0}) (λ target. target < entry_count order_to) }
 {
     if !state.valid || !bolted(state.dword0) {
@@ -118,7 +120,7 @@ fn first(order_from: u8, order_to: u8, states: &[EntryState], second: usize, tar
     ensures lowest { NoneBefore order_from order_to states.now result target }
 {
     for index in 0..second {
-        if target_index(order_from, order_to, states[index], index) == Some(target) {
+        if target_index(order_from, order_to, &states[index], index) == Some(target) {
             return index;
         }
     }

@@ -3,7 +3,7 @@ ghost use Rattle.trace_reply.specs.Places.{reply_in};
 
 use crate::reply::Reply;
 use crate::shown::Shown;
-use entry_model::{AccessEnd, Receipts, Registers};
+use entry_model::{AccessEnd, AccessReply, HReply, Receipts, Registers};
 
 /// What a reply tells beside its receipts.
 #[derive(Drop)]
@@ -34,6 +34,36 @@ impl ReplyPlace {
         ReplyPlace {
             end: ReplyEnd::Segment(true),
             receipts: Receipts::new(),
+        }
+    }
+
+    /// Gives the place to a reply that was made elsewhere.
+    pub fn put(&mut self, reply: Reply)
+        ensures { reply_in self.new ≡ reply }
+    {
+        match reply {
+            Reply::Hcall(
+                HReply {
+                    rc,
+                    words,
+                    receipts,
+                },
+            ) => {
+                self.end = ReplyEnd::Hcall(Registers { rc, words });
+                self.receipts = receipts;
+            }
+            Reply::Access(
+                AccessReply {
+                    outcome,
+                    by,
+                    receipts,
+                },
+            ) => {
+                self.end = ReplyEnd::Access(AccessEnd { outcome, by });
+                self.receipts = receipts;
+            }
+            Reply::Segment(accepted) => self.end = ReplyEnd::Segment(accepted),
+            Reply::Dump(shown) => self.end = ReplyEnd::Dump(shown),
         }
     }
 

@@ -3,6 +3,7 @@ ghost use Rattle.tlb_model.specs.Processor.{new_processor};
 ghost use Rattle.trace_read.specs.Trace.{is_quiet};
 ghost use Rattle.run_model.specs.RunState.{opening_run, run_quiet_line, run_resize, shown_of, without_cache, is_success};
 ghost use Rattle.run_model.specs.SerialRun.{run_line};
+ghost use Rattle.trace_reply.specs.Places.{reply_in};
 
 use crate::act::run_alone;
 use crate::dump::shown_table;
@@ -13,7 +14,7 @@ use partition::Partition;
 use std::alloc::{AllocError, Global};
 use std::marker::Model;
 use trace_read::{Act, Config, TraceLine};
-use trace_reply::{Reply, Shown};
+use trace_reply::{Reply, ReplyPlace, Shown};
 use vcpu::Cpu;
 
 /// A partition with its processors, between two lines.
@@ -71,27 +72,26 @@ impl Machine {
         Ok(Machine { partition, cpus })
     }
 
-    /// Runs a line. Its reply takes the place of what is in `reply`, so that one place can serve for
-    /// many lines.
+    /// Runs a line. Its reply takes the place.
     #[tactic(auto, unfolding(run_model::specs::SerialRun::run_line))]
     pub fn line(
         &mut self,
         alloc: Global,
         line: &TraceLine,
-        reply: &mut Reply,
+        place: &mut ReplyPlace,
     ) -> Result<(), AllocError>
         requires cpu { line.now.cpu < length self.old.processors }
         requires number { self.old.memory.table.number < 2 ^ 32 - 1 }
-        ensures reply { OnOk result ((reply.new, self.new) ≡ run_line self.old line.now) }
+        ensures reply { OnOk result ((reply_in place.new, self.new) ≡ run_line self.old line.now) }
         ensures number { OnOk
             result
             (self.new.memory.table.number ≤ self.old.memory.table.number + 1) }
         ensures cpus { OnOk result (length self.new.processors ≡ length self.old.processors) }
     {
         if line.act.is_quiet() {
-            self.quiet(alloc, &line.act, reply)
+            self.quiet(alloc, &line.act, place)
         } else {
-            self.run(line, reply);
+            self.run(line, place);
             Ok(())
         }
     }
@@ -105,27 +105,27 @@ impl Machine {
 
     // A line that isn't quiet, by its processor.
     #[tactic(auto, unfolding(run_model::specs::SerialRun::run_line))]
-    fn run(&mut self, line: &TraceLine, reply: &mut Reply)
+    fn run(&mut self, line: &TraceLine, place: &mut ReplyPlace)
         requires not_quiet { is_quiet line.now.act ≡ false }
         requires cpu { line.now.cpu < length self.old.processors }
-        ensures reply { (reply.new, self.new) ≡ run_line self.old line.now }
+        ensures reply { (reply_in place.new, self.new) ≡ run_line self.old line.now }
         ensures number { self.new.memory.table.number ≡ self.old.memory.table.number }
         ensures cpus { length self.new.processors ≡ length self.old.processors }
     {
         let order = self.partition.order();
         let mut table = PlainTable::open(self.partition.take_states(), order);
         let cpu = &mut self.cpus[line.cpu as usize];
-        run_alone(&mut table, cpu, self.partition.grants(), &line.act, reply);
+        run_alone(&mut table, cpu, self.partition.grants(), &line.act, place);
         self.partition.put_states(table.close());
     }
 
     // A quiet line. These are rare, so other lines make no room for what this holds.
     #[inline(never)]
     #[tactic(auto, unfolding(run_model::specs::RunState::run_quiet_line, trace_read::specs::Trace::is_quiet))]
-    fn quiet(&mut self, alloc: Global, act: &Act, reply: &mut Reply) -> Result<(), AllocError>
+    fn quiet(&mut self, alloc: Global, act: &Act, place: &mut ReplyPlace) -> Result<(), AllocError>
         requires quiet { is_quiet act.now ≡ true }
         requires number { self.old.memory.table.number < 2 ^ 32 - 1 }
-        ensures reply { OnOk result ((reply.new, self.new) ≡ run_quiet_line self.old act.now) }
+        ensures reply { OnOk result ((reply_in place.new, self.new) ≡ run_quiet_line self.old act.now) }
         ensures number { OnOk
             result
             (self.new.memory.table.number ≤ self.old.memory.table.number + 1) }
@@ -133,9 +133,10 @@ impl Machine {
     {
         match *act {
             Act::Call { number, args, .. } => {
-                *reply = Reply::Hcall(self.resize(alloc, Hcall::of_number(number), &args)?);
+                let reply = self.resize(alloc, Hcall::of_number(number), &args)?;
+                place.put(Reply::Hcall(reply));
             }
-            _ => *reply = Reply::Dump(self.shown(alloc)?),
+            _ => place.put(Reply::Dump(self.shown(alloc)?)),
         }
         Ok(())
     }

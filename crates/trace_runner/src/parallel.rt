@@ -22,7 +22,7 @@ use std::alloc::{AllocError, Global};
 use std::sync::Wait;
 use std::thread::Threads;
 use trace_read::{Trace, TraceLine};
-use trace_reply::{Replies, Reply};
+use trace_reply::{Replies, ReplyPlace};
 
 /// Runs the lines of a section, each processor in a thread of its own.
 fn section<R: Threads + Wait + Sync, G: Gate + Sync>(
@@ -92,9 +92,9 @@ fn run_sections<R: Threads + Wait + Sync, G: Gate + Sync>(
     for i in 0..lines.len() {
         if lines[i].act.is_quiet() {
             machine = section(rt, alloc, machine, gate, &lines[start..i], &mut replies)?;
-            let mut reply = Reply::Segment(true);
-            machine.line(alloc, &lines[i], &mut reply)?;
-            replies.push(reply)?;
+            let mut place = ReplyPlace::new();
+            machine.line(alloc, &lines[i], &mut place)?;
+            replies.push(place.into_reply())?;
             start = i + 1;
         }
     }

@@ -18,7 +18,7 @@ use frame_grants::Grants;
 use std::snapshot::Snapshot;
 use std::sync::Wait;
 use trace_read::TraceLine;
-use trace_reply::Reply;
+use trace_reply::{Reply, ReplyPlace};
 use vcpu::Cpu;
 
 /// A processor in a section: what it keeps from line to line, what it was before the section's first
@@ -79,9 +79,8 @@ fn answer<R: Wait, G: Gate>(
         at: &at,
         started: false,
     };
-    // The line's own reply takes its place.
-    let mut reply = Reply::Segment(true);
-    run_act(&mut store, cpu, grants, &line.act, &mut reply);
+    let mut place = ReplyPlace::new();
+    run_act(&mut store, cpu, grants, &line.act, &mut place);
     let Stepping {
         store: waiting,
         at: _,
@@ -89,7 +88,10 @@ fn answer<R: Wait, G: Gate>(
     } = store;
     let pass = waiting.into_pass();
     gate.after(line.cpu, line.number);
-    Answered { reply, pass }
+    Answered {
+        reply: place.into_reply(),
+        pass,
+    }
 }
 
 /// Runs the worker's lines among these, in file order. It takes no memory for their replies.

@@ -29,7 +29,7 @@ pub fn serial_text(alloc: Global, trace: &Trace) -> Result<String, AllocError>
     run_to_text(alloc, trace)
 }
 
-/// The text of a run with a thread for each processor.
+/// The text of a run with a thread for each processor that has lines.
 pub fn parallel_text<R: Threads + Wait + Sync, G: Gate + Sync>(
     rt: &R,
     alloc: Global,

@@ -12,7 +12,7 @@ const MOST_LINES: u64 = 100_000;
 pub enum Command {
     /// Runs the trace that is read, one line after the other.
     Run,
-    /// Runs the trace that is read, with a thread for each processor.
+    /// Runs the trace that is read, with a thread for each processor that has lines.
     Par,
     /// Runs a generated trace: its seed, and how many lines are drawn, at most 100,000.
     Drill { seed: u64, lines: u32 },

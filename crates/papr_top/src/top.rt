@@ -43,7 +43,7 @@ fn run<S: Source, K: Sink>(alloc: Global, source: &mut S, sink: &mut K) -> Statu
     }
 }
 
-/// `par`: the same, with a thread for each processor.
+/// `par`: the same, with a thread for each processor that has lines.
 fn par<R: Threads + Wait + Sync, S: Source, K: Sink, G: Gate + Sync>(
     rt: &R,
     alloc: Global,

@@ -1,4 +1,4 @@
-//! The parallel run: a thread for each processor between two quiet lines.
+//! The parallel run: between two quiet lines, a thread for each processor that has lines there.
 ghost use Rattle.std.specs.Prelude.{◌≡◌, ℕ, ◌+◌, ◌<◌, ◌≤◌, ◌^◌, length, IfOk};
 ghost use Rattle.std.specs.List.{AllByRecursion};
 ghost use Rattle.trace_read.specs.declared.trace.TraceLine.{TraceLine as LineOf};

@@ -1,2 +1,4 @@
+mod NumberSteps
+pub mod Prefixes
 pub mod TextSteps
 mod TextRows

@@ -3,6 +3,7 @@
 #![tactic(auto)]
 
 mod counted;
+mod numbers;
 mod receipts;
 mod summary;
 mod text;

@@ -1,9 +1,11 @@
-ghost use Rattle.std.specs.Prelude.{◌≡◌, ◌++◌, OnOk, string_bytes};
+ghost use Rattle.std.specs.Prelude.{◌≡◌, ◌++◌, OnOk, OnErr, string_bytes, codes};
+ghost use Rattle.std.specs.Fmt.{decimal};
+ghost use Rattle.std.specs.Io.{StartsWith};
 ghost use Rattle.reply_text.specs.Text.{answer_word, bits_digit, receipt_text, receipts_text};
 
+use crate::numbers::{put_decimal, put_hexadecimal};
 use entry_model::{Answer, EntryState, Receipt};
 use std::alloc::AllocError;
-use std::fmt::Write;
 
 fn word_of(answer: Answer) -> &'static str
     ensures { result.now ≡ answer_word answer }
@@ -23,27 +25,39 @@ fn word_of(answer: Answer) -> &'static str
     }
 }
 
-fn bits(state: &EntryState) -> u8
-    ensures { result ≡ bits_digit state.now }
+/// R and C before the operation, as a digit between two points.
+#[tactic(auto, using(std::proofs::lemmas::Fmt::decimal_digit))]
+fn bits(state: &EntryState) -> &'static str
+    ensures { result.now ≡ codes "." ++ decimal (bits_digit state.now) ++ codes "." }
 {
-    let referenced = if state.referenced { 2 } else { 0 };
-    let changed = if state.changed { 1 } else { 0 };
-    referenced + changed
+    match (state.referenced, state.changed) {
+        (false, false) => ".0.",
+        (false, true) => ".1.",
+        (true, false) => ".2.",
+        (true, true) => ".3.",
+    }
 }
 
+/// A receipt, behind a space.
 fn put_receipt(out: &mut String, receipt: &Receipt) -> Result<(), AllocError>
-    ensures { OnOk result (string_bytes out.new ≡ string_bytes out.old ++ receipt_text receipt.now) }
+    ensures text { OnOk
+        result
+        (string_bytes out.new ≡ string_bytes out.old ++ receipt_text receipt.now) }
+    ensures kept { OnErr result (StartsWith (string_bytes out.new) (string_bytes out.old)) }
 {
-    let entry = receipt.entry;
-    let stamp = receipt.before.stamp;
-    let bits = bits(&receipt.before);
-    let word = word_of(receipt.answer);
-    write!(out, " 0x{entry:x}.{stamp}.{bits}.{word}")
+    put_hexadecimal(out, " ", u64::from(receipt.entry))?;
+    put_decimal(out, ".", u64::from(receipt.before.stamp))?;
+    out.push_str(bits(&receipt.before))?;
+    out.push_str(word_of(receipt.answer))
 }
 
 /// The receipts of a reply, each behind a space, and a bar before the first.
+#[tactic(auto, using(crate::proofs::Prefixes::starts_before))]
 pub fn put_receipts(out: &mut String, receipts: &[Receipt]) -> Result<(), AllocError>
-    ensures { OnOk result (string_bytes out.new ≡ string_bytes out.old ++ receipts_text receipts.now) }
+    ensures text { OnOk
+        result
+        (string_bytes out.new ≡ string_bytes out.old ++ receipts_text receipts.now) }
+    ensures kept { OnErr result (StartsWith (string_bytes out.new) (string_bytes out.old)) }
 {
     if receipts.is_empty() {
         return Ok(());

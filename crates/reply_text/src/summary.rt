@@ -1,19 +1,25 @@
-ghost use Rattle.std.specs.Prelude.{◌≡◌, ◌++◌, OnOk, IfOk, string_bytes, length, count_by};
+ghost use Rattle.std.specs.Prelude.{◌≡◌, ◌++◌, OnOk, OnErr, IfOk, string_bytes, length, count_by};
 ghost use Rattle.std.specs.List.{flat_map};
+ghost use Rattle.std.specs.Io.{StartsWith};
 ghost use Rattle.reply_text.specs.Summary.{is_counted, row_text, all_counted, counted_text, has_change, entries_text, summary_text};
 
 use crate::counted::Counted;
+use crate::numbers::put_decimal;
 use entry_model::EntryState;
 use std::alloc::{AllocError, Global};
-use std::fmt::Write;
 use trace_read::Trace;
 use trace_reply::{Replies, Reply, Shown};
 
 #[tactic(auto, unfolding(crate::specs::Summary::row_text))]
 fn put_row(out: &mut String, word: &str, number: usize) -> Result<(), AllocError>
-    ensures { OnOk result (string_bytes out.new ≡ string_bytes out.old ++ row_text word.now number) }
+    ensures text { OnOk
+        result
+        (string_bytes out.new ≡ string_bytes out.old ++ row_text word.now number) }
+    ensures kept { OnErr result (StartsWith (string_bytes out.new) (string_bytes out.old)) }
 {
-    write!(out, "{word} {number}\n")
+    out.push_str(word)?;
+    put_decimal(out, " ", number as u64)?;
+    out.push_str("\n")
 }
 
 fn count_of(replies: &[Reply], counted: Counted) -> usize
@@ -23,10 +29,11 @@ fn count_of(replies: &[Reply], counted: Counted) -> usize
 }
 
 fn put_counts(out: &mut String, replies: &[Reply], all: &[Counted]) -> Result<(), AllocError>
-    ensures { OnOk
+    ensures text { OnOk
         result
         (string_bytes out.new
         ≡ string_bytes out.old ++ flat_map (counted_text replies.now) all.now) }
+    ensures kept { OnErr result (StartsWith (string_bytes out.new) (string_bytes out.old)) }
 {
     for counted in all {
         put_row(out, counted.word(), count_of(replies, *counted))?;
@@ -42,7 +49,10 @@ fn changed_count(entries: &[(u32, EntryState)]) -> usize
 
 #[tactic(auto, unfolding(crate::specs::Summary::entries_text))]
 fn put_table(out: &mut String, entries: &[(u32, EntryState)]) -> Result<(), AllocError>
-    ensures { OnOk result (string_bytes out.new ≡ string_bytes out.old ++ entries_text entries.now) }
+    ensures text { OnOk
+        result
+        (string_bytes out.new ≡ string_bytes out.old ++ entries_text entries.now) }
+    ensures kept { OnErr result (StartsWith (string_bytes out.new) (string_bytes out.old)) }
 {
     put_row(out, "entries", entries.len())?;
     put_row(out, "changed", changed_count(entries))

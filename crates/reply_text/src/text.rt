@@ -1,17 +1,26 @@
-ghost use Rattle.std.specs.Prelude.{◌≡◌, ◌++◌, OnOk, IfOk, string_bytes, length};
+ghost use Rattle.std.specs.Prelude.{◌≡◌, ◌++◌, OnOk, OnErr, IfOk, string_bytes, length};
 ghost use Rattle.std.specs.List.{flat_map};
+ghost use Rattle.std.specs.Io.{StartsWith};
 ghost use Rattle.papr_codes.specs.ReturnCodes.{rc_code};
 ghost use Rattle.reply_text.specs.Text.{want_word, name_of, head_text, word_text, code_text, hcall_text, outcome_text, way_text, access_text, verdict_text, entry_text, dump_head, table_text, dump_text, reply_text, text_from, receipts_text};
 
+use crate::numbers::{put_decimal, put_hexadecimal, put_signed};
 use crate::receipts::put_receipts;
-use entry_model::{AccessReply, By, EntryState, HReply, Outcome};
+use entry_model::{By, EntryState, Outcome, Receipts, ReplyWords};
 use papr_codes::{Hcall, Rc};
 use std::alloc::{AllocError, Global};
-use std::fmt::Write;
 use storage_prot::Want;
 use trace_read::{Act, Trace, TraceLine};
 use trace_reply::{Replies, Reply, Shown};
 
+/// Room for the line of a reply, which has at most 746 bytes: 42 as far as the name, 157 of the code
+/// and 8 words, 546 of 16 receipts, and the line's end.
+const REPLY_ROOM: usize = 1024;
+
+/// Room for the line of an entry, which has at most 61 bytes.
+const ENTRY_ROOM: usize = 64;
+
+/// The word of an access.
 fn want_name(want: Want) -> &'static str
     ensures { result.now ≡ want_word want }
 {
@@ -43,55 +52,77 @@ fn name(act: &Act) -> &'static str
 /// The line's number, its processor, and its name.
 #[tactic(auto, unfolding(crate::specs::Text::head_text))]
 fn put_head(out: &mut String, line: &TraceLine) -> Result<(), AllocError>
-    ensures { OnOk
+    ensures text { OnOk
         result
         (string_bytes out.new
         ≡ string_bytes out.old ++ head_text line.now.number line.now.cpu (name_of line.now.act)) }
+    ensures kept { OnErr result (StartsWith (string_bytes out.new) (string_bytes out.old)) }
 {
-    let number = line.number;
-    let cpu = line.cpu;
-    let name = name(&line.act);
-    write!(out, "{number} {cpu} {name}")
+    put_decimal(out, "", u64::from(line.number))?;
+    put_decimal(out, " ", u64::from(line.cpu))?;
+    out.push_str(" ")?;
+    out.push_str(name(&line.act))
 }
 
 fn put_words(out: &mut String, words: &[u64]) -> Result<(), AllocError>
-    ensures { OnOk result (string_bytes out.new ≡ string_bytes out.old ++ flat_map word_text words.now) }
+    ensures text { OnOk
+        result
+        (string_bytes out.new ≡ string_bytes out.old ++ flat_map word_text words.now) }
+    ensures kept { OnErr result (StartsWith (string_bytes out.new) (string_bytes out.old)) }
 {
     for word in words {
-        write!(out, " 0x{word:x}")?;
+        put_hexadecimal(out, " ", *word)?;
     }
     Ok(())
 }
 
 #[tactic(auto, unfolding(crate::specs::Text::code_text))]
 fn put_code(out: &mut String, rc: Rc) -> Result<(), AllocError>
-    ensures { OnOk result (string_bytes out.new ≡ string_bytes out.old ++ code_text (rc_code rc)) }
+    ensures text { OnOk
+        result
+        (string_bytes out.new ≡ string_bytes out.old ++ code_text (rc_code rc)) }
+    ensures kept { OnErr result (StartsWith (string_bytes out.new) (string_bytes out.old)) }
 {
-    let code = rc.code();
-    write!(out, " {code}")
+    put_signed(out, " ", rc.code())
 }
 
-fn put_hcall(out: &mut String, reply: &HReply) -> Result<(), AllocError>
-    ensures { OnOk result (string_bytes out.new ≡ string_bytes out.old ++ hcall_text reply.now) }
+/// The return code of a hypervisor call, its words, and its receipts.
+fn put_hcall(
+    out: &mut String,
+    rc: Rc,
+    words: &ReplyWords,
+    receipts: &Receipts,
+) -> Result<(), AllocError>
+    ensures text { OnOk
+        result
+        (string_bytes out.new
+        ≡ string_bytes out.old
+        ++ hcall_text (record { rc = rc; words = words.now; receipts = receipts.now })) }
+    ensures kept { OnErr result (StartsWith (string_bytes out.new) (string_bytes out.old)) }
 {
-    put_code(out, reply.rc)?;
-    put_words(out, reply.words.as_slice())?;
-    put_receipts(out, reply.receipts.as_slice())?;
+    put_code(out, rc)?;
+    put_words(out, words.as_slice())?;
+    put_receipts(out, receipts.as_slice())?;
     out.push_str("\n")
 }
 
+/// Where an access ended.
 fn put_outcome(out: &mut String, outcome: Outcome) -> Result<(), AllocError>
-    ensures { OnOk result (string_bytes out.new ≡ string_bytes out.old ++ outcome_text outcome) }
+    ensures text { OnOk
+        result
+        (string_bytes out.new ≡ string_bytes out.old ++ outcome_text outcome) }
+    ensures kept { OnErr result (StartsWith (string_bytes out.new) (string_bytes out.old)) }
 {
     match outcome {
-        Outcome::At(address) => write!(out, " at 0x{address:x}"),
+        Outcome::At(address) => put_hexadecimal(out, " at ", address),
         Outcome::Denied => out.push_str(" denied"),
         Outcome::NoPage => out.push_str(" nopage"),
         Outcome::NoSegment => out.push_str(" nosegment"),
-        Outcome::Ungranted(address) => write!(out, " ungranted 0x{address:x}"),
+        Outcome::Ungranted(address) => put_hexadecimal(out, " ungranted ", address),
     }
 }
 
+/// By what an access ended.
 fn way(by: Option<By>) -> &'static str
     ensures { result.now ≡ way_text by }
 {
@@ -102,68 +133,98 @@ fn way(by: Option<By>) -> &'static str
     }
 }
 
-fn put_access(out: &mut String, reply: &AccessReply) -> Result<(), AllocError>
-    ensures { OnOk result (string_bytes out.new ≡ string_bytes out.old ++ access_text reply.now) }
+/// Where an access ended, by what, and its receipts.
+#[tactic(auto, using(crate::proofs::Prefixes::starts_before))]
+fn put_access(
+    out: &mut String,
+    outcome: Outcome,
+    by: Option<By>,
+    receipts: &Receipts,
+) -> Result<(), AllocError>
+    ensures text { OnOk
+        result
+        (string_bytes out.new
+        ≡ string_bytes out.old
+        ++ access_text (record { outcome = outcome; by = by; receipts = receipts.now })) }
+    ensures kept { OnErr result (StartsWith (string_bytes out.new) (string_bytes out.old)) }
 {
-    put_outcome(out, reply.outcome)?;
-    out.push_str(way(reply.by))?;
-    put_receipts(out, reply.receipts.as_slice())?;
+    put_outcome(out, outcome)?;
+    out.push_str(way(by))?;
+    put_receipts(out, receipts.as_slice())?;
     out.push_str("\n")
 }
 
 /// Whether a change of the segment lookaside buffer was accepted.
 fn put_verdict(out: &mut String, accepted: bool) -> Result<(), AllocError>
-    ensures { OnOk result (string_bytes out.new ≡ string_bytes out.old ++ verdict_text accepted) }
+    ensures text { OnOk
+        result
+        (string_bytes out.new ≡ string_bytes out.old ++ verdict_text accepted) }
+    ensures kept { OnErr result (StartsWith (string_bytes out.new) (string_bytes out.old)) }
 {
     out.push_str(if accepted { " ok\n" } else { " refused\n" })
 }
 
+/// The line of an entry: its index, both doublewords, and its stamp.
 #[tactic(auto, unfolding(crate::specs::Text::entry_text))]
 fn put_entry(out: &mut String, entry: u32, state: &EntryState) -> Result<(), AllocError>
-    ensures { OnOk result (string_bytes out.new ≡ string_bytes out.old ++ entry_text (entry, state.now)) }
+    ensures text { OnOk
+        result
+        (string_bytes out.new ≡ string_bytes out.old ++ entry_text (entry, state.now)) }
+    ensures kept { OnErr result (StartsWith (string_bytes out.new) (string_bytes out.old)) }
 {
     let (first, second) = state.words();
-    let stamp = state.stamp;
-    write!(out, " 0x{entry:x} 0x{first:x} 0x{second:x} {stamp}\n")
+    put_hexadecimal(out, " ", u64::from(entry))?;
+    put_hexadecimal(out, " ", first)?;
+    put_hexadecimal(out, " ", second)?;
+    put_decimal(out, " ", u64::from(state.stamp))?;
+    out.push_str("\n")
 }
 
 /// The line's number.
 #[tactic(auto, unfolding(crate::specs::Text::dump_head))]
 fn put_dump_head(out: &mut String, line: u32) -> Result<(), AllocError>
-    ensures { OnOk result (string_bytes out.new ≡ string_bytes out.old ++ dump_head line) }
+    ensures text { OnOk result (string_bytes out.new ≡ string_bytes out.old ++ dump_head line) }
+    ensures kept { OnErr result (StartsWith (string_bytes out.new) (string_bytes out.old)) }
 {
-    write!(out, "{line} dump")
+    put_decimal(out, "", u64::from(line))?;
+    out.push_str(" dump")
 }
 
 /// The table's number, order and place, and how many entries it has.
-#[tactic(auto, unfolding(crate::specs::Text::table_text))]
+#[tactic(auto, using(std::proofs::Common::append_assoc), unfolding(crate::specs::Text::table_text))]
 fn put_table(out: &mut String, shown: &Shown, count: usize) -> Result<(), AllocError>
-    ensures { OnOk
+    ensures text { OnOk
         result
         (string_bytes out.new
         ≡ string_bytes out.old
         ++ table_text shown.now.number shown.now.order shown.now.place count) }
+    ensures kept { OnErr result (StartsWith (string_bytes out.new) (string_bytes out.old)) }
 {
-    let number = shown.number;
-    let order = shown.order;
-    let place = shown.place;
-    write!(
-        out,
-        " table {number} order {order} place 0x{place:x} entries {count}\n"
-    )
+    put_decimal(out, " table ", u64::from(shown.number))?;
+    put_decimal(out, " order ", u64::from(shown.order))?;
+    put_hexadecimal(out, " place ", shown.place)?;
+    put_decimal(out, " entries ", count as u64)?;
+    out.push_str("\n")
 }
 
 fn put_entries(out: &mut String, entries: &[(u32, EntryState)]) -> Result<(), AllocError>
-    ensures { OnOk result (string_bytes out.new ≡ string_bytes out.old ++ flat_map entry_text entries.now) }
+    ensures text { OnOk
+        result
+        (string_bytes out.new ≡ string_bytes out.old ++ flat_map entry_text entries.now) }
+    ensures kept { OnErr result (StartsWith (string_bytes out.new) (string_bytes out.old)) }
 {
     for (entry, state) in entries {
+        out.reserve(ENTRY_ROOM)?;
         put_entry(out, *entry, state)?;
     }
     Ok(())
 }
 
 fn put_dump(out: &mut String, line: u32, shown: &Shown) -> Result<(), AllocError>
-    ensures { OnOk result (string_bytes out.new ≡ string_bytes out.old ++ dump_text line shown.now) }
+    ensures text { OnOk
+        result
+        (string_bytes out.new ≡ string_bytes out.old ++ dump_text line shown.now) }
+    ensures kept { OnErr result (StartsWith (string_bytes out.new) (string_bytes out.old)) }
 {
     let entries = shown.states.as_slice();
     put_dump_head(out, line)?;
@@ -171,19 +232,23 @@ fn put_dump(out: &mut String, line: u32, shown: &Shown) -> Result<(), AllocError
     put_entries(out, entries)
 }
 
-/// Appends the text of the reply to a line. Where memory ends, nothing is told of the text that is
-/// left.
+/// Appends the text of the reply to a line. Where memory ends, the text that was there stands, with
+/// perhaps a part of the reply behind it.
 pub fn put_reply(out: &mut String, line: &TraceLine, reply: &Reply) -> Result<(), AllocError>
-    ensures { OnOk result (string_bytes out.new ≡ string_bytes out.old ++ reply_text line.now reply.now) }
+    ensures text { OnOk
+        result
+        (string_bytes out.new ≡ string_bytes out.old ++ reply_text line.now reply.now) }
+    ensures kept { OnErr result (StartsWith (string_bytes out.new) (string_bytes out.old)) }
 {
+    out.reserve(REPLY_ROOM)?;
     match reply {
         Reply::Hcall(reply) => {
             put_head(out, line)?;
-            put_hcall(out, reply)
+            put_hcall(out, reply.rc, &reply.words, &reply.receipts)
         }
         Reply::Access(reply) => {
             put_head(out, line)?;
-            put_access(out, reply)
+            put_access(out, reply.outcome, reply.by, &reply.receipts)
         }
         Reply::Segment(accepted) => {
             put_head(out, line)?;
@@ -195,7 +260,10 @@ pub fn put_reply(out: &mut String, line: &TraceLine, reply: &Reply) -> Result<()
 
 fn put_replies(out: &mut String, lines: &[TraceLine], replies: &[Reply]) -> Result<(), AllocError>
     requires { length lines.now ≡ length replies.now }
-    ensures { OnOk result (string_bytes out.new ≡ string_bytes out.old ++ text_from lines.now replies.now) }
+    ensures text { OnOk
+        result
+        (string_bytes out.new ≡ string_bytes out.old ++ text_from lines.now replies.now) }
+    ensures kept { OnErr result (StartsWith (string_bytes out.new) (string_bytes out.old)) }
 {
     for i in 0..lines.len() {
         put_reply(out, &lines[i], &replies[i])?;

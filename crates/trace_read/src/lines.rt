@@ -1,6 +1,6 @@
-ghost use Rattle.std.specs.Prelude.{◌≡◌, ◌≤◌, ◌∷◌, length, take, vec_len, OnOk, OnErr};
+ghost use Rattle.std.specs.Prelude.{◌≡◌, ◌≤◌, true, ◌∷◌, length, take, vec_len, OnOk, OnErr};
 ghost use Rattle.std.specs.List.{slice_split, list_all, position_or_len};
-ghost use Rattle.trace_read.specs.TextLines.{is_lf, is_printable, is_blank, raw_lines, without_cr, words_of, is_remark, texts};
+ghost use Rattle.trace_read.specs.TextLines.{is_lf, is_printable, raw_lines, without_cr, words_of, is_remark, texts};
 ghost use Rattle.trace_read.specs.Rest.{parts_left, rest_size};
 
 use memchr::memchr;
@@ -59,16 +59,10 @@ pub fn is_text(line: &[u8]) -> bool
     text
 }
 
-/// Whether a byte stands between words.
-fn is_blank(c: u8) -> bool
-    ensures { result ≡ is_blank c }
-{
-    c == b'\t' || c == b' '
-}
-
-/// Puts the words of a line into a list, in place of those that it has. Where there is no memory
-/// for all of them, the list has the first.
+/// Puts the words of a line of text into a list, in place of those that it has. Where there is no
+/// memory for all of them, the list has the first.
 pub fn read_words<'a>(words: &mut Vec<&'a [u8]>, line: &'a [u8]) -> Result<(), AllocError>
+    requires { list_all is_printable line.now ≡ true }
     ensures ok { OnOk result (texts words.new.items ≡ words_of line.now) }
     ensures err { OnErr result
         (texts words.new.items ≡ take (vec_len words.new) (words_of line.now)) }
@@ -76,7 +70,8 @@ pub fn read_words<'a>(words: &mut Vec<&'a [u8]>, line: &'a [u8]) -> Result<(), A
     words.clear();
     let mut start = 0;
     for (i, c) in line.iter().enumerate() {
-        if is_blank(*c) {
+        // Of a text's bytes, tab and space alone are no higher than this.
+        if *c <= b' ' {
             if start < i {
                 words.push(&line[start..i])?;
             }

@@ -1,9 +1,9 @@
 -- What the configuration lines give, as readings of their words.
-use Rattle.std.specs.Prelude.{◌≡◌, ◌≤◌, ℕ, ◌==◌, ◌&&◌, List, length, nat_le, is_none, Option, Some, None, Result, Ok, Err}
+use Rattle.std.specs.Prelude.{◌≡◌, ℕ, ◌==◌, ◌&&◌, List, length, nat_le, is_none, Option, Some, None, Result, Ok, Err}
 use Rattle.frame_grants.specs.declared.error.GrantError.{GrantError}
 use Rattle.frame_grants.specs.declared.grant.Grant.{Grant}
 use Rattle.frame_grants.specs.declared.grant.Kind.{Kind}
-use Rattle.frame_grants.specs.Grants.{GrantedMemory, no_grants, add_refusal, with_grant}
+use Rattle.frame_grants.specs.Grants.{no_grants, add_refusal, with_grant}
 use Rattle.pool_range.specs.Ranges.{range_refusal}
 use Rattle.trace_read.specs.declared.why.Why.{Why}
 use Rattle.trace_read.specs.declared.why.Why.TheVariants.{Count, Range, Small}

@@ -30,21 +30,15 @@ pub fn number_at(words: &[&[u8]], i: usize) -> Result<u64, Why>
 }
 
 /// The arguments of a call, of which the first stands at this index.
-#[tactic(auto, unfolding(crate::specs::Acts::arguments_from))]
 fn arguments_from(words: &[&[u8]], first: usize) -> Result<[u64; 8], Why>
     requires { first ≤ 3 }
     ensures { result ≡ arguments_from (texts words.now) first }
 {
-    Ok([
-        number_at(words, first)?,
-        number_at(words, first + 1)?,
-        number_at(words, first + 2)?,
-        number_at(words, first + 3)?,
-        number_at(words, first + 4)?,
-        number_at(words, first + 5)?,
-        number_at(words, first + 6)?,
-        number_at(words, first + 7)?,
-    ])
+    let mut args = [0; 8];
+    for i in 0..8 {
+        args[i] = number_at(words, first + i)?;
+    }
+    Ok(args)
 }
 
 /// The mode of an access: whether it is made in problem state.

@@ -23,7 +23,9 @@ impl Model for Config {
 
     ghost Value = { Configuration };
 
-    ghost view = { λ c. record { order = c.order; limit = c.limit; cpus = c.cpus; granted = c.grants } };
+    ghost view = { λ c.
+        record { order = c.order; limit = c.limit; cpus = c.cpus; granted = c.grants } };
 
-    ghost invariant = { λ c. IsConfigured c.order c.limit c.cpus c.pool_base c.pool_order c.grants };
+    ghost invariant = { λ c.
+        IsConfigured c.order c.limit c.cpus c.pool_base c.pool_order c.grants };
 }

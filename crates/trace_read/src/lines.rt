@@ -1,12 +1,10 @@
-ghost use Rattle.std.specs.Prelude.{◌≡◌, ◌<◌, ◌≤◌, ◌∷◌, length, map, IfOk};
+ghost use Rattle.std.specs.Prelude.{◌≡◌, ◌≤◌, true, ◌∷◌, length, take, vec_len, OnOk, OnErr};
 ghost use Rattle.std.specs.List.{slice_split, list_all, position_or_len};
 ghost use Rattle.trace_read.specs.TextLines.{is_lf, is_printable, raw_lines, without_cr, words_of, is_remark, texts};
 ghost use Rattle.trace_read.specs.Rest.{parts_left, rest_size};
 
-use std::alloc::{AllocError, Global};
-
-/// No run line that is accepted has more words. A remark may, and room is made for them.
-const USUAL_WORDS: usize = 11;
+use memchr::memchr;
+use std::alloc::AllocError;
 
 /// The lines of an input that are still to be read, if there are any: one LF at its end ends the last.
 pub fn lines(bytes: &[u8]) -> Option<&[u8]>
@@ -23,12 +21,7 @@ pub fn lines(bytes: &[u8]) -> Option<&[u8]>
 fn line_end(text: &[u8]) -> usize
     ensures { result ≡ position_or_len is_lf text.now }
 {
-    for (i, c) in text.iter().enumerate() {
-        if *c == b'\n' {
-            return i;
-        }
-    }
-    text.len()
+    memchr(b'\n', text).unwrap_or(text.len())
 }
 
 /// The first line, and what follows its LF.
@@ -54,24 +47,41 @@ pub fn drop_cr(line: &[u8]) -> &[u8]
     }
 }
 
-/// Whether a line has tabs and printable ASCII alone.
+/// Whether a line has tabs and printable ASCII alone. No byte ends the loop early, so that the
+/// compiler can test many at a time.
 pub fn is_text(line: &[u8]) -> bool
     ensures { result ≡ list_all is_printable line.now }
 {
-    line.iter()
-        .all(|c| *c == b'\t' || (b' ' <= *c && *c <= b'~'))
+    let mut text = true;
+    for c in line {
+        text &= (*c == b'\t') | ((b' ' <= *c) & (*c <= b'~'));
+    }
+    text
 }
 
-/// The words of a line.
-pub fn words(alloc: Global, line: &[u8]) -> Result<Vec<&[u8]>, AllocError>
-    ensures { IfOk result (λ v. texts v.items ≡ words_of line.now) }
+/// Puts the words of a line of text into a list, in place of those that it has. Where there is no
+/// memory for all of them, the list has the first.
+pub fn read_words<'a>(words: &mut Vec<&'a [u8]>, line: &'a [u8]) -> Result<(), AllocError>
+    requires { list_all is_printable line.now ≡ true }
+    ensures ok { OnOk result (texts words.new.items ≡ words_of line.now) }
+    ensures err { OnErr result
+        (texts words.new.items ≡ take (vec_len words.new) (words_of line.now)) }
 {
-    let mut words = Vec::with_capacity(alloc, USUAL_WORDS)?;
-    words.extend(
-        line.split(|c| *c == b'\t' || *c == b' ')
-            .filter(|w| !w.is_empty()),
-    )?;
-    Ok(words)
+    words.clear();
+    let mut start = 0;
+    for (i, c) in line.iter().enumerate() {
+        // Of a text's bytes, tab and space alone are no higher than this.
+        if *c <= b' ' {
+            if start < i {
+                words.push(&line[start..i])?;
+            }
+            start = i + 1;
+        }
+    }
+    if start < line.len() {
+        words.push(&line[start..])?;
+    }
+    Ok(())
 }
 
 /// Whether a line with these words is a remark.

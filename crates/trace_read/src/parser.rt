@@ -43,12 +43,13 @@ pub fn parse(alloc: Global, bytes: &[u8]) -> Result<Trace, TraceError>
             why: Why::Long,
         });
     }
+    let mut words = Vec::new(alloc);
     let mut reader = Reader::new(alloc);
     let mut rest = lines(bytes);
     while let Some(text) = rest {
         let (line, after) = split_line(text);
         let number = reader.taken() + 1;
-        if let Err(stop) = reader.read_line(alloc, line) {
+        if let Err(stop) = reader.read_line(&mut words, line) {
             return Err(error_at(number, stop));
         }
         rest = after;

@@ -11,7 +11,7 @@ ghost use Rattle.trace_read.specs.Trace.{IsSpelt};
 use crate::acts::{dump_act, run_act};
 use crate::counted::CountedLines;
 use crate::forms::{Form, line_form};
-use crate::lines::{drop_cr, is_remark_line, is_text, words};
+use crate::lines::{drop_cr, is_remark_line, is_text, read_words};
 use crate::settings::Settings;
 use crate::stage::Stage;
 use crate::stop::Stop;
@@ -40,7 +40,8 @@ impl Model for Reader {
 
     ghost Value = { Reading };
 
-    ghost view = { λ r. record { taken = r.taken; stage = r.stage; config = r.settings; lines = r.lines } };
+    ghost view = { λ r.
+        record { taken = r.taken; stage = r.stage; config = r.settings; lines = r.lines } };
 
     ghost invariant = { λ r.
         IsReading
@@ -92,9 +93,10 @@ impl Reader {
         }
     }
 
-    /// Takes the next line.
+    /// Takes the next line. The list is room for the line's words: what it has before and after
+    /// means nothing.
     #[tactic(auto, unfolding(crate::specs::Grammar::after_line, crate::specs::Grammar::after_text))]
-    pub fn read_line(&mut self, alloc: Global, line: &[u8]) -> Result<(), Stop>
+    pub fn read_line<'a>(&mut self, words: &mut Vec<&'a [u8]>, line: &'a [u8]) -> Result<(), Stop>
         ensures { ReadsTo (after_line self.old line.now) result self.new }
     {
         if self.taken >= MOST_LINES {
@@ -104,12 +106,12 @@ impl Reader {
         if !is_text(line) {
             return Err(Stop::Refused(Why::Ascii));
         }
-        let words = words(alloc, line)?;
+        read_words(words, line)?;
         self.taken += 1;
-        if is_remark_line(&words) {
+        if is_remark_line(words) {
             return Ok(());
         }
-        self.take_words(&words)
+        self.take_words(words)
     }
 
     #[tactic(auto, unfolding(crate::specs::Grammar::after_words))]

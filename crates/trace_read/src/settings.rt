@@ -48,7 +48,8 @@ impl Model for Settings {
 
     ghost Value = { Configuration };
 
-    ghost view = { λ s. record { order = s.order; limit = s.limit; cpus = s.cpus; granted = s.grants } };
+    ghost view = { λ s.
+        record { order = s.order; limit = s.limit; cpus = s.cpus; granted = s.grants } };
 
     ghost invariant = { λ s. AreSettings s.order s.limit s.cpus s.pool_base s.pool_order s.grants };
 }

@@ -9,7 +9,7 @@ mod summary;
 mod text;
 
 pub use summary::summary_of;
-pub use text::{put_reply, text_of};
+pub use text::{put_place, put_reply, text_of};
 
 #[cfg(test)]
 mod tests;

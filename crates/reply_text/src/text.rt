@@ -2,6 +2,7 @@ ghost use Rattle.std.specs.Prelude.{◌≡◌, ◌++◌, OnOk, OnErr, IfOk, stri
 ghost use Rattle.std.specs.List.{flat_map};
 ghost use Rattle.std.specs.Io.{StartsWith};
 ghost use Rattle.papr_codes.specs.ReturnCodes.{rc_code};
+ghost use Rattle.trace_reply.specs.Places.{reply_in};
 ghost use Rattle.reply_text.specs.Text.{want_word, name_of, head_text, word_text, code_text, hcall_text, outcome_text, way_text, access_text, verdict_text, entry_text, dump_head, table_text, dump_text, reply_text, text_from, receipts_text};
 
 use crate::numbers::{put_decimal, put_hexadecimal, put_signed};
@@ -11,7 +12,7 @@ use papr_codes::{Hcall, Rc};
 use std::alloc::{AllocError, Global};
 use storage_prot::Want;
 use trace_read::{Act, Trace, TraceLine};
-use trace_reply::{Replies, Reply, Shown};
+use trace_reply::{Replies, Reply, ReplyEnd, ReplyPlace, Shown};
 
 /// Room for the line of a reply, which has at most 746 bytes: 42 as far as the name, 157 of the code
 /// and 8 words, 546 of 16 receipts, and the line's end.
@@ -255,6 +256,32 @@ pub fn put_reply(out: &mut String, line: &TraceLine, reply: &Reply) -> Result<()
             put_verdict(out, *accepted)
         }
         Reply::Dump(shown) => put_dump(out, line.number, shown),
+    }
+}
+
+/// Appends the text of the reply that has the place, as [`put_reply`] does.
+pub fn put_place(out: &mut String, line: &TraceLine, place: &ReplyPlace) -> Result<(), AllocError>
+    ensures text { OnOk
+        result
+        (string_bytes out.new
+        ≡ string_bytes out.old ++ reply_text line.now (reply_in place.now)) }
+    ensures kept { OnErr result (StartsWith (string_bytes out.new) (string_bytes out.old)) }
+{
+    out.reserve(REPLY_ROOM)?;
+    match &place.end {
+        ReplyEnd::Hcall(registers) => {
+            put_head(out, line)?;
+            put_hcall(out, registers.rc, &registers.words, &place.receipts)
+        }
+        ReplyEnd::Access(end) => {
+            put_head(out, line)?;
+            put_access(out, end.outcome, end.by, &place.receipts)
+        }
+        ReplyEnd::Segment(accepted) => {
+            put_head(out, line)?;
+            put_verdict(out, *accepted)
+        }
+        ReplyEnd::Dump(shown) => put_dump(out, line.number, shown),
     }
 }
 

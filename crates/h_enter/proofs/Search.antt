@@ -1,13 +1,9 @@
 -- The search for an entry that isn't taken, and the entries of a table.
-use Rattle.std.specs.Prelude.{map}
-use Rattle.std.proofs.Common.{◌≡◌, ℕ, inl, inr, suc, ◌+◌, ◌-◌, ◌*◌, ◌^◌, ◌<◌, ◌≤◌, List, [], ◌∷◌, true, false, arith, subst, sym, ap, ◌∙◌, refl, pow-add, ◌⊎◌}
+use Rattle.std.proofs.Common.{◌≡◌, ℕ, inl, inr, ◌+◌, ◌-◌, ◌*◌, ◌^◌, ◌≤◌, List, [], ◌∷◌, true, false, arith, ap, ◌∙◌, refl, pow-add, ◌⊎◌}
 use Rattle.std.proofs.Math.Pow.{pow_mono}
-use Rattle.std.specs.List.{range_with_len}
 use Rattle.std.proofs.lemmas.Bool.{cases_Bool}
-use Rattle.entry_model.specs.declared.operation.Answer.{Answer}
-use Rattle.entry_model.specs.declared.operation.Answer.TheVariants.{Taken, Worn}
 use Rattle.entry_model.specs.declared.receipt.Receipt.{Receipt}
-use Rattle.entry_model.specs.Receipt.{is_taken, is_worn}
+use Rattle.entry_model.specs.Receipt.{is_taken}
 use Rattle.entry_model.specs.Trial.{ending_of}
 use Rattle.h_enter.specs.Enter.{enter_told, told_by_ending}
 

@@ -1,6 +1,6 @@
 -- The checks of H_ENTER.
 use Rattle.hpte_fields.specs.TableSize.{entry_count}
-use Rattle.std.specs.Prelude.{ℕ, ◌-◌, ◌^◌, ◌==◌, ◌||◌, List, Bool, false, Option, Some, None, if◌then◌else◌, nat_lt}
+use Rattle.std.specs.Prelude.{ℕ, ◌^◌, ◌==◌, ◌||◌, List, Bool, false, Option, Some, None, if◌then◌else◌, nat_lt}
 use Rattle.std.specs.Option.{option_map_or}
 use Rattle.page_sizes.specs.declared.size.PageSize.{PageSize}
 use Rattle.page_sizes.specs.Sizes.{size_of}

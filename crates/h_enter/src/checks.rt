@@ -1,9 +1,10 @@
 ghost use Rattle.std.specs.Prelude.{◌≡◌};
+ghost use Rattle.entry_model.specs.Replies.{reply_with};
 ghost use Rattle.entry_model.specs.Trial.{IsReplyOf};
 ghost use Rattle.h_enter.specs.Checks.{suits_kind, suits_grants, h_enter_plan};
 
-use crate::words::enter_words;
-use entry_model::{EntryStore, HReply};
+use crate::words::enter_words_into;
+use entry_model::{EntryStore, HReply, Receipts, Registers};
 use frame_grants::{Grants, Kind};
 use hpte_fields::{entry_count, frame, normal, wimg};
 use page_sizes::decode;
@@ -42,13 +43,41 @@ fn suits_grants(grants: &Grants, dword0: u64, dword1: u64) -> bool
     }
 }
 
+/// [`h_enter`] with its receipts put into `receipts`, in place of what was there.
+// Out of line: docs/PERFORMANCE.md says why.
+#[inline(never)]
+#[tactic(auto, unfolding(crate::specs::Checks::h_enter_plan))]
+pub fn h_enter_into<T: EntryStore>(
+    store: &mut T,
+    grants: &Grants,
+    flags: u64,
+    ptex: u64,
+    pteh: u64,
+    ptel: u64,
+    receipts: &mut Receipts,
+) -> Registers
+    ensures made { T.made store.old store.new receipts.new }
+    ensures reply { IsReplyOf
+        (h_enter_plan (T.table_order store.old) grants.now.grants flags ptex pteh ptel)
+        (reply_with result receipts.new) }
+{
+    receipts.clear();
+    if ptex >= u64::from(entry_count(store.order())) {
+        return Registers::with_code(Rc::Parameter);
+    }
+    let Some((dword0, dword1)) = normal(pteh, ptel) else {
+        return Registers::with_code(Rc::Parameter);
+    };
+    if !suits_grants(grants, dword0, dword1) {
+        return Registers::with_code(Rc::Parameter);
+    }
+    enter_words_into(store, flags, ptex, dword0, dword1, receipts)
+}
+
 /// H_ENTER: puts the translation of a page into the table. `flags` may have H_EXACT, `ptex` names
 /// the entry, or the group by one of its entries, `pteh` and `ptel` are the two doublewords.
 /// H_PARAMETER comes for an index past the table, for words that can't be stored, and for a page
 /// that no single grant holds with these storage control bits; nothing is tried then.
-// Out of line: docs/PERFORMANCE.md says why.
-#[inline(never)]
-#[tactic(auto, unfolding(crate::specs::Checks::h_enter_plan))]
 pub fn h_enter<T: EntryStore>(
     store: &mut T,
     grants: &Grants,
@@ -62,14 +91,7 @@ pub fn h_enter<T: EntryStore>(
         (h_enter_plan (T.table_order store.old) grants.now.grants flags ptex pteh ptel)
         result }
 {
-    if ptex >= u64::from(entry_count(store.order())) {
-        return HReply::without_receipts(Rc::Parameter);
-    }
-    let Some((dword0, dword1)) = normal(pteh, ptel) else {
-        return HReply::without_receipts(Rc::Parameter);
-    };
-    if !suits_grants(grants, dword0, dword1) {
-        return HReply::without_receipts(Rc::Parameter);
-    }
-    enter_words(store, flags, ptex, dword0, dword1)
+    let mut receipts = Receipts::new();
+    let registers = h_enter_into(store, grants, flags, ptex, pteh, ptel, &mut receipts);
+    registers.into_reply(receipts)
 }

@@ -1,6 +1,6 @@
 use Rattle.std.proofs.Common.{arith}
 use Rattle.h_enter.proofs.Search.{whole_groups}
-use Rattle.h_enter.proofs.words.enter_words.Goals as goal
+use Rattle.h_enter.proofs.words.enter_words_into.Goals as goal
 
 pub search-requires-clause-small : goal.search-requires-clause-small
 search-requires-clause-small g c =

@@ -4,7 +4,7 @@ ghost use Rattle.entry_model.specs.Trial.{IsReplyOf};
 ghost use Rattle.h_enter.specs.Checks.{suits_kind, suits_grants, h_enter_plan};
 
 use crate::words::enter_words_into;
-use entry_model::{EntryStore, Receipts, Registers};
+use entry_model::{EntryStore, HReply, Receipts, Registers};
 use frame_grants::{Grants, Kind};
 use hpte_fields::{entry_count, frame, normal, wimg};
 use page_sizes::decode;
@@ -43,8 +43,7 @@ fn suits_grants(grants: &Grants, dword0: u64, dword1: u64) -> bool
     }
 }
 
-/// [`h_enter`](crate::h_enter) with the receipts in the caller's place: those of this call take the
-/// place of what was there.
+/// [`h_enter`] with its receipts put into `receipts`, in place of what was there.
 // Out of line: docs/PERFORMANCE.md says why.
 #[inline(never)]
 #[tactic(auto, unfolding(crate::specs::Checks::h_enter_plan))]
@@ -73,4 +72,27 @@ pub fn h_enter_into<T: EntryStore>(
         return Registers::with_code(Rc::Parameter);
     }
     enter_words_into(store, flags, ptex, dword0, dword1, receipts)
+}
+
+/// H_ENTER: puts the translation of a page into the table. `flags` may have H_EXACT, `ptex` names
+/// the entry, or the group by one of its entries, `pteh` and `ptel` are the two doublewords.
+/// H_PARAMETER comes for an index past the table, for words that can't be stored, and for a page
+/// that no single grant holds with these storage control bits; nothing is tried then.
+pub fn h_enter<T: EntryStore>(
+    store: &mut T,
+    grants: &Grants,
+    flags: u64,
+    ptex: u64,
+    pteh: u64,
+    ptel: u64,
+    receipts: &mut Receipts,
+) -> Registers
+    ensures made { T.made store.old store.new receipts.new }
+    ensures reply { IsReplyOf
+        (h_enter_plan (T.table_order store.old) grants.now.grants flags ptex pteh ptel)
+        (reply_with result receipts.new) }
+{
+    let mut receipts = Receipts::new();
+    let registers = h_enter_into(store, grants, flags, ptex, pteh, ptel, &mut receipts);
+    registers.into_reply(receipts)
 }

@@ -8,6 +8,5 @@ mod checks;
 mod returning;
 mod words;
 
-pub use checks::h_enter_into;
-pub use returning::{enter_words, h_enter};
-pub use words::enter_words_into;
+pub use checks::{h_enter, h_enter_into};
+pub use words::{enter_words, enter_words_into};

@@ -8,12 +8,13 @@ ghost use Rattle.entry_model.specs.Replies.{reply_with};
 ghost use Rattle.entry_model.specs.Trial.{IsReplyOf, IsTrial, call};
 ghost use Rattle.h_enter.specs.Enter.{enter_plan, enter_told, told_by_ending};
 
-use entry_model::{Answer, EntryStore, GoesOn, Op, Receipt, Receipts, Registers, try_entries};
+use entry_model::{
+    Answer, EntryStore, GoesOn, HReply, Op, Receipt, Receipts, Registers, try_entries,
+};
 use hpte_fields::GROUP_SIZE;
 use papr_codes::{CallFlags, Rc};
 
-/// [`enter_words`](crate::enter_words) with the receipts in the caller's place: those of this call
-/// take the place of what was there.
+/// [`enter_words`] with its receipts put into `receipts`, in place of what was there.
 #[tactic(auto, unfolding(crate::specs::Enter::candidates))]
 pub fn enter_words_into<T: EntryStore>(
     store: &mut T,
@@ -78,4 +79,27 @@ fn registers(ending: &Option<Receipt>) -> Registers
             }
         },
     }
+}
+
+/// The part of H_ENTER after its checks: tries the named entry under H_EXACT, else the eight of its
+/// group in slot order, until one isn't taken. H_SUCCESS comes with the entry's index, H_PTEG_FULL
+/// where each was taken, and H_HARDWARE where the entry's stamp is at its last value.
+pub fn enter_words<T: EntryStore>(
+    store: &mut T,
+    flags: u64,
+    ptex: u64,
+    dword0: u64,
+    dword1: u64,
+    receipts: &mut Receipts,
+) -> Registers
+    requires in_table { ptex < entry_count (T.table_order store.old) }
+    requires normal { normal_words dword0 dword1 ≡ Some (dword0, dword1) }
+    ensures made { T.made store.old store.new receipts.new }
+    ensures reply { IsReplyOf
+        (enter_plan flags ptex dword0 dword1)
+        (reply_with result receipts.new) }
+{
+    let mut receipts = Receipts::new();
+    let registers = enter_words_into(store, flags, ptex, dword0, dword1, &mut receipts);
+    registers.into_reply(receipts)
 }

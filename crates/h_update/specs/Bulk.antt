@@ -1,7 +1,7 @@
 -- H_BULK_REMOVE: four pairs of words, each a request to remove one entry.
 use Rattle.hpte_fields.specs.TableSize.{entry_count}
 use Rattle.std.specs.List.{list_any}
-use Rattle.std.specs.Prelude.{Bool, ℕ, ◌+◌, ◌-◌, ◌*◌, ◌/◌, ◌%◌, ◌^◌, ◌==◌, ◌&&◌, List, [], ◌∷◌, not, Option, Some, None, if◌then◌else◌, nat_lt}
+use Rattle.std.specs.Prelude.{Bool, ℕ, ◌+◌, ◌*◌, ◌/◌, ◌%◌, ◌^◌, ◌==◌, ◌&&◌, List, [], ◌∷◌, not, Option, Some, None, if◌then◌else◌, nat_lt}
 use Rattle.papr_codes.specs.declared.codes.Rc.{Rc}
 use Rattle.entry_model.specs.State.{State}
 use Rattle.entry_model.specs.declared.operation.Test.{Test}

@@ -1,6 +1,6 @@
 -- The hypervisor calls on one entry, or on four that are read together: what each asks of the entry, and the reply that the answer gives.
 use Rattle.hpte_fields.specs.TableSize.{entry_count}
-use Rattle.std.specs.Prelude.{ℕ, ◌+◌, ◌-◌, ◌*◌, ◌/◌, ◌^◌, List, [], ◌∷◌, true, Option, Some, None, if◌then◌else◌, nat_lt, map, flat_map}
+use Rattle.std.specs.Prelude.{ℕ, ◌*◌, ◌/◌, List, [], ◌∷◌, true, Option, Some, None, if◌then◌else◌, nat_lt, map, flat_map}
 use Rattle.std.specs.List.{range_with_len}
 use Rattle.papr_codes.specs.FlagBits.{has_flag, h_read_4, h_avpn, h_andcond}
 use Rattle.papr_codes.specs.declared.codes.Rc.{Rc}

@@ -1,9 +1,10 @@
 ghost use Rattle.std.specs.Prelude.{◌≡◌, ◌≤◌, ◌+◌, ◌%◌, ◌++◌, length, if◌then◌else◌};
 ghost use Rattle.entry_model.specs.Receipt.{is_worn};
+ghost use Rattle.entry_model.specs.Replies.{reply_with};
 ghost use Rattle.entry_model.specs.Trial.{IsReplyOf};
 ghost use Rattle.h_update.specs.Bulk as plans;
 
-use entry_model::{Answer, EntryStore, HReply, Op, Receipt, Receipts, ReplyWords, Test};
+use entry_model::{Answer, EntryStore, HReply, Op, Receipt, Receipts, Registers, ReplyWords, Test};
 use hpte_fields::entry_count;
 use papr_codes::Rc;
 
@@ -129,43 +130,40 @@ fn response(status: u8, request: u64) -> u64
     u64::from(status) << 56 | request & (FLAGS | INDEX)
 }
 
-/// The reply whose words end with those that stay as they were.
-fn ended(rc: Rc, mut words: ReplyWords, unchanged: &[u64], receipts: Receipts) -> HReply
+/// The code, and the words with those behind them that stay as they were.
+fn ended(rc: Rc, mut words: ReplyWords, unchanged: &[u64]) -> Registers
     requires { length words + length unchanged.now ≤ 8 }
-    ensures { result ≡ record { rc = rc; words = words ++ unchanged.now; receipts = receipts } }
+    ensures { result ≡ record { rc = rc; words = words ++ unchanged.now } }
 {
     for word in unchanged {
         words.push(*word);
     }
-    HReply {
-        rc,
-        words,
-        receipts,
-    }
+    Registers { rc, words }
 }
 
-/// H_BULK_REMOVE: four pairs of words, each a request to remove an entry and the word of its test.
-/// The pairs are taken in order until one ends the list, is ill formed (H_PARAMETER), or finds an
-/// entry whose stamp is at its last value (H_HARDWARE). The reply has all eight words, with a
-/// response in place of each request that was taken up.
+/// [`h_bulk_remove`] with its receipts put into `receipts`, in place of what was there.
 // Out of line: docs/PERFORMANCE.md says why.
 #[inline(never)]
-pub fn h_bulk_remove<T: EntryStore>(store: &mut T, pairs: &[u64; 8]) -> HReply
-    ensures made { T.made store.old store.new result.receipts }
+pub fn h_bulk_remove_into<T: EntryStore>(
+    store: &mut T,
+    pairs: &[u64; 8],
+    receipts: &mut Receipts,
+) -> Registers
+    ensures made { T.made store.old store.new receipts.new }
     ensures reply { IsReplyOf
         (plans.h_bulk_remove_plan (T.table_order store.old) pairs.now)
-        result }
+        (reply_with result receipts.new) }
 {
     let order = store.order();
     let mut words = ReplyWords::new();
-    let mut receipts = Receipts::new();
+    receipts.clear();
     for i in 0..4 {
         let (request, word) = (pairs[2 * i], pairs[2 * i + 1]);
         match asked_by(order, request, word) {
-            Asked::End => return ended(Rc::Success, words, &pairs[2 * i..], receipts),
+            Asked::End => return ended(Rc::Success, words, &pairs[2 * i..]),
             Asked::Refused => {
                 words.push(response(ILL_FORMED, request));
-                return ended(Rc::Parameter, words, &pairs[2 * i + 1..], receipts);
+                return ended(Rc::Parameter, words, &pairs[2 * i + 1..]);
             }
             Asked::Remove { entry, test } => {
                 let receipt = store.apply(entry, Op::Remove { test });
@@ -173,11 +171,26 @@ pub fn h_bulk_remove<T: EntryStore>(store: &mut T, pairs: &[u64; 8]) -> HReply
                 words.push(response(status(&receipt), request));
                 receipts.push(receipt);
                 if answer == Answer::Worn {
-                    return ended(Rc::Hardware, words, &pairs[2 * i + 1..], receipts);
+                    return ended(Rc::Hardware, words, &pairs[2 * i + 1..]);
                 }
                 words.push(word);
             }
         }
     }
-    ended(Rc::Success, words, &[], receipts)
+    ended(Rc::Success, words, &[])
+}
+
+/// H_BULK_REMOVE: four pairs of words, each a request to remove an entry and the word of its test.
+/// The pairs are taken in order until one ends the list, is ill formed (H_PARAMETER), or finds an
+/// entry whose stamp is at its last value (H_HARDWARE). The reply has all eight words, with a
+/// response in place of each request that was taken up.
+pub fn h_bulk_remove<T: EntryStore>(store: &mut T, pairs: &[u64; 8]) -> HReply
+    ensures made { T.made store.old store.new result.receipts }
+    ensures reply { IsReplyOf
+        (plans.h_bulk_remove_plan (T.table_order store.old) pairs.now)
+        result }
+{
+    let mut receipts = Receipts::new();
+    let registers = h_bulk_remove_into(store, pairs, &mut receipts);
+    registers.into_reply(receipts)
 }

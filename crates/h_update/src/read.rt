@@ -1,11 +1,14 @@
-ghost use Rattle.std.specs.Prelude.{◌≡◌, ◌≤◌, ◌-◌, ◌+◌, ◌^◌, length, true, map, flat_map};
+ghost use Rattle.std.specs.Prelude.{◌≡◌, ◌≤◌, ◌-◌, ◌+◌, ◌^◌, length, true, map, flat_map, []};
 ghost use Rattle.hpte_fields.specs.TableSize as table;
 ghost use Rattle.std.specs.List.{range_with_len};
+ghost use Rattle.entry_model.specs.Replies.{reply_with};
 ghost use Rattle.entry_model.specs.Trial.{IsReplyOf, IsTrial, call};
 ghost use Rattle.entry_model.specs.declared.operation.Op.TheVariants.{Read};
 ghost use Rattle.h_update.specs.Single.{h_read_plan, both_words};
 
-use entry_model::{EntryStore, GoesOn, HReply, Op, Receipt, Receipts, ReplyWords, try_entries};
+use entry_model::{
+    EntryStore, GoesOn, HReply, Op, Receipt, Receipts, Registers, ReplyWords, try_entries,
+};
 use hpte_fields::entry_count;
 use papr_codes::{CallFlags, Rc};
 
@@ -24,41 +27,63 @@ fn words_read(receipts: &[Receipt]) -> ReplyWords
 }
 
 /// Reads entries one behind the other, and gives each one's doublewords, with R and C.
-fn read_from<T: EntryStore>(store: &mut T, first: u32, count: u32) -> HReply
+fn read_from<T: EntryStore>(
+    store: &mut T,
+    first: u32,
+    count: u32,
+    receipts: &mut Receipts,
+) -> Registers
     requires few { count ≤ 4 }
     requires in_table { first + count ≤ table.entry_count (T.table_order store.old) }
     requires small { first + count ≤ 2 ^ 22 }
-    ensures made { T.made store.old store.new result.receipts }
+    requires empty { receipts.old ≡ [] }
+    ensures made { T.made store.old store.new receipts.new }
     ensures trial { IsTrial
-        (λ answer. true) (map (call Read) (range_with_len first count)) result.receipts }
+        (λ answer. true) (map (call Read) (range_with_len first count)) receipts.new }
     ensures code { result.rc ≡ Rc.Success }
-    ensures words { result.words ≡ flat_map both_words result.receipts }
+    ensures words { result.words ≡ flat_map both_words receipts.new }
 {
-    let mut receipts = Receipts::new();
-    let _ending = try_entries(store, Op::Read, first, count, GoesOn::Always, &mut receipts);
-    HReply {
+    let _ending = try_entries(store, Op::Read, first, count, GoesOn::Always, receipts);
+    Registers {
         rc: Rc::Success,
         words: words_read(receipts.as_slice()),
-        receipts,
+    }
+}
+
+/// [`h_read`] with its receipts put into `receipts`, in place of what was there.
+// Out of line: docs/PERFORMANCE.md says why.
+#[inline(never)]
+#[tactic(auto, unfolding(crate::specs::Single::h_read_plan))]
+pub fn h_read_into<T: EntryStore>(
+    store: &mut T,
+    flags: u64,
+    ptex: u64,
+    receipts: &mut Receipts,
+) -> Registers
+    ensures made { T.made store.old store.new receipts.new }
+    ensures reply { IsReplyOf
+        (h_read_plan (T.table_order store.old) flags ptex)
+        (reply_with result receipts.new) }
+{
+    receipts.clear();
+    if ptex >= u64::from(entry_count(store.order())) {
+        return Registers::with_code(Rc::Parameter);
+    }
+    let index = ptex as u32;
+    if CallFlags::of(flags).has(CallFlags::READ_4) {
+        read_from(store, index / 4 * 4, 4, receipts)
+    } else {
+        read_from(store, index, 1, receipts)
     }
 }
 
 /// H_READ: both doublewords of the entry, with R and C; under H_READ_4 those of the four entries that
 /// it lies among. An entry that isn't valid reads as zeros.
-// Out of line: docs/PERFORMANCE.md says why.
-#[inline(never)]
-#[tactic(auto, unfolding(crate::specs::Single::h_read_plan))]
 pub fn h_read<T: EntryStore>(store: &mut T, flags: u64, ptex: u64) -> HReply
     ensures made { T.made store.old store.new result.receipts }
     ensures reply { IsReplyOf (h_read_plan (T.table_order store.old) flags ptex) result }
 {
-    if ptex >= u64::from(entry_count(store.order())) {
-        return HReply::without_receipts(Rc::Parameter);
-    }
-    let index = ptex as u32;
-    if CallFlags::of(flags).has(CallFlags::READ_4) {
-        read_from(store, index / 4 * 4, 4)
-    } else {
-        read_from(store, index, 1)
-    }
+    let mut receipts = Receipts::new();
+    let registers = h_read_into(store, flags, ptex, &mut receipts);
+    registers.into_reply(receipts)
 }

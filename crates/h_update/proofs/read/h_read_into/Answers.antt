@@ -1,6 +1,6 @@
 use Rattle.std.proofs.Common.{arith}
 use Rattle.h_update.proofs.ReadSteps.{fours_in_table, few_entries}
-use Rattle.h_update.proofs.read.h_read.Goals as goal
+use Rattle.h_update.proofs.read.h_read_into.Goals as goal
 
 pub read_from-requires-clause-in_table : goal.read_from-requires-clause-in_table
 read_from-requires-clause-in_table g c =

@@ -1,6 +1,6 @@
 use Rattle.std.proofs.Common.{◌≡◌, ◌≤◌, ◌*◌, length}
 use Rattle.h_update.proofs.BulkSteps.{IsSoFar}
-use Rattle.h_update.proofs.bulk.h_bulk_remove.Given as goal
+use Rattle.h_update.proofs.bulk.h_bulk_remove_into.Given as goal
 
 -- The pairs so far were removed or not found.
 abbrev pub invariant-loop-i : goal.invariant-loop-i

@@ -3,7 +3,7 @@ use Rattle.std.proofs.lemmas.Grind.{common_steps}
 use Rattle.entry_model.specs.Receipt.{is_worn}
 use Rattle.h_update.specs.Bulk.{status_of, worn_status}
 use Rattle.h_update.proofs.BulkSteps.{asked_in_table, ends_at_end, ends_at_refused, ends_at_worn, ends_behind_all, goes_on, same_worn}
-use Rattle.h_update.proofs.bulk.h_bulk_remove.Goals as goal
+use Rattle.h_update.proofs.bulk.h_bulk_remove_into.Goals as goal
 
 pub returns-in-End-clause-reply : goal.returns-in-End-clause-reply
 returns-in-End-clause-reply g c =

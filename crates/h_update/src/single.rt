@@ -198,21 +198,21 @@ pub fn h_protect<T: EntryStore>(store: &mut T, flags: u64, ptex: u64, avpn: u64)
 }
 
 /// H_CLEAR_REF: clears R, and gives doubleword 1 as it was. No flag has an effect.
-pub fn h_clear_ref<T: EntryStore>(store: &mut T, _flags: u64, ptex: u64) -> HReply
+pub fn h_clear_ref<T: EntryStore>(store: &mut T, flags: u64, ptex: u64) -> HReply
     ensures made { T.made store.old store.new result.receipts }
     ensures reply { IsReplyOf (plans.h_clear_ref_plan (T.table_order store.old) ptex) result }
 {
     let mut receipts = Receipts::new();
-    let registers = h_clear_ref_into(store, _flags, ptex, &mut receipts);
+    let registers = h_clear_ref_into(store, flags, ptex, &mut receipts);
     registers.into_reply(receipts)
 }
 
 /// H_CLEAR_MOD: clears C, and gives doubleword 1 as it was. No flag has an effect.
-pub fn h_clear_mod<T: EntryStore>(store: &mut T, _flags: u64, ptex: u64) -> HReply
+pub fn h_clear_mod<T: EntryStore>(store: &mut T, flags: u64, ptex: u64) -> HReply
     ensures made { T.made store.old store.new result.receipts }
     ensures reply { IsReplyOf (plans.h_clear_mod_plan (T.table_order store.old) ptex) result }
 {
     let mut receipts = Receipts::new();
-    let registers = h_clear_mod_into(store, _flags, ptex, &mut receipts);
+    let registers = h_clear_mod_into(store, flags, ptex, &mut receipts);
     registers.into_reply(receipts)
 }

@@ -85,12 +85,11 @@ pub fn h_enter<T: EntryStore>(
     ptex: u64,
     pteh: u64,
     ptel: u64,
-    receipts: &mut Receipts,
-) -> Registers
-    ensures made { T.made store.old store.new receipts.new }
+) -> HReply
+    ensures made { T.made store.old store.new result.receipts }
     ensures reply { IsReplyOf
         (h_enter_plan (T.table_order store.old) grants.now.grants flags ptex pteh ptel)
-        (reply_with result receipts.new) }
+        result }
 {
     let mut receipts = Receipts::new();
     let registers = h_enter_into(store, grants, flags, ptex, pteh, ptel, &mut receipts);

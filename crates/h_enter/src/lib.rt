@@ -5,7 +5,6 @@
 #![tactic(auto)]
 
 mod checks;
-mod returning;
 mod words;
 
 pub use checks::{h_enter, h_enter_into};

@@ -90,14 +90,11 @@ pub fn enter_words<T: EntryStore>(
     ptex: u64,
     dword0: u64,
     dword1: u64,
-    receipts: &mut Receipts,
-) -> Registers
+) -> HReply
     requires in_table { ptex < entry_count (T.table_order store.old) }
     requires normal { normal_words dword0 dword1 ≡ Some (dword0, dword1) }
-    ensures made { T.made store.old store.new receipts.new }
-    ensures reply { IsReplyOf
-        (enter_plan flags ptex dword0 dword1)
-        (reply_with result receipts.new) }
+    ensures made { T.made store.old store.new result.receipts }
+    ensures reply { IsReplyOf (enter_plan flags ptex dword0 dword1) result }
 {
     let mut receipts = Receipts::new();
     let registers = enter_words_into(store, flags, ptex, dword0, dword1, &mut receipts);

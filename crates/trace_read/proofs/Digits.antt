@@ -31,8 +31,8 @@ next_small v base i d h k =
     omega arith
 
 -- One digit more.
-pub AreRead-more : (base : ℕ) (word : List ℕ) (i value d : ℕ) → i < length word → d ≡ digit_value (get_or word i 0)
-    → d < base → AreRead base word i value → AreRead base word (i + 1) (value * base + d)
+pub AreRead-more : (base : ℕ) (word : List ℕ) (i value d : ℕ) → i < length word
+    → d ≡ digit_value (get_or word i 0) → d < base → AreRead base word i value → AreRead base word (i + 1) (value * base + d)
 AreRead-more base word i value d within is low read = record {
   digits = list_all_more _ word i 0 within ∙ and_from _ _ read.digits (rw (← is) (lt-ltb _ _ low));
   value_is = rw (read.value_is, is) (sym (digits_value_more base word i within));

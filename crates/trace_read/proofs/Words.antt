@@ -26,9 +26,10 @@ high_byte : (c : ℕ) → 32 < c → is_blank c ≡ false
 high_byte c high = grind (arith, nat_tests)
 
 -- A byte of a text is a blank if it is at most a space.
-blank_at : (line : List ℕ) (i : ℕ) → i < length line → list_all is_printable line ≡ true → get_or line i 0 ≤ 32
-    → is_blank (get_or line i 0) ≡ true
-blank_at line i within text low = low_blank (get_or line i 0) (AllPass-from_list_all is_printable line text i 0 within) low
+blank_at : (line : List ℕ) (i : ℕ) → i < length line → list_all is_printable line ≡ true
+    → get_or line i 0 ≤ 32 → is_blank (get_or line i 0) ≡ true
+blank_at line i within text low =
+    low_blank (get_or line i 0) (AllPass-from_list_all is_printable line text i 0 within) low
 
 -- A part that is not empty is a word.
 words_of_part : (w : List ℕ) (ws : List (List ℕ)) → 0 < length w
@@ -41,11 +42,12 @@ words_of_blank : (line : List ℕ) (i : ℕ) → i < length line → is_blank (g
     → words_of (drop i line) ≡ words_of (drop (i + 1) line)
 words_of_blank line i within blank =
     ap words_of (drop_more line i 0 within)
-    ∙ ap (filter (λ w. not (eqb (length w) 0))) (slice_split-cons_yes is_blank (get_or line i 0) (drop (i + 1) line) blank)
+    ∙ ap (filter (λ w. not (eqb (length w) 0)))
+    (slice_split-cons_yes is_blank (get_or line i 0) (drop (i + 1) line) blank)
 
 -- A word ends at the next blank.
-words_of_word : (line : List ℕ) (low high : ℕ) → low < high → high < length line → NoBlank line low high
-    → is_blank (get_or line high 0) ≡ true
+words_of_word : (line : List ℕ) (low high : ℕ) → low < high → high < length line
+    → NoBlank line low high → is_blank (get_or line high 0) ≡ true
     → words_of (drop low line) ≡ take (high - low) (drop low line) ∷ words_of (drop (high + 1) line)
 words_of_word line low high some within clear blank =
     let seam : low + (high - low) ≡ high = omega arith in
@@ -56,10 +58,12 @@ words_of_word line low high some within clear blank =
     (λ k h. rw get_or-drop (clear (low + k) (omega arith) (omega arith)))
     (λ h. rw (get_or-drop, seam) blank) in
     let first = slice_split_first is_blank (drop low line) 0 (omega (arith, length-drop low line)) in
-    let parts : slice_split is_blank (drop low line) ≡ take (high - low) (drop low line) ∷ slice_split is_blank (drop (high + 1) line) =
+    let parts : slice_split is_blank (drop low line)
+    ≡ take (high - low) (drop low line) ∷ slice_split is_blank (drop (high + 1) line) =
     first ∙ rw (place, drop-drop, past) refl in
     ap (filter (λ w. not (eqb (length w) 0))) parts
-    ∙ words_of_part _ (slice_split is_blank (drop (high + 1) line)) (omega (arith, length-drop low line, length-take-le (high - low) (drop low line)))
+    ∙ words_of_part _ (slice_split is_blank (drop (high + 1) line))
+    (omega (arith, length-drop low line, length-take-le (high - low) (drop low line)))
 
 -- The last word ends with the line.
 words_of_last : (line : List ℕ) (low : ℕ) → low < length line → NoBlank line low (length line)
@@ -72,34 +76,43 @@ words_of_last line low some clear =
     ∙ words_of_part _ [] (omega (arith, length-drop low line))
 
 -- ---- the steps of the loop
-pub AreReadTo-other : (line : List ℕ) (words : List (List ℕ)) (start i : ℕ) → AreReadTo line words start i
-    → 32 < get_or line i 0 → AreReadTo line words start (i + 1)
+pub AreReadTo-other : (line : List ℕ) (words : List (List ℕ)) (start i : ℕ)
+    → AreReadTo line words start i → 32 < get_or line i 0 → AreReadTo line words start (i + 1)
 AreReadTo-other line words start i read high = record {
   ordered = omega arith;
-  clear = λ k from to. elim (cases_eq k i) [ inl same ↦ rw same (high_byte _ high) | inr before ↦ read.clear k from (omega arith) ];
+  clear = λ k from to. elim (cases_eq k i) [
+    | inl same ↦ rw same (high_byte _ high)
+    | inr before ↦ read.clear k from (omega arith)
+  ];
   rest = read.rest;
 }
 
-pub AreReadTo-blank : (line : List ℕ) (words : List (List ℕ)) (start i : ℕ) → AreReadTo line words start i
-    → i ≤ start → i < length line → list_all is_printable line ≡ true → get_or line i 0 ≤ 32 → AreReadTo line words (i + 1) (i + 1)
+pub AreReadTo-blank : (line : List ℕ) (words : List (List ℕ)) (start i : ℕ)
+    → AreReadTo line words start i → i ≤ start → i < length line
+    → list_all is_printable line ≡ true → get_or line i 0 ≤ 32 → AreReadTo line words (i + 1) (i + 1)
 AreReadTo-blank line words start i read none within text low =
     let here : start ≡ i = omega arith in
     record {
       ordered = omega arith;
       clear = λ k from to. absurd (omega arith);
-      rest = read.rest ∙ rw here (ap (λ ws. words ++ ws) (words_of_blank line i within (blank_at line i within text low)));
+      rest = read.rest
+          ∙ rw here (ap (λ ws. words ++ ws) (words_of_blank line i within (blank_at line i within text low)));
     }
 
-pub AreReadTo-word : (line : List ℕ) (words : List (List ℕ)) (start i : ℕ) → AreReadTo line words start i
-    → start < i → i < length line → list_all is_printable line ≡ true → get_or line i 0 ≤ 32
+pub AreReadTo-word : (line : List ℕ) (words : List (List ℕ)) (start i : ℕ)
+    → AreReadTo line words start i → start < i → i < length line
+    → list_all is_printable line ≡ true → get_or line i 0 ≤ 32
     → AreReadTo line (words ++ take (i - start) (drop start line) ∷ []) (i + 1) (i + 1)
 AreReadTo-word line words start i read some within text low = record {
   ordered = omega arith;
   clear = λ k from to. absurd (omega arith);
-  rest = read.rest ∙ ap (λ ws. words ++ ws) (words_of_word line start i some within read.clear (blank_at line i within text low)) ∙ simp append_assoc;
+  rest = read.rest
+      ∙ ap (λ ws. words ++ ws) (words_of_word line start i some within read.clear (blank_at line i within text low))
+      ∙ simp append_assoc;
 }
 
-pub AreReadTo-last : (line : List ℕ) (words : List (List ℕ)) (start i : ℕ) → AreReadTo line words start i
-    → start < length line → length line ≤ i → words ++ drop start line ∷ [] ≡ words_of line
+pub AreReadTo-last : (line : List ℕ) (words : List (List ℕ)) (start i : ℕ)
+    → AreReadTo line words start i → start < length line → length line ≤ i → words ++ drop start line ∷ [] ≡ words_of line
 AreReadTo-last line words start i read some end =
-    sym (read.rest ∙ ap (λ ws. words ++ ws) (words_of_last line start some (λ k from to. read.clear k from (omega arith))))
+    sym (read.rest
+    ∙ ap (λ ws. words ++ ws) (words_of_last line start some (λ k from to. read.clear k from (omega arith))))

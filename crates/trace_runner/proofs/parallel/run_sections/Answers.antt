@@ -5,6 +5,7 @@ use Rattle.trace_read.specs.declared.trace.Act.TheVariants.{Call}
 use Rattle.trace_runner.specs.Workers.{NoneQuiet}
 use Rattle.trace_runner.proofs.MergedReplies.{each_line}
 use Rattle.trace_runner.proofs.SectionsRun.{part, Done, done_none, done_more, done_end, no_quiet_more, no_quiet_yet, part_each, section_processors, section_number}
+use Rattle.trace_reply.specs.Places.{reply_in}
 use Rattle.trace_runner.proofs.parallel.run_sections.Goals as goal
 use Rattle.trace_runner.proofs.parallel.run_sections.Goals.{then-is_quiet+in_ok-machine+in_ok-line+in_ok-push, else-is_quiet}
 
@@ -52,7 +53,7 @@ loop-i-preserved g c =
             none_quiet = no_quiet_yet c.args.lines.now (c.loop-i.i + 1);
             processors = k.cpus ∙ section_processors c.loop-i.machine w.in_ok-machine.machine _ _ e.sectioned ∙ i.processors;
             number = omega (arith, k.number, section_number c.loop-i.machine w.in_ok-machine.machine _ _ e.sectioned, i.number);
-            done = done_more c.args.opened c.loop-i.machine w.in_ok-machine.machine w.line.new.self c.args.lines.now c.loop-i.start c.loop-i.i d c.loop-i.replies.items w.section.new.replies.items e.news w.push.new.self.items w.line.new.reply i.low c.loop-i-test.true i.done i.none_quiet e.sectioned (sym c.is_quiet.ensures ∙ w.if-is_quiet.true) k.reply e.grown w.in_ok-push.ensures.ok;
+            done = done_more c.args.opened c.loop-i.machine w.in_ok-machine.machine w.line.new.self c.args.lines.now c.loop-i.start c.loop-i.i d c.loop-i.replies.items w.section.new.replies.items e.news w.push.new.self.items (reply_in w.line.new.place) i.low c.loop-i-test.true i.done i.none_quiet e.sectioned (sym c.is_quiet.ensures ∙ w.if-is_quiet.true) k.reply e.grown (rw (w.into_reply.ensures) at w.in_ok-push.ensures.ok);
           })
       | else-is_quiet w ↦
           rw (w.machine-is, w.replies-is, w.start-is) (record {

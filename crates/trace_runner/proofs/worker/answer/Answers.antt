@@ -4,6 +4,7 @@ use Rattle.entry_lock.specs.declared.table.LockTable.{LockTable}
 use Rattle.entry_lock.specs.declared.table.Pass.{Pass}
 use Rattle.entry_lock.specs.PassOfTable.{view_of}
 use Rattle.trace_reply.specs.Replies.{receipts_in}
+use Rattle.trace_reply.specs.Places.{reply_in}
 use Rattle.run_model.specs.ParallelRun.{WorksLine}
 use Rattle.hpt_walk.specs.Access.{access_context}
 use Rattle.trace_runner.specs.Workers.{replied_line, IsSeenBy}
@@ -20,15 +21,15 @@ returns-clause-line g c =
     let b = c.run_act.new.store.store in
     let size : length (view_of a.pass).fronts ≡ 2 ^ (a.table.now.order - 4) = subst (λ (z : LockTable × Pass). length (view_of z.1).fronts ≡ 2 ^ (z.0.order - 4)) (λ j. (sym e.1 j, sym e.0 j)) c.requires.size in
     let k = c.run_act.ensures in
-    subst (λ (z : LockTable × (Pass × Pass)). WorksLine (access_context z.0.order c.args.grants.now.grants) (view_of z.1.0).fronts c.args.cpu.now (replied_line c.args.line.now c.run_act.new.reply) (view_of z.1.1).fronts)
+    rw (c.into_reply.ensures) (subst (λ (z : LockTable × (Pass × Pass)). WorksLine (access_context z.0.order c.args.grants.now.grants) (view_of z.1.0).fronts c.args.cpu.now (replied_line c.args.line.now (reply_in c.run_act.new.place)) (view_of z.1.1).fronts)
     (λ j. (e.1 j, (e.0 j, sym c.into_pass-pass.ensures j)))
-    (line_works a.table.now c.args.grants.now.grants c.args.line.now c.args.cpu.now a.pass b.pass c.run_act.new.reply k.made.0 size k.call k.access k.comes_later k.gone)
+    (line_works a.table.now c.args.grants.now.grants c.args.line.now c.args.cpu.now a.pass b.pass (reply_in c.run_act.new.place) k.made.0 size k.call k.access k.comes_later k.gone))
 
 pub returns-clause-size : goal.returns-clause-size
 returns-clause-size g c =
     let e = c.new.ensures in
     let size : length (view_of c.new.result.pass).fronts ≡ 2 ^ (c.args.table.now.order - 4) = subst (λ (z : Pass). length (view_of z).fronts ≡ 2 ^ (c.args.table.now.order - 4)) (sym e.0) c.requires.size in
-    rw c.into_pass-pass.ensures (kept_size (view_of c.new.result.pass).fronts (view_of c.run_act.new.store.store.pass).fronts (receipts_in c.run_act.new.reply) _ c.run_act.ensures.made.0.made.fronts size)
+    rw c.into_pass-pass.ensures (kept_size (view_of c.new.result.pass).fronts (view_of c.run_act.new.store.store.pass).fronts (receipts_in (reply_in c.run_act.new.place)) _ c.run_act.ensures.made.0.made.fronts size)
 
 pub returns-clause-seen : goal.returns-clause-seen
 returns-clause-seen g c =

@@ -3,12 +3,14 @@
 #![tactic(auto)]
 
 mod counted;
+mod counts;
 mod numbers;
 mod receipts;
 mod summary;
 mod text;
 
-pub use summary::summary_of;
+pub use counts::Counts;
+pub use summary::{summary_of, summary_of_counts};
 pub use text::{put_reply, text_of};
 
 #[cfg(test)]

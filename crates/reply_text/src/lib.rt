@@ -1,5 +1,5 @@
-//! The texts of replies, byte for byte: a line for each reply, the lines of a dump, and the summary of a
-//! drill.
+//! The texts of replies, byte for byte: a line for each reply, the lines of a dump, and the summary
+//! of a drill.
 #![tactic(auto)]
 
 mod counted;

@@ -11,6 +11,7 @@ use std::alloc::{AllocError, Global};
 use trace_read::Trace;
 use trace_reply::{Replies, Reply, Shown};
 
+/// A row: a word, and its number.
 #[tactic(auto, unfolding(crate::specs::Summary::row_text))]
 fn put_row(out: &mut String, word: &str, number: u64) -> Result<(), AllocError>
     ensures text { OnOk
@@ -23,6 +24,7 @@ fn put_row(out: &mut String, word: &str, number: u64) -> Result<(), AllocError>
     out.push_str("\n")
 }
 
+/// A row for each count.
 fn put_counts(out: &mut String, counts: &Counts, all: &[Counted]) -> Result<(), AllocError>
     ensures text { OnOk
         result
@@ -36,12 +38,14 @@ fn put_counts(out: &mut String, counts: &Counts, all: &[Counted]) -> Result<(), 
     Ok(())
 }
 
+/// How many of the entries have C.
 fn changed_count(entries: &[(u32, EntryState)]) -> usize
     ensures { result ≡ count_by has_change entries.now }
 {
     entries.iter().filter(|entry| entry.1.changed).count()
 }
 
+/// How many entries a table has, and how many of them have C.
 #[tactic(auto, unfolding(crate::specs::Summary::entries_text))]
 fn put_table(out: &mut String, entries: &[(u32, EntryState)]) -> Result<(), AllocError>
     ensures text { OnOk
@@ -72,6 +76,7 @@ pub fn summary_of_counts(
     Ok(out)
 }
 
+/// The counts of replies.
 fn count_replies(replies: &[Reply]) -> Counts
     ensures { IsCountOf result replies.now }
 {

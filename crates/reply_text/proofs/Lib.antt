@@ -1,4 +1,6 @@
 mod NumberSteps
 pub mod Prefixes
+mod ReceiptSteps
+pub mod SummarySteps
 pub mod TextSteps
 mod TextRows

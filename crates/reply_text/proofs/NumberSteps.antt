@@ -1,18 +1,14 @@
 -- The digits of a number in base 16, from the last to the first.
-use Rattle.std.proofs.Common.{◌≡◌, ℕ, zero, suc, ◌+◌, ◌/◌, ◌%◌, ◌^◌, ◌<◌, Bool, true, false, List, [], ◌∷◌, eqb, cond, refl, arith, add-one}
+use Rattle.std.proofs.Common.{◌++◌, ◌≡◌, ℕ, zero, suc, ◌+◌, ◌/◌, ◌%◌, ◌^◌, ◌<◌, Bool, true, false, List, [], ◌∷◌, eqb, cond, refl, arith, add-one}
 use Rattle.std.proofs.Math.Nat.{pow-suc}
 use Rattle.std.proofs.lemmas.Bool.{ne_eqb}
 use Rattle.std.proofs.lemmas.Bool.Decides.{nat_tests}
 use Rattle.std.proofs.lemmas.Str.Ascii.{IsAscii-cons, IsAscii-nil}
-use Rattle.std.specs.Fmt.{digits, digits_onto, digit_glyph}
+use Rattle.std.specs.Fmt.{decimal, digits, digits_onto, digit_glyph}
 use Rattle.std.specs.Str.{IsAscii}
 use Rattle.reply_text.specs.Text.{hex}
 
 -- ---- a loop's steps
-pub digits_onto-nil : (n : ℕ) → digits_onto 64 16 false n [] ≡ digits 16 false n
-unfolding digits
-digits_onto-nil n = refl
-
 -- The first digit.
 pub digits_onto_last : (n : ℕ) (acc : List ℕ) (k : ℕ) → n / 16 ≡ 0 → digits_onto (k + 1) 16 false n acc ≡ digit_glyph false (n % 16) ∷ acc
 digits_onto_last n acc k none = rw (add-one, none)
@@ -20,6 +16,21 @@ digits_onto_last n acc k none = rw (add-one, none)
 -- A digit, with others in front of it.
 pub digits_onto_step : (n : ℕ) (acc : List ℕ) (k : ℕ) → (n / 16 ≡ 0 → ⊥) → digits_onto (k + 1) 16 false n acc ≡ digits_onto k 16 false (n / 16) (digit_glyph false (n % 16) ∷ acc)
 digits_onto_step n acc k more = rw (add-one, ne_eqb (n / 16) 0 more)
+
+-- Digits in front of a text.
+cond-append : (first : Bool) (xs ys more xs' ys' : List ℕ) → xs' ≡ xs ++ more → ys' ≡ ys ++ more → cond first xs' ys' ≡ cond first xs ys ++ more
+cond-append true xs ys more xs' ys' p q = p
+cond-append false xs ys more xs' ys' p q = q
+
+digits_onto-append : (k n : ℕ) (acc more : List ℕ) → digits_onto k 16 false n (acc ++ more) ≡ digits_onto k 16 false n acc ++ more
+digits_onto-append zero n acc more = refl
+digits_onto-append (suc k) n acc more =
+    let front = digit_glyph false (n % 16) ∷ acc in
+    cond-append (eqb (n / 16) 0) front (digits_onto k 16 false (n / 16) front) more (front ++ more) (digits_onto k 16 false (n / 16) (front ++ more)) refl (digits_onto-append k (n / 16) front more)
+
+pub digits_onto_start : (n : ℕ) (more : List ℕ) → digits_onto 64 16 false n more ≡ digits 16 false n ++ more
+unfolding digits
+digits_onto_start n more = digits_onto-append 64 n [] more
 
 -- One digit fewer.
 pub fewer : (n k : ℕ) → n < 16 ^ (k + 1) → n / 16 < 16 ^ k
@@ -33,14 +44,19 @@ either : (first : Bool) (xs ys : List ℕ) → IsAscii xs → IsAscii ys → IsA
 either true xs ys p q = p
 either false xs ys p q = q
 
-onto_IsAscii : (k n : ℕ) (acc : List ℕ) → IsAscii acc → IsAscii (digits_onto k 16 false n acc)
-onto_IsAscii zero n acc told = told
-onto_IsAscii (suc k) n acc told =
-    let more = IsAscii-cons (digit_glyph false (n % 16)) acc (glyph_IsAscii (n % 16) (omega arith)) told in
-    either (eqb (n / 16) 0) _ _ more (onto_IsAscii k (n / 16) _ more)
+module _ (base : ℕ) (small : (n : ℕ) → n % base < 16) where
+  onto_IsAscii : (k n : ℕ) (acc : List ℕ) → IsAscii acc → IsAscii (digits_onto k base false n acc)
+  onto_IsAscii zero n acc told = told
+  onto_IsAscii (suc k) n acc told =
+      let more = IsAscii-cons (digit_glyph false (n % base)) acc (glyph_IsAscii (n % base) (small n)) told in
+      either (eqb (n / base) 0) _ _ more (onto_IsAscii k (n / base) _ more)
+
+pub decimal_IsAscii : (n : ℕ) → IsAscii (decimal n)
+unfolding digits
+decimal_IsAscii n = onto_IsAscii 10 (λ m. omega arith) 64 n [] IsAscii-nil
 
 pub hex_IsAscii : (n : ℕ) → IsAscii (hex n)
 unfolding digits
 hex_IsAscii n =
-    let told = onto_IsAscii 64 n [] IsAscii-nil in
+    let told : IsAscii (digits_onto 64 16 false n []) = onto_IsAscii 16 (λ m. omega arith) 64 n [] IsAscii-nil in
     IsAscii-cons 48 (120 ∷ digits_onto 64 16 false n []) (omega arith) (IsAscii-cons 120 (digits_onto 64 16 false n []) (omega arith) told)

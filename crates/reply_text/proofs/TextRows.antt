@@ -17,7 +17,7 @@ use Rattle.entry_model.specs.Reply.{has_base}
 use Rattle.trace_read.specs.declared.trace.TraceLine.{TraceLine}
 use Rattle.trace_read.specs.declared.trace.Act.TheVariants.{Call, Access, SlbMte, SlbClear, Dump}
 use Rattle.trace_reply.specs.declared.reply.Reply.{Reply}
-use Rattle.reply_text.specs.Summary.{summary_text, row_text, entries_text}
+use Rattle.reply_text.specs.Summary.{summary_text, counts_text, row_text, entries_text}
 use Rattle.reply_text.specs.Text.{text_from, receipts_text, head_text, code_text, entry_text, dump_head, table_text}
 use Rattle.papr_codes.specs.declared.codes.Rc.TheVariants as rc
 use Rattle.entry_model.specs.declared.operation.Op.TheVariants as ops
@@ -86,13 +86,13 @@ each_form = refl
 -- ---- the summary
 -- Of no replies, of four, and of those above. A hit that is denied is a hit; an access that is ungranted is an access alone.
 of_none : summary_text 0 [] [] ≡ codes "lines 0\nhcalls 0\nsuccess 0\nfull 0\nnotfound 0\naccesses 0\nat 0\ndenied 0\nnopage 0\nhits 0\nentries 0\nchanged 0\n"
-unfolding digits summary_text row_text entries_text
+unfolding digits summary_text counts_text row_text entries_text
 of_none = refl
 
 of_four : summary_text 4 (replies.Hcall (record { rc = rc.NotFound; words = []; receipts = [] }) ∷ replies.Access (record { outcome = At 0; by = Some Hit; receipts = [] }) ∷ replies.Access (record { outcome = Denied; by = Some Hit; receipts = [] }) ∷ replies.Segment true ∷ []) ((1, used) ∷ (2, record used { changed = false }) ∷ (3, worn) ∷ []) ≡ codes "lines 4\nhcalls 1\nsuccess 0\nfull 0\nnotfound 1\naccesses 2\nat 1\ndenied 1\nnopage 0\nhits 2\nentries 3\nchanged 2\n"
-unfolding digits used worn summary_text row_text entries_text
+unfolding digits used worn summary_text counts_text row_text entries_text
 of_four = refl
 
 of_all : summary_text 11 made ((0, worn) ∷ []) ≡ codes "lines 11\nhcalls 2\nsuccess 1\nfull 1\nnotfound 0\naccesses 5\nat 1\ndenied 1\nnopage 1\nhits 1\nentries 1\nchanged 1\n"
-unfolding digits made worn used summary_text row_text entries_text
+unfolding digits made worn used summary_text counts_text row_text entries_text
 of_all = refl

@@ -1,5 +1,5 @@
 -- The summary of a run: twelve numbers, each behind its word.
-use Rattle.std.specs.Prelude.{ℕ, ◌++◌, Bool, true, false, List, [], ◌∷◌, length, count_by, Option, Some, codes}
+use Rattle.std.specs.Prelude.{◌≡◌, ℕ, ◌++◌, Bool, true, false, List, [], ◌∷◌, length, count_by, Option, Some, codes}
 use Rattle.std.specs.List.{flat_map}
 use Rattle.std.specs.Fmt.{decimal}
 use Rattle.papr_codes.specs.declared.codes.Rc.{Rc}
@@ -7,6 +7,7 @@ use Rattle.entry_model.specs.State.{State}
 use Rattle.entry_model.specs.declared.access_reply.Outcome.{Outcome}
 use Rattle.entry_model.specs.declared.access_reply.By.{By}
 use Rattle.reply_text.specs.declared.counted.Counted.{Counted}
+use Rattle.reply_text.specs.declared.counts.Counts.{Counts}
 use Rattle.trace_reply.specs.declared.reply.Reply.{Reply}
 use Rattle.papr_codes.specs.declared.codes.Rc.TheVariants as rc
 use Rattle.entry_model.specs.declared.access_reply.Outcome.TheVariants as outcomes
@@ -50,6 +51,23 @@ is_counted counted (replies.Hcall h) = counts_code counted h.rc
 is_counted counted (replies.Access r) = counts_end counted r.outcome r.by
 is_counted counted other = false
 
+-- ---- counts
+-- One of the counts.
+abbrev pub count_of : Counts → Counted → ℕ
+count_of c counts.Hcalls = c.hcalls
+count_of c counts.Success = c.success
+count_of c counts.Full = c.full
+count_of c counts.NotFound = c.not_found
+count_of c counts.Accesses = c.accesses
+count_of c counts.At = c.at
+count_of c counts.Denied = c.denied
+count_of c counts.NoPage = c.no_page
+count_of c counts.Hits = c.hits
+
+-- The counts are those of these replies.
+abbrev pub IsCountOf : Counts → List Reply → Type 0
+IsCountOf c rs = (counted : Counted) → count_of c counted ≡ count_by (is_counted counted) rs
+
 -- ---- the text
 -- A word and its number.
 unfoldable pub row_text : List ℕ → ℕ → List ℕ
@@ -70,8 +88,8 @@ all_counted =
     ∷ []
 
 -- The row of one count.
-abbrev pub counted_text : List Reply → Counted → List ℕ
-counted_text rs counted = row_text (counted_word counted) (count_by (is_counted counted) rs)
+abbrev pub counted_text : (Counted → ℕ) → Counted → List ℕ
+counted_text count counted = row_text (counted_word counted) (count counted)
 
 -- C is set in the entry.
 abbrev pub has_change : ℕ × State → Bool
@@ -83,7 +101,13 @@ entries_text entries =
     row_text (codes "entries") (length entries)
     ++ row_text (codes "changed") (count_by has_change entries)
 
--- Of so many run lines, their replies, and the valid entries of the table at the end.
+-- Of so many run lines, the counts of their replies, and the valid entries of the table at the end.
+unfoldable pub counts_text : ℕ → (Counted → ℕ) → List (ℕ × State) → List ℕ
+counts_text lines count entries =
+    row_text (codes "lines") lines
+    ++ flat_map (counted_text count) all_counted
+    ++ entries_text entries
+
+-- The same of the replies themselves.
 unfoldable pub summary_text : ℕ → List Reply → List (ℕ × State) → List ℕ
-summary_text lines rs entries =
-    row_text (codes "lines") lines ++ flat_map (counted_text rs) all_counted ++ entries_text entries
+summary_text lines rs entries = counts_text lines (λ counted. count_by (is_counted counted) rs) entries

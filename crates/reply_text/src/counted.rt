@@ -74,6 +74,7 @@ impl Counted {
         }
     }
 
+    /// Whether a call with this code is counted.
     fn counts_code(&self, code: Rc) -> bool
         ensures { result ≡ counts_code self.now code }
     {
@@ -86,6 +87,7 @@ impl Counted {
         }
     }
 
+    /// Whether an access that ended so is counted.
     fn counts_end(&self, outcome: Outcome, by: Option<By>) -> bool
         ensures { result ≡ counts_end self.now outcome by }
     {

@@ -1,14 +1,20 @@
-ghost use Rattle.std.specs.Prelude.{◌≡◌, ◌++◌, OnOk, OnErr, string_bytes, codes};
+ghost use Rattle.std.specs.Prelude.{◌≡◌, ◌≤◌, ◌++◌, length, drop, codes, OnOk, OnErr, string_bytes};
 ghost use Rattle.std.specs.Fmt.{decimal};
 ghost use Rattle.std.specs.Io.{StartsWith};
 ghost use Rattle.reply_text.specs.Text.{answer_word, bits_digit, receipt_text, receipts_text};
 
-use crate::numbers::{put_decimal, put_hexadecimal};
+use crate::numbers::{write_hexadecimal, write_piece};
 use entry_model::{Answer, EntryState, Receipt};
+use itoa::write_digits;
 use std::alloc::AllocError;
 
+/// Room for a receipt, which has at most 34 bytes.
+const RECEIPT_ROOM: usize = 64;
+
+/// The word of an answer.
 fn word_of(answer: Answer) -> &'static str
-    ensures { result.now ≡ answer_word answer }
+    ensures value { result.now ≡ answer_word answer }
+    ensures short { length result.now ≤ 9 }
 {
     match answer {
         Answer::Entered => "entered",
@@ -28,7 +34,8 @@ fn word_of(answer: Answer) -> &'static str
 /// R and C before the operation, as a digit between two points.
 #[tactic(auto, using(std::proofs::lemmas::Fmt::decimal_digit))]
 fn bits(state: &EntryState) -> &'static str
-    ensures { result.now ≡ codes "." ++ decimal (bits_digit state.now) ++ codes "." }
+    ensures value { result.now ≡ codes "." ++ decimal (bits_digit state.now) ++ codes "." }
+    ensures short { length result.now ≡ 3 }
 {
     match (state.referenced, state.changed) {
         (false, false) => ".0.",
@@ -38,17 +45,30 @@ fn bits(state: &EntryState) -> &'static str
     }
 }
 
-/// A receipt, behind a space.
+/// Writes a receipt, behind a space, so that it ends where the text does. Returns where it starts.
+fn write_receipt(receipt: &Receipt, text: &mut [u8; RECEIPT_ROOM]) -> usize
+    ensures within { result ≤ length text.old }
+    ensures written { drop result text.new ≡ receipt_text receipt.now }
+{
+    // From the last piece to the first: where a number starts is known once it is written.
+    let word = write_piece(word_of(receipt.answer), text, RECEIPT_ROOM);
+    let bits = write_piece(bits(&receipt.before), text, word);
+    let stamp = write_digits(u64::from(receipt.before.stamp), text, bits);
+    let point = write_piece(".", text, stamp);
+    let entry = write_hexadecimal(u64::from(receipt.entry), text, point);
+    write_piece(" ", text, entry)
+}
+
+/// A receipt, behind a space. It is put together apart, so that the string is appended to once.
 fn put_receipt(out: &mut String, receipt: &Receipt) -> Result<(), AllocError>
     ensures text { OnOk
         result
         (string_bytes out.new ≡ string_bytes out.old ++ receipt_text receipt.now) }
     ensures kept { OnErr result (StartsWith (string_bytes out.new) (string_bytes out.old)) }
 {
-    put_hexadecimal(out, " ", u64::from(receipt.entry))?;
-    put_decimal(out, ".", u64::from(receipt.before.stamp))?;
-    out.push_str(bits(&receipt.before))?;
-    out.push_str(word_of(receipt.answer))
+    let mut text = [b' '; RECEIPT_ROOM];
+    let start = write_receipt(receipt, &mut text);
+    out.push_str(unsafe { std::str::from_utf8_unchecked(&text[start..]) })
 }
 
 /// The receipts of a reply, each behind a space, and a bar before the first.

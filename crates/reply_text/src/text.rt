@@ -14,8 +14,8 @@ use storage_prot::Want;
 use trace_read::{Act, Trace, TraceLine};
 use trace_reply::{Replies, Reply, ReplyEnd, ReplyPlace, Shown};
 
-/// Room for the line of a reply, which has at most 746 bytes: 42 as far as the name, 157 of the code
-/// and 8 words, 546 of 16 receipts, and the line's end.
+/// Room for the line of a reply, which has at most 746 bytes: 42 as far as the name, 157 for the
+/// code and 8 words, 546 for 16 receipts, and the line's end.
 const REPLY_ROOM: usize = 1024;
 
 /// Room for the line of an entry, which has at most 61 bytes.
@@ -65,6 +65,7 @@ fn put_head(out: &mut String, line: &TraceLine) -> Result<(), AllocError>
     out.push_str(name(&line.act))
 }
 
+/// The words of a reply, each behind a space.
 fn put_words(out: &mut String, words: &[u64]) -> Result<(), AllocError>
     ensures text { OnOk
         result
@@ -77,6 +78,7 @@ fn put_words(out: &mut String, words: &[u64]) -> Result<(), AllocError>
     Ok(())
 }
 
+/// A return code, behind a space.
 #[tactic(auto, unfolding(crate::specs::Text::code_text))]
 fn put_code(out: &mut String, rc: Rc) -> Result<(), AllocError>
     ensures text { OnOk
@@ -208,6 +210,7 @@ fn put_table(out: &mut String, shown: &Shown, count: usize) -> Result<(), AllocE
     out.push_str("\n")
 }
 
+/// The lines of entries, each in room of its own.
 fn put_entries(out: &mut String, entries: &[(u32, EntryState)]) -> Result<(), AllocError>
     ensures text { OnOk
         result
@@ -221,6 +224,7 @@ fn put_entries(out: &mut String, entries: &[(u32, EntryState)]) -> Result<(), Al
     Ok(())
 }
 
+/// The table at the line of a dump, and its entries.
 fn put_dump(out: &mut String, line: u32, shown: &Shown) -> Result<(), AllocError>
     ensures text { OnOk
         result
@@ -285,6 +289,7 @@ pub fn put_place(out: &mut String, line: &TraceLine, place: &ReplyPlace) -> Resu
     }
 }
 
+/// Appends the texts of the replies to lines.
 fn put_replies(out: &mut String, lines: &[TraceLine], replies: &[Reply]) -> Result<(), AllocError>
     requires { length lines.now ≡ length replies.now }
     ensures text { OnOk

@@ -1,0 +1,73 @@
+ghost use Rattle.std.specs.Prelude.{◌≡◌, ◌+◌, ◌^◌, ◌<◌, if◌then◌else◌};
+ghost use Rattle.reply_text.specs.declared.counted.Counted.{Counted};
+ghost use Rattle.reply_text.specs.Summary.{count_of, is_counted};
+
+use crate::counted::Counted;
+use trace_reply::Reply;
+
+/// The counts of a summary, raised reply by reply as a trace runs.
+#[derive(Clone, Copy, PartialEq, Eq, Debug)]
+pub struct Counts {
+    hcalls: u64,
+    success: u64,
+    full: u64,
+    not_found: u64,
+    accesses: u64,
+    at: u64,
+    denied: u64,
+    no_page: u64,
+    hits: u64,
+}
+
+impl Counts {
+    /// Of no reply.
+    pub fn new() -> Self
+        ensures { (counted : Counted) → count_of result counted ≡ 0 }
+    {
+        Counts {
+            hcalls: 0,
+            success: 0,
+            full: 0,
+            not_found: 0,
+            accesses: 0,
+            at: 0,
+            denied: 0,
+            no_page: 0,
+            hits: 0,
+        }
+    }
+
+    /// Counts one more reply.
+    pub fn add(&mut self, reply: &Reply)
+        requires { (counted : Counted) → count_of self.old counted + 1 < 2 ^ 64 }
+        ensures { (counted : Counted) → count_of self.new counted
+            ≡ count_of self.old counted + (if is_counted counted reply.now then 1 else 0) }
+    {
+        self.hcalls += u64::from(Counted::Hcalls.counts(reply));
+        self.success += u64::from(Counted::Success.counts(reply));
+        self.full += u64::from(Counted::Full.counts(reply));
+        self.not_found += u64::from(Counted::NotFound.counts(reply));
+        self.accesses += u64::from(Counted::Accesses.counts(reply));
+        self.at += u64::from(Counted::At.counts(reply));
+        self.denied += u64::from(Counted::Denied.counts(reply));
+        self.no_page += u64::from(Counted::NoPage.counts(reply));
+        self.hits += u64::from(Counted::Hits.counts(reply));
+    }
+
+    /// How many of the replies are counted here.
+    pub fn number(&self, counted: Counted) -> u64
+        ensures { result ≡ count_of self.now counted }
+    {
+        match counted {
+            Counted::Hcalls => self.hcalls,
+            Counted::Success => self.success,
+            Counted::Full => self.full,
+            Counted::NotFound => self.not_found,
+            Counted::Accesses => self.accesses,
+            Counted::At => self.at,
+            Counted::Denied => self.denied,
+            Counted::NoPage => self.no_page,
+            Counted::Hits => self.hits,
+        }
+    }
+}

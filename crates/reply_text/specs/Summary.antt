@@ -8,11 +8,13 @@ use Rattle.entry_model.specs.declared.access_reply.Outcome.{Outcome}
 use Rattle.entry_model.specs.declared.access_reply.By.{By}
 use Rattle.reply_text.specs.declared.counted.Counted.{Counted}
 use Rattle.reply_text.specs.declared.counts.Counts.{Counts}
+use Rattle.reply_text.specs.declared.kind.ReplyKind.{ReplyKind}
 use Rattle.trace_reply.specs.declared.reply.Reply.{Reply}
 use Rattle.papr_codes.specs.declared.codes.Rc.TheVariants as rc
 use Rattle.entry_model.specs.declared.access_reply.Outcome.TheVariants as outcomes
 use Rattle.entry_model.specs.declared.access_reply.By.TheVariants as ways
 use Rattle.reply_text.specs.declared.counted.Counted.TheVariants as counts
+use Rattle.reply_text.specs.declared.kind.ReplyKind.TheVariants as kinds
 use Rattle.trace_reply.specs.declared.reply.Reply.TheVariants as replies
 
 -- ---- what is counted
@@ -45,11 +47,21 @@ counts_end counts.NoPage outcomes.NoPage by = true
 counts_end counts.Hits outcome (Some ways.Hit) = true
 counts_end counted outcome by = false
 
+-- A reply of this kind is one of those that are counted here.
+abbrev pub counts_kind : Counted → ReplyKind → Bool
+counts_kind counted (kinds.Call code) = counts_code counted code
+counts_kind counted (kinds.Access outcome by) = counts_end counted outcome by
+counts_kind counted kinds.Other = false
+
+-- The kind of a reply.
+abbrev pub kind_of : Reply → ReplyKind
+kind_of (replies.Hcall h) = kinds.Call h.rc
+kind_of (replies.Access r) = kinds.Access r.outcome r.by
+kind_of other = kinds.Other
+
 -- The reply is one of those that are counted here.
 abbrev pub is_counted : Counted → Reply → Bool
-is_counted counted (replies.Hcall h) = counts_code counted h.rc
-is_counted counted (replies.Access r) = counts_end counted r.outcome r.by
-is_counted counted other = false
+is_counted counted reply = counts_kind counted (kind_of reply)
 
 -- ---- counts
 -- One of the counts.

@@ -1,9 +1,9 @@
 ghost use Rattle.std.specs.Prelude.{◌≡◌};
-ghost use Rattle.reply_text.specs.Summary.{all_counted, counted_word, counts_code, counts_end, is_counted};
+ghost use Rattle.reply_text.specs.Summary.{all_counted, counted_word, counts_code, counts_end, counts_kind};
 
+use crate::kind::ReplyKind;
 use entry_model::{By, Outcome};
 use papr_codes::Rc;
-use trace_reply::Reply;
 
 /// What the summary of a run counts of the replies, in its order.
 #[derive(Clone, Copy, PartialEq, Eq, Debug)]
@@ -63,14 +63,14 @@ impl Counted {
         }
     }
 
-    /// Whether the reply is counted.
-    pub fn counts(&self, reply: &Reply) -> bool
-        ensures { result ≡ is_counted self.now reply.now }
+    /// Whether a reply of this kind is counted.
+    pub fn counts(&self, kind: ReplyKind) -> bool
+        ensures { result ≡ counts_kind self.now kind }
     {
-        match reply {
-            Reply::Hcall(reply) => self.counts_code(reply.rc),
-            Reply::Access(reply) => self.counts_end(reply.outcome, reply.by),
-            Reply::Segment(_) | Reply::Dump(_) => false,
+        match kind {
+            ReplyKind::Call(code) => self.counts_code(code),
+            ReplyKind::Access(outcome, by) => self.counts_end(outcome, by),
+            ReplyKind::Other => false,
         }
     }
 

@@ -1,9 +1,11 @@
 ghost use Rattle.std.specs.Prelude.{◌≡◌, ◌+◌, ◌^◌, ◌<◌, if◌then◌else◌};
 ghost use Rattle.reply_text.specs.declared.counted.Counted.{Counted};
-ghost use Rattle.reply_text.specs.Summary.{count_of, is_counted};
+ghost use Rattle.trace_reply.specs.Places.{reply_in};
+ghost use Rattle.reply_text.specs.Summary.{count_of, counts_kind, is_counted};
 
 use crate::counted::Counted;
-use trace_reply::Reply;
+use crate::kind::ReplyKind;
+use trace_reply::{Reply, ReplyPlace};
 
 /// The counts of a summary, raised reply by reply as a trace runs.
 #[derive(Clone, Copy, PartialEq, Eq, Debug)]
@@ -43,15 +45,33 @@ impl Counts {
         ensures { (counted : Counted) → count_of self.new counted
             ≡ count_of self.old counted + (if is_counted counted reply.now then 1 else 0) }
     {
-        self.hcalls += u64::from(Counted::Hcalls.counts(reply));
-        self.success += u64::from(Counted::Success.counts(reply));
-        self.full += u64::from(Counted::Full.counts(reply));
-        self.not_found += u64::from(Counted::NotFound.counts(reply));
-        self.accesses += u64::from(Counted::Accesses.counts(reply));
-        self.at += u64::from(Counted::At.counts(reply));
-        self.denied += u64::from(Counted::Denied.counts(reply));
-        self.no_page += u64::from(Counted::NoPage.counts(reply));
-        self.hits += u64::from(Counted::Hits.counts(reply));
+        self.raise(ReplyKind::of(reply));
+    }
+
+    /// Counts the reply that has the place.
+    pub fn add_place(&mut self, place: &ReplyPlace)
+        requires { (counted : Counted) → count_of self.old counted + 1 < 2 ^ 64 }
+        ensures { (counted : Counted) → count_of self.new counted
+            ≡ count_of self.old counted + (if is_counted counted (reply_in place.now) then 1 else 0) }
+    {
+        self.raise(ReplyKind::in_place(place));
+    }
+
+    /// Counts one more reply of this kind.
+    fn raise(&mut self, kind: ReplyKind)
+        requires { (counted : Counted) → count_of self.old counted + 1 < 2 ^ 64 }
+        ensures { (counted : Counted) → count_of self.new counted
+            ≡ count_of self.old counted + (if counts_kind counted kind then 1 else 0) }
+    {
+        self.hcalls += u64::from(Counted::Hcalls.counts(kind));
+        self.success += u64::from(Counted::Success.counts(kind));
+        self.full += u64::from(Counted::Full.counts(kind));
+        self.not_found += u64::from(Counted::NotFound.counts(kind));
+        self.accesses += u64::from(Counted::Accesses.counts(kind));
+        self.at += u64::from(Counted::At.counts(kind));
+        self.denied += u64::from(Counted::Denied.counts(kind));
+        self.no_page += u64::from(Counted::NoPage.counts(kind));
+        self.hits += u64::from(Counted::Hits.counts(kind));
     }
 
     /// How many of the replies are counted here.

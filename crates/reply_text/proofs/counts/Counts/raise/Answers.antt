@@ -1,6 +1,6 @@
 use Rattle.reply_text.proofs.SummarySteps.{raised_fits}
 use Rattle.reply_text.specs.declared.counted.Counted.TheVariants as counts
-use Rattle.reply_text.proofs.counts.Counts.add.Goals as goal
+use Rattle.reply_text.proofs.counts.Counts.raise.Goals as goal
 
 pub overflow_add-self : goal.overflow_add-self
 overflow_add-self c = raised_fits _ _ _ c.from.ensures (c.requires counts.Hcalls)

@@ -1,0 +1,42 @@
+ghost use Rattle.std.specs.Prelude.{◌≡◌};
+ghost use Rattle.reply_text.specs.Summary.{kind_of};
+ghost use Rattle.trace_reply.specs.Places.{reply_in};
+
+use entry_model::{By, Outcome};
+use papr_codes::Rc;
+use trace_reply::{Reply, ReplyEnd, ReplyPlace};
+
+/// What a summary looks at in a reply.
+#[derive(Clone, Copy, PartialEq, Eq, Debug)]
+pub enum ReplyKind {
+    /// Of a hypervisor call, with this code.
+    Call(Rc),
+    /// Of an access that ended so, by this.
+    Access(Outcome, Option<By>),
+    /// Any other, which isn't counted.
+    Other,
+}
+
+impl ReplyKind {
+    /// The kind of a reply.
+    pub fn of(reply: &Reply) -> ReplyKind
+        ensures { result ≡ kind_of reply.now }
+    {
+        match reply {
+            Reply::Hcall(reply) => ReplyKind::Call(reply.rc),
+            Reply::Access(reply) => ReplyKind::Access(reply.outcome, reply.by),
+            Reply::Segment(_) | Reply::Dump(_) => ReplyKind::Other,
+        }
+    }
+
+    /// The kind of the reply that has the place.
+    pub fn in_place(place: &ReplyPlace) -> ReplyKind
+        ensures { result ≡ kind_of (reply_in place.now) }
+    {
+        match &place.end {
+            ReplyEnd::Hcall(registers) => ReplyKind::Call(registers.rc),
+            ReplyEnd::Access(end) => ReplyKind::Access(end.outcome, end.by),
+            ReplyEnd::Segment(_) | ReplyEnd::Dump(_) => ReplyKind::Other,
+        }
+    }
+}

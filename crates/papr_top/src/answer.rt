@@ -3,14 +3,14 @@ ghost use Rattle.trace_gen.specs.Generated.{generated_trace};
 ghost use Rattle.run_model.specs.SerialRun.{serial_replies};
 ghost use Rattle.papr_top.specs.Top.{refusal_text, drill_text, IsAssured, IsSerialText, IsParallelText};
 
-use reply_text::{summary_of, text_of};
+use reply_text::{summary_of_counts, text_of};
 use std::alloc::{AllocError, Global};
 use std::fmt::Write;
 use std::sync::Wait;
 use std::thread::Threads;
 use trace_gen::generate;
 use trace_read::{Trace, Why};
-use trace_runner::{Gate, run_parallel, run_to_text, run_with_table};
+use trace_runner::{Gate, run_counted, run_parallel, run_to_text};
 
 /// The line that refuses an input.
 pub fn refusal(alloc: Global, line: u32, why: Why) -> Result<String, AllocError>
@@ -49,9 +49,11 @@ pub fn summary(alloc: Global, seed: u64, lines: u32) -> Result<String, AllocErro
     ensures text { IfOk result (λ s. string_bytes s ≡ drill_text (generated_trace seed lines)) }
     ensures assured { IfOk
         result
-        (λ _. IsAssured (generated_trace seed lines) (serial_replies (generated_trace seed lines))) }
+        (λ _.
+        IsAssured (generated_trace seed lines) (serial_replies (generated_trace seed lines))) }
 {
     let trace = generate(alloc, seed, lines)?;
-    let ran = run_with_table(alloc, &trace)?;
-    summary_of(alloc, &trace, &ran.replies, &ran.table)
+    let lines = trace.lines.as_slice().len();
+    let run = run_counted(alloc, &trace)?;
+    summary_of_counts(alloc, lines, &run.counts, &run.table)
 }

@@ -9,6 +9,7 @@ mod QuietRows
 mod WholeRows
 pub mod WorkSteps
 pub mod NewWorkers
+pub mod CountedReplies
 pub mod CountedWorkers
 pub mod JoinedWorkers
 pub mod MergedReplies

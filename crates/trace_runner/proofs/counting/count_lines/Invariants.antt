@@ -1,0 +1,18 @@
+use Rattle.std.proofs.Common.{◌≡◌, ◌≤◌, ◌++◌, List, drop, length}
+use Rattle.trace_reply.specs.declared.reply.Reply.{Reply}
+use Rattle.run_model.specs.RunState.{RunState}
+use Rattle.run_model.specs.SerialRun.{replies_from, state_after_lines}
+use Rattle.reply_text.specs.Summary.{IsCountOf}
+use Rattle.trace_runner.proofs.counting.count_lines.Given as goal
+
+-- The replies so far, which are counted, and those to the lines that are left are those to all.
+abbrev pub invariant-loop-line : goal.invariant-loop-line
+invariant-loop-line l = record {
+  seen : List Reply;
+  counted : IsCountOf l.counts seen;
+  count : length seen ≡ l.line-index;
+  told : seen ++ replies_from l.machine (drop l.line-index l.lines) ≡ replies_from l.fn.machine l.lines;
+  run_state : state_after_lines l.machine (drop l.line-index l.lines) ≡ state_after_lines l.fn.machine l.lines;
+  cpus : length l.machine.processors ≡ length l.fn.machine.processors;
+  number : l.machine.memory.table.number ≤ l.line-index;
+}

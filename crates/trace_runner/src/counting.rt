@@ -1,0 +1,63 @@
+ghost use Rattle.std.specs.Prelude.{◌≡◌, ◌≤◌, ◌<◌, ◌^◌, length, IfOk, OnOk};
+ghost use Rattle.std.specs.List.{AllByRecursion};
+ghost use Rattle.trace_read.specs.declared.trace.TraceLine.{TraceLine};
+ghost use Rattle.run_model.specs.RunState.{opening_run, shown_of};
+ghost use Rattle.run_model.specs.SerialRun.{serial_replies, replies_from, state_after_lines};
+ghost use Rattle.run_model.specs.GoodRun.{IsGoodRun};
+ghost use Rattle.run_model.specs.Assurances.{Assures};
+ghost use Rattle.reply_text.specs.Summary.{IsCountOf};
+
+use crate::machine::Machine;
+use crate::opening::open_machine;
+use reply_text::Counts;
+use std::alloc::{AllocError, Global};
+use trace_read::{Trace, TraceLine};
+use trace_reply::{ReplyPlace, Shown};
+
+/// What a summary counts of the replies of a run, and the table at its end.
+#[derive(Drop)]
+pub struct CountedRun {
+    pub counts: Counts,
+    pub table: Shown,
+}
+
+/// Counts the replies to lines, each as soon as its line has run.
+fn count_lines(
+    alloc: Global,
+    machine: &mut Machine,
+    lines: &[TraceLine],
+) -> Result<Counts, AllocError>
+    requires few { length lines.now ≤ 2 ^ 17 }
+    requires cpus { AllByRecursion
+        (λ (l : TraceLine). l.cpu < length machine.old.processors)
+        lines.now }
+    requires number { machine.old.memory.table.number ≡ 0 }
+    ensures counts { IfOk result (λ c. IsCountOf c (replies_from machine.old lines.now)) }
+    ensures run_state { OnOk result (machine.new ≡ state_after_lines machine.old lines.now) }
+{
+    let mut counts = Counts::new();
+    let mut place = ReplyPlace::new();
+    for line in lines {
+        machine.line(alloc, line, &mut place)?;
+        counts.add_place(&place);
+    }
+    Ok(counts)
+}
+
+/// The counts of the replies of the serial run of a trace, and the table at its end. The replies are
+/// a good run, and none is kept.
+pub fn run_counted(alloc: Global, trace: &Trace) -> Result<CountedRun, AllocError>
+    ensures counts { IfOk result (λ run. IsCountOf run.counts (serial_replies trace.now)) }
+    ensures table { IfOk
+        result
+        (λ run.
+        run.table
+        ≡ shown_of (state_after_lines (opening_run trace.now.config) trace.now.lines).memory) }
+    ensures good { IsGoodRun trace.now (serial_replies trace.now) }
+    ensures assured { Assures trace.now (serial_replies trace.now) }
+{
+    let mut machine = open_machine(alloc, trace)?;
+    let counts = count_lines(alloc, &mut machine, trace.lines.as_slice())?;
+    let table = machine.shown(alloc)?;
+    Ok(CountedRun { counts, table })
+}

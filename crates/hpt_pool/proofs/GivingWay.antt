@@ -1,14 +1,20 @@
 -- The way down to a taken block, and what giving it back makes of the tree.
-use Rattle.std.proofs.Common.{◌≡◌, ℕ, suc, ◌+◌, ◌-◌, ◌*◌, ◌^◌, ◌<◌, ◌≤◌, List, length, set, Contains, refl, sym, ap, ◌∙◌, subst, arith}
+use Rattle.std.proofs.Common.{◌≡◌, ℕ, zero, suc, ◌+◌, ◌-◌, ◌*◌, ◌/◌, ◌%◌, ◌^◌, ◌<◌, ◌≤◌, List, length, set, Contains, refl, sym, ap, ◌∙◌, subst, inl, inr, ◌⊎◌, arith}
+use Rattle.std.proofs.lemmas.Bool.{cases_eq, cases_lt}
+use Rattle.std.proofs.lemmas.Nat.{pow_pos, pow_below, shr-shr, shr_split, shr_below, mod_below}
+use Rattle.std.proofs.lemmas.List.Elements.{All-contains}
 use Rattle.hpt_pool.specs.declared.tree.Node.{Node}
 use Rattle.hpt_pool.specs.declared.tree.Node.TheVariants.{Open}
 use Rattle.hpt_pool.specs.Pool.{block_at}
 use Rattle.hpt_pool.specs.Tree.{left_of, right_of, blocks_below, IsTree}
-use Rattle.hpt_pool.specs.Way.{IsWay, AreMended}
+use Rattle.hpt_pool.specs.Way.{IsHalf, IsWay, AreMended}
+use Rattle.hpt_pool.proofs.Powers.{pow_most}
+use Rattle.hpt_pool.proofs.Halves.{LiesIn}
 use Rattle.hpt_pool.proofs.Rooms.{double_order}
+use Rattle.hpt_pool.proofs.Truth.{within}
 use Rattle.hpt_pool.proofs.Parts.{half_trees}
 use Rattle.hpt_pool.proofs.Subtrees.{tree_at, end_at, sizes, tree_whole, left-tree, right-tree, ChangesWithin, changes_wider, changes_one, tree_root_set, made_left, made_right}
-use Rattle.hpt_pool.proofs.Ways.{Steps, inside_nodes, HasHalvesIn, has_halves, way_on, mended_on, mended_none, to_left, to_right}
+use Rattle.hpt_pool.proofs.Ways.{Steps, inside_nodes, way_on, mended_on, mended_none, to_left, to_right, double_rows}
 use Rattle.hpt_pool.proofs.Giving.{GivesBack, GivesIn, gives_in, held_left, held_right, gives_whole, gives_left, gives_right}
 
 -- At a node on the way: the block is taken in its tree, and where it is given back there and the nodes above are mended, it is in the whole tree.
@@ -17,7 +23,6 @@ pub record GivesBelow (height place given order : ℕ) (nodes : List Node) (lowe
   pub way : IsWay (height - lower) lower index turns
   pub tree : IsTree lower (tree_at lower index nodes)
   pub here : Contains (blocks_below lower first (tree_at lower index nodes)) (block_at given order)
-  pub ends : first + 2 ^ (18 + lower) ≤ place + 2 ^ (18 + height)
   pub closes : (now after : List Node) → ChangesWithin index (end_at lower index) nodes now → GivesBack lower first given (tree_at lower index nodes) (tree_at lower index now) → AreMended (height - lower) lower index turns now after → GivesBack height place given nodes after
 
 -- ---- the root
@@ -30,7 +35,6 @@ root_gives height place given order nodes tree here =
       way = subst (λ n. IsWay n height 0 0) (let e : 0 ≡ height - height = omega arith in e) (refl, refl);
       tree = subst (λ (list : List Node). IsTree height list) (sym whole) tree;
       here = subst (λ (list : List Node). Contains (blocks_below height place list) (block_at given order)) (sym whole) here;
-      ends = omega arith;
       closes = λ now after changes gives mended.
         subst (λ (list : List Node). GivesBack height place given nodes list) (sym (mended_none height 0 0 now after mended))
         (subst (λ (list : List Node). GivesBack height place given nodes list) (tree_whole height now (ap (λ n. n + 1) changes.long ∙ tree.whole))
@@ -54,7 +58,6 @@ gives_left_half : (height place given order lower turns above above_turns first 
 gives_left_half height place given order lower turns above above_turns first nodes old step whole other below =
     let before = in_half height place given order lower above above_turns first nodes old other in
     let low = old.low in
-    let ends = old.ends in
     let double = double_order lower in
     let size = sizes lower in
     let positive = size.some in
@@ -66,7 +69,6 @@ gives_left_half height place given order lower turns above above_turns first nod
       way = way_on height (suc lower) lower (above + 1) turns above above_turns old.low step old.way;
       tree = subst (λ (list : List Node). IsTree lower list) (left-tree lower above nodes) trees.0;
       here = subst (λ (list : List Node). Contains (blocks_below lower first list) (block_at given order)) (left-tree lower above nodes) (held_left (suc lower) lower first given order (tree_at (suc lower) above nodes) before below);
-      ends = omega arith;
       closes = λ now after changes gives mended.
         let up = mended_on height (suc lower) lower (above + 1) turns above above_turns now after old.low step mended in
         old.closes (set now above (Open up.0)) after
@@ -81,7 +83,6 @@ gives_right_half : (height place given order lower turns above above_turns first
 gives_right_half height place given order lower turns above above_turns first nodes old step whole other beyond =
     let before = in_half height place given order lower above above_turns first nodes old other in
     let low = old.low in
-    let ends = old.ends in
     let double = double_order lower in
     let size = sizes lower in
     let positive = size.some in
@@ -94,7 +95,6 @@ gives_right_half height place given order lower turns above above_turns first no
       way = way_on height (suc lower) lower (above + 2 ^ suc lower) turns above above_turns old.low step old.way;
       tree = subst (λ (list : List Node). IsTree lower list) (right-tree lower above nodes) trees.1;
       here = subst (λ (list : List Node). Contains (blocks_below lower (first + 2 ^ (18 + lower)) list) (block_at given order)) (right-tree lower above nodes) (held_right (suc lower) lower first given order (tree_at (suc lower) above nodes) before beyond);
-      ends = omega arith;
       closes = λ now after changes gives mended.
         let up = mended_on height (suc lower) lower (above + 2 ^ suc lower) turns above above_turns now after old.low step mended in
         old.closes (set now above (Open up.0)) after
@@ -119,11 +119,73 @@ gives_down_right height place given order level lower index turns above above_tu
     (subst (λ n. GivesBelow height place given order nodes lower (above + 2 ^ suc lower) turns n) (sym middle_is)
         (gives_right_half height place given order lower turns above above_turns first nodes (subst (λ n. GivesBelow height place given order nodes n above above_turns first) is old) (to_right lower turns above above_turns turns_are) whole (λ same. other (omega arith)) (omega arith)))
 
--- A leaf that is not the block has none in it.
-pub gives_halves : (height place given order lower index turns first : ℕ) (nodes : List Node) → GivesBelow height place given order nodes lower index turns first → height ≤ 16 → length nodes + 1 ≡ 2 ^ (height + 1) → (18 + lower ≡ order → ⊥) → HasHalvesIn lower index turns nodes
-gives_halves height place given order lower index turns first nodes old most_high whole other =
-    let is = (gives_in lower first given order (tree_at lower index nodes) old.tree old.here other).is in
-    has_halves height lower index turns nodes most_high whole old.low old.way (omega arith)
+-- ---- the way to the block
+-- The turns to a half are those to the place that is given back.
+gives_half : (height place given order lower index turns above : ℕ) (nodes : List Node) → GivesBelow height place given order nodes (suc lower) above (turns / 2) (place + turns / 2 * 2 ^ (18 + suc lower)) → IsHalf lower index turns above → length nodes + 1 ≡ 2 ^ (height + 1) → place ≤ given → order ≤ 18 + lower → turns ≡ (given - place) / 2 ^ (18 + lower) → GivesBelow height place given order nodes lower index turns (place + turns * 2 ^ (18 + lower))
+gives_half height place given order lower index turns above nodes up half whole from large turns_are =
+    at (cases_eq (turns % 2) 0)
+    (double_rows (turns / 2) turns (2 ^ (18 + lower)) (2 ^ (18 + suc lower)) (double_order lower))
+    (ap (λ n. n * 2 ^ (18 + lower)) turns_are)
+    (shr_split (given - place) (18 + lower))
+    (mod_below (given - place) (2 ^ (18 + lower)) (pow_pos (18 + lower))) where
+      at : (turns % 2 ≡ 0) ⊎ (turns % 2 ≡ 0 → ⊥) → (turns ≡ turns / 2 + turns / 2 → turns / 2 * 2 ^ (18 + suc lower) ≡ turns * 2 ^ (18 + lower)) × (turns ≡ turns / 2 + turns / 2 + 1 → turns / 2 * 2 ^ (18 + suc lower) + 2 ^ (18 + lower) ≡ turns * 2 ^ (18 + lower)) → turns * 2 ^ (18 + lower) ≡ (given - place) / 2 ^ (18 + lower) * 2 ^ (18 + lower) → (given - place) / 2 ^ (18 + lower) * 2 ^ (18 + lower) + (given - place) % 2 ^ (18 + lower) ≡ given - place → (given - place) % 2 ^ (18 + lower) < 2 ^ (18 + lower) → GivesBelow height place given order nodes lower index turns (place + turns * 2 ^ (18 + lower))
+      at (inl even) rows same parts rest =
+          let row = rows.0 (omega arith) in
+          subst (λ n. GivesBelow height place given order nodes lower index turns n) (ap (λ n. place + n) row)
+          (gives_down_left height place given order (suc lower) lower index turns above (turns / 2) (place + turns / 2 * 2 ^ (18 + suc lower)) (place + turns / 2 * 2 ^ (18 + suc lower) + 2 ^ (18 + lower)) nodes (omega arith) (half.left even) (omega arith) refl up whole (λ same_order. omega arith) (omega arith))
+      at (inr odd) rows same parts rest =
+          let row = rows.1 (omega arith) in
+          subst (λ n. GivesBelow height place given order nodes lower index turns n) (let e : place + turns / 2 * 2 ^ (18 + suc lower) + 2 ^ (18 + lower) ≡ place + turns * 2 ^ (18 + lower) = omega arith in e)
+          (gives_down_right height place given order (suc lower) lower index turns above (turns / 2) (place + turns / 2 * 2 ^ (18 + suc lower)) (place + turns / 2 * 2 ^ (18 + suc lower) + 2 ^ (18 + lower)) nodes (omega arith) (half.right (omega arith)) (omega arith) refl up whole (λ same_order. omega arith) (λ below. omega arith))
+
+gives_on_way : (height place given order : ℕ) (nodes : List Node) (count lower index turns : ℕ) → IsTree height nodes → Contains (blocks_below height place nodes) (block_at given order) → place ≤ given → order ≤ 18 + lower → count + lower ≡ height → turns ≡ (given - place) / 2 ^ (18 + lower) → IsWay count lower index turns → GivesBelow height place given order nodes lower index turns (place + turns * 2 ^ (18 + lower))
+unfolding IsWay
+gives_on_way height place given order nodes zero lower index turns tree here from large sum turns_are way =
+    let none : turns * 2 ^ (18 + lower) ≡ 0 * 2 ^ (18 + lower) = ap (λ n. n * 2 ^ (18 + lower)) way.1 in
+    subst (λ n. GivesBelow height place given order nodes lower index turns n) (let e : place ≡ place + turns * 2 ^ (18 + lower) = omega arith in e)
+    (gives_from height place given order nodes lower index turns (omega arith) way.0 way.1 tree here)
+gives_on_way height place given order nodes (suc count) lower index turns tree here from large sum turns_are way =
+    gives_half height place given order lower index turns way.0 nodes
+    (gives_on_way height place given order nodes count (suc lower) way.0 (turns / 2) tree here from (omega arith) (omega arith)
+        (ap (λ n. n / 2) turns_are ∙ shr-shr (given - place) (18 + lower) 1 ∙ ap (λ n. (given - place) / 2 ^ n) (omega arith))
+        way.2)
+    way.1 tree.whole from large turns_are
+
+-- Where a taken block lies in the tree's.
+pub record IsHeld (height place given order : ℕ) : Type 0 where
+  pub from : place ≤ given
+  pub most : order ≤ 18 + height
+  pub turns_below : (given - place) / 2 ^ order < 2 ^ (18 + height - order)
+
+pub is_held : (height place given order : ℕ) (nodes : List Node) → Contains (blocks_below height place nodes) (block_at given order) → IsHeld height place given order
+is_held height place given order nodes here =
+    let lies = All-contains (LiesIn place (place + 2 ^ (18 + height))) _ (block_at given order) (within height place nodes) here in
+    at (cases_lt (18 + height) order) lies.from_low lies.to_high (pow_pos order) where
+      at : (18 + height < order) ⊎ (order ≤ 18 + height) → place ≤ given → given + 2 ^ order ≤ place + 2 ^ (18 + height) → 0 < 2 ^ order → IsHeld height place given order
+      at (inl large) from to some = let more = pow_below (18 + height) order large in absurd (omega arith)
+      at (inr small) from to some =
+          let sum : 2 ^ (18 + height - order + order) ≡ 2 ^ (18 + height) = ap (λ n. 2 ^ n) (let e : 18 + height - order + order ≡ 18 + height = omega arith in e) in
+          record { from = from; most = small; turns_below = shr_below (given - place) (18 + height - order) order (omega arith) }
+
+-- The way to it, as the call counts it.
+pub gives_at : (height place given order lower index turns : ℕ) (nodes : List Node) → IsTree height nodes → 18 ≤ order → Contains (blocks_below height place nodes) (block_at given order) → lower ≡ height - (18 + height - order) → turns ≡ (given - place) / 2 ^ order → IsWay (18 + height - order) (height - (18 + height - order)) index ((given - place) / 2 ^ order) → GivesBelow height place given order nodes lower index turns (place + turns * 2 ^ (18 + lower))
+gives_at height place given order lower index turns nodes tree least here lower_is turns_are way =
+    let held = is_held height place given order nodes here in
+    let small = held.most in
+    gives_on_way height place given order nodes (18 + height - order) lower index turns tree here held.from (omega arith) (omega arith)
+    (turns_are ∙ ap (λ n. (given - place) / 2 ^ n) (let e : order ≡ 18 + lower = omega arith in e))
+    (subst (λ n. IsWay (18 + height - order) n index turns) (sym lower_is) (subst (λ n. IsWay (18 + height - order) (height - (18 + height - order)) index n) (sym turns_are) way))
+
+pub gives_stands : (height place given order lower index turns : ℕ) (nodes : List Node) → IsTree height nodes → height ≤ 16 → 18 ≤ order → Contains (blocks_below height place nodes) (block_at given order) → lower ≡ height - (18 + height - order) → turns ≡ (given - place) / 2 ^ order → IsWay (18 + height - order) (height - (18 + height - order)) index ((given - place) / 2 ^ order) → (index < length nodes) × (length nodes < 2 ^ 32)
+gives_stands height place given order lower index turns nodes tree most least here lower_is turns_are way =
+    let at = gives_at height place given order lower index turns nodes tree least here lower_is turns_are way in
+    let whole = tree.whole in
+    let inside = inside_nodes height lower index turns nodes tree.whole at.low at.way in
+    let size = sizes lower in
+    let some = size.some in
+    let double = size.half in
+    let large = pow_most (height + 1) 17 (omega arith) in
+    (omega arith, omega arith)
 
 -- ---- the block is reached
 pub gives_here : (height place given order lower index turns first : ℕ) (nodes after : List Node) → GivesBelow height place given order nodes lower index turns first → 18 + lower ≡ order → AreMended (height - lower) lower index turns (set nodes index (Open order)) after → GivesBack height place given nodes after

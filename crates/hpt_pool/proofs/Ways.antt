@@ -1,7 +1,8 @@
 -- What the way to a node tells of the nodes on it.
 use Rattle.std.proofs.Common.{◌≡◌, ℕ, zero, suc, ◌+◌, ◌-◌, ◌*◌, ◌/◌, ◌%◌, ◌^◌, ◌<◌, ◌≤◌, List, length, set, refl, sym, ap, ◌∙◌, subst, inl, inr, ◌⊎◌, max, arith}
 use Rattle.std.proofs.lemmas.Bool.{cases_eq}
-use Rattle.std.proofs.lemmas.Nat.{pow_pos, pow_below}
+use Rattle.std.proofs.lemmas.Nat.{pow_pos, pow_below, ones-le, ones_cat}
+use lib.Count.{ones}
 use Rattle.hpt_pool.specs.declared.tree.Node.{Node}
 use Rattle.hpt_pool.specs.declared.tree.Node.TheVariants.{Open}
 use Rattle.hpt_pool.specs.Tree.{largest_of, JoinsHalves}
@@ -239,3 +240,72 @@ to_right lower turns above above_turns is = record {
   half = record { left = λ even. absurd (omega arith); right = λ odd. refl };
   turns_are = omega arith;
 }
+
+-- ---- where so many turns lead
+-- Twice a number of leaves, at a node and at the one above it.
+pub double_rows : (half turns size next : ℕ) → next ≡ size + size → (turns ≡ half + half → half * next ≡ turns * size) × (turns ≡ half + half + 1 → half * next + size ≡ turns * size)
+double_rows half turns size next next_is = (even, odd) where
+  whole : half * next ≡ (half + half) * size
+  whole =
+      let parts : half * (size + size) ≡ half * size + half * size = grind arith in
+      let sums : (half + half) * size ≡ half * size + half * size = grind arith in
+      ap (λ n. half * n) next_is ∙ parts ∙ sym sums
+
+  even : turns ≡ half + half → half * next ≡ turns * size
+  even is = whole ∙ ap (λ n. n * size) (sym is)
+
+  odd : turns ≡ half + half + 1 → half * next + size ≡ turns * size
+  odd is =
+      let one_more : (half + half + 1) * size ≡ (half + half) * size + size = grind arith in
+      ap (λ n. n + size) whole ∙ sym one_more ∙ ap (λ n. n * size) (sym is)
+
+no_ones : ones 0 ≡ 0
+unfolding ones
+no_ones = refl
+
+one_one : ones 1 ≡ 1
+unfolding ones
+one_one = refl
+
+-- The ones of a number are those of its half, and the last one.
+ones_half : (turns : ℕ) → ones turns ≡ ones (turns / 2) + ones (turns % 2)
+ones_half turns = ap ones (let e : turns ≡ turns / 2 * 2 + turns % 2 = omega arith in e) ∙ ones_cat 1 (turns / 2) (turns % 2) (omega arith)
+
+pub way_by_turns : (count height index turns : ℕ) → turns < 2 ^ count → index + ones turns ≡ turns * 2 ^ (height + 1) + count → IsWay count height index turns
+unfolding IsWay
+way_by_turns zero height index turns below is =
+    let none : turns ≡ 0 = omega arith in
+    let digits : ones turns ≡ 0 = ap ones none ∙ no_ones in
+    let no_rows : turns * 2 ^ (height + 1) ≡ 0 * 2 ^ (height + 1) = ap (λ n. n * 2 ^ (height + 1)) none in
+    (omega arith, none)
+way_by_turns (suc count) height index turns below is =
+    (
+      turns / 2 * 2 ^ (suc height + 1) + count - ones (turns / 2),
+      record { left = left; right = right },
+      way_by_turns count (suc height) (turns / 2 * 2 ^ (suc height + 1) + count - ones (turns / 2)) (turns / 2) fewer (let few = ones_few in omega arith),
+    ) where
+      fewer : turns / 2 < 2 ^ count
+      fewer = let size = sizes count in let double = size.half in let next = size.next in omega arith
+
+      ones_few : ones (turns / 2) ≤ count
+      ones_few = ones-le count (turns / 2) fewer
+
+      rows : (turns ≡ turns / 2 + turns / 2 → turns / 2 * 2 ^ (suc height + 1) ≡ turns * 2 ^ (height + 1)) × (turns ≡ turns / 2 + turns / 2 + 1 → turns / 2 * 2 ^ (suc height + 1) + 2 ^ (height + 1) ≡ turns * 2 ^ (height + 1))
+      rows = double_rows (turns / 2) turns (2 ^ (height + 1)) (2 ^ (suc height + 1)) (sizes height).whole
+
+      left : turns % 2 ≡ 0 → index ≡ turns / 2 * 2 ^ (suc height + 1) + count - ones (turns / 2) + 1
+      left even =
+          let few = ones_few in
+          let digits = ones_half turns in
+          let last : ones (turns % 2) ≡ 0 = ap ones even ∙ no_ones in
+          let row = rows.0 (omega arith) in
+          omega arith
+
+      right : turns % 2 ≡ 1 → index ≡ turns / 2 * 2 ^ (suc height + 1) + count - ones (turns / 2) + 2 ^ suc height
+      right odd =
+          let few = ones_few in
+          let digits = ones_half turns in
+          let last : ones (turns % 2) ≡ 1 = ap ones odd ∙ one_one in
+          let next = (sizes height).next in
+          let row = rows.1 (omega arith) in
+          omega arith

@@ -1,5 +1,5 @@
 ghost use Rattle.std.specs.Prelude.{◌≡◌, ◌+◌, ◌*◌, ◌/◌, ◌%◌, ◌<◌, ◌≤◌, ◌^◌};
-ghost use Rattle.hpt_pool.specs.Way.{IsHalf};
+ghost use Rattle.hpt_pool.specs.Way.{IsHalf, IsWay};
 
 use crate::tree::LEAF_ORDER;
 
@@ -30,6 +30,25 @@ impl Spot {
             leaves: 1 << height,
             index: 0,
             turns: 0,
+        }
+    }
+
+    /// The node of this height to which these turns lead, of which there are `depth`.
+    pub fn by_turns(height: u8, depth: u8, turns: usize) -> Spot
+        requires most { depth + height ≤ 16 }
+        requires turns { turns < 2 ^ depth }
+        ensures height { result.height ≡ height }
+        ensures way { IsWay depth height result.index turns }
+        ensures turns { result.turns ≡ turns }
+    {
+        // Before it stand the nodes above it and, for each turn to the right, the left half that it
+        // leaves aside, which has one node less than twice as many as leaves.
+        let aside = turns << (height + 1);
+        Spot {
+            height,
+            leaves: 1 << height,
+            index: aside + usize::from(depth) - turns.count_ones() as usize,
+            turns,
         }
     }
 

@@ -89,23 +89,15 @@ pub fn give_back(nodes: &mut [Node], height: u8, place: u64, given: u64, order: 
     requires tree { IsTree height nodes.old }
     requires most { height ≤ 16 }
     requires top { place + 2 ^ (18 + height) ≤ 2 ^ 60 }
+    requires least { 18 ≤ order }
     requires taken { Contains (blocks_below height place nodes.old) (block_at given order) }
     ensures given { blocks_below height place nodes.new
         ≡ taken_without (blocks_below height place nodes.old) given }
     ensures tree { IsTree height nodes.new }
 {
-    let mut spot = Spot::root(height);
-    let mut first = place;
-    while LEAF_ORDER + spot.height != order {
-        let right = spot.right();
-        let middle = first + right.bytes();
-        if given < middle {
-            spot = spot.left();
-        } else {
-            spot = right;
-            first = middle;
-        }
-    }
+    let depth = LEAF_ORDER + height - order;
+    let turns = ((given - place) >> order) as usize;
+    let spot = Spot::by_turns(height - depth, depth, turns);
     nodes[spot.index] = Node::Open(order);
     mend_above(nodes, spot, order, height);
 }

@@ -1,39 +1,51 @@
-use Rattle.std.proofs.Common.{◌≡◌, ◌+◌, ◌^◌, ap, ◌∙◌, arith}
+use Rattle.std.proofs.Common.{◌≡◌, ℕ, ◌+◌, ◌-◌, ◌/◌, ◌^◌, ◌<◌, length, sym, ap, arith}
+use Rattle.std.proofs.lemmas.List.{get_or-set_same}
+use Rattle.hpt_pool.specs.declared.tree.Node.TheVariants.{Taken, Open}
+use Rattle.hpt_pool.specs.Tree.{largest_of}
 use Rattle.hpt_pool.proofs.Giving.{GivesBack}
-use Rattle.hpt_pool.proofs.GivingWay.{gives_from, gives_halves, gives_down_left, gives_down_right, gives_here}
+use Rattle.hpt_pool.proofs.GivingWay.{IsHeld, is_held, gives_at, gives_stands, gives_here}
 use Rattle.hpt_pool.proofs.tree.give_back.Goals as goal
 
-pub loop-spot-init : goal.loop-spot-init
-loop-spot-init c = gives_from c.args.height c.args.place c.args.given c.args.order c.args.nodes.now c.root-spot.result.height c.root-spot.result.index c.root-spot.result.turns c.root-spot.ensures.height c.root-spot.ensures.index c.root-spot.ensures.turns c.requires.tree c.requires.taken
+-- ---- where the block lies
+held : (c : goal.Start) → IsHeld c.args.height c.args.place c.args.given c.args.order
+held c = is_held c.args.height c.args.place c.args.given c.args.order c.args.nodes.now c.requires.taken
 
--- ---- a step down
-pub right-right-requires : goal.right-right-requires
-right-right-requires c =
-    let halves = gives_halves _ _ _ _ _ _ _ _ c.args.nodes.now c.loop-spot.invariant c.requires.most c.requires.tree.whole c.loop-spot-test.true in
-    let low = c.loop-spot.invariant.low in
-    let most = c.requires.most in
-    record { least = halves.least; most = omega arith; index = halves.index_small; turns = halves.turns_small }
+pub overflow_sub-depth : goal.overflow_sub-depth
+overflow_sub-depth c = (held c).most
 
-pub left-spot-requires : goal.left-spot-requires
-left-spot-requires c =
-    let halves = gives_halves _ _ _ _ _ _ _ _ c.args.nodes.now c.loop-spot.invariant c.requires.most c.requires.tree.whole c.loop-spot-test.true in
-    record { least = halves.least; index = halves.index_small; turns = halves.turns_small }
+pub overflow_sub-turns : goal.overflow_sub-turns
+overflow_sub-turns c = (held c).from
 
-pub loop-spot-preserved-then-given-middle : goal.loop-spot-preserved-then-given-middle
-loop-spot-preserved-then-given-middle c =
-    let left = c.left-spot.ensures.height in
-    let right = c.right-right.ensures.height in
-    gives_down_left c.args.height c.args.place c.args.given c.args.order c.loop-spot.spot.height c.left-spot.result.height c.left-spot.result.index c.left-spot.result.turns c.loop-spot.spot.index c.loop-spot.spot.turns c.loop-spot.first (c.loop-spot.first + c.bytes.result) c.args.nodes.now
-    c.left-spot.ensures.height c.left-spot.ensures.index c.left-spot.ensures.turns (ap (λ n. c.loop-spot.first + n) (c.bytes.ensures ∙ ap (λ n. 2 ^ (18 + n)) (omega arith))) c.loop-spot.invariant c.requires.tree.whole c.loop-spot-test.true c.if-given-middle.true
+pub overflow_shr-turns : goal.overflow_shr-turns
+overflow_shr-turns c = let here = held c in let small = here.most in let most = c.requires.most in omega arith
 
-pub loop-spot-preserved : goal.loop-spot-preserved
-loop-spot-preserved c =
-    gives_down_right c.args.height c.args.place c.args.given c.args.order c.loop-spot.spot.height c.right-right.result.height c.right-right.result.index c.right-right.result.turns c.loop-spot.spot.index c.loop-spot.spot.turns c.loop-spot.first (c.loop-spot.first + c.bytes.result) c.args.nodes.now
-    c.right-right.ensures.height c.right-right.ensures.index c.right-right.ensures.turns (ap (λ n. c.loop-spot.first + n) c.bytes.ensures) c.loop-spot.invariant c.requires.tree.whole c.loop-spot-test.true (let high = c.if-given-middle.false in λ below. omega arith)
+pub by_turns-spot-requires-clause-turns : goal.by_turns-spot-requires-clause-turns
+by_turns-spot-requires-clause-turns c = (held c).turns_below
 
--- ---- the block is reached
+-- ---- its node
+stands : (c : goal.After-by_turns-spot) → (c.by_turns-spot.result.index < length c.args.nodes.now) × (length c.args.nodes.now < 2 ^ 32)
+stands c = gives_stands _ _ _ _ _ _ _ c.args.nodes.now c.requires.tree c.requires.most c.requires.least c.requires.taken c.by_turns-spot.ensures.height c.by_turns-spot.ensures.turns c.by_turns-spot.ensures.way
+
+pub offset_bounds-nodes-spot : goal.offset_bounds-nodes-spot
+offset_bounds-nodes-spot c = let at = stands c in let inside = at.0 in let small = at.1 in omega arith
+
+pub bounds-nodes-spot : goal.bounds-nodes-spot
+bounds-nodes-spot c = (stands c).0
+
+pub mend_above-requires-clause-said : goal.mend_above-requires-clause-said
+mend_above-requires-clause-said c =
+    let at = gives_stands _ _ _ _ _ _ _ c.args.nodes.now c.requires.tree c.requires.most c.requires.least c.requires.taken c.by_turns-spot.ensures.height c.by_turns-spot.ensures.turns c.by_turns-spot.ensures.way in
+    ap largest_of (sym (get_or-set_same c.args.nodes.now c.by_turns-spot.result.index (Open c.args.order) Taken at.0))
+
+-- ---- the tree after
 given : (c : goal.After-nodes-1) → GivesBack c.args.height c.args.place c.args.given c.args.nodes.now c.mend_above.new.nodes
-given c = gives_here c.args.height c.args.place c.args.given c.args.order c.loop-spot.spot.height c.loop-spot.spot.index c.loop-spot.spot.turns c.loop-spot.first c.args.nodes.now c.mend_above.new.nodes c.loop-spot.invariant c.loop-spot-test.false c.mend_above.ensures
+given c =
+    let lower = c.by_turns-spot.ensures.height in
+    let small = (is_held _ c.args.place _ _ c.args.nodes.now c.requires.taken).most in
+    let least = c.requires.least in
+    gives_here c.args.height c.args.place c.args.given c.args.order c.by_turns-spot.result.height c.by_turns-spot.result.index c.by_turns-spot.result.turns _ c.args.nodes.now c.mend_above.new.nodes
+    (gives_at c.args.height c.args.place c.args.given c.args.order c.by_turns-spot.result.height c.by_turns-spot.result.index c.by_turns-spot.result.turns c.args.nodes.now c.requires.tree c.requires.least c.requires.taken c.by_turns-spot.ensures.height c.by_turns-spot.ensures.turns c.by_turns-spot.ensures.way)
+    (omega arith) c.mend_above.ensures
 
 pub returns-clause-given : goal.returns-clause-given
 returns-clause-given c = (given c).given_back

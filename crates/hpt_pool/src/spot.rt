@@ -125,6 +125,6 @@ impl Spot {
         requires { self.height ≤ 16 }
         ensures { result ≡ 2 ^ (18 + self.height) }
     {
-        (self.leaves as u64) << LEAF_ORDER
+        1 << (LEAF_ORDER + self.height)
     }
 }

@@ -6,7 +6,7 @@ use Rattle.std.proofs.lemmas.List.Elements.{All-contains}
 use Rattle.hpt_pool.specs.declared.tree.Node.{Node}
 use Rattle.hpt_pool.specs.declared.tree.Node.TheVariants.{Open}
 use Rattle.hpt_pool.specs.Pool.{block_at}
-use Rattle.hpt_pool.specs.Tree.{left_of, right_of, blocks_below, IsTree}
+use Rattle.hpt_pool.specs.Tree.{blocks_below, IsTree}
 use Rattle.hpt_pool.specs.Way.{IsHalf, IsWay, AreMended}
 use Rattle.hpt_pool.proofs.Powers.{pow_most}
 use Rattle.hpt_pool.proofs.Halves.{LiesIn}
@@ -36,16 +36,16 @@ root_gives height place given order nodes tree here =
       tree = subst (λ (list : List Node). IsTree height list) (sym whole) tree;
       here = subst (λ (list : List Node). Contains (blocks_below height place list) (block_at given order)) (sym whole) here;
       closes = λ now after changes gives mended.
-        subst (λ (list : List Node). GivesBack height place given nodes list) (sym (mended_none height 0 0 now after mended))
-        (subst (λ (list : List Node). GivesBack height place given nodes list) (tree_whole height now (ap (λ n. n + 1) changes.long ∙ tree.whole))
-            (subst (λ (list : List Node). GivesBack height place given list (tree_at height 0 now)) whole gives));
+          subst (λ (list : List Node). GivesBack height place given nodes list) (sym (mended_none height 0 0 now after mended))
+          (subst (λ (list : List Node). GivesBack height place given nodes list) (tree_whole height now (ap (λ n. n + 1) changes.long ∙ tree.whole))
+          (subst (λ (list : List Node). GivesBack height place given list (tree_at height 0 now)) whole gives));
     }
 
 pub gives_from : (height place given order : ℕ) (nodes : List Node) (lower index turns : ℕ) → lower ≡ height → index ≡ 0 → turns ≡ 0 → IsTree height nodes → Contains (blocks_below height place nodes) (block_at given order) → GivesBelow height place given order nodes lower index turns place
 gives_from height place given order nodes lower index turns height_is index_is turns_is tree here =
     subst (λ n. GivesBelow height place given order nodes n index turns place) (sym height_is)
     (subst (λ n. GivesBelow height place given order nodes height n turns place) (sym index_is)
-        (subst (λ n. GivesBelow height place given order nodes height 0 n place) (sym turns_is) (root_gives height place given order nodes tree here)))
+    (subst (λ n. GivesBelow height place given order nodes height 0 n place) (sym turns_is) (root_gives height place given order nodes tree here)))
 
 -- ---- a half
 -- What is not given back as a whole is in a half.
@@ -70,13 +70,13 @@ gives_left_half height place given order lower turns above above_turns first nod
       tree = subst (λ (list : List Node). IsTree lower list) (left-tree lower above nodes) trees.0;
       here = subst (λ (list : List Node). Contains (blocks_below lower first list) (block_at given order)) (left-tree lower above nodes) (held_left (suc lower) lower first given order (tree_at (suc lower) above nodes) before below);
       closes = λ now after changes gives mended.
-        let up = mended_on height (suc lower) lower (above + 1) turns above above_turns now after old.low step mended in
-        old.closes (set now above (Open up.0)) after
-        (changes_wider (above + 1) (end_at lower (above + 1)) above (end_at (suc lower) above) above nodes now (Open up.0) (omega arith) (omega arith) (omega arith) (omega arith) changes)
-        (gives_left (suc lower) lower first given order up.0 (tree_at (suc lower) above nodes) (tree_at (suc lower) above (set now above (Open up.0))) (tree_at lower (above + 1) now) before below
-            (made_left lower above up.0 nodes now (inside_nodes height (suc lower) above above_turns nodes whole old.low old.way) changes up.1)
-            (subst (λ (list : List Node). GivesBack lower first given list (tree_at lower (above + 1) now)) (sym (left-tree lower above nodes)) gives))
-        up.2;
+          let up = mended_on height (suc lower) lower (above + 1) turns above above_turns now after old.low step mended in
+          old.closes (set now above (Open up.0)) after
+          (changes_wider (above + 1) (end_at lower (above + 1)) above (end_at (suc lower) above) above nodes now (Open up.0) (omega arith) (omega arith) (omega arith) (omega arith) changes)
+          (gives_left (suc lower) lower first given order up.0 (tree_at (suc lower) above nodes) (tree_at (suc lower) above (set now above (Open up.0))) (tree_at lower (above + 1) now) before below
+          (made_left lower above up.0 nodes now (inside_nodes height (suc lower) above above_turns nodes whole old.low old.way) changes up.1)
+          (subst (λ (list : List Node). GivesBack lower first given list (tree_at lower (above + 1) now)) (sym (left-tree lower above nodes)) gives))
+          up.2;
     }
 
 gives_right_half : (height place given order lower turns above above_turns first : ℕ) (nodes : List Node) → GivesBelow height place given order nodes (suc lower) above above_turns first → Steps (suc lower) lower (above + 2 ^ suc lower) turns above above_turns → length nodes + 1 ≡ 2 ^ (height + 1) → (18 + suc lower ≡ order → ⊥) → first + 2 ^ (18 + lower) ≤ given → GivesBelow height place given order nodes lower (above + 2 ^ suc lower) turns (first + 2 ^ (18 + lower))
@@ -96,13 +96,13 @@ gives_right_half height place given order lower turns above above_turns first no
       tree = subst (λ (list : List Node). IsTree lower list) (right-tree lower above nodes) trees.1;
       here = subst (λ (list : List Node). Contains (blocks_below lower (first + 2 ^ (18 + lower)) list) (block_at given order)) (right-tree lower above nodes) (held_right (suc lower) lower first given order (tree_at (suc lower) above nodes) before beyond);
       closes = λ now after changes gives mended.
-        let up = mended_on height (suc lower) lower (above + 2 ^ suc lower) turns above above_turns now after old.low step mended in
-        old.closes (set now above (Open up.0)) after
-        (changes_wider (above + 2 ^ suc lower) (end_at lower (above + 2 ^ suc lower)) above (end_at (suc lower) above) above nodes now (Open up.0) (omega arith) (omega arith) (omega arith) (omega arith) changes)
-        (gives_right (suc lower) lower first (first + 2 ^ (18 + lower)) given order up.0 (tree_at (suc lower) above nodes) (tree_at (suc lower) above (set now above (Open up.0))) (tree_at lower (above + 2 ^ suc lower) now) before refl beyond
-            (made_right lower above up.0 nodes now (inside_nodes height (suc lower) above above_turns nodes whole old.low old.way) changes up.1)
-            (subst (λ (list : List Node). GivesBack lower (first + 2 ^ (18 + lower)) given list (tree_at lower (above + 2 ^ suc lower) now)) (sym (right-tree lower above nodes)) gives))
-        up.2;
+          let up = mended_on height (suc lower) lower (above + 2 ^ suc lower) turns above above_turns now after old.low step mended in
+          old.closes (set now above (Open up.0)) after
+          (changes_wider (above + 2 ^ suc lower) (end_at lower (above + 2 ^ suc lower)) above (end_at (suc lower) above) above nodes now (Open up.0) (omega arith) (omega arith) (omega arith) (omega arith) changes)
+          (gives_right (suc lower) lower first (first + 2 ^ (18 + lower)) given order up.0 (tree_at (suc lower) above nodes) (tree_at (suc lower) above (set now above (Open up.0))) (tree_at lower (above + 2 ^ suc lower) now) before refl beyond
+          (made_right lower above up.0 nodes now (inside_nodes height (suc lower) above above_turns nodes whole old.low old.way) changes up.1)
+          (subst (λ (list : List Node). GivesBack lower (first + 2 ^ (18 + lower)) given list (tree_at lower (above + 2 ^ suc lower) now)) (sym (right-tree lower above nodes)) gives))
+          up.2;
     }
 
 -- ---- the same, as the loop goes
@@ -117,7 +117,7 @@ gives_down_right height place given order level lower index turns above above_tu
     let is : level ≡ suc lower = omega arith in
     subst (λ n. GivesBelow height place given order nodes lower n turns middle) (sym (index_is ∙ ap (λ n. above + 2 ^ n) is))
     (subst (λ n. GivesBelow height place given order nodes lower (above + 2 ^ suc lower) turns n) (sym middle_is)
-        (gives_right_half height place given order lower turns above above_turns first nodes (subst (λ n. GivesBelow height place given order nodes n above above_turns first) is old) (to_right lower turns above above_turns turns_are) whole (λ same. other (omega arith)) (omega arith)))
+    (gives_right_half height place given order lower turns above above_turns first nodes (subst (λ n. GivesBelow height place given order nodes n above above_turns first) is old) (to_right lower turns above above_turns turns_are) whole (λ same. other (omega arith)) (omega arith)))
 
 -- ---- the way to the block
 -- The turns to a half are those to the place that is given back.
@@ -147,8 +147,8 @@ gives_on_way height place given order nodes zero lower index turns tree here fro
 gives_on_way height place given order nodes (suc count) lower index turns tree here from large sum turns_are way =
     gives_half height place given order lower index turns way.0 nodes
     (gives_on_way height place given order nodes count (suc lower) way.0 (turns / 2) tree here from (omega arith) (omega arith)
-        (ap (λ n. n / 2) turns_are ∙ shr-shr (given - place) (18 + lower) 1 ∙ ap (λ n. (given - place) / 2 ^ n) (omega arith))
-        way.2)
+    (ap (λ n. n / 2) turns_are ∙ shr-shr (given - place) (18 + lower) 1 ∙ ap (λ n. (given - place) / 2 ^ n) (omega arith))
+    way.2)
     way.1 tree.whole from large turns_are
 
 -- Where a taken block lies in the tree's.
@@ -195,5 +195,5 @@ gives_here height place given order lower index turns first nodes after old is m
     let half_size = size.half in
     old.closes (set nodes index (Open order)) after (changes_one index (end_at lower index) index nodes (Open order) (omega arith) (omega arith))
     (subst (λ (list : List Node). GivesBack lower first given (tree_at lower index nodes) list) (sym (tree_root_set lower index nodes (Open order)))
-        (gives_whole lower first given order (tree_at lower index nodes) old.tree old.here is))
+    (gives_whole lower first given order (tree_at lower index nodes) old.tree old.here is))
     mended

@@ -1,9 +1,8 @@
 -- The way down to the first free block, and what taking it makes of the tree.
 use Rattle.std.proofs.Common.{◌≡◌, ℕ, suc, ◌+◌, ◌-◌, ◌*◌, ◌^◌, ◌<◌, ◌≤◌, List, length, set, refl, sym, ap, ◌∙◌, subst, arith}
-use Rattle.std.proofs.lemmas.Nat.{pow_pos}
 use Rattle.hpt_pool.specs.declared.tree.Node.{Node}
 use Rattle.hpt_pool.specs.declared.tree.Node.TheVariants.{Taken, Open}
-use Rattle.hpt_pool.specs.Tree.{root_of, left_of, right_of, largest_of, IsTree}
+use Rattle.hpt_pool.specs.Tree.{root_of, left_of, largest_of, IsTree}
 use Rattle.hpt_pool.specs.Way.{node_at, IsWay, AreMended}
 use Rattle.hpt_pool.proofs.Rooms.{double_order}
 use Rattle.hpt_pool.proofs.Truth.{most}
@@ -33,16 +32,16 @@ root_takes height place order nodes tree some =
       some = some;
       ends = omega arith;
       closes = λ now after answer changes takes mended.
-        subst (λ (list : List Node). TakesFirst height place order nodes list answer) (sym (mended_none height 0 0 now after mended))
-        (subst (λ (list : List Node). TakesFirst height place order nodes list answer) (tree_whole height now (ap (λ n. n + 1) changes.long ∙ tree.whole))
-            (subst (λ (list : List Node). TakesFirst height place order list (tree_at height 0 now) answer) whole takes));
+          subst (λ (list : List Node). TakesFirst height place order nodes list answer) (sym (mended_none height 0 0 now after mended))
+          (subst (λ (list : List Node). TakesFirst height place order nodes list answer) (tree_whole height now (ap (λ n. n + 1) changes.long ∙ tree.whole))
+          (subst (λ (list : List Node). TakesFirst height place order list (tree_at height 0 now) answer) whole takes));
     }
 
 pub takes_from : (height place order : ℕ) (nodes : List Node) (lower index turns : ℕ) → lower ≡ height → index ≡ 0 → turns ≡ 0 → IsTree height nodes → order ≤ largest_of (root_of nodes) → TakesBelow height place order nodes lower index turns place
 takes_from height place order nodes lower index turns height_is index_is turns_is tree some =
     subst (λ n. TakesBelow height place order nodes n index turns place) (sym height_is)
     (subst (λ n. TakesBelow height place order nodes height n turns place) (sym index_is)
-        (subst (λ n. TakesBelow height place order nodes height 0 n place) (sym turns_is) (root_takes height place order nodes tree some)))
+    (subst (λ n. TakesBelow height place order nodes height 0 n place) (sym turns_is) (root_takes height place order nodes tree some)))
 
 -- ---- a half
 -- What is not taken as a whole is taken in a half.
@@ -72,13 +71,13 @@ takes_left_half height place order lower turns above above_turns first nodes old
       some = some;
       ends = omega arith;
       closes = λ now after answer changes takes mended.
-        let up = mended_on height (suc lower) lower (above + 1) turns above above_turns now after old.low step mended in
-        old.closes (set now above (Open up.0)) after answer
-        (changes_wider (above + 1) (end_at lower (above + 1)) above (end_at (suc lower) above) above nodes now (Open up.0) (omega arith) (omega arith) (omega arith) (omega arith) changes)
-        (takes_left (suc lower) lower first order answer up.0 (tree_at (suc lower) above nodes) (tree_at (suc lower) above (set now above (Open up.0))) (tree_at lower (above + 1) now) before
-            (made_left lower above up.0 nodes now (inside_nodes height (suc lower) above above_turns nodes whole old.low old.way) changes up.1)
-            (subst (λ (list : List Node). TakesFirst lower first order list (tree_at lower (above + 1) now) answer) (sym (left-tree lower above nodes)) takes))
-        up.2;
+          let up = mended_on height (suc lower) lower (above + 1) turns above above_turns now after old.low step mended in
+          old.closes (set now above (Open up.0)) after answer
+          (changes_wider (above + 1) (end_at lower (above + 1)) above (end_at (suc lower) above) above nodes now (Open up.0) (omega arith) (omega arith) (omega arith) (omega arith) changes)
+          (takes_left (suc lower) lower first order answer up.0 (tree_at (suc lower) above nodes) (tree_at (suc lower) above (set now above (Open up.0))) (tree_at lower (above + 1) now) before
+          (made_left lower above up.0 nodes now (inside_nodes height (suc lower) above above_turns nodes whole old.low old.way) changes up.1)
+          (subst (λ (list : List Node). TakesFirst lower first order list (tree_at lower (above + 1) now) answer) (sym (left-tree lower above nodes)) takes))
+          up.2;
     }
 
 takes_right_half : (height place order lower turns above above_turns first : ℕ) (nodes : List Node) → TakesBelow height place order nodes (suc lower) above above_turns first → Steps (suc lower) lower (above + 2 ^ suc lower) turns above above_turns → length nodes + 1 ≡ 2 ^ (height + 1) → 18 ≤ order → (18 + suc lower ≡ order → ⊥) → largest_of (node_at nodes (above + 1)) < order → TakesBelow height place order nodes lower (above + 2 ^ suc lower) turns (first + 2 ^ (18 + lower))
@@ -104,13 +103,13 @@ takes_right_half height place order lower turns above above_turns first nodes ol
       some = omega arith;
       ends = omega arith;
       closes = λ now after answer changes takes mended.
-        let up = mended_on height (suc lower) lower (above + 2 ^ suc lower) turns above above_turns now after old.low step mended in
-        old.closes (set now above (Open up.0)) after answer
-        (changes_wider (above + 2 ^ suc lower) (end_at lower (above + 2 ^ suc lower)) above (end_at (suc lower) above) above nodes now (Open up.0) (omega arith) (omega arith) (omega arith) (omega arith) changes)
-        (takes_right (suc lower) lower first (first + 2 ^ (18 + lower)) order answer up.0 (tree_at (suc lower) above nodes) (tree_at (suc lower) above (set now above (Open up.0))) (tree_at lower (above + 2 ^ suc lower) now) before less refl
-            (made_right lower above up.0 nodes now (inside_nodes height (suc lower) above above_turns nodes whole old.low old.way) changes up.1)
-            (subst (λ (list : List Node). TakesFirst lower (first + 2 ^ (18 + lower)) order list (tree_at lower (above + 2 ^ suc lower) now) answer) (sym (right-tree lower above nodes)) takes))
-        up.2;
+          let up = mended_on height (suc lower) lower (above + 2 ^ suc lower) turns above above_turns now after old.low step mended in
+          old.closes (set now above (Open up.0)) after answer
+          (changes_wider (above + 2 ^ suc lower) (end_at lower (above + 2 ^ suc lower)) above (end_at (suc lower) above) above nodes now (Open up.0) (omega arith) (omega arith) (omega arith) (omega arith) changes)
+          (takes_right (suc lower) lower first (first + 2 ^ (18 + lower)) order answer up.0 (tree_at (suc lower) above nodes) (tree_at (suc lower) above (set now above (Open up.0))) (tree_at lower (above + 2 ^ suc lower) now) before less refl
+          (made_right lower above up.0 nodes now (inside_nodes height (suc lower) above above_turns nodes whole old.low old.way) changes up.1)
+          (subst (λ (list : List Node). TakesFirst lower (first + 2 ^ (18 + lower)) order list (tree_at lower (above + 2 ^ suc lower) now) answer) (sym (right-tree lower above nodes)) takes))
+          up.2;
     }
 
 -- ---- the same, as the loop goes
@@ -125,7 +124,7 @@ takes_down_right height place order level lower index turns above above_turns fi
     let is : level ≡ suc lower = omega arith in
     subst (λ n. TakesBelow height place order nodes lower n turns next) (sym (index_is ∙ ap (λ n. above + 2 ^ n) is))
     (subst (λ n. TakesBelow height place order nodes lower (above + 2 ^ suc lower) turns n) (sym next_is)
-        (takes_right_half height place order lower turns above above_turns first nodes (subst (λ n. TakesBelow height place order nodes n above above_turns first) is old) (to_right lower turns above above_turns turns_are) whole least (λ same. other (omega arith)) below))
+    (takes_right_half height place order lower turns above above_turns first nodes (subst (λ n. TakesBelow height place order nodes n above above_turns first) is old) (to_right lower turns above above_turns turns_are) whole least (λ same. other (omega arith)) below))
 
 -- A block that is larger than a leaf's has halves.
 pub takes_halves : (height place order lower index turns first : ℕ) (nodes : List Node) → TakesBelow height place order nodes lower index turns first → height ≤ 16 → length nodes + 1 ≡ 2 ^ (height + 1) → 18 ≤ order → (18 + lower ≡ order → ⊥) → HasHalvesIn lower index turns nodes
@@ -145,5 +144,5 @@ takes_here height place order lower index turns first nodes after here is mended
     let some = here.some in
     here.closes (set nodes index Taken) after first (changes_one index (end_at lower index) index nodes Taken (omega arith) (omega arith))
     (subst (λ (list : List Node). TakesFirst lower first order (tree_at lower index nodes) list first) (sym (tree_root_set lower index nodes Taken))
-        (takes_whole lower first order (tree_at lower index nodes) here.tree (omega arith) is))
+    (takes_whole lower first order (tree_at lower index nodes) here.tree (omega arith) is))
     mended

@@ -1,5 +1,5 @@
 -- What the way to a node tells of the nodes on it.
-use Rattle.std.proofs.Common.{◌≡◌, ℕ, zero, suc, ◌+◌, ◌-◌, ◌*◌, ◌/◌, ◌%◌, ◌^◌, ◌<◌, ◌≤◌, List, length, set, refl, sym, ap, ◌∙◌, subst, inl, inr, ◌⊎◌, max, arith}
+use Rattle.std.proofs.Common.{◌≡◌, ℕ, zero, suc, ◌+◌, ◌-◌, ◌*◌, ◌/◌, ◌%◌, ◌^◌, ◌<◌, ◌≤◌, List, length, set, refl, sym, ap, ◌∙◌, subst, inl, inr, ◌⊎◌, arith}
 use Rattle.std.proofs.lemmas.Bool.{cases_eq}
 use Rattle.std.proofs.lemmas.Nat.{pow_pos, pow_below, ones-le, ones_cat}
 use lib.Count.{ones}
@@ -95,13 +95,12 @@ mended_on height level lower index turns above above_turns nodes after low step 
     at (subst (λ n. AreMended n lower index turns nodes after) (let e : height - lower ≡ suc (height - level) = omega arith in e) mended) where
       at : AreMended (suc (height - level)) lower index turns nodes after → (largest : ℕ) × JoinsAt (suc lower) above nodes largest × AreMended (height - level) level above above_turns (set nodes above (Open largest)) after
       at (up, largest, half, joins, rest) =
-          let same : up ≡ above = same_above lower index turns up above half step.half in
-          (
+          let same : up ≡ above = same_above lower index turns up above half step.half in (
             largest,
             subst (λ n. JoinsAt (suc lower) n nodes largest) same joins,
             subst (λ n. AreMended (height - level) level n above_turns (set nodes n (Open largest)) after) same
                 (subst (λ n. AreMended (height - level) n up above_turns (set nodes up (Open largest)) after) (sym step.is)
-                    (subst (λ n. AreMended (height - level) (suc lower) up n (set nodes up (Open largest)) after) step.turns_are rest)),
+                (subst (λ n. AreMended (height - level) (suc lower) up n (set nodes up (Open largest)) after) step.turns_are rest)),
           )
 
 -- ---- a step up
@@ -130,7 +129,7 @@ way_up height lower index turns up_height up up_turns goes way =
       at (above, half, rest) =
           subst (λ n. IsWay (height - up_height) n up up_turns) (let e : suc lower ≡ up_height = let next = goes.next in omega arith in e)
           (subst (λ n. IsWay (height - up_height) (suc lower) n up_turns) (same_above lower index turns above up half goes.half)
-              (subst (λ n. IsWay (height - up_height) (suc lower) above n) (sym goes.turns_are) rest))
+          (subst (λ n. IsWay (height - up_height) (suc lower) above n) (sym goes.turns_are) rest))
 
 -- The node above and its halves stand in the list.
 pub record StandsIn (height index : ℕ) (nodes : List Node) : Type 0 where
@@ -164,8 +163,7 @@ mended_up height lower index turns up_height up up_turns largest nodes after goe
     let low = goes.low in
     let next = goes.next in
     let is : up_height ≡ suc lower = omega arith in
-    subst (λ n. AreMended n lower index turns nodes after) (let e : suc (height - up_height) ≡ height - lower = omega arith in e)
-    (
+    subst (λ n. AreMended n lower index turns nodes after) (let e : suc (height - up_height) ≡ height - lower = omega arith in e) (
       up,
       largest,
       goes.half,
@@ -278,34 +276,33 @@ way_by_turns zero height index turns below is =
     let digits : ones turns ≡ 0 = ap ones none ∙ no_ones in
     let no_rows : turns * 2 ^ (height + 1) ≡ 0 * 2 ^ (height + 1) = ap (λ n. n * 2 ^ (height + 1)) none in
     (omega arith, none)
-way_by_turns (suc count) height index turns below is =
-    (
-      turns / 2 * 2 ^ (suc height + 1) + count - ones (turns / 2),
-      record { left = left; right = right },
-      way_by_turns count (suc height) (turns / 2 * 2 ^ (suc height + 1) + count - ones (turns / 2)) (turns / 2) fewer (let few = ones_few in omega arith),
-    ) where
-      fewer : turns / 2 < 2 ^ count
-      fewer = let size = sizes count in let double = size.half in let next = size.next in omega arith
+way_by_turns (suc count) height index turns below is = (
+  turns / 2 * 2 ^ (suc height + 1) + count - ones (turns / 2),
+  record { left = left; right = right },
+  way_by_turns count (suc height) (turns / 2 * 2 ^ (suc height + 1) + count - ones (turns / 2)) (turns / 2) fewer (let few = ones_few in omega arith),
+) where
+  fewer : turns / 2 < 2 ^ count
+  fewer = let size = sizes count in let double = size.half in let next = size.next in omega arith
 
-      ones_few : ones (turns / 2) ≤ count
-      ones_few = ones-le count (turns / 2) fewer
+  ones_few : ones (turns / 2) ≤ count
+  ones_few = ones-le count (turns / 2) fewer
 
-      rows : (turns ≡ turns / 2 + turns / 2 → turns / 2 * 2 ^ (suc height + 1) ≡ turns * 2 ^ (height + 1)) × (turns ≡ turns / 2 + turns / 2 + 1 → turns / 2 * 2 ^ (suc height + 1) + 2 ^ (height + 1) ≡ turns * 2 ^ (height + 1))
-      rows = double_rows (turns / 2) turns (2 ^ (height + 1)) (2 ^ (suc height + 1)) (sizes height).whole
+  rows : (turns ≡ turns / 2 + turns / 2 → turns / 2 * 2 ^ (suc height + 1) ≡ turns * 2 ^ (height + 1)) × (turns ≡ turns / 2 + turns / 2 + 1 → turns / 2 * 2 ^ (suc height + 1) + 2 ^ (height + 1) ≡ turns * 2 ^ (height + 1))
+  rows = double_rows (turns / 2) turns (2 ^ (height + 1)) (2 ^ (suc height + 1)) (sizes height).whole
 
-      left : turns % 2 ≡ 0 → index ≡ turns / 2 * 2 ^ (suc height + 1) + count - ones (turns / 2) + 1
-      left even =
-          let few = ones_few in
-          let digits = ones_half turns in
-          let last : ones (turns % 2) ≡ 0 = ap ones even ∙ no_ones in
-          let row = rows.0 (omega arith) in
-          omega arith
+  left : turns % 2 ≡ 0 → index ≡ turns / 2 * 2 ^ (suc height + 1) + count - ones (turns / 2) + 1
+  left even =
+      let few = ones_few in
+      let digits = ones_half turns in
+      let last : ones (turns % 2) ≡ 0 = ap ones even ∙ no_ones in
+      let row = rows.0 (omega arith) in
+      omega arith
 
-      right : turns % 2 ≡ 1 → index ≡ turns / 2 * 2 ^ (suc height + 1) + count - ones (turns / 2) + 2 ^ suc height
-      right odd =
-          let few = ones_few in
-          let digits = ones_half turns in
-          let last : ones (turns % 2) ≡ 1 = ap ones odd ∙ one_one in
-          let next = (sizes height).next in
-          let row = rows.1 (omega arith) in
-          omega arith
+  right : turns % 2 ≡ 1 → index ≡ turns / 2 * 2 ^ (suc height + 1) + count - ones (turns / 2) + 2 ^ suc height
+  right odd =
+      let few = ones_few in
+      let digits = ones_half turns in
+      let last : ones (turns % 2) ≡ 1 = ap ones odd ∙ one_one in
+      let next = (sizes height).next in
+      let row = rows.1 (omega arith) in
+      omega arith

@@ -1,5 +1,5 @@
 -- The way from a tree's root down to one of its nodes, and how the nodes on it are mended.
-use Rattle.std.specs.Prelude.{◌≡◌, ℕ, zero, suc, ◌+◌, ◌*◌, ◌/◌, ◌%◌, ◌^◌, List, slice_index_or, slice_set}
+use Rattle.std.specs.Prelude.{◌≡◌, ℕ, zero, suc, ◌+◌, ◌/◌, ◌%◌, ◌^◌, List, slice_index_or, slice_set}
 use Rattle.hpt_pool.specs.Tree.{largest_of, JoinsHalves}
 use Rattle.hpt_pool.specs.declared.tree.Node.{Node}
 use Rattle.hpt_pool.specs.declared.tree.Node.TheVariants.{Taken, Open}

@@ -1,4 +1,4 @@
-use Rattle.std.proofs.Common.{◌≡◌, ℕ, ◌+◌, ◌-◌, ◌/◌, ◌^◌, ◌<◌, length, sym, ap, arith}
+use Rattle.std.proofs.Common.{◌^◌, ◌<◌, length, sym, ap, arith}
 use Rattle.std.proofs.lemmas.List.{get_or-set_same}
 use Rattle.hpt_pool.specs.declared.tree.Node.TheVariants.{Taken, Open}
 use Rattle.hpt_pool.specs.Tree.{largest_of}

@@ -1,9 +1,8 @@
-use Rattle.std.proofs.Common.{◌≡◌, ℕ, zero, suc, ◌+◌, ◌-◌, ◌/◌, ◌%◌, ◌^◌, ◌<◌, ◌≤◌, List, length, set, refl, sym, ap, ◌∙◌, subst, inl, inr, ◌⊎◌, arith}
+use Rattle.std.proofs.Common.{◌≡◌, zero, suc, ◌+◌, ◌-◌, ◌^◌, ◌<◌, length, refl, sym, ap, ◌∙◌, subst, arith}
 use Rattle.std.proofs.lemmas.List.{get_or-set_same}
-use Rattle.hpt_pool.specs.declared.tree.Node.{Node}
 use Rattle.hpt_pool.specs.declared.tree.Node.TheVariants.{Taken, Open}
 use Rattle.hpt_pool.specs.Tree.{largest_of}
-use Rattle.hpt_pool.specs.Way.{node_at, IsHalf, IsWay, JoinsAt, AreMended}
+use Rattle.hpt_pool.specs.Way.{JoinsAt, AreMended}
 use Rattle.hpt_pool.proofs.Ways.{GoesUp, is_half, way_up, mended_up, joins_at, StandsIn, stands_in, other_stands}
 use Rattle.hpt_pool.proofs.tree.mend_above.Goals as goal
 

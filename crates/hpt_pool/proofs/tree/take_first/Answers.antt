@@ -1,4 +1,4 @@
-use Rattle.std.proofs.Common.{◌≡◌, ℕ, ◌+◌, ◌∙◌, ap, arith}
+use Rattle.std.proofs.Common.{◌+◌, ap, arith}
 use Rattle.hpt_pool.proofs.Taking.{TakesFirst}
 use Rattle.hpt_pool.proofs.TakingWay.{takes_from, takes_halves, takes_down_left, takes_down_right, takes_here}
 use Rattle.hpt_pool.proofs.tree.take_first.Goals as goal

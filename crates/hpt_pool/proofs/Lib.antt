@@ -6,8 +6,12 @@ mod Rooms
 mod Truth
 mod Parts
 mod Mending
+mod Subtrees
+mod Ways
 mod Taking
 mod Giving
+mod TakingWay
+mod GivingWay
 pub mod Placing
 pub mod Lowest
 mod TreePool

@@ -56,9 +56,6 @@ one_part order left right largest joins left_most right_most below = at (cases_l
 pub double_order : (height : ℕ) → 2 ^ (18 + suc height) ≡ 2 ^ (18 + height) + 2 ^ (18 + height)
 double_order height = ap (λ n. 2 ^ n) (let e : 18 + suc height ≡ 18 + height + 1 = omega arith in e) ∙ (let e = pow-add 2 (18 + height) 1 in omega arith)
 
-pub double_at : (height lower : ℕ) → height ≡ suc lower → 2 ^ (18 + height) ≡ 2 ^ (18 + lower) + 2 ^ (18 + lower)
-double_at height lower is = ap (λ n. 2 ^ (18 + n)) is ∙ double_order lower
-
 -- In two halves are twice as many.
 pub steps_double : (height order : ℕ) → order ≤ 18 + height → 2 ^ (18 + suc height - order) ≡ 2 ^ (18 + height - order) + 2 ^ (18 + height - order)
 steps_double height order small = ap (λ n. 2 ^ n) (let e : 18 + suc height - order ≡ 18 + height - order + 1 = omega arith in e) ∙ (let e = pow-add 2 (18 + height - order) 1 in omega arith)

@@ -1,8 +1,7 @@
 -- The root and the two halves of a list of nodes, and what a write leaves of them.
-use Rattle.std.proofs.Common.{◌≡◌, ℕ, zero, suc, ◌+◌, ◌-◌, ◌^◌, ◌<◌, ◌≤◌, List, [], ◌∷◌, ◌++◌, length, take, drop, get_or, set, refl, sym, ap, ◌∙◌, arith}
-use Rattle.std.proofs.lemmas.Nat.{pow_pos, pow_below, pow-add}
-use Rattle.std.proofs.lemmas.List.{length-take-le, length-drop, length-append, drop-set-lt, get_or-set_same, get_or-drop}
-use Rattle.std.proofs.lemmas.List.Edits.{get_or-between}
+use Rattle.std.proofs.Common.{◌≡◌, ℕ, zero, suc, ◌+◌, ◌-◌, ◌^◌, ◌<◌, ◌≤◌, List, [], ◌∷◌, ◌++◌, length, take, drop, set, refl, sym, ap, ◌∙◌, arith}
+use Rattle.std.proofs.lemmas.Nat.{pow_pos, pow-add}
+use Rattle.std.proofs.lemmas.List.{length-take-le, length-drop, length-append, drop-set-lt, get_or-set_same}
 use Rattle.std.proofs.lemmas.Slice.{between_to_end, between_is, between-put_mid, drop-put_mid, take-put_mid_below}
 use borrow.Rule.Slice.PartMut.{put_mid}
 use Rattle.hpt_pool.specs.declared.tree.Node.{Node}
@@ -29,9 +28,6 @@ twice height = let e = pow-add 2 height 1 in omega arith
 pub is_whole : (height : ℕ) (nodes : List Node) → length nodes + 1 ≡ 2 ^ (height + 1) → IsWhole height nodes
 is_whole height nodes long = let double = twice height in record { some = pow_pos height; whole = omega arith }
 
-pub more_than_one : (height : ℕ) → 0 < height → 1 < 2 ^ height
-more_than_one height some = pow_below 0 height some
-
 pub right_drop : (height : ℕ) (nodes : List Node) → right_of height nodes ≡ drop (2 ^ height) nodes
 right_drop height nodes = between_to_end nodes (2 ^ height) (length nodes) (omega arith)
 
@@ -50,13 +46,6 @@ length-right height nodes whole =
     let rest = length-drop (2 ^ height) nodes in
     let is = ap (λ (xs : List Node). length xs) (right_drop height nodes) in
     omega arith
-
--- ---- the roots of the halves
-pub first-left : (height : ℕ) (nodes : List Node) → 1 < 2 ^ height → root_of (left_of height nodes) ≡ get_or nodes 1 Taken
-first-left height nodes some = get_or-between nodes 1 (2 ^ height) 0 Taken (omega arith)
-
-pub first-right : (height : ℕ) (nodes : List Node) → root_of (right_of height nodes) ≡ get_or nodes (2 ^ height) Taken
-first-right height nodes = ap root_of (right_drop height nodes) ∙ get_or-drop (2 ^ height) nodes 0 Taken ∙ ap (λ n. get_or nodes n Taken) (let e : 2 ^ height + 0 ≡ 2 ^ height = omega arith in e)
 
 -- ---- a write at the root
 pub root_set : (height : ℕ) (nodes : List Node) (root other : Node) (left right : List Node) → 0 < length nodes → HasParts height nodes root left right → HasParts height (set nodes 0 other) other left right

@@ -91,12 +91,6 @@ pub record TakesIn (height lower order : ℕ) (nodes : List Node) : Type 0 where
   pub least : 18 ≤ order
   pub small : order ≤ 18 + lower
 
--- What is not taken as a whole is taken in a half.
-pub takes_in : (height order : ℕ) (nodes : List Node) → IsTree height nodes → order ≤ largest_of (root_of nodes) → 18 ≤ order → (18 + height ≡ order → ⊥) → TakesIn height (height - 1) order nodes
-takes_in height order nodes tree some least other =
-    let limit = most height nodes tree.truthful in
-    record { is = omega arith; tree = tree; some = some; least = least; small = omega arith }
-
 -- If the left half has no such block, the right one has one.
 pub right_some : (height lower order : ℕ) (nodes : List Node) → TakesIn height lower order nodes → largest_of (root_of (left_of height nodes)) < order → order ≤ largest_of (root_of (right_of height nodes))
 right_some height lower order nodes old less =

@@ -1,3 +1,4 @@
 pub mod Pool
 pub mod Free
 pub mod Tree
+pub mod Way

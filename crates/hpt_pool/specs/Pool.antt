@@ -1,5 +1,5 @@
 -- A pool of memory, as the list of the blocks that are taken: where a further block fits, and what taking and giving change.
-use Rattle.std.specs.Prelude.{◌≡◌, ◌<◌, ◌≤◌, ℕ, ◌+◌, ◌-◌, ◌*◌, ◌%◌, ◌^◌, ◌==◌, Bool, true, false, not, ◌&&◌, ◌||◌, nat_lt, nat_le, List, [], ◌∷◌, ◌++◌, filter, find, map, All, AllPairs, Option, option_map}
+use Rattle.std.specs.Prelude.{◌≡◌, ◌<◌, ◌≤◌, ℕ, ◌+◌, ◌-◌, ◌*◌, ◌%◌, ◌^◌, ◌==◌, Bool, true, false, not, ◌&&◌, nat_lt, nat_le, List, [], ◌∷◌, ◌++◌, filter, find, map, All, AllPairs, Option, option_map}
 use Rattle.std.specs.List.{list_any, range_with_len}
 use Rattle.pool_range.specs.Ranges.{IsPoolRange, range_refusal}
 use Rattle.pool_range.specs.declared.range.RangeError.{RangeError}

@@ -6,6 +6,7 @@
 
 mod error;
 mod pool;
+mod spot;
 mod tree;
 
 pub use error::PoolError;

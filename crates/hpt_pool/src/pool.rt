@@ -78,7 +78,8 @@ impl Pool {
         requires at_most { order ≤ 46 }
         ensures place { result ≡ lowest_place self.old order }
         ensures lowest { MatchOption result (FitsNowhere self.old order) (IsLowest self.old order) }
-        ensures taken { IfSome result (λ place. self.new ≡ with_block self.old (block_at place order)) }
+        ensures taken { IfSome result
+            (λ place. self.new ≡ with_block self.old (block_at place order)) }
         ensures none { IfNone result (self.new ≡ self.old) }
         ensures sound { IsSound self.new }
     {

@@ -1,8 +1,10 @@
-ghost use Rattle.std.specs.Prelude.{◌≡◌, ◌+◌, ◌<◌, ◌≤◌, ◌^◌, Contains, IfOk, length, slice_set};
+ghost use Rattle.std.specs.Prelude.{◌≡◌, ◌+◌, ◌-◌, ◌<◌, ◌≤◌, ◌^◌, Contains, IfOk, length};
 ghost use Rattle.hpt_pool.specs.Pool.{block_at, taken_with, taken_without};
-ghost use Rattle.hpt_pool.specs.Tree.{root_of, left_of, right_of, blocks_below, largest_of, JoinsHalves, IsTree};
+ghost use Rattle.hpt_pool.specs.Tree.{root_of, blocks_below, largest_of, JoinsHalves, IsTree};
+ghost use Rattle.hpt_pool.specs.Way.{node_at, IsWay, AreMended};
 ghost use Rattle.hpt_pool.specs.Free.{IsFirstFree};
 
+use crate::spot::Spot;
 use std::alloc::{AllocError, Global};
 
 /// A leaf, the smallest part that is handed out, has `2^18` bytes.
@@ -67,23 +69,18 @@ pub fn take_first(nodes: &mut [Node], height: u8, place: u64, order: u8) -> u64
         ≡ taken_with (blocks_below height place nodes.old) (block_at result order) }
     ensures tree { IsTree height nodes.new }
 {
-    if LEAF_ORDER + height == order {
-        nodes[0] = Node::Taken;
-        return place;
+    let mut spot = Spot::root(height);
+    let mut first = place;
+    while LEAF_ORDER + spot.height != order {
+        if nodes[spot.index + 1].largest() >= order {
+            spot = spot.left();
+        } else {
+            spot = spot.right();
+            first += spot.bytes();
+        }
     }
-    let half = half_of(height);
-    if nodes[1].largest() >= order {
-        let first = take_first(&mut nodes[1..half], height - 1, place, order);
-        mend(nodes, height);
-        return first;
-    }
-    let first = take_first(
-        &mut nodes[half..],
-        height - 1,
-        middle_of(height, place),
-        order,
-    );
-    mend(nodes, height);
+    nodes[spot.index] = Node::Taken;
+    mend_above(nodes, spot, 0, height);
     first
 }
 
@@ -92,38 +89,38 @@ pub fn give_back(nodes: &mut [Node], height: u8, place: u64, given: u64, order: 
     requires tree { IsTree height nodes.old }
     requires most { height ≤ 16 }
     requires top { place + 2 ^ (18 + height) ≤ 2 ^ 60 }
+    requires least { 18 ≤ order }
     requires taken { Contains (blocks_below height place nodes.old) (block_at given order) }
     ensures given { blocks_below height place nodes.new
         ≡ taken_without (blocks_below height place nodes.old) given }
     ensures tree { IsTree height nodes.new }
 {
-    if LEAF_ORDER + height == order {
-        nodes[0] = Node::Open(order);
-        return;
-    }
-    let half = half_of(height);
-    let middle = middle_of(height, place);
-    if given < middle {
-        give_back(&mut nodes[1..half], height - 1, place, given, order);
-        return mend(nodes, height);
-    }
-    give_back(&mut nodes[half..], height - 1, middle, given, order);
-    mend(nodes, height);
+    let depth = LEAF_ORDER + height - order;
+    let turns = ((given - place) >> order) as usize;
+    let spot = Spot::by_turns(height - depth, depth, turns);
+    nodes[spot.index] = Node::Open(order);
+    mend_above(nodes, spot, order, height);
 }
 
-// Makes the root say what its halves say.
-fn mend(nodes: &mut [Node], height: u8)
-    requires least { 0 < height }
+// Makes each node above the spot, of which `said` is the largest order, say what its halves say.
+fn mend_above(nodes: &mut [Node], from: Spot, said: u8, height: u8)
     requires most { height ≤ 16 }
+    requires low { from.height ≤ height }
+    requires way { IsWay (height - from.height) from.height from.index from.turns }
     requires whole { length nodes.old + 1 ≡ 2 ^ (height + 1) }
-    ensures joined { JoinsHalves (17 + height) (largest_of (root_of (left_of height nodes.old)))
-        (largest_of (root_of (right_of height nodes.old))) (largest_of (root_of nodes.new)) }
-    ensures rest { nodes.new
-        ≡ slice_set nodes.old 0 (Node.Open (largest_of (root_of nodes.new))) }
+    requires said { said ≡ largest_of (node_at nodes.old from.index) }
+    ensures { AreMended (height - from.height) from.height from.index from.turns
+        nodes.old nodes.new }
 {
-    let left = nodes[1].largest();
-    let right = nodes[half_of(height)].largest();
-    nodes[0] = Node::Open(joined(LEAF_ORDER + height - 1, left, right));
+    let mut spot = from;
+    let mut largest = said;
+    while spot.height < height {
+        let above = spot.above();
+        let other = nodes[spot.other(above)].largest();
+        largest = joined(LEAF_ORDER + spot.height, largest, other);
+        nodes[above.index] = Node::Open(largest);
+        spot = above;
+    }
 }
 
 // The largest order that is free in two halves of this order.
@@ -144,14 +141,4 @@ fn half_of(height: u8) -> usize
     ensures { result ≡ 2 ^ height }
 {
     1 << height
-}
-
-// The place of the first leaf of the right half.
-fn middle_of(height: u8, place: u64) -> u64
-    requires least { 0 < height }
-    requires most { height ≤ 16 }
-    requires top { place + 2 ^ (18 + height) ≤ 2 ^ 60 }
-    ensures middle { result ≡ place + 2 ^ (17 + height) }
-{
-    place + (1 << (LEAF_ORDER + height - 1))
 }

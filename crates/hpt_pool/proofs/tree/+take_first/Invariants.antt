@@ -1,4 +1,0 @@
-use Rattle.hpt_pool.proofs.tree.+take_first.Given as goal
-
-abbrev pub decreases-take_first : goal.decreases-take_first
-decreases-take_first l = l.height

@@ -65,9 +65,14 @@ pub record Run : Type 0 where
   pub taken_after : Option (List ℕ)
 
 -- These bytes were read: to the end of the input, or past the limit.
-pub record Reads (left : Option (List ℕ)) (bytes : List ℕ) (left_after : Option (List ℕ)) : Type 0 where
-  pub took : Took left bytes left_after
-  pub end : length bytes ≤ most_bytes → AtEnd left_after
+pub record Reads
+    (left : Option (List ℕ))
+    (bytes : List ℕ)
+    (left_after : Option (List ℕ))
+    : Type 0
+  where
+    pub took : Took left bytes left_after
+    pub end : length bytes ≤ most_bytes → AtEnd left_after
 
 -- No byte was read.
 abbrev pub ReadsNothing : Run → Type 0

@@ -122,4 +122,5 @@ counts_text lines count entries =
 
 -- The same of the replies themselves.
 unfoldable pub summary_text : ℕ → List Reply → List (ℕ × State) → List ℕ
-summary_text lines rs entries = counts_text lines (λ counted. count_by (is_counted counted) rs) entries
+summary_text lines rs entries =
+    counts_text lines (λ counted. count_by (is_counted counted) rs) entries

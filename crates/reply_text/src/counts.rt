@@ -52,7 +52,8 @@ impl Counts {
     pub fn add_place(&mut self, place: &ReplyPlace)
         requires { (counted : Counted) → count_of self.old counted + 1 < 2 ^ 64 }
         ensures { (counted : Counted) → count_of self.new counted
-            ≡ count_of self.old counted + (if is_counted counted (reply_in place.now) then 1 else 0) }
+            ≡ count_of self.old counted
+            + (if is_counted counted (reply_in place.now) then 1 else 0) }
     {
         self.raise(ReplyKind::in_place(place));
     }

@@ -125,7 +125,8 @@ impl Machine {
     fn quiet(&mut self, alloc: Global, act: &Act, place: &mut ReplyPlace) -> Result<(), AllocError>
         requires quiet { is_quiet act.now ≡ true }
         requires number { self.old.memory.table.number < 2 ^ 32 - 1 }
-        ensures reply { OnOk result ((reply_in place.new, self.new) ≡ run_quiet_line self.old act.now) }
+        ensures reply { OnOk result
+            ((reply_in place.new, self.new) ≡ run_quiet_line self.old act.now) }
         ensures number { OnOk
             result
             (self.new.memory.table.number ≤ self.old.memory.table.number + 1) }

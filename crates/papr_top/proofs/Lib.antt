@@ -1,2 +1,2 @@
 pub mod Outcomes
-pub mod Drilling
+pub mod Completeness

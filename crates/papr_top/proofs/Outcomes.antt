@@ -1,5 +1,5 @@
 -- How a command that reads a trace ends, from what was read and how the text was written.
-use Rattle.std.proofs.Common.{◌≡◌, ℕ, ◌^◌, ◌<◌, ◌≤◌, List, length, Ok, Err, Option, sym, refl, subst, inl, inr, arith, lt-ltb}
+use Rattle.std.proofs.Common.{◌≡◌, ℕ, ◌^◌, ◌<◌, List, length, Ok, Err, Option, sym, refl, subst, inl, inr, arith, lt-ltb}
 use Rattle.trace_io.specs.Outside.{Took}
 use Rattle.trace_read.specs.declared.why.Why.TheVariants.{Long}
 use Rattle.trace_read.specs.Trace.{AcceptedTrace}
@@ -12,7 +12,7 @@ use Rattle.papr_top.specs.Top.{Run, IsInput, IsOutput, EndsReading, refusal_text
 use Rattle.papr_top.specs.Finish.{Finishes, EndsRefused}
 
 -- An input past the limit is refused as line 0.
-long_refused : (bytes : List ℕ) → 2 ^ 24 < length bytes → trace_of bytes ≡ Err (0, Long)
+pub long_refused : (bytes : List ℕ) → 2 ^ 24 < length bytes → trace_of bytes ≡ Err (0, Long)
 unfolding trace_of
 long_refused bytes h = rw (lt-ltb _ _ h) refl
 

@@ -1,5 +1,5 @@
 -- What the program answers and writes.
-use Rattle.std.specs.Prelude.{◌≡◌, ℕ, ◌≤◌, List, [], ◌++◌, length, Option, Some, None, Result, Ok, Err, codes}
+use Rattle.std.specs.Prelude.{◌≡◌, ℕ, ◌≤◌, List, [], ◌++◌, length, Option, Some, None, IsSomeAnd, Result, Ok, Err, IsOk, codes}
 use Rattle.std.specs.Fmt.{decimal}
 use Rattle.trace_io.specs.Outside.{Took, Put, AtEnd}
 use Rattle.trace_read.specs.declared.why.Why.{Why}
@@ -161,3 +161,10 @@ IsOutcome (Some commands.Run) run status = EndsReading IsSerialText run status
 IsOutcome (Some commands.Par) run status = EndsReading IsParallelText run status
 IsOutcome (Some (commands.Drill seed lines)) run status =
     EndsDrill (generated_trace seed lines) run status
+
+-- ---- what a command needs
+-- The words are a command, and the source tells the trace that it reads. A drill reads none.
+abbrev pub HasInput : Option Command → Option (List ℕ) → Type 0
+HasInput None left = ⊥
+HasInput (Some (commands.Drill seed lines)) left = Unit {0}
+HasInput (Some reading) left = IsSomeAnd left (λ bytes. IsOk (trace_of bytes))

@@ -1,7 +1,7 @@
 ghost use Rattle.std.specs.Prelude.{◌≡◌, ◌≢◌, ◌≤◌, ◌⊎◌, None, Some};
 ghost use Rattle.trace_io.specs.Outside.{Rose};
 ghost use Rattle.trace_gen.specs.Generated.{generated_trace};
-ghost use Rattle.papr_top.specs.Top.{IsOutcome, EndsReading, EndsDrill, IsSerialText, IsParallelText};
+ghost use Rattle.papr_top.specs.Top.{IsOutcome, HasInput, EndsReading, EndsDrill, IsSerialText, IsParallelText};
 ghost use Rattle.papr_top.specs.Commands.{without_par};
 ghost use Rattle.papr_top.specs.Commands as words_of;
 
@@ -124,6 +124,11 @@ pub fn papr_serial<S: Source, K: Sink>(
     // The words alone decide whether they are used rightly.
     ensures usage { without_par (words_of.command_of words.now) ≡ None
         → (result ≡ Status.Usage) ⊎ (result ≡ Status.WriteFault) }
+    // A command that has its input is done where nothing fails, unless memory ends.
+    ensures complete { HasInput (without_par (words_of.command_of words.now)) (S.left source.old)
+        → ¬ Rose (S.faults source.old) (S.faults source.new)
+        → ¬ Rose (K.faults sink.old) (K.faults sink.new)
+        → (result ≡ Status.Done) ⊎ (result ≡ Status.Memory) }
     // Under other words than `run` the source is left as it is.
     ensures untouched { words_of.command_of words.now ≢ Some Command.Run → source.new ≡ source.old }
     // A fault is one of the source's or of the sink's own.
@@ -166,6 +171,11 @@ pub fn papr<R: Threads + Wait + Sync, S: Source, K: Sink, G: Gate + Sync>(
     // The words alone decide whether they are used rightly.
     ensures usage { words_of.command_of words.now ≡ None
         → (result ≡ Status.Usage) ⊎ (result ≡ Status.WriteFault) }
+    // A command that has its input is done where nothing fails, unless memory ends.
+    ensures complete { HasInput (words_of.command_of words.now) (S.left source.old)
+        → ¬ Rose (S.faults source.old) (S.faults source.new)
+        → ¬ Rose (K.faults sink.old) (K.faults sink.new)
+        → (result ≡ Status.Done) ⊎ (result ≡ Status.Memory) }
     // Under other words than `run` and `par` the source is left as it is.
     ensures untouched { words_of.command_of words.now ≢ Some Command.Run
         → words_of.command_of words.now ≢ Some Command.Par

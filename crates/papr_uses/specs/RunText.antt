@@ -1,5 +1,6 @@
 -- The text of a run of a trace.
-use Rattle.std.specs.Prelude.{◌≡◌, ℕ, List, Ok}
+use Rattle.std.specs.Prelude.{◌≡◌, ℕ, List, Option, Ok}
+use Rattle.trace_io.specs.Outside.{Put}
 use Rattle.trace_read.specs.Trace.{AcceptedTrace}
 use Rattle.trace_read.specs.Grammar.{trace_of}
 use Rattle.trace_reply.specs.declared.reply.Reply.{Reply}
@@ -17,3 +18,9 @@ pub record IsTextOfBytes (bytes text : List ℕ) : Type 0 where
   pub trace : AcceptedTrace
   pub accepted : trace_of bytes ≡ Ok trace
   pub told : IsTextOf trace text
+
+-- Such a text was put behind what was there.
+pub record PutsTextOfBytes (bytes : List ℕ) (old new : Option (List ℕ)) : Type 0 where
+  pub text : List ℕ
+  pub told : IsTextOfBytes bytes text
+  pub put : Put old text new

@@ -10,6 +10,8 @@ mod memory_source;
 mod outside;
 mod reading;
 mod std_edge;
+mod steady_sink;
+mod steady_source;
 mod writing;
 
 pub use memory_sink::MemorySink;
@@ -17,6 +19,8 @@ pub use memory_source::MemorySource;
 pub use outside::{Failed, Sink, Source};
 pub use reading::{ReadAllError, read_all};
 pub use std_edge::{StdSink, StdSource};
+pub use steady_sink::SteadySink;
+pub use steady_source::SteadySource;
 pub use writing::write_all;
 
 #[cfg(test)]

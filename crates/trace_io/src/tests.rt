@@ -98,6 +98,36 @@ fn a_sink_has_the_room_that_was_asked_for(rt: HostRuntime) -> Result<(), AllocEr
 }
 
 #[test]
+fn a_steady_source_gives_the_whole_in_pieces(rt: HostRuntime) -> Result<(), AllocError> {
+    for piece in [1, 4, 26, 27, 5000] {
+        let bytes = Vec::from_slice(rt.alloc(), TEXT)?;
+        let mut source = SteadySource::new(bytes, piece);
+        let read = read_all(rt.alloc(), &mut source, TEXT.len());
+        assert!(rt;
+            read.is_ok_and(|all| all.as_slice() == TEXT),
+            "in pieces of {piece}"
+        );
+    }
+    Ok(())
+}
+
+#[test]
+fn a_steady_sink_keeps_what_fits(rt: HostRuntime) -> Result<(), AllocError> {
+    for (piece, room, kept) in [
+        (1, 27, 27),
+        (4, 28, 27),
+        (5000, 27, 27),
+        (5, 8, 8),
+        (5, 0, 0),
+    ] {
+        let mut sink = SteadySink::new(rt.alloc(), piece, room)?;
+        assert!(rt; write_all(&mut sink, TEXT).is_ok());
+        assert!(rt; sink.taken() == &TEXT[..kept], "in pieces of {piece}");
+    }
+    Ok(())
+}
+
+#[test]
 fn reads_over_std(rt: HostRuntime) {
     let mut source = StdSource::new(TEXT);
     let read = read_all(rt.alloc(), &mut source, 100);

@@ -12,11 +12,13 @@ use hpte_fields::normal;
 use lock_core::Step;
 use papr_codes::Hcall;
 use papr_table::PlainTable;
+use papr_top::Status;
 use power_addr::Page;
 use slb_model::Slb;
 use std::alloc::{AllocError, Global};
 use std::test::Fail;
 use tlb_model::Tlb;
+use trace_io::SteadySink;
 
 /// Order 18, 1 GB of main storage, and one H_ENTER.
 const TRACE: &[u8] =
@@ -105,6 +107,21 @@ fn texts(rt: HostRuntime) -> Result<(), Fail> {
     assert!(rt; text_of_bytes(rt.alloc(), b"begin\nbegin\n").is_err());
     let text = text_of_seed(rt.alloc(), 7, 0)?;
     assert_eq!(rt; text.as_str(), SEGMENTS);
+    Ok(())
+}
+
+#[test]
+fn programs(rt: HostRuntime) -> Result<(), Fail> {
+    let alloc = rt.alloc();
+    let empty: &[u8] = b"";
+    for (input, status, text) in [
+        (TRACE, Status::Done, REPLY),
+        (empty, Status::Refused, "papr: line 1: begin\n"),
+    ] {
+        let mut sink = SteadySink::new(alloc, 7, 4096)?;
+        assert_eq!(rt; run_program(alloc, input.to_vec(alloc)?, &mut sink), status);
+        assert_eq!(rt; sink.taken(), text.as_bytes());
+    }
     Ok(())
 }
 

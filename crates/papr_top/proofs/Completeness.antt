@@ -14,11 +14,12 @@ use Rattle.papr_top.proofs.Outcomes.{long_refused}
 read_whole : (left bytes rest : List ℕ) → IsOk (trace_of left) → left ≡ bytes ++ rest → (length bytes ≤ 2 ^ 24 → rest ≡ []) → trace_of bytes ≡ trace_of left
 read_whole left bytes rest accepted took end =
     elim (cases_lt (2 ^ 24) (length bytes)) [
-      inl past ↦
-        (let longer : 2 ^ 24 < length left = omega (arith, ap length took, length-append bytes rest) in
-        let wrong : false ≡ true = subst IsOk (long_refused left longer) accepted in
-        cc)
-    | inr within ↦ ap trace_of (sym (took ∙ ap (λ z. bytes ++ z) (end within) ∙ append-nil bytes)) ]
+      | inl past ↦
+          (let longer : 2 ^ 24 < length left = omega (arith, ap length took, length-append bytes rest) in
+          let wrong : false ≡ true = subst IsOk (long_refused left longer) accepted in
+          cc)
+      | inr within ↦ ap trace_of (sym (took ∙ ap (λ z. bytes ++ z) (end within) ∙ append-nil bytes))
+    ]
 
 -- A trace that is left is not refused.
 not_refused : (left left_after : Option (List ℕ)) (bytes : List ℕ) (refusal : ℕ × Why) → IsSomeAnd left (λ input. IsOk (trace_of input)) → Reads left bytes left_after → trace_of bytes ≡ Err refusal → ⊥

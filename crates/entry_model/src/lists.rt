@@ -1,4 +1,4 @@
-ghost use Rattle.std.specs.Prelude.{◌≡◌, ◌<◌, ◌++◌, [], ◌∷◌, length};
+ghost use Rattle.std.specs.Prelude.{◌≡◌, ◌<◌, ◌≤◌, ◌++◌, [], ◌∷◌, length};
 ghost use Rattle.entry_model.specs.Receipt.{blank_receipt};
 
 use crate::operation::{Answer, Op};
@@ -61,7 +61,8 @@ impl Receipts {
     }
 
     pub fn as_slice(&self) -> &[Receipt]
-        ensures { result.now ≡ self.now }
+        ensures value { result.now ≡ self.now }
+        ensures short { length result.now ≤ 16 }
     {
         self.items.as_slice()
     }
@@ -99,7 +100,8 @@ impl ReplyWords {
     }
 
     pub fn as_slice(&self) -> &[u64]
-        ensures { result.now ≡ self.now }
+        ensures value { result.now ≡ self.now }
+        ensures short { length result.now ≤ 8 }
     {
         self.items.as_slice()
     }

@@ -1,3 +1,4 @@
+pub mod Lengths
 mod NumberSteps
 pub mod Prefixes
 mod ReceiptSteps

@@ -1,6 +1,7 @@
 ghost use Rattle.std.specs.Prelude.{◌≡◌, ◌+◌, ◌++◌, ◌<◌, ◌≤◌, false, length, drop, OnOk, OnErr, string_bytes};
 ghost use Rattle.std.specs.Fmt.{decimal, digit_glyph, digits, signed_decimal};
 ghost use Rattle.std.specs.Io.{StartsWith};
+ghost use Rattle.reply_text.specs.Room.{TakesAtMost};
 ghost use Rattle.reply_text.specs.Text.{hex};
 
 use itoa::Buffer;
@@ -73,6 +74,7 @@ pub fn put_hexadecimal(out: &mut String, before: &str, number: u64) -> Result<()
         result
         (string_bytes out.new ≡ string_bytes out.old ++ before.now ++ hex number) }
     ensures kept { OnErr result (StartsWith (string_bytes out.new) (string_bytes out.old)) }
+    ensures room { TakesAtMost (length before.now + 18) result out.old out.new }
 {
     let mut text = [b'0'; 18];
     let start = write_hexadecimal(number, &mut text, 18);
@@ -86,6 +88,7 @@ pub fn put_decimal(out: &mut String, before: &str, number: u64) -> Result<(), Al
         result
         (string_bytes out.new ≡ string_bytes out.old ++ before.now ++ decimal number) }
     ensures kept { OnErr result (StartsWith (string_bytes out.new) (string_bytes out.old)) }
+    ensures room { TakesAtMost (length before.now + 20) result out.old out.new }
 {
     out.push_str(before)?;
     out.push_str(Buffer::new().format(number))
@@ -98,6 +101,7 @@ pub fn put_signed(out: &mut String, before: &str, number: i64) -> Result<(), All
         result
         (string_bytes out.new ≡ string_bytes out.old ++ before.now ++ signed_decimal number) }
     ensures kept { OnErr result (StartsWith (string_bytes out.new) (string_bytes out.old)) }
+    ensures room { TakesAtMost (length before.now + 20) result out.old out.new }
 {
     out.push_str(before)?;
     out.push_str(Buffer::new().format(number))

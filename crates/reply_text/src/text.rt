@@ -1,8 +1,10 @@
-ghost use Rattle.std.specs.Prelude.{◌≡◌, ◌++◌, OnOk, OnErr, IfOk, string_bytes, length};
+ghost use Rattle.std.specs.Prelude.{◌≡◌, ◌≤◌, ◌+◌, ◌*◌, ◌++◌, false, IsOk, OnOk, OnErr, IfOk, string_bytes, string_len, string_capacity, length};
 ghost use Rattle.std.specs.List.{flat_map};
 ghost use Rattle.std.specs.Io.{StartsWith};
 ghost use Rattle.papr_codes.specs.ReturnCodes.{rc_code};
 ghost use Rattle.trace_reply.specs.Places.{reply_in};
+ghost use Rattle.trace_reply.specs.Replies.{is_dump};
+ghost use Rattle.reply_text.specs.Room.{TakesAtMost};
 ghost use Rattle.reply_text.specs.Text.{want_word, name_of, head_text, word_text, code_text, hcall_text, outcome_text, way_text, access_text, verdict_text, entry_text, dump_head, table_text, dump_text, reply_text, text_from, receipts_text};
 
 use crate::numbers::{put_decimal, put_hexadecimal, put_signed};
@@ -16,14 +18,15 @@ use trace_reply::{Replies, Reply, ReplyEnd, ReplyPlace, Shown};
 
 /// Room for the line of a reply, which has at most 746 bytes: 42 as far as the name, 157 for the
 /// code and 8 words, 546 for 16 receipts, and the line's end.
-const REPLY_ROOM: usize = 1024;
+pub const REPLY_ROOM: usize = 1024;
 
 /// Room for the line of an entry, which has at most 61 bytes.
 const ENTRY_ROOM: usize = 64;
 
 /// The word of an access.
 fn want_name(want: Want) -> &'static str
-    ensures { result.now ≡ want_word want }
+    ensures value { result.now ≡ want_word want }
+    ensures short { length result.now ≤ 5 }
 {
     match want {
         Want::Load => "load",
@@ -33,8 +36,10 @@ fn want_name(want: Want) -> &'static str
 }
 
 /// The word behind the processor in a reply's line.
+#[tactic(auto, using(crate::proofs::Lengths::hcall_name_short))]
 fn name(act: &Act) -> &'static str
-    ensures { result.now ≡ name_of act.now }
+    ensures value { result.now ≡ name_of act.now }
+    ensures short { length result.now ≤ 20 }
 {
     match *act {
         Act::Call {
@@ -58,6 +63,7 @@ fn put_head(out: &mut String, line: &TraceLine) -> Result<(), AllocError>
         (string_bytes out.new
         ≡ string_bytes out.old ++ head_text line.now.number line.now.cpu (name_of line.now.act)) }
     ensures kept { OnErr result (StartsWith (string_bytes out.new) (string_bytes out.old)) }
+    ensures room { TakesAtMost 62 result out.old out.new }
 {
     put_decimal(out, "", u64::from(line.number))?;
     put_decimal(out, " ", u64::from(line.cpu))?;
@@ -66,11 +72,13 @@ fn put_head(out: &mut String, line: &TraceLine) -> Result<(), AllocError>
 }
 
 /// The words of a reply, each behind a space.
+#[tactic(auto, using(crate::proofs::Prefixes::starts_before))]
 fn put_words(out: &mut String, words: &[u64]) -> Result<(), AllocError>
     ensures text { OnOk
         result
         (string_bytes out.new ≡ string_bytes out.old ++ flat_map word_text words.now) }
     ensures kept { OnErr result (StartsWith (string_bytes out.new) (string_bytes out.old)) }
+    ensures room { TakesAtMost (19 * length words.now) result out.old out.new }
 {
     for word in words {
         put_hexadecimal(out, " ", *word)?;
@@ -85,6 +93,7 @@ fn put_code(out: &mut String, rc: Rc) -> Result<(), AllocError>
         result
         (string_bytes out.new ≡ string_bytes out.old ++ code_text (rc_code rc)) }
     ensures kept { OnErr result (StartsWith (string_bytes out.new) (string_bytes out.old)) }
+    ensures room { TakesAtMost 21 result out.old out.new }
 {
     put_signed(out, " ", rc.code())
 }
@@ -102,6 +111,7 @@ fn put_hcall(
         ≡ string_bytes out.old
         ++ hcall_text (record { rc = rc; words = words.now; receipts = receipts.now })) }
     ensures kept { OnErr result (StartsWith (string_bytes out.new) (string_bytes out.old)) }
+    ensures room { TakesAtMost 848 result out.old out.new }
 {
     put_code(out, rc)?;
     put_words(out, words.as_slice())?;
@@ -115,6 +125,7 @@ fn put_outcome(out: &mut String, outcome: Outcome) -> Result<(), AllocError>
         result
         (string_bytes out.new ≡ string_bytes out.old ++ outcome_text outcome) }
     ensures kept { OnErr result (StartsWith (string_bytes out.new) (string_bytes out.old)) }
+    ensures room { TakesAtMost 29 result out.old out.new }
 {
     match outcome {
         Outcome::At(address) => put_hexadecimal(out, " at ", address),
@@ -127,7 +138,8 @@ fn put_outcome(out: &mut String, outcome: Outcome) -> Result<(), AllocError>
 
 /// By what an access ended.
 fn way(by: Option<By>) -> &'static str
-    ensures { result.now ≡ way_text by }
+    ensures value { result.now ≡ way_text by }
+    ensures short { length result.now ≤ 5 }
 {
     match by {
         Some(By::Hit) => " hit",
@@ -150,6 +162,7 @@ fn put_access(
         ≡ string_bytes out.old
         ++ access_text (record { outcome = outcome; by = by; receipts = receipts.now })) }
     ensures kept { OnErr result (StartsWith (string_bytes out.new) (string_bytes out.old)) }
+    ensures room { TakesAtMost 709 result out.old out.new }
 {
     put_outcome(out, outcome)?;
     out.push_str(way(by))?;
@@ -163,6 +176,7 @@ fn put_verdict(out: &mut String, accepted: bool) -> Result<(), AllocError>
         result
         (string_bytes out.new ≡ string_bytes out.old ++ verdict_text accepted) }
     ensures kept { OnErr result (StartsWith (string_bytes out.new) (string_bytes out.old)) }
+    ensures room { TakesAtMost 9 result out.old out.new }
 {
     out.push_str(if accepted { " ok\n" } else { " refused\n" })
 }
@@ -174,6 +188,7 @@ fn put_entry(out: &mut String, entry: u32, state: &EntryState) -> Result<(), All
         result
         (string_bytes out.new ≡ string_bytes out.old ++ entry_text (entry, state.now)) }
     ensures kept { OnErr result (StartsWith (string_bytes out.new) (string_bytes out.old)) }
+    ensures capacity { string_capacity out.old ≤ string_capacity out.new }
 {
     let (first, second) = state.words();
     put_hexadecimal(out, " ", u64::from(entry))?;
@@ -188,6 +203,7 @@ fn put_entry(out: &mut String, entry: u32, state: &EntryState) -> Result<(), All
 fn put_dump_head(out: &mut String, line: u32) -> Result<(), AllocError>
     ensures text { OnOk result (string_bytes out.new ≡ string_bytes out.old ++ dump_head line) }
     ensures kept { OnErr result (StartsWith (string_bytes out.new) (string_bytes out.old)) }
+    ensures capacity { string_capacity out.old ≤ string_capacity out.new }
 {
     put_decimal(out, "", u64::from(line))?;
     out.push_str(" dump")
@@ -202,6 +218,7 @@ fn put_table(out: &mut String, shown: &Shown, count: usize) -> Result<(), AllocE
         ≡ string_bytes out.old
         ++ table_text shown.now.number shown.now.order shown.now.place count) }
     ensures kept { OnErr result (StartsWith (string_bytes out.new) (string_bytes out.old)) }
+    ensures capacity { string_capacity out.old ≤ string_capacity out.new }
 {
     put_decimal(out, " table ", u64::from(shown.number))?;
     put_decimal(out, " order ", u64::from(shown.order))?;
@@ -216,6 +233,7 @@ fn put_entries(out: &mut String, entries: &[(u32, EntryState)]) -> Result<(), Al
         result
         (string_bytes out.new ≡ string_bytes out.old ++ flat_map entry_text entries.now) }
     ensures kept { OnErr result (StartsWith (string_bytes out.new) (string_bytes out.old)) }
+    ensures capacity { string_capacity out.old ≤ string_capacity out.new }
 {
     for (entry, state) in entries {
         out.reserve(ENTRY_ROOM)?;
@@ -230,6 +248,7 @@ fn put_dump(out: &mut String, line: u32, shown: &Shown) -> Result<(), AllocError
         result
         (string_bytes out.new ≡ string_bytes out.old ++ dump_text line shown.now) }
     ensures kept { OnErr result (StartsWith (string_bytes out.new) (string_bytes out.old)) }
+    ensures capacity { string_capacity out.old ≤ string_capacity out.new }
 {
     let entries = shown.states.as_slice();
     put_dump_head(out, line)?;
@@ -244,6 +263,13 @@ pub fn put_reply(out: &mut String, line: &TraceLine, reply: &Reply) -> Result<()
         result
         (string_bytes out.new ≡ string_bytes out.old ++ reply_text line.now reply.now) }
     ensures kept { OnErr result (StartsWith (string_bytes out.new) (string_bytes out.old)) }
+    // In the room of a reply, the line of one that is no dump is written, and takes no more.
+    ensures fits { is_dump reply.now ≡ false
+        → string_len out.old + REPLY_ROOM ≤ string_capacity out.old
+        → IsOk result }
+    ensures short { is_dump reply.now ≡ false
+        → OnOk result (string_len out.new ≤ string_len out.old + REPLY_ROOM) }
+    ensures capacity { string_capacity out.old ≤ string_capacity out.new }
 {
     out.reserve(REPLY_ROOM)?;
     match reply {
@@ -270,6 +296,13 @@ pub fn put_place(out: &mut String, line: &TraceLine, place: &ReplyPlace) -> Resu
         (string_bytes out.new
         ≡ string_bytes out.old ++ reply_text line.now (reply_in place.now)) }
     ensures kept { OnErr result (StartsWith (string_bytes out.new) (string_bytes out.old)) }
+    // In the room of a reply, the line of one that is no dump is written, and takes no more.
+    ensures fits { is_dump (reply_in place.now) ≡ false
+        → string_len out.old + REPLY_ROOM ≤ string_capacity out.old
+        → IsOk result }
+    ensures short { is_dump (reply_in place.now) ≡ false
+        → OnOk result (string_len out.new ≤ string_len out.old + REPLY_ROOM) }
+    ensures capacity { string_capacity out.old ≤ string_capacity out.new }
 {
     out.reserve(REPLY_ROOM)?;
     match &place.end {

@@ -1,5 +1,5 @@
 -- Run lines and their replies.
-use Rattle.std.specs.Prelude.{List, [], ◌∷◌}
+use Rattle.std.specs.Prelude.{Bool, true, false, List, [], ◌∷◌}
 use Rattle.entry_model.specs.declared.receipt.Receipt.{Receipt}
 use Rattle.trace_read.specs.declared.trace.Act.{Act}
 use Rattle.trace_read.specs.declared.trace.TraceLine.{TraceLine}
@@ -15,6 +15,11 @@ IsOfKind (acts.SlbMte rb rs) (replies.Segment accepted) = Unit {0}
 IsOfKind acts.SlbClear (replies.Segment accepted) = Unit {0}
 IsOfKind acts.Dump (replies.Dump shown) = Unit {0}
 IsOfKind act reply = ⊥
+
+-- A reply that shows a table.
+abbrev pub is_dump : Reply → Bool
+is_dump (replies.Dump shown) = true
+is_dump reply = false
 
 -- One reply for each line, of its kind, in file order.
 abbrev pub AreReplies : List TraceLine → List Reply → Type 0

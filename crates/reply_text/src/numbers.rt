@@ -47,6 +47,7 @@ pub fn write_hexadecimal(number: u64, text: &mut [u8], end: usize) -> usize
     requires within { end ≤ length text.old }
     ensures low { end ≤ result + 18 }
     ensures high { result ≤ end }
+    ensures start { result + length (hex number) ≡ end }
     ensures written { drop result text.new ≡ hex number ++ drop end text.old }
 {
     let start = write_hexadecimal_digits(number, text, end);
@@ -88,7 +89,11 @@ pub fn put_decimal(out: &mut String, before: &str, number: u64) -> Result<(), Al
         result
         (string_bytes out.new ≡ string_bytes out.old ++ before.now ++ decimal number) }
     ensures kept { OnErr result (StartsWith (string_bytes out.new) (string_bytes out.old)) }
-    ensures room { TakesAtMost (length before.now + 20) result out.old out.new }
+    ensures room { TakesAtMost
+        (length before.now + length (decimal number))
+        result
+        out.old
+        out.new }
 {
     out.push_str(before)?;
     out.push_str(Buffer::new().format(number))
@@ -101,7 +106,11 @@ pub fn put_signed(out: &mut String, before: &str, number: i64) -> Result<(), All
         result
         (string_bytes out.new ≡ string_bytes out.old ++ before.now ++ signed_decimal number) }
     ensures kept { OnErr result (StartsWith (string_bytes out.new) (string_bytes out.old)) }
-    ensures room { TakesAtMost (length before.now + 20) result out.old out.new }
+    ensures room { TakesAtMost
+        (length before.now + length (signed_decimal number))
+        result
+        out.old
+        out.new }
 {
     out.push_str(before)?;
     out.push_str(Buffer::new().format(number))

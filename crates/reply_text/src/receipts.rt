@@ -49,7 +49,7 @@ fn bits(state: &EntryState) -> &'static str
 /// Writes a receipt, behind a space, so that it ends where the text does. Returns where it starts.
 fn write_receipt(receipt: &Receipt, text: &mut [u8; RECEIPT_ROOM]) -> usize
     ensures within { result ≤ length text.old }
-    ensures short { 22 ≤ result }
+    ensures short { 30 ≤ result }
     ensures written { drop result text.new ≡ receipt_text receipt.now }
 {
     // From the last piece to the first: where a number starts is known once it is written.
@@ -67,7 +67,7 @@ fn put_receipt(out: &mut String, receipt: &Receipt) -> Result<(), AllocError>
         result
         (string_bytes out.new ≡ string_bytes out.old ++ receipt_text receipt.now) }
     ensures kept { OnErr result (StartsWith (string_bytes out.new) (string_bytes out.old)) }
-    ensures room { TakesAtMost 42 result out.old out.new }
+    ensures room { TakesAtMost 34 result out.old out.new }
 {
     let mut text = [b' '; RECEIPT_ROOM];
     let start = write_receipt(receipt, &mut text);
@@ -81,7 +81,7 @@ pub fn put_receipts(out: &mut String, receipts: &[Receipt]) -> Result<(), AllocE
         result
         (string_bytes out.new ≡ string_bytes out.old ++ receipts_text receipts.now) }
     ensures kept { OnErr result (StartsWith (string_bytes out.new) (string_bytes out.old)) }
-    ensures room { TakesAtMost (2 + 42 * length receipts.now) result out.old out.new }
+    ensures room { TakesAtMost (2 + 34 * length receipts.now) result out.old out.new }
 {
     if receipts.is_empty() {
         return Ok(());

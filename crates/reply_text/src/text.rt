@@ -16,8 +16,8 @@ use storage_prot::Want;
 use trace_read::{Act, Trace, TraceLine};
 use trace_reply::{Replies, Reply, ReplyEnd, ReplyPlace, Shown};
 
-/// Room for the line of a reply, which has at most 746 bytes: 42 as far as the name, 157 for the
-/// code and 8 words, 546 for 16 receipts, and the line's end.
+/// Room for the line of a reply that is no dump. It has at most 746 bytes: 42 as far as the name,
+/// 157 for the code and 8 words, 546 for 16 receipts, and the line's end.
 pub const REPLY_ROOM: usize = 1024;
 
 /// Room for the line of an entry, which has at most 61 bytes.
@@ -56,17 +56,19 @@ fn name(act: &Act) -> &'static str
 }
 
 /// The line's number, its processor, and its name.
-#[tactic(auto, unfolding(crate::specs::Text::head_text))]
+#[tactic(auto, using(crate::proofs::Lengths::decimal_short), unfolding(crate::specs::Text::head_text))]
 fn put_head(out: &mut String, line: &TraceLine) -> Result<(), AllocError>
     ensures text { OnOk
         result
         (string_bytes out.new
         ≡ string_bytes out.old ++ head_text line.now.number line.now.cpu (name_of line.now.act)) }
     ensures kept { OnErr result (StartsWith (string_bytes out.new) (string_bytes out.old)) }
-    ensures room { TakesAtMost 62 result out.old out.new }
+    ensures room { TakesAtMost 42 result out.old out.new }
 {
-    put_decimal(out, "", u64::from(line.number))?;
-    put_decimal(out, " ", u64::from(line.cpu))?;
+    // Taken out of the line, their types bound how many digits they have.
+    let TraceLine { number, cpu, .. } = *line;
+    put_decimal(out, "", u64::from(number))?;
+    put_decimal(out, " ", u64::from(cpu))?;
     out.push_str(" ")?;
     out.push_str(name(&line.act))
 }
@@ -87,13 +89,13 @@ fn put_words(out: &mut String, words: &[u64]) -> Result<(), AllocError>
 }
 
 /// A return code, behind a space.
-#[tactic(auto, unfolding(crate::specs::Text::code_text))]
+#[tactic(auto, using(crate::proofs::Lengths::code_short), unfolding(crate::specs::Text::code_text))]
 fn put_code(out: &mut String, rc: Rc) -> Result<(), AllocError>
     ensures text { OnOk
         result
         (string_bytes out.new ≡ string_bytes out.old ++ code_text (rc_code rc)) }
     ensures kept { OnErr result (StartsWith (string_bytes out.new) (string_bytes out.old)) }
-    ensures room { TakesAtMost 21 result out.old out.new }
+    ensures room { TakesAtMost 5 result out.old out.new }
 {
     put_signed(out, " ", rc.code())
 }
@@ -111,7 +113,7 @@ fn put_hcall(
         ≡ string_bytes out.old
         ++ hcall_text (record { rc = rc; words = words.now; receipts = receipts.now })) }
     ensures kept { OnErr result (StartsWith (string_bytes out.new) (string_bytes out.old)) }
-    ensures room { TakesAtMost 848 result out.old out.new }
+    ensures room { TakesAtMost 704 result out.old out.new }
 {
     put_code(out, rc)?;
     put_words(out, words.as_slice())?;
@@ -162,7 +164,7 @@ fn put_access(
         ≡ string_bytes out.old
         ++ access_text (record { outcome = outcome; by = by; receipts = receipts.now })) }
     ensures kept { OnErr result (StartsWith (string_bytes out.new) (string_bytes out.old)) }
-    ensures room { TakesAtMost 709 result out.old out.new }
+    ensures room { TakesAtMost 581 result out.old out.new }
 {
     put_outcome(out, outcome)?;
     out.push_str(way(by))?;
@@ -263,7 +265,7 @@ pub fn put_reply(out: &mut String, line: &TraceLine, reply: &Reply) -> Result<()
         result
         (string_bytes out.new ≡ string_bytes out.old ++ reply_text line.now reply.now) }
     ensures kept { OnErr result (StartsWith (string_bytes out.new) (string_bytes out.old)) }
-    // In the room of a reply, the line of one that is no dump is written, and takes no more.
+    // Within the room of a reply, the line of one that is no dump is written, in no more than that.
     ensures fits { is_dump reply.now ≡ false
         → string_len out.old + REPLY_ROOM ≤ string_capacity out.old
         → IsOk result }
@@ -296,7 +298,7 @@ pub fn put_place(out: &mut String, line: &TraceLine, place: &ReplyPlace) -> Resu
         (string_bytes out.new
         ≡ string_bytes out.old ++ reply_text line.now (reply_in place.now)) }
     ensures kept { OnErr result (StartsWith (string_bytes out.new) (string_bytes out.old)) }
-    // In the room of a reply, the line of one that is no dump is written, and takes no more.
+    // Within the room of a reply, the line of one that is no dump is written, in no more than that.
     ensures fits { is_dump (reply_in place.now) ≡ false
         → string_len out.old + REPLY_ROOM ≤ string_capacity out.old
         → IsOk result }

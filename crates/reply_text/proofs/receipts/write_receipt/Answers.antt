@@ -2,6 +2,7 @@ use Rattle.std.proofs.Common.{◌≡◌, ◌∙◌, ap, arith, append_assoc, app
 use Rattle.std.proofs.lemmas.Fmt.{length-decimal-le}
 use Rattle.std.proofs.lemmas.List.{drop_all}
 use Rattle.entry_model.specs.declared.receipt.Receipt.{Receipt}
+use Rattle.reply_text.proofs.Lengths.{decimal_short, hex_short}
 use Rattle.reply_text.proofs.receipts.write_receipt.Goals as goal
 
 pub write_digits-stamp-requires : goal.write_digits-stamp-requires
@@ -31,6 +32,4 @@ returns-clause-written c =
     rw (c.write_piece.ensures.written, c.write_hexadecimal-entry.ensures.written, c.write_piece-point.ensures.written, c.write_digits-stamp.ensures.written, c.write_piece-bits.ensures.written, c.write_piece-word.ensures.written, drop_all 64 c.args.text.now (omega arith), append-nil, c.word_of.ensures.value, c.bits.ensures.value, stamp, entry) (simp append_assoc)
 
 pub returns-clause-short : goal.returns-clause-short
-returns-clause-short c =
-    let long = length-decimal-le 10 c.from.result (omega arith) (omega arith) (omega arith) in
-    omega arith
+returns-clause-short c = omega (arith, decimal_short c.from.result (omega arith), hex_short c.from-2.result (omega arith))

@@ -43,6 +43,3 @@ pub use pause::{NoPause, Pause};
 pub use rule::{LockRule, Opening, View};
 pub use table::{LockTable, Pass};
 pub use waiting::Waiting;
-
-#[cfg(test)]
-mod tests;

@@ -36,6 +36,3 @@ pub use receipt::Receipt;
 pub use state::EntryState;
 pub use store::EntryStore;
 pub use trial::{GoesOn, try_entries};
-
-#[cfg(test)]
-mod tests;

@@ -38,6 +38,3 @@ pub use step::Step;
 pub use words::{
     is_noted, is_read, is_still, noted_state, receipt, same_state, settled_word, state_of,
 };
-
-#[cfg(test)]
-mod tests;

@@ -22,6 +22,3 @@ pub use numbers::number;
 pub use parser::{MOST_BYTES, TraceError, parse};
 pub use trace::{Act, Trace, TraceLine, TraceLines};
 pub use why::Why;
-
-#[cfg(test)]
-mod tests;

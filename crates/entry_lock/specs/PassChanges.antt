@@ -45,6 +45,10 @@ pub record TellsLastStep (v w : View) (e : ℕ) (b : Busy) : Type 0 where
   pub looked_there : EntryHad w e b.looked
   pub found_there : EntryHad w e b.found
 
+-- The call took no more than so many lock steps, looks and marks.
+abbrev pub TookAtMost : ℕ → View → View → Type 0
+TookAtMost most v w = w.count ≤ v.count + most
+
 -- The pass made no receipt, and the line is gone for it: the word that the last step found has left
 -- the line's stamp, so the front of the entry is past it.
 pub record FindsGone (v w : View) (cached : Line) : Type 0 where

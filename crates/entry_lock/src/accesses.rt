@@ -11,7 +11,7 @@ ghost use Rattle.entry_lock.specs.Found.{EntryHad};
 ghost use Rattle.entry_lock.specs.PassInvariants.{IsActing, IsAt};
 ghost use Rattle.entry_lock.specs.AccessSteps.{IsLooking};
 ghost use Rattle.entry_lock.specs.BusyCauses.{IsChanging};
-ghost use Rattle.entry_lock.specs.PassChanges.{MadeNothing, MadeReceipt, TellsLastStep};
+ghost use Rattle.entry_lock.specs.PassChanges.{MadeNothing, MadeReceipt, TellsLastStep, TookAtMost};
 ghost use Rattle.entry_lock.specs.Progress.{LookedAtEntry, IsSameDoing};
 
 use crate::access_steps::{load_looked, look, look_again, mark};
@@ -51,6 +51,7 @@ fn look_first(table: &Words, seat: &mut PassSeat, entry: u32, op: Op) -> Result<
     ensures last { IfErr result (λ b. TellsLastStep seat.old.me.0 seat.new.me.0 entry b) }
     ensures cause { IfErr result (λ b. IsChanging b) }
     ensures alone { length seat.old.me.0.numbers ≡ seat.old.me.0.passes → IsOk result }
+    ensures once { TookAtMost 1 seat.old.me.0 seat.new.me.0 }
 {
     let found = look::<Brand>(table, seat, entry, &op);
     let control = control_of(found);
@@ -78,6 +79,7 @@ fn load_words(table: &Words, seat: &mut PassSeat, doing: &Doing) -> Doing
     ensures read { is_read_of result ≡ true }
     ensures looking { IsLooking seat.new.me.0 result }
     ensures same { MadeNothing seat.old.me.0 seat.new.me.0 }
+    ensures once { TookAtMost 0 seat.old.me.0 seat.new.me.0 }
 {
     if !doing.noted.valid {
         return *doing;
@@ -112,6 +114,7 @@ fn decide(
     ensures last { IfErr result (λ b. TellsLastStep seat.old.me.0 seat.new.me.0 doing.now.entry b) }
     ensures cause { IfErr result (λ b. IsChanging b) }
     ensures alone { length seat.old.me.0.numbers ≡ seat.old.me.0.passes → IsOk result }
+    ensures once { TookAtMost 1 seat.old.me.0 seat.new.me.0 }
 {
     let found = look_again::<Brand>(table, seat, doing);
     let looked = word_from(&doing.noted);
@@ -154,6 +157,7 @@ fn raise_bits(
     ensures last { IfErr result (λ b. TellsLastStep seat.old.me.0 seat.new.me.0 doing.now.entry b) }
     ensures cause { IfErr result (λ b. IsChanging b) }
     ensures alone { length seat.old.me.0.numbers ≡ seat.old.me.0.passes → IsOk result }
+    ensures once { TookAtMost 1 seat.old.me.0 seat.new.me.0 }
 {
     let found = mark::<Brand>(
         table,
@@ -188,6 +192,7 @@ pub fn try_access(table: &Words, seat: &mut PassSeat, entry: u32, op: Op) -> Res
     ensures last { IfErr result (λ b. TellsLastStep seat.old.me.0 seat.new.me.0 entry b) }
     ensures cause { IfErr result (λ b. IsChanging b) }
     ensures alone { length seat.old.me.0.numbers ≡ seat.old.me.0.passes → IsOk result }
+    ensures once { TookAtMost 2 seat.old.me.0 seat.new.me.0 }
 {
     let looked = look_first(table, seat, entry, op)?;
     let doing = load_words(table, seat, &looked);

@@ -8,7 +8,7 @@ ghost use Rattle.entry_lock.specs.Views.{states_of};
 ghost use Rattle.entry_lock.specs.StepViews.{view_with_receipt};
 ghost use Rattle.entry_lock.specs.PassInvariants.{IsActing, IsAt};
 ghost use Rattle.entry_lock.specs.BusyCauses.{IsHeldElsewhere};
-ghost use Rattle.entry_lock.specs.PassChanges.{MadeNothing, MadeReceipt, TellsLastStep};
+ghost use Rattle.entry_lock.specs.PassChanges.{MadeNothing, MadeReceipt, TellsLastStep, TookAtMost};
 ghost use Rattle.entry_lock.specs.Progress.{TookEntry, IsSameDoing};
 
 use crate::busy::Busy;
@@ -35,6 +35,7 @@ fn take_entry(table: &Words, seat: &mut PassSeat, entry: u32, op: Op) -> Result<
     ensures last { IfErr result (λ b. TellsLastStep seat.old.me.0 seat.new.me.0 entry b) }
     ensures cause { IfErr result (λ b. IsHeldElsewhere b) }
     ensures alone { length seat.old.me.0.numbers ≡ seat.old.me.0.passes → IsOk result }
+    ensures once { TookAtMost 1 seat.old.me.0 seat.new.me.0 }
 {
     let found = lock::<Brand>(table, seat, entry, &op);
     let control = control_of(found);
@@ -59,6 +60,7 @@ fn load_held(table: &Words, seat: &mut PassSeat, doing: &Doing) -> Doing
     ensures read { is_read_of result ≡ true }
     ensures held { seat.new.me.0.actor.phase ≡ Held result }
     ensures same { MadeNothing seat.old.me.0 seat.new.me.0 }
+    ensures once { TookAtMost 0 seat.old.me.0 seat.new.me.0 }
 {
     if !doing.noted.valid {
         return *doing;
@@ -145,6 +147,7 @@ pub fn try_call<P: Pause>(
     ensures last { IfErr result (λ b. TellsLastStep seat.old.me.0 seat.new.me.0 entry b) }
     ensures cause { IfErr result (λ b. IsHeldElsewhere b) }
     ensures alone { length seat.old.me.0.numbers ≡ seat.old.me.0.passes → IsOk result }
+    ensures once { TookAtMost 1 seat.old.me.0 seat.new.me.0 }
 {
     let taken = take_entry(table, seat, entry, op)?;
     pause.held();

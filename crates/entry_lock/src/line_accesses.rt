@@ -10,7 +10,7 @@ ghost use Rattle.entry_lock.specs.SeenLines.{IsSeen};
 ghost use Rattle.entry_lock.specs.LineSteps.{doing_by_line, is_gone_from as is_gone_from_of};
 ghost use Rattle.entry_lock.specs.PassInvariants.{IsActing, IsAt};
 ghost use Rattle.entry_lock.specs.BusyCauses.{IsMissedMark};
-ghost use Rattle.entry_lock.specs.PassChanges.{MadeNothing, MadeReceipt, TellsLastStep, FindsGone};
+ghost use Rattle.entry_lock.specs.PassChanges.{MadeNothing, MadeReceipt, TellsLastStep, FindsGone, TookAtMost};
 ghost use Rattle.entry_lock.specs.Progress.{IsByLine};
 
 use crate::accesses::marked_control;
@@ -50,6 +50,7 @@ fn look_first(table: &Words, seat: &mut PassSeat, known: &Line, op: Op) -> Optio
     ensures same { IfSome result (λ d. MadeNothing seat.old.me.0 seat.new.me.0) }
     ensures gone { IfNone result (FindsGone seat.old.me.0 seat.new.me.0 known.now) }
     ensures idle { IfNone result (seat.new.me.0.actor.phase ≡ Idle) }
+    ensures once { TookAtMost 1 seat.old.me.0 seat.new.me.0 }
 {
     let found = look_line::<Brand>(table, seat, known, &op);
     let control = control_of(found);
@@ -82,6 +83,7 @@ fn decide(
     ensures current { IfSome result (λ r. IsCurrent known.now r.before) }
     ensures made { IfSome result (λ r. MadeReceipt seat.old.me.0 seat.new.me.0 r) }
     ensures gone { IfNone result (FindsGone seat.old.me.0 seat.new.me.0 known.now) }
+    ensures once { TookAtMost 1 seat.old.me.0 seat.new.me.0 }
 {
     let _ = op;
     let found = look_line_again::<Brand>(table, seat, known, doing);
@@ -124,6 +126,7 @@ fn raise_bits(
     ensures last { IfErr result (λ b. TellsLastStep seat.old.me.0 seat.new.me.0 known.now.entry b) }
     ensures cause { IfErr result (λ b. IsMissedMark b known.now) }
     ensures alone { length seat.old.me.0.numbers ≡ seat.old.me.0.passes → IsOk result }
+    ensures once { TookAtMost 1 seat.old.me.0 seat.new.me.0 }
 {
     let _ = op;
     let new = word_from(&marked_control(doing, &told.after));
@@ -166,6 +169,7 @@ pub fn try_line(
     ensures last { IfErr result (λ b. TellsLastStep seat.old.me.0 seat.new.me.0 known.now.entry b) }
     ensures cause { IfErr result (λ b. IsMissedMark b known.now) }
     ensures alone { length seat.old.me.0.numbers ≡ seat.old.me.0.passes → IsOk result }
+    ensures once { TookAtMost 2 seat.old.me.0 seat.new.me.0 }
 {
     let Some(doing) = look_first(table, seat, known, op) else {
         return Ok(None);

@@ -1,5 +1,5 @@
 //! What a pass does: tries of operations, splits and joins.
-ghost use Rattle.std.specs.Prelude.{◌≡◌, ◌⊎◌, ℕ, ◌+◌, ◌-◌, ◌<◌, ◌≤◌, ◌^◌, [], ◌++◌, length, IfOk, IfErr, IfSome, IfNone, IsOk, MatchBool};
+ghost use Rattle.std.specs.Prelude.{◌≡◌, ◌⊎◌, ℕ, ◌+◌, ◌-◌, ◌<◌, ◌≤◌, ◌^◌, [], ◌++◌, length, IfOk, IfErr, IfSome, IfNone, IsOk, MatchBool, if◌then◌else◌};
 ghost use Rattle.hpte_fields.specs.TableSize.{entry_count};
 ghost use Rattle.entry_model.specs.declared.line.Line.{Line as LineOf};
 ghost use Rattle.entry_model.specs.Receipt.{is_access as is_access_of, IsReceiptOf};
@@ -8,7 +8,7 @@ ghost use Rattle.entry_model.specs.Fronts.{larger, IsGone};
 ghost use Rattle.entry_lock.specs.SeenLines.{IsSeen};
 ghost use Rattle.entry_lock.specs.PassOfTable.{IsOf, view_of};
 ghost use Rattle.entry_lock.specs.BusyCauses.{IsHeldElsewhere, IsChanging, IsMissedMark};
-ghost use Rattle.entry_lock.specs.PassChanges.{MadeNothing, MadeReceipt, TellsLastStep, FindsGone};
+ghost use Rattle.entry_lock.specs.PassChanges.{MadeNothing, MadeReceipt, TellsLastStep, FindsGone, TookAtMost};
 
 use crate::access_steps::bound_shares;
 use crate::accesses::try_access;
@@ -55,6 +55,8 @@ impl Pass {
         ensures cause { IfErr result
             (λ b. MatchBool (is_access_of op) (IsChanging b) (IsHeldElsewhere b)) }
         ensures alone { self.old.shares ≡ table.now.passes → IsOk result }
+        ensures once { TookAtMost
+            (if is_access_of op then 2 else 1) (view_of self.old) (view_of self.new) }
     {
         if is_access(&op) {
             try_access(&table.table.shared, &mut self.seat, entry, op)
@@ -81,6 +83,8 @@ impl Pass {
         ensures cause { IfErr result
             (λ b. MatchBool (is_access_of op) (IsChanging b) (IsHeldElsewhere b)) }
         ensures alone { self.old.shares ≡ table.now.passes → IsOk result }
+        ensures once { TookAtMost
+            (if is_access_of op then 2 else 1) (view_of self.old) (view_of self.new) }
     {
         self.try_with(table, entry, op, &NoPause)
     }
@@ -114,6 +118,7 @@ impl Pass {
             (λ b. TellsLastStep (view_of self.old) (view_of self.new) known.now.entry b) }
         ensures cause { IfErr result (λ b. IsMissedMark b known.now) }
         ensures alone { self.old.shares ≡ table.now.passes → IsOk result }
+        ensures once { TookAtMost 2 (view_of self.old) (view_of self.new) }
     {
         try_line(&table.table.shared, &mut self.seat, known, op)
     }

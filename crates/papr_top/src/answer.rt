@@ -3,14 +3,14 @@ ghost use Rattle.trace_gen.specs.Generated.{generated_trace};
 ghost use Rattle.run_model.specs.SerialRun.{serial_replies};
 ghost use Rattle.papr_top.specs.Top.{refusal_text, drill_text, IsAssured, IsSerialText, IsParallelText};
 
-use reply_text::{summary_of_counts, text_of};
+use reply_text::summary_of_counts;
 use std::alloc::{AllocError, Global};
 use std::fmt::Write;
 use std::sync::Wait;
 use std::thread::Threads;
 use trace_gen::generate;
 use trace_read::{Trace, Why};
-use trace_runner::{Gate, run_counted, run_parallel, run_to_text};
+use trace_runner::{Gate, parallel_to_text, run_counted, run_to_text};
 
 /// The line that refuses an input.
 pub fn refusal(alloc: Global, line: u32, why: Why) -> Result<String, AllocError>
@@ -38,8 +38,7 @@ pub fn parallel_text<R: Threads + Wait + Sync, G: Gate + Sync>(
 ) -> Result<String, AllocError>
     ensures { IfOk result (λ s. IsParallelText trace.now (string_bytes s)) }
 {
-    let replies = run_parallel(rt, alloc, trace, gate)?;
-    text_of(alloc, trace, &replies)
+    parallel_to_text(rt, alloc, trace, gate)
 }
 
 /// The summary of a generated trace.

@@ -1,7 +1,7 @@
 -- The passes of all processors become one.
 use Rattle.std.specs.Prelude.{IfSome, is_some}
 use Rattle.std.specs.Option.{option_to_list}
-use Rattle.std.proofs.lemmas.List.{reverse-append, length-append}
+use Rattle.std.proofs.lemmas.List.{reverse-append, length-append, length-map}
 use Rattle.std.proofs.Common.{◌≡◌, ◌+◌, ◌<◌, List, [], ◌∷◌, ◌++◌, length, map, ap, sym, ◌∙◌, refl, subst, reverse, true, cond, ◌⊎◌, inl, inr, Option, Some, None, arith, append_assoc, append-nil}
 use Rattle.std.specs.List.{AllByRecursion}
 use Rattle.std.proofs.lemmas.List.Elements.{Contains-append_left, Contains-append_right}
@@ -27,7 +27,7 @@ popped_count old new o x e is = ap length (e ∙ ap (λ z. new ++ option_to_list
 
 -- ---- joins
 -- The pass so far, if there is one, and those of the workers that are left are those of all.
-pub record Joining (table : LockTable) (ws rest : List Worker) (all : Option Pass) : Type 0 where
+pub record Joining {L : Type 0} (table : LockTable) (ws rest : List (Worker L)) (all : Option Pass) : Type 0 where
   pub of : IfSome all (IsOf table)
   pub shares : shares_in all + pass_count rest ≡ pass_count ws
   pub made : made_in all ++ all_made rest ≡ all_made ws
@@ -35,7 +35,7 @@ pub record Joining (table : LockTable) (ws rest : List Worker) (all : Option Pas
   pub seen : (opening : List State) (line : Line) → AnySeen opening line ws → IsSeenFor opening all line ⊎ AnySeen opening line rest
   pub passes : AllByRecursion (HasNoOtherPass table) rest
 
-pub joining_none : (table : LockTable) (ws : List Worker) → AllByRecursion (HasNoOtherPass table) ws → Joining table ws ws None
+pub joining_none : {L : Type 0} (table : LockTable) (ws : List (Worker L)) → AllByRecursion (HasNoOtherPass table) ws → Joining table ws ws None
 joining_none table ws has = record {
   of = tt;
   shares = omega arith;
@@ -59,10 +59,10 @@ pub own_of : (table : LockTable) (o : Option Pass) → IfSome o (λ pass. IsOf t
 own_of table None h = tt
 own_of table (Some pass) h = h.0
 
-pub first_passes : (table : LockTable) (rest more : List Worker) (w : Worker) → rest ≡ w ∷ more → AllByRecursion (HasNoOtherPass table) rest → HasNoOtherPass table w × AllByRecursion (HasNoOtherPass table) more
+pub first_passes : {L : Type 0} (table : LockTable) (rest more : List (Worker L)) (w : Worker L) → rest ≡ w ∷ more → AllByRecursion (HasNoOtherPass table) rest → HasNoOtherPass table w × AllByRecursion (HasNoOtherPass table) more
 first_passes table rest more w cut h = subst (AllByRecursion (HasNoOtherPass table)) cut h
 
-pub joining_more : (table : LockTable) (ws rest more : List Worker) (w : Worker) (all other both : Option Pass) → rest ≡ w ∷ more → other ≡ w.pass → IsPairJoined table all other both → Joining table ws rest all → Joining table ws more both
+pub joining_more : {L : Type 0} (table : LockTable) (ws rest more : List (Worker L)) (w : Worker L) (all other both : Option Pass) → rest ≡ w ∷ more → other ≡ w.pass → IsPairJoined table all other both → Joining table ws rest all → Joining table ws more both
 joining_more table ws rest more w all other both cut is j h =
     let passes = first_passes table rest more w cut h.passes in
     let pair : IsPairJoined table all w.pass both = subst (λ (o : Option Pass). IsPairJoined table all o both) is j in
@@ -82,7 +82,7 @@ no_more f (inl a) = a
 no_more f (inr b) = absurd (f b)
 
 -- With no worker left it is the pass of all, and there is one where a worker had one.
-pub joining_all : (table : LockTable) (ws : List Worker) (pass : Pass) → Joining table ws [] (Some pass) → IsJoinOf table ws pass
+pub joining_all : {L : Type 0} (table : LockTable) (ws : List (Worker L)) (pass : Pass) → Joining table ws [] (Some pass) → IsJoinOf table ws pass
 joining_all table ws pass h = record {
   of = h.of;
   shares = omega (arith, h.shares);
@@ -91,7 +91,7 @@ joining_all table ws pass h = record {
   seen = λ opening line k. no_more (λ x. x) (h.seen opening line k);
 }
 
-pub joining_some : (table : LockTable) (ws : List Worker) (all : Option Pass) → 0 < pass_count ws → Joining table ws [] all → is_some all ≡ true
+pub joining_some : {L : Type 0} (table : LockTable) (ws : List (Worker L)) (all : Option Pass) → 0 < pass_count ws → Joining table ws [] all → is_some all ≡ true
 joining_some table ws None some h = absurd (omega (arith, some, h.shares))
 joining_some table ws (Some pass) some h = refl
 
@@ -149,3 +149,7 @@ pair_other table other h = record {
 -- ---- what is taken out
 pub map_more : {A B : Type 0} (f : A → B) (out : List B) (xs rest : List A) (x : A) (all : List B) → xs ≡ x ∷ rest → out ++ map f xs ≡ all → (out ++ f x ∷ []) ++ map f rest ≡ all
 map_more f out xs rest x all cut h = append_assoc out (f x ∷ []) (map f rest) ∙ subst (λ l. out ++ map f l ≡ all) cut h
+
+-- Where some are left there is room for one more.
+pub room_left : {A B : Type 0} (f : A → B) (out old : List B) (xs rest all : List A) (x : A) → xs ≡ x ∷ rest → out ++ map f xs ≡ old ++ map f all → length out < length old + length all
+room_left f out old xs rest all x cut e = omega (arith, ap length e, ap length cut, length-append out (map f xs), length-append old (map f all), length-map xs f, length-map all f)

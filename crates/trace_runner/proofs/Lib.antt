@@ -19,4 +19,5 @@ pub mod SectionWork
 pub mod SectionPromises
 pub mod SectionsRun
 pub mod ParallelAssured
+pub mod TextLogs
 pub mod WorkerSend

@@ -1,6 +1,6 @@
 -- A processor that gets a pass is ready.
 use Rattle.std.specs.Prelude.{IsSomeAnd}
-use Rattle.std.proofs.Common.{◌≡◌, ℕ, zero, suc, ◌+◌, ◌-◌, ◌^◌, ◌<◌, ◌≤◌, List, [], ◌∷◌, ◌++◌, length, map, true, false, ap, sym, ◌∙◌, refl, subst, ◌⊎◌, inl, inr, arith, Option, Some, None, vec_capacity}
+use Rattle.std.proofs.Common.{◌≡◌, ℕ, zero, suc, ◌+◌, ◌-◌, ◌^◌, ◌<◌, ◌≤◌, List, [], ◌∷◌, ◌++◌, length, map, true, false, ap, sym, ◌∙◌, refl, subst, ◌⊎◌, inl, inr, arith, Option, Some, None}
 use Rattle.std.proofs.lemmas.List.{length-map, get_or_past}
 use Rattle.entry_model.specs.State.{State, empty_state}
 use Rattle.entry_model.specs.declared.line.Line.{Line}
@@ -15,7 +15,7 @@ use Rattle.tlb_model.specs.Processor.{Processor}
 use Rattle.trace_read.specs.declared.trace.TraceLine.{TraceLine}
 use Rattle.trace_runner.specs.declared.worker.Worker.{Worker}
 use Rattle.trace_runner.specs.MachineState.{Holding}
-use Rattle.trace_runner.specs.Workers.{lines_of_cpu, IsFresh, IsRest, IsSeenBy, HasRun, IsReady}
+use Rattle.trace_runner.specs.Workers.{Keeping, lines_of_cpu, IsFresh, IsRest, IsSeenBy, HasRun, IsReady}
 use Rattle.trace_runner.proofs.SectionWork.{below_or}
 
 pub holds_inside : (a : List State) (line : Line) → Holding a line → line.entry < length a
@@ -31,11 +31,11 @@ pub nil_of : {A : Type 0} (xs : List A) → length xs ≡ 0 → xs ≡ []
 nil_of [] e = refl
 nil_of (x ∷ xs) e = absurd (omega (arith, e))
 
-pub worker_starts : (set : AccessContext) (table : LockTable) (n : ℕ) (lines : List TraceLine) (w : Worker) (pass : Pass) (cpu : Processor)
+pub worker_starts : {L : Type 0} (keeps : Keeping L) (room_in : L → ℕ) (set : AccessContext) (table : LockTable) (n : ℕ) (lines : List TraceLine) (w : Worker L) (pass : Pass) (cpu : Processor)
     → length table.opening.items ≡ 2 ^ (table.order - 4) → AllCached (Holding table.opening.items) cpu.cache → IsFresh table 1 pass
-    → (w.cpu ≡ cpu) × (w.before.value ≡ cpu) → w.pass ≡ Some pass → w.replies.items ≡ [] → 0 < length (lines_of_cpu n lines) → length (lines_of_cpu n lines) ≤ vec_capacity w.replies
-    → IsReady set table n lines w
-worker_starts set table n lines w pass cpu size holds first processors is none some room = inr (record {
+    → (w.cpu ≡ cpu) × (w.before.value ≡ cpu) → w.pass ≡ Some pass → keeps w.log [] [] → 0 < length (lines_of_cpu n lines) → length (lines_of_cpu n lines) ≤ room_in w.log
+    → IsReady keeps room_in set table n lines w
+worker_starts keeps room_in set table n lines w pass cpu size holds first processors is none some room = inr (record {
   some = λ e. absurd (let zero_count = ap length e in omega (arith, some, zero_count));
   fresh = subst (λ (o : Option Pass). IsSomeAnd o (HasRun set table n [] [] w)) (sym is) (record {
     of = first.of;
@@ -51,10 +51,10 @@ worker_starts set table n lines w pass cpu size holds first processors is none s
   room = room;
 })
 
-pub worker_idles : (set : AccessContext) (table : LockTable) (n : ℕ) (lines : List TraceLine) (w : Worker) (cpu : Processor)
-    → AllCached (Holding table.opening.items) cpu.cache → (w.cpu ≡ cpu) × (w.before.value ≡ cpu) → w.pass ≡ None → w.replies.items ≡ [] → length (lines_of_cpu n lines) ≡ 0
-    → IsReady set table n lines w
-worker_idles set table n lines w cpu holds processors is none no_line = inl (record {
+pub worker_idles : {L : Type 0} (keeps : Keeping L) (room_in : L → ℕ) (set : AccessContext) (table : LockTable) (n : ℕ) (lines : List TraceLine) (w : Worker L) (cpu : Processor)
+    → AllCached (Holding table.opening.items) cpu.cache → (w.cpu ≡ cpu) × (w.before.value ≡ cpu) → w.pass ≡ None → keeps w.log [] [] → length (lines_of_cpu n lines) ≡ 0
+    → IsReady keeps room_in set table n lines w
+worker_idles keeps room_in set table n lines w cpu holds processors is none no_line = inl (record {
   no_line = nil_of (lines_of_cpu n lines) no_line;
   no_pass = is;
   none = none;

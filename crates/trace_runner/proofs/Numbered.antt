@@ -1,7 +1,9 @@
 -- Facts of each of a list by its number.
-use Rattle.std.proofs.Common.{◌≡◌, ℕ, suc, ◌+◌, List, [], ◌∷◌, ◌++◌, length, map, subst, arith}
+use Rattle.std.proofs.Common.{◌≡◌, ℕ, suc, ◌+◌, ◌<◌, ◌≤◌, List, [], ◌∷◌, ◌++◌, length, map, cond, eqb, refl, subst, arith}
+use Rattle.std.proofs.lemmas.Bool.{eq-eqb}
 use Rattle.std.specs.List.{AllByRecursion}
 use Rattle.trace_runner.specs.Workers.{AllNumbered}
+use Rattle.trace_runner.proofs.WorkSteps.{not_eqb}
 
 pub all_append : {A : Type 0} (P : ℕ → A → Type 0) (n m : ℕ) (xs ys : List A) → m ≡ n + length xs → AllNumbered P n xs → AllNumbered P m ys → AllNumbered P n (xs ++ ys)
 all_append P n m [] ys e h k = let s : m ≡ n = omega (arith, e) in subst (λ i. AllNumbered P i ys) s k
@@ -34,3 +36,37 @@ all_plain P Q n (x ∷ xs) f h = (f n x h.0, all_plain P Q (suc n) xs f h.1)
 pub all_mapped : {A B : Type 0} (P : ℕ → B → Type 0) (f : A → B) (n : ℕ) (xs : List A) → AllNumbered (λ k x. P k (f x)) n xs → AllNumbered P n (map f xs)
 all_mapped P f n [] h = tt
 all_mapped P f n (x ∷ xs) h = (h.0, all_mapped P f (suc n) xs h.1)
+
+pub all_of : {A : Type 0} (P : ℕ → Type 0) (n : ℕ) (xs : List A) → ((k : ℕ) → k < n + length xs → P k) → AllNumbered (λ k x. P k) n xs
+all_of P n [] f = tt
+all_of P n (x ∷ xs) f = (f n (omega arith), all_of P (suc n) xs (λ k low. f k (omega (arith, low))))
+
+all_later : {A : Type 0} (P Q : ℕ → A → Type 0) (n m : ℕ) (xs : List A) → ((k : ℕ) (x : A) → n ≤ k → P k x → Q k x) → n ≤ m → AllNumbered P m xs → AllNumbered Q m xs
+all_later P Q n m [] f low h = tt
+all_later P Q n m (x ∷ xs) f low h = (f m x low h.0, all_later P Q n (suc m) xs f (omega (arith, low)) h.1)
+
+-- ---- what each has
+-- By its number one thing is picked for each, of which it has the fact.
+pub record Picked {A B : Type 0} (P : ℕ → B → A → Type 0) (n : ℕ) (xs : List A) : Type 0 where
+  pub pick : ℕ → B
+  pub all : AllNumbered (λ k x. P k (pick k) x) n xs
+
+first_pick : {B : Type 0} (n : ℕ) (b : B) (f : ℕ → B) → b ≡ cond (eqb n n) b (f n)
+first_pick n b f = rw (eq-eqb n n refl) refl
+
+later_pick : {B : Type 0} (n k : ℕ) (b : B) (f : ℕ → B) → suc n ≤ k → f k ≡ cond (eqb k n) b (f k)
+later_pick n k b f low = rw (not_eqb k n (λ e. absurd (omega (arith, low, e)))) refl
+
+pub all_picked : {A B : Type 0} (P : ℕ → B → A → Type 0) (d : B) (n : ℕ) (xs : List A) → AllNumbered (λ k x. (b : B) × P k b x) n xs → Picked P n xs
+all_picked P d n [] h = record { pick = λ k. d; all = tt }
+all_picked {B = B} P d n (x ∷ xs) h =
+    let rest = all_picked P d (suc n) xs h.1 in
+    let f : ℕ → B = rest.pick in
+    let pick : ℕ → B = λ k. cond (eqb k n) h.0.0 (f k) in
+    record {
+      pick = pick;
+      all = (
+        subst (λ b. P n b x) (first_pick n h.0.0 f) h.0.1,
+        all_later (λ k y. P k (f k) y) (λ k y. P k (pick k) y) (suc n) (suc n) xs (λ k y low p. subst (λ b. P k b y) (later_pick n k h.0.0 f low) p) (omega arith) rest.all,
+      );
+    }

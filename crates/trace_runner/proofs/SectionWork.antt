@@ -1,6 +1,6 @@
 -- What the processors of a section did together, and the run_state behind it.
 use Rattle.std.specs.Prelude.{IsSomeAnd, is_some, min, ◌≢◌}
-use Rattle.std.proofs.Common.{◌≡◌, ℕ, zero, suc, ◌+◌, ◌-◌, ◌^◌, ◌<◌, ◌≤◌, List, [], ◌∷◌, ◌++◌, length, map, reverse, get_or, true, false, ap, sym, ◌∙◌, refl, subst, ◌⊎◌, inl, inr, eqb, cond, arith, Option, Some, None, Vec, Global}
+use Rattle.std.proofs.Common.{◌≡◌, ℕ, zero, suc, ◌+◌, ◌-◌, ◌^◌, ◌<◌, ◌≤◌, List, [], ◌∷◌, ◌++◌, length, map, true, false, ap, sym, ◌∙◌, refl, subst, ◌⊎◌, inl, inr, eqb, cond, arith, Option, Some, None}
 use Rattle.std.specs.List.{AllByRecursion}
 use Rattle.std.proofs.lemmas.Bool.{cases_Bool, eqb-true}
 use Rattle.std.proofs.lemmas.List.{length-map}
@@ -21,7 +21,7 @@ use Rattle.hpt_walk.specs.Access.{AccessContext}
 use Rattle.tlb_model.specs.Processor.{Processor}
 use Rattle.trace_read.specs.declared.trace.TraceLine.{TraceLine}
 use Rattle.trace_reply.specs.declared.reply.Reply.{Reply}
-use Rattle.trace_reply.specs.Replies.{RepliedLine, receipts_in, lines_with_replies}
+use Rattle.trace_reply.specs.Replies.{RepliedLine, AreReplies, receipts_in, lines_with_replies}
 use Rattle.run_model.specs.Processors.{processor_at, processor_after}
 use Rattle.run_model.specs.RunState.{RunState, context_of, states_of}
 use Rattle.hpt_resize.specs.TableMemory.{with_states}
@@ -32,12 +32,9 @@ use Rattle.run_model.proofs.Each.{each_append}
 use Rattle.run_model.proofs.LinesByProcessor.{own_no}
 use Rattle.trace_runner.specs.declared.worker.Worker.{Worker}
 use Rattle.trace_runner.specs.MachineState.{Holding, AllHold}
-use Rattle.trace_runner.specs.Workers.{lines_of_cpu, replied_lines_of_cpu, count_with_lines, IsSeenBy, HasRun, IsIdle, IsDone, AllNumbered}
-use Rattle.trace_runner.proofs.Numbered.{all_both}
+use Rattle.trace_runner.specs.Workers.{Keeping, lines_of_cpu, replied_lines_of_cpu, count_with_lines, processors_before, IsSeenBy, HasRun, IsIdle, IsDone, AllNumbered}
+use Rattle.trace_runner.proofs.Numbered.{all_of, all_both}
 use Rattle.trace_runner.specs.SectionRun.{made_in, all_made, pass_count, IsGoneFor, IsSeenFor, AnyGone, AnySeen, IsJoinOf, IsMerged, Sectioned}
-
-abbrev Queue : Type 0
-Queue = Vec Reply Global
 
 -- ---- fronts of a processor
 works_below : (set : AccessContext) (f g : List ℕ) (processor : Processor) (ts : List RepliedLine) → Works set f processor ts g → AreBelow f g
@@ -45,41 +42,72 @@ works_below set f g processor [] h = subst (AreBelow f) (sym h) (below_self f)
 works_below set f g processor (t ∷ ts) h = below_on f h.0 g (keeps_below f h.0 (receipts_in t.reply) h.1.keeps) (works_below set h.0 g (processor_after processor t.line.act t.reply) ts h.2)
 
 -- ---- one processor
-module _ (set : AccessContext) (table : LockTable) (lines : List TraceLine) (ts : List RepliedLine) where
+-- It is done, and its log keeps these replies to its lines.
+pub record DoneWith {L : Type 0} (keeps : Keeping L) (set : AccessContext) (table : LockTable) (lines : List TraceLine) (cpu : ℕ) (rs : List Reply) (w : Worker L) : Type 0 where
+  pub kept : keeps w.log (lines_of_cpu cpu lines) rs
+  pub kinds : AreReplies (lines_of_cpu cpu lines) rs
+  pub done : IsIdle keeps table cpu lines w ⊎ IsSomeAnd w.pass (HasRun set table cpu lines rs w)
+
+kinds_of : {L : Type 0} (set : AccessContext) (table : LockTable) (lines : List TraceLine) (cpu : ℕ) (rs : List Reply) (w : Worker L) (o : Option Pass) → IsSomeAnd o (HasRun set table cpu lines rs w) → AreReplies (lines_of_cpu cpu lines) rs
+kinds_of set table lines cpu rs w None h = absurd h
+kinds_of set table lines cpu rs w (Some p) h = h.kinds
+
+pub done_with : {L : Type 0} (keeps : Keeping L) (set : AccessContext) (table : LockTable) (lines : List TraceLine) (cpu : ℕ) (w : Worker L) → IsDone keeps set table cpu lines w → (rs : List Reply) × DoneWith keeps set table lines cpu rs w
+done_with keeps set table lines cpu w (inl idle) = (
+  [],
+  record {
+    kept = subst (λ ls. keeps w.log ls []) (sym idle.no_line) idle.none;
+    kinds = subst (λ ls. AreReplies ls []) (sym idle.no_line) tt;
+    done = inl idle;
+  },
+)
+done_with keeps set table lines cpu w (inr ended) = (
+  ended.replies,
+  record {
+    kept = ended.kept;
+    kinds = kinds_of set table lines cpu ended.replies w w.pass ended.run;
+    done = inr ended.run;
+  },
+)
+
+module _ {L : Type 0} (keeps : Keeping L) (set : AccessContext) (table : LockTable) (lines : List TraceLine) (ts : List RepliedLine) (picks : ℕ → List Reply) where
   abbrev a : List State
   a = table.opening.items
 
   -- It is done, and its lines are its own among all.
-  abbrev pub IsPart : ℕ → Worker → Type 0
-  IsPart cpu w = IsDone set table cpu lines w × (lines_of_processor cpu ts ≡ replied_lines_of_cpu cpu lines (reverse w.replies.items))
+  abbrev pub IsPart : ℕ → Worker L → Type 0
+  IsPart cpu w = DoneWith keeps set table lines cpu (picks cpu) w × (lines_of_processor cpu ts ≡ replied_lines_of_cpu cpu lines (picks cpu))
 
-  abbrev Run : ℕ → Worker → Pass → Type 0
-  Run cpu w = HasRun set table cpu lines (reverse w.replies.items) w
+  abbrev Run : ℕ → Worker L → Pass → Type 0
+  Run cpu w = HasRun set table cpu lines (picks cpu) w
 
   -- a fact of its pass, by the pass's case
   by_pass : (o : Option Pass) (P : Pass → Type 0) (Q : Option Pass → Type 0) → ((p : Pass) → P p → Q (Some p)) → IsSomeAnd o P → Q o
   by_pass None P Q f h = absurd h
   by_pass (Some p) P Q f h = f p h
 
-  by_done : (cpu : ℕ) (w : Worker) (Q : Option Pass → Type 0) → ((p : Pass) → Run cpu w p → Q (Some p)) → (IsIdle table cpu lines w → Q None) → IsDone set table cpu lines w → Q w.pass
-  by_done cpu w Q f g (inl idle) = subst Q (sym idle.no_pass) (g idle)
-  by_done cpu w Q f g (inr ended) = by_pass w.pass (Run cpu w) Q f ended.run
+  by_case : (cpu : ℕ) (w : Worker L) (Q : Option Pass → Type 0) → ((p : Pass) → Run cpu w p → Q (Some p)) → (IsIdle keeps table cpu lines w → Q None) → IsIdle keeps table cpu lines w ⊎ IsSomeAnd w.pass (Run cpu w) → Q w.pass
+  by_case cpu w Q f g (inl idle) = subst Q (sym idle.no_pass) (g idle)
+  by_case cpu w Q f g (inr ended) = by_pass w.pass (Run cpu w) Q f ended
 
-  idle_lines : (cpu : ℕ) (w : Worker) → IsPart cpu w → IsIdle table cpu lines w → lines_of_processor cpu ts ≡ []
-  idle_lines cpu w h idle = h.1 ∙ ap (λ ls. lines_with_replies ls (reverse w.replies.items)) idle.no_line
+  by_done : (cpu : ℕ) (w : Worker L) (Q : Option Pass → Type 0) → ((p : Pass) → Run cpu w p → Q (Some p)) → (IsIdle keeps table cpu lines w → Q None) → DoneWith keeps set table lines cpu (picks cpu) w → Q w.pass
+  by_done cpu w Q f g h = by_case cpu w Q f g h.done
 
-  part_made : (cpu : ℕ) (w : Worker) → IsPart cpu w → made_in w.pass ≡ receipts_by (lines_of_processor cpu ts)
+  idle_lines : (cpu : ℕ) (w : Worker L) → IsPart cpu w → IsIdle keeps table cpu lines w → lines_of_processor cpu ts ≡ []
+  idle_lines cpu w h idle = h.1 ∙ ap (λ ls. lines_with_replies ls (picks cpu)) idle.no_line
+
+  part_made : (cpu : ℕ) (w : Worker L) → IsPart cpu w → made_in w.pass ≡ receipts_by (lines_of_processor cpu ts)
   part_made cpu w h = by_done cpu w (λ o. made_in o ≡ receipts_by (lines_of_processor cpu ts)) (λ p run. run.made ∙ ap receipts_by (sym h.1)) (λ idle. ap receipts_by (sym (idle_lines cpu w h idle))) h.0
 
-  part_processor : (cpu : ℕ) (w : Worker) → IsPart cpu w → processor_after_lines w.before.value (lines_of_processor cpu ts) ≡ w.cpu
+  part_processor : (cpu : ℕ) (w : Worker L) → IsPart cpu w → processor_after_lines w.before.value (lines_of_processor cpu ts) ≡ w.cpu
   part_processor cpu w h = by_done cpu w (λ o. processor_after_lines w.before.value (lines_of_processor cpu ts) ≡ w.cpu) (λ p run. ap (processor_after_lines w.before.value) h.1 ∙ sym run.processor) (λ idle. ap (processor_after_lines w.before.value) (idle_lines cpu w h idle) ∙ sym idle.processor) h.0
 
   -- ---- all processors
-  pub made_is : (n : ℕ) (ws : List Worker) → AllNumbered IsPart n ws → all_made ws ≡ receipts_from_processor (length ws) n ts
+  pub made_is : (n : ℕ) (ws : List (Worker L)) → AllNumbered IsPart n ws → all_made ws ≡ receipts_from_processor (length ws) n ts
   made_is n [] h = refl
   made_is n (w ∷ ws) h = (λ j. part_made n w h.0 j ++ made_is (suc n) ws h.1 j)
 
-  pub processors_are : (n : ℕ) (ws : List Worker) → AllNumbered IsPart n ws → processors_after_lines n (map (λ (w : Worker). w.before.value) ws) ts ≡ map (λ (w : Worker). w.cpu) ws
+  pub processors_are : (n : ℕ) (ws : List (Worker L)) → AllNumbered IsPart n ws → processors_after_lines n (map (λ (w : Worker L). w.before.value) ws) ts ≡ map (λ (w : Worker L). w.cpu) ws
   processors_are n [] h = refl
   processors_are n (w ∷ ws) h = (λ j. part_processor n w h.0 j ∷ processors_are (suc n) ws h.1 j)
 
@@ -88,24 +116,24 @@ module _ (set : AccessContext) (table : LockTable) (lines : List TraceLine) (ts 
   fronts_in (Some p) = (view_of p).fronts
 
   -- The fronts of each processor; of one that there isn't the opening ones.
-  abbrev pub fronts_of : List Worker → ℕ → List ℕ
+  abbrev pub fronts_of : List (Worker L) → ℕ → List ℕ
   fronts_of [] cpu = opening_fronts a
   fronts_of (w ∷ ws) zero = fronts_in w.pass
   fronts_of (w ∷ ws) (suc cpu) = fronts_of ws cpu
 
-  part_works : (cpu : ℕ) (w : Worker) → IsPart cpu w → Works set (opening_fronts a) w.before.value (lines_of_processor cpu ts) (fronts_in w.pass)
+  part_works : (cpu : ℕ) (w : Worker L) → IsPart cpu w → Works set (opening_fronts a) w.before.value (lines_of_processor cpu ts) (fronts_in w.pass)
   part_works cpu w h = by_done cpu w (λ o. Works set (opening_fronts a) w.before.value (lines_of_processor cpu ts) (fronts_in o)) (λ p run. subst (λ us. Works set (opening_fronts a) w.before.value us (view_of p).fronts) (sym h.1) run.works) (λ idle. subst (λ us. Works set (opening_fronts a) w.before.value us (opening_fronts a)) (sym (idle_lines cpu w h idle)) refl) h.0
 
-  pub works_at : (n cpu : ℕ) (ws : List Worker) → AllNumbered IsPart n ws → cpu < length ws → Works set (opening_fronts a) (processor_at (map (λ (w : Worker). w.before.value) ws) cpu) (lines_of_processor (n + cpu) ts) (fronts_of ws cpu)
+  pub works_at : (n cpu : ℕ) (ws : List (Worker L)) → AllNumbered IsPart n ws → cpu < length ws → Works set (opening_fronts a) (processor_at (map (λ (w : Worker L). w.before.value) ws) cpu) (lines_of_processor (n + cpu) ts) (fronts_of ws cpu)
   works_at n cpu [] h within = absurd (omega arith)
   works_at n zero (w ∷ ws) h within =
       let e : n ≡ n + 0 = omega arith in
       subst (λ k. Works set (opening_fronts a) w.before.value (lines_of_processor k ts) (fronts_in w.pass)) e (part_works n w h.0)
   works_at n (suc cpu) (w ∷ ws) h within =
       let e : suc n + cpu ≡ n + suc cpu = omega arith in
-      subst (λ k. Works set (opening_fronts a) (processor_at (map (λ (w : Worker). w.before.value) ws) cpu) (lines_of_processor k ts) (fronts_of ws cpu)) e (works_at (suc n) cpu ws h.1 (omega arith))
+      subst (λ k. Works set (opening_fronts a) (processor_at (map (λ (w : Worker L). w.before.value) ws) cpu) (lines_of_processor k ts) (fronts_of ws cpu)) e (works_at (suc n) cpu ws h.1 (omega arith))
 
-  pub fronts_past : (ws : List Worker) (cpu : ℕ) → length ws ≤ cpu → fronts_of ws cpu ≡ opening_fronts a
+  pub fronts_past : (ws : List (Worker L)) (cpu : ℕ) → length ws ≤ cpu → fronts_of ws cpu ≡ opening_fronts a
   fronts_past [] cpu h = refl
   fronts_past (w ∷ ws) zero h = absurd (omega arith)
   fronts_past (w ∷ ws) (suc cpu) h = fronts_past ws cpu (omega arith)
@@ -116,32 +144,32 @@ module _ (set : AccessContext) (table : LockTable) (lines : List TraceLine) (ts 
   gone_by None line gone = inr gone
   gone_by (Some p) line gone = inl gone
 
-  first_gone : (line : Line) (w : Worker) (ws : List Worker) → IsGoneFor w.pass line ⊎ IsGone (opening_fronts a) line → AnyGone line (w ∷ ws) ⊎ IsGone (opening_fronts a) line
+  first_gone : (line : Line) (w : Worker L) (ws : List (Worker L)) → IsGoneFor w.pass line ⊎ IsGone (opening_fronts a) line → AnyGone line (w ∷ ws) ⊎ IsGone (opening_fronts a) line
   first_gone line w ws (inl own) = inl (inl own)
   first_gone line w ws (inr gone) = inr gone
 
-  later_gone : (line : Line) (w : Worker) (ws : List Worker) → AnyGone line ws ⊎ IsGone (opening_fronts a) line → AnyGone line (w ∷ ws) ⊎ IsGone (opening_fronts a) line
+  later_gone : (line : Line) (w : Worker L) (ws : List (Worker L)) → AnyGone line ws ⊎ IsGone (opening_fronts a) line → AnyGone line (w ∷ ws) ⊎ IsGone (opening_fronts a) line
   later_gone line w ws (inl any) = inl (inr any)
   later_gone line w ws (inr gone) = inr gone
 
-  pub gone_case : (cpu : ℕ) (ws : List Worker) (line : Line) → IsGone (fronts_of ws cpu) line → AnyGone line ws ⊎ IsGone (opening_fronts a) line
+  pub gone_case : (cpu : ℕ) (ws : List (Worker L)) (line : Line) → IsGone (fronts_of ws cpu) line → AnyGone line ws ⊎ IsGone (opening_fronts a) line
   gone_case cpu [] line gone = inr gone
   gone_case zero (w ∷ ws) line gone = first_gone line w ws (gone_by w.pass line gone)
   gone_case (suc cpu) (w ∷ ws) line gone = later_gone line w ws (gone_case cpu ws line gone)
 
   -- A line that is gone by the opening fronts is gone for each pass.
-  pub opening_gone : (n : ℕ) (ws : List Worker) (line : Line) → AllNumbered IsPart n ws → 0 < pass_count ws → IsGone (opening_fronts a) line → AnyGone line ws
+  pub opening_gone : (n : ℕ) (ws : List (Worker L)) (line : Line) → AllNumbered IsPart n ws → 0 < pass_count ws → IsGone (opening_fronts a) line → AnyGone line ws
   opening_gone n [] line h some gone = absurd (omega arith)
-  opening_gone n (w ∷ ws) line h some gone = by_case w.pass (part_works n w h.0) (opening_gone (suc n) ws line h.1) some where
-    by_case : (o : Option Pass) → Works set (opening_fronts a) w.before.value (lines_of_processor n ts) (fronts_in o) → (0 < pass_count ws → IsGone (opening_fronts a) line → AnyGone line ws) → 0 < cond (is_some o) 1 0 + pass_count ws → IsGoneFor o line ⊎ AnyGone line ws
-    by_case None works rest low = inr (rest (omega (arith, low)) gone)
-    by_case (Some p) works rest low = inl (gone_on (opening_fronts a) (view_of p).fronts line (works_below set (opening_fronts a) (view_of p).fronts w.before.value (lines_of_processor n ts) works) gone)
+  opening_gone n (w ∷ ws) line h some gone = by_front w.pass (part_works n w h.0) (opening_gone (suc n) ws line h.1) some where
+    by_front : (o : Option Pass) → Works set (opening_fronts a) w.before.value (lines_of_processor n ts) (fronts_in o) → (0 < pass_count ws → IsGone (opening_fronts a) line → AnyGone line ws) → 0 < cond (is_some o) 1 0 + pass_count ws → IsGoneFor o line ⊎ AnyGone line ws
+    by_front None works rest low = inr (rest (omega (arith, low)) gone)
+    by_front (Some p) works rest low = inl (gone_on (opening_fronts a) (view_of p).fronts line (works_below set (opening_fronts a) (view_of p).fronts w.before.value (lines_of_processor n ts) works) gone)
 
   -- ---- cached lines
-  part_holds : (b : List State) (n : ℕ) (w : Worker) → IsPart n w → ((line : Line) → line.entry < 2 ^ (table.order - 4) → IsSeenFor a w.pass line → Holding b line) → ((line : Line) → Holding a line → Holding b line) → AllCached (Holding b) w.cpu.cache
+  part_holds : (b : List State) (n : ℕ) (w : Worker L) → IsPart n w → ((line : Line) → line.entry < 2 ^ (table.order - 4) → IsSeenFor a w.pass line → Holding b line) → ((line : Line) → Holding a line → Holding b line) → AllCached (Holding b) w.cpu.cache
   part_holds b n w h f kept = by_done n w (λ o. ((line : Line) → line.entry < 2 ^ (table.order - 4) → IsSeenFor a o line → Holding b line) → AllCached (Holding b) w.cpu.cache) (λ p run g. all_cached_weaker (IsSeenBy table p) (Holding b) (λ line s. g line s.inside s.seen) w.cpu.cache run.seen) (λ idle g. all_cached_weaker (Holding a) (Holding b) kept w.cpu.cache idle.hold) h.0 f
 
-  pub all_hold : (b : List State) (n : ℕ) (ws : List Worker) → AllNumbered IsPart n ws → ((line : Line) → line.entry < 2 ^ (table.order - 4) → AnySeen a line ws → Holding b line) → ((line : Line) → Holding a line → Holding b line) → AllHold b (map (λ (w : Worker). w.cpu) ws)
+  pub all_hold : (b : List State) (n : ℕ) (ws : List (Worker L)) → AllNumbered IsPart n ws → ((line : Line) → line.entry < 2 ^ (table.order - 4) → AnySeen a line ws → Holding b line) → ((line : Line) → Holding a line → Holding b line) → AllHold b (map (λ (w : Worker L). w.cpu) ws)
   all_hold b n [] h f kept = tt
   all_hold b n (w ∷ ws) h f kept = (part_holds b n w h.0 (λ line inside s. f line inside (inl s)) kept, all_hold b (suc n) ws h.1 (λ line inside s. f line inside (inr s)) kept)
 
@@ -157,11 +185,11 @@ module _ (set : AccessContext) (table : LockTable) (lines : List TraceLine) (ts 
   some_lines [] h = absurd (h refl)
   some_lines (l ∷ ls) h = omega arith
 
-  part_count : (n : ℕ) (w : Worker) → IsDone set table n lines w → counted w.pass ≡ min 1 (length (lines_of_cpu n lines))
+  part_count : (n : ℕ) (w : Worker L) → IsDone keeps set table n lines w → counted w.pass ≡ min 1 (length (lines_of_cpu n lines))
   part_count n w (inl idle) = ap counted idle.no_pass ∙ sym (ap (λ ls. min 1 (length ls)) idle.no_line)
-  part_count n w (inr ended) = some_pass w.pass (Run n w) ended.run ∙ sym (some_lines (lines_of_cpu n lines) ended.some)
+  part_count n w (inr ended) = some_pass w.pass (HasRun set table n lines ended.replies w) ended.run ∙ sym (some_lines (lines_of_cpu n lines) ended.some)
 
-  pub passes_counted : (n : ℕ) (ws : List Worker) → AllNumbered (λ j w. IsDone set table j lines w) n ws → pass_count ws ≡ count_with_lines (length ws) n lines
+  pub passes_counted : (n : ℕ) (ws : List (Worker L)) → AllNumbered (λ j w. IsDone keeps set table j lines w) n ws → pass_count ws ≡ count_with_lines (length ws) n lines
   passes_counted n [] h = refl
   passes_counted n (w ∷ ws) h = (λ j. part_count n w h.0 j + passes_counted (suc n) ws h.1 j)
 
@@ -209,27 +237,19 @@ gone_inside f line gone = at (below_or line.entry (length f)) where
   at (inl h) = h
   at (inr h) = let zero_front = past_end f line.entry h in absurd (omega (arith, gone, zero_front))
 
--- Each processor's replied_lines among all are its own lines with its own replies.
-own_from : (lines : List TraceLine) (ts : List RepliedLine) (n : ℕ) (xs : List Worker) → ((k : ℕ) (d : Queue) → k < length (map (λ (x : Worker). x.replies) xs) → lines_of_processor (n + k) ts ≡ replied_lines_of_cpu (n + k) lines (reverse (get_or (map (λ (x : Worker). x.replies) xs) k d).items)) → AllNumbered (λ j x. lines_of_processor j ts ≡ replied_lines_of_cpu j lines (reverse x.replies.items)) n xs
-own_from lines ts n [] h = tt
-own_from lines ts n (x ∷ xs) h =
-    let e : n + 0 ≡ n = omega arith in (
-      subst (λ m. lines_of_processor m ts ≡ replied_lines_of_cpu m lines (reverse x.replies.items)) e (h 0 x.replies (omega arith)),
-      own_from lines ts (suc n) xs (λ k d low. let s : n + suc k ≡ suc n + k = omega arith in subst (λ m. lines_of_processor m ts ≡ replied_lines_of_cpu m lines (reverse (get_or (map (λ (x : Worker). x.replies) xs) k d).items)) s (h (suc k) d (omega (arith, low)))),
-    )
-
-pub own_parts : (lines : List TraceLine) (news : List Reply) (ws : List Worker) → IsMerged lines (map (λ (x : Worker). x.replies) ws) news → AllNumbered (λ j x. lines_of_processor j (lines_with_replies lines news) ≡ replied_lines_of_cpu j lines (reverse x.replies.items)) 0 ws
-own_parts lines news ws merged = own_from lines (lines_with_replies lines news) 0 ws (λ k d low. let e : k ≡ 0 + k = omega arith in subst (λ n. lines_of_processor n (lines_with_replies lines news) ≡ replied_lines_of_cpu n lines (reverse (get_or (map (λ (x : Worker). x.replies) ws) k d).items)) e (merged.own k d low))
+-- Each processor's replied_lines among all are its own lines with the replies that are picked for it.
+pub own_parts : {L : Type 0} (lines : List TraceLine) (news : List Reply) (picks : ℕ → List Reply) (ws : List (Worker L)) → IsMerged lines (length ws) picks news → AllNumbered (λ j x. lines_of_processor j (lines_with_replies lines news) ≡ replied_lines_of_cpu j lines (picks j)) 0 ws
+own_parts lines news picks ws merged = all_of (λ j. lines_of_processor j (lines_with_replies lines news) ≡ replied_lines_of_cpu j lines (picks j)) 0 ws (λ k low. merged.own k (omega (arith, low)))
 
 -- ---- the section
-pub sectioned : (w later : RunState) (table : LockTable) (lines : List TraceLine) (news : List Reply) (ws : List Worker) (all : Pass) (b : List State)
+pub sectioned : {L : Type 0} (keeps : Keeping L) (w later : RunState) (table : LockTable) (lines : List TraceLine) (news : List Reply) (picks : ℕ → List Reply) (ws : List (Worker L)) (all : Pass) (b : List State)
     → table.opening.items ≡ states_of w → table.order ≡ w.memory.table.order → 0 < pass_count ws
-    → map (λ (x : Worker). x.before.value) ws ≡ w.processors → AllByRecursion (λ (l : TraceLine). l.cpu < length ws) lines
-    → AllNumbered (λ j x. IsDone (context_of w) table j lines x) 0 ws → IsMerged lines (map (λ (x : Worker). x.replies) ws) news
+    → processors_before ws ≡ w.processors → AllByRecursion (λ (l : TraceLine). l.cpu < length ws) lines
+    → AllNumbered (λ j x. DoneWith keeps (context_of w) table lines j (picks j) x) 0 ws → IsMerged lines (length ws) picks news
     → IsJoinOf table ws all → Closes table.opening.items (view_of all) b
-    → later ≡ record w { memory = with_states w.memory b; processors = map (λ (x : Worker). x.cpu) ws }
+    → later ≡ record w { memory = with_states w.memory b; processors = map (λ (x : Worker L). x.cpu) ws }
     → Sectioned w lines news later
-sectioned w later table lines news ws all b opening order some before cpus done merged gathered closes run_state = record {
+sectioned {L = L} keeps w later table lines news picks ws all b opening order some before cpus done merged gathered closes run_state = record {
   kinds = merged.kinds;
   fronts = fronts;
   states = b;
@@ -238,9 +258,9 @@ sectioned w later table lines news ws all b opening order some before cpus done 
     size = closes.size ∙ ap length opening;
     in_table = subst (λ n. AllByRecursion (λ (r : Receipt). r.entry < length (states_of w)) (receipts_from_processor n 0 ts)) count (listed_inside (length (states_of w)) (length ws) 0 ts (λ k low. let e : k ≡ 0 + k = omega arith in subst (λ n. AllByRecursion (λ (r : Receipt). r.entry < length (states_of w)) (receipts_by (lines_of_processor n ts))) e (works_inside set (length (states_of w)) (opening_fronts a) (fronts k) (processor_at w.processors k) (lines_of_processor k ts) sizes (here k low))));
     legal = λ entry low. rw (sym made) (subst (λ l. IsLegal (state_at l entry) (history entry (view_of all).actor.receipts) (state_at b entry)) opening (closes.legal entry (subst (λ l. entry < length l) (sym opening) low)));
-    gone = λ cpu line gone. at line (inside_of cpu line gone) (gone_case set table lines ts cpu ws line gone);
+    gone = λ cpu line gone. at line (inside_of cpu line gone) (gone_case keeps set table lines ts picks cpu ws line gone);
   };
-  run_state = run_state ∙ ap (λ (s : List Processor). record w { memory = with_states w.memory b; processors = s }) (sym (processors_are set table lines ts 0 ws parts) ∙ ap (λ s. processors_after_lines 0 s ts) before);
+  run_state = run_state ∙ ap (λ (s : List Processor). record w { memory = with_states w.memory b; processors = s }) (sym (processors_are keeps set table lines ts picks 0 ws parts) ∙ ap (λ s. processors_after_lines 0 s ts) before);
 } where
   ts : List RepliedLine
   ts = lines_with_replies lines news
@@ -251,29 +271,29 @@ sectioned w later table lines news ws all b opening order some before cpus done 
   a : List State
   a = table.opening.items
 
-  parts : AllNumbered (IsPart set table lines ts) 0 ws
-  parts = all_both (λ j x. IsDone set table j lines x) (λ j x. lines_of_processor j ts ≡ replied_lines_of_cpu j lines (reverse x.replies.items)) 0 ws done (own_parts lines news ws merged)
+  parts : AllNumbered (IsPart keeps set table lines ts picks) 0 ws
+  parts = all_both (λ j x. DoneWith keeps set table lines j (picks j) x) (λ j x. lines_of_processor j ts ≡ replied_lines_of_cpu j lines (picks j)) 0 ws done (own_parts lines news picks ws merged)
 
   fronts : ℕ → List ℕ
-  fronts cpu = fronts_of set table lines ts ws cpu
+  fronts cpu = fronts_of keeps set table lines ts picks ws cpu
 
   count : length ws ≡ length w.processors
-  count = sym (length-map ws (λ (x : Worker). x.before.value)) ∙ ap length before
+  count = sym (length-map ws (λ (x : Worker L). x.before.value)) ∙ ap length before
 
   sizes : length (opening_fronts a) ≡ length (states_of w)
   sizes = length-map a pair_of ∙ ap length opening
 
   here : (cpu : ℕ) → cpu < length ws → Works set (opening_fronts a) (processor_at w.processors cpu) (lines_of_processor cpu ts) (fronts cpu)
-  here cpu low = let e : 0 + cpu ≡ cpu = omega arith in subst (λ n. Works set (opening_fronts a) (processor_at w.processors cpu) (lines_of_processor n ts) (fronts cpu)) e (subst (λ s. Works set (opening_fronts a) (processor_at s cpu) (lines_of_processor (0 + cpu) ts) (fronts cpu)) before (works_at set table lines ts 0 cpu ws parts low))
+  here cpu low = let e : 0 + cpu ≡ cpu = omega arith in subst (λ n. Works set (opening_fronts a) (processor_at w.processors cpu) (lines_of_processor n ts) (fronts cpu)) e (subst (λ s. Works set (opening_fronts a) (processor_at s cpu) (lines_of_processor (0 + cpu) ts) (fronts cpu)) before (works_at keeps set table lines ts picks 0 cpu ws parts low))
 
   work : AllWork w ts fronts
   work cpu = subst (λ l. Works set (opening_fronts l) (processor_at w.processors cpu) (lines_of_processor cpu ts) (fronts cpu)) opening (each (below_or cpu (length ws))) where
     each : (cpu < length ws) ⊎ (length ws ≤ cpu) → Works set (opening_fronts a) (processor_at w.processors cpu) (lines_of_processor cpu ts) (fronts cpu)
     each (inl low) = here cpu low
-    each (inr past) = rw (own_none (length ws) cpu lines news cpus past) (fronts_past set table lines ts ws cpu past)
+    each (inr past) = rw (own_none (length ws) cpu lines news cpus past) (fronts_past keeps set table lines ts picks ws cpu past)
 
   made : (view_of all).actor.receipts ≡ receipts_made w ts
-  made = gathered.made ∙ made_is set table lines ts 0 ws parts ∙ ap (λ n. receipts_from_processor n 0 ts) count
+  made = gathered.made ∙ made_is keeps set table lines ts picks 0 ws parts ∙ ap (λ n. receipts_from_processor n 0 ts) count
 
   closing : (line : Line) → line.entry < length a → AnyGone line ws → line.stamp < (state_at b line.entry).stamp
   closing line inside any = closes.gone line inside (gathered.gone line any)
@@ -283,11 +303,11 @@ sectioned w later table lines news ws all b opening order some before cpus done 
 
   front_size : (cpu : ℕ) → (cpu < length ws) ⊎ (length ws ≤ cpu) → length (fronts cpu) ≡ length a
   front_size cpu (inl low) = (works_below set (opening_fronts a) (fronts cpu) (processor_at w.processors cpu) (lines_of_processor cpu ts) (here cpu low)).size ∙ opening_size
-  front_size cpu (inr past) = ap length (fronts_past set table lines ts ws cpu past) ∙ opening_size
+  front_size cpu (inr past) = ap length (fronts_past keeps set table lines ts picks ws cpu past) ∙ opening_size
 
   inside_of : (cpu : ℕ) (line : Line) → IsGone (fronts cpu) line → line.entry < length a
   inside_of cpu line gone = subst (λ n. line.entry < n) (front_size cpu (below_or cpu (length ws))) (gone_inside (fronts cpu) line gone)
 
   at : (line : Line) → line.entry < length a → AnyGone line ws ⊎ IsGone (opening_fronts a) line → line.stamp < (state_at b line.entry).stamp
   at line inside (inl any) = closing line inside any
-  at line inside (inr gone) = closing line inside (opening_gone set table lines ts 0 ws line parts some gone)
+  at line inside (inr gone) = closing line inside (opening_gone keeps set table lines ts picks 0 ws line parts some gone)

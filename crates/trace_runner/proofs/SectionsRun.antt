@@ -24,8 +24,8 @@ use Rattle.run_model.specs.SerialRun.{run_line}
 use Rattle.run_model.specs.ParallelRun.{RunsParallel}
 use Rattle.run_model.proofs.LinesByProcessor.{own_processors}
 use Rattle.run_model.proofs.SectionGood.{section_legal}
-use Rattle.trace_runner.specs.Workers.{replied_line, NoneQuiet}
-use Rattle.trace_runner.specs.SectionRun.{Sectioned, RunsSection, Runs}
+use Rattle.trace_runner.specs.Workers.{Keeping, replied_line, NoneQuiet}
+use Rattle.trace_runner.specs.SectionRun.{Sectioned, HasGrown, RunsSection, HasRunFrom, Runs}
 use Rattle.trace_runner.proofs.WorkSteps.{replied_lines_more, kinds_more}
 use Rattle.trace_runner.proofs.SectionWork.{listed_inside}
 
@@ -88,7 +88,7 @@ last_runs w later ls news s m =
 abbrev pub part : ℕ → ℕ → List TraceLine → List TraceLine
 part start end lines = take (end - start) (drop start lines)
 
-skip : (xs : List TraceLine) (n : ℕ) → xs ≡ take n xs ++ drop n xs
+pub skip : (xs : List TraceLine) (n : ℕ) → xs ≡ take n xs ++ drop n xs
 skip [] zero = refl
 skip [] (suc n) = refl
 skip (x ∷ xs) zero = refl
@@ -105,7 +105,7 @@ rest_is lines start i d low within =
     let e : start + (i - start) ≡ i = omega arith in
     skip (drop start lines) (i - start) ∙ ap (λ l. take (i - start) (drop start lines) ++ l) (drop_twice lines start (i - start) ∙ ap (λ k. drop k lines) e ∙ drop_more lines i d within)
 
-front_is : (lines : List TraceLine) (start i : ℕ) (d : TraceLine) → start ≤ i → i < length lines → take (i + 1) lines ≡ (take start lines ++ part start i lines) ++ get_or lines i d ∷ []
+pub front_is : (lines : List TraceLine) (start i : ℕ) (d : TraceLine) → start ≤ i → i < length lines → take (i + 1) lines ≡ (take start lines ++ part start i lines) ++ get_or lines i d ∷ []
 front_is lines start i d low within = take_more lines i d within ∙ ap (λ l. l ++ get_or lines i d ∷ []) (at lines start i low) where
   at : (xs : List TraceLine) (m n : ℕ) → m ≤ n → take n xs ≡ take m xs ++ take (n - m) (drop m xs)
   at xs zero n h = let e : n ≡ n - 0 = omega arith in ap (λ k. take k xs) e
@@ -117,20 +117,19 @@ front_is lines start i d low within = take_more lines i d within ∙ ap (λ l. l
   at (x ∷ xs) (suc m) zero h = absurd (omega arith)
   at (x ∷ xs) (suc m) (suc n) h = let e : n - m ≡ suc n - suc m = omega arith in ap (λ l. x ∷ l) (at xs m n (omega arith)) ∙ ap (λ k. x ∷ (take m xs ++ take k (drop m xs))) e
 
-pub done_more : (w later next after : RunState) (lines : List TraceLine) (start i : ℕ) (d : TraceLine) (rs mid news new : List Reply) (r : Reply)
+pub done_more : (w later next after : RunState) (lines : List TraceLine) (start i : ℕ) (d : TraceLine) (rs news : List Reply) (r : Reply)
     → start ≤ i → i < length lines → Done w lines start later rs → NoneQuiet (part start i lines) → Sectioned later (part start i lines) news next → is_quiet (get_or lines i d).act ≡ true
-    → (r, after) ≡ run_line next (get_or lines i d) → mid ≡ rs ++ news → new ≡ mid ++ r ∷ []
-    → Done w lines (i + 1) after new
-done_more w later next after lines start i d rs mid news new r low within h m s q told grown pushed =
+    → (r, after) ≡ run_line next (get_or lines i d)
+    → Done w lines (i + 1) after ((rs ++ news) ++ r ∷ [])
+done_more w later next after lines start i d rs news r low within h m s q told =
     let l = get_or lines i d in
     let quiet : (r, after) ≡ run_quiet_line next l.act = told ∙ quiet_is next l q in
     let kind : IsOfKind l.act r = subst (IsOfKind l.act) (sym (ap (λ (x : Reply × RunState). x.0) quiet)) (quiet_kind next l.act q) in
-    let all : new ≡ (rs ++ news) ++ r ∷ [] = pushed ∙ ap (λ z. z ++ r ∷ []) grown in
     record {
-      kinds = rw (front_is lines start i d low within, all) (kinds_more (take start lines ++ part start i lines) (l ∷ []) (rs ++ news) (r ∷ []) (kinds_more (take start lines) (part start i lines) rs news h.kinds s.kinds) (kind, tt));
+      kinds = rw (front_is lines start i d low within) (kinds_more (take start lines ++ part start i lines) (l ∷ []) (rs ++ news) (r ∷ []) (kinds_more (take start lines) (part start i lines) rs news h.kinds s.kinds) (kind, tt));
       goes = λ more k.
           let ran : Runs later (lines_with_replies (drop start lines) (news ++ r ∷ more)) = subst (λ ls. Runs later (lines_with_replies ls (news ++ r ∷ more))) (sym (rest_is lines start i d low within)) (section_runs later next after (part start i lines) news l r (drop (i + 1) lines) more s m q quiet k) in
-          let flat : rs ++ (news ++ r ∷ more) ≡ new ++ more = sym (ap (λ z. z ++ more) all ∙ append_assoc (rs ++ news) (r ∷ []) more ∙ append_assoc rs news (r ∷ more)) in
+          let flat : rs ++ (news ++ r ∷ more) ≡ ((rs ++ news) ++ r ∷ []) ++ more = sym (append_assoc (rs ++ news) (r ∷ []) more ∙ append_assoc rs news (r ∷ more)) in
           subst (λ z. Runs w (lines_with_replies lines z)) flat (h.goes (news ++ r ∷ more) ran);
     }
 
@@ -139,10 +138,10 @@ pub record Ended (w : RunState) (lines : List TraceLine) (rs : List Reply) : Typ
   pub kinds : AreReplies lines rs
   pub runs : Runs w (lines_with_replies lines rs)
 
-pub done_all : (w later last : RunState) (lines : List TraceLine) (start : ℕ) (rs news new : List Reply) → Done w lines start later rs → NoneQuiet (drop start lines) → Sectioned later (drop start lines) news last → new ≡ rs ++ news → Ended w lines new
-done_all w later last lines start rs news new h m s grown = record {
-  kinds = rw grown (subst (λ ls. AreReplies ls (rs ++ news)) (sym (skip lines start)) (kinds_more (take start lines) (drop start lines) rs news h.kinds s.kinds));
-  runs = rw grown (h.goes news (last_runs later last (drop start lines) news s m));
+pub done_all : (w later last : RunState) (lines : List TraceLine) (start : ℕ) (rs news : List Reply) → Done w lines start later rs → NoneQuiet (drop start lines) → Sectioned later (drop start lines) news last → Ended w lines (rs ++ news)
+done_all w later last lines start rs news h m s = record {
+  kinds = subst (λ ls. AreReplies ls (rs ++ news)) (sym (skip lines start)) (kinds_more (take start lines) (drop start lines) rs news h.kinds s.kinds);
+  runs = h.goes news (last_runs later last (drop start lines) news s m);
 }
 
 -- One more line that isn't quiet.
@@ -245,9 +244,19 @@ section_processors w later ls news s = ap (λ (v : RunState). length v.processor
 pub section_number : (w later : RunState) (ls : List TraceLine) (news : List Reply) → Sectioned w ls news later → later.memory.table.number ≡ w.memory.table.number
 section_number w later ls news s = ap (λ (v : RunState). v.memory.table.number) s.run_state
 
-pub done_end : (w later last : RunState) (lines : List TraceLine) (start i : ℕ) (rs new : List Reply) → start ≤ i → i ≡ length lines → Done w lines start later rs → NoneQuiet (part start i lines) → RunsSection later (part start (length lines) lines) rs new last → Ended w lines new
-done_end w later last lines start i rs new low end h m x =
+-- ---- what is put out
+pub put_more : {O : Type 0} (has : Keeping O) (lines : List TraceLine) (start i : ℕ) (d : TraceLine) (rs news : List Reply) (r : Reply) (old mid new : O) → start ≤ i → i < length lines → has old (take start lines) rs → HasGrown has (part start i lines) news old mid → ((ls : List TraceLine) (qs : List Reply) → has mid ls qs → has new (ls ++ get_or lines i d ∷ []) (qs ++ r ∷ [])) → has new (take (i + 1) lines) ((rs ++ news) ++ r ∷ [])
+put_more has lines start i d rs news r old mid new low within h grown put = subst (λ ls. has new ls ((rs ++ news) ++ r ∷ [])) (sym (front_is lines start i d low within)) (put (take start lines ++ part start i lines) (rs ++ news) (grown (take start lines) rs h))
+
+pub run_ended : {O : Type 0} (has : Keeping O) (w later last : RunState) (lines : List TraceLine) (start i : ℕ) (rs : List Reply) (old new : O) → start ≤ i → i ≡ length lines → Done w lines start later rs → NoneQuiet (part start i lines) → has old (take start lines) rs → RunsSection has later (part start (length lines) lines) old new last → HasRunFrom has w lines new
+run_ended has w later last lines start i rs old new low end h m put x =
     let below : start ≤ length lines = omega (arith, low, end) in
     let e : part start (length lines) lines ≡ drop start lines = part_end lines start (length lines) below (omega arith) in
     let none_quiet : NoneQuiet (part start (length lines) lines) = subst (λ n. NoneQuiet (part start n lines)) end m in
-    done_all w later last lines start rs x.news new h (subst NoneQuiet e none_quiet) (subst (λ ls. Sectioned later ls x.news last) e x.sectioned) x.grown
+    let ended = done_all w later last lines start rs x.news h (subst NoneQuiet e none_quiet) (subst (λ ls. Sectioned later ls x.news last) e x.sectioned) in
+    record {
+      replies = rs ++ x.news;
+      put = subst (λ ls. has new ls (rs ++ x.news)) (ap (λ ls. take start lines ++ ls) e ∙ sym (skip lines start)) (x.grown (take start lines) rs put);
+      kinds = ended.kinds;
+      runs = ended.runs;
+    }

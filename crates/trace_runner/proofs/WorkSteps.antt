@@ -107,7 +107,7 @@ kept_size f g rs n keeps size = (keeps_below f g rs keeps).size ∙ size
 
 -- ---- one line on
 -- A line of another processor.
-pub other_run : (set : AccessContext) (table : LockTable) (cpu : ℕ) (lines : List TraceLine) (k : ℕ) (d : TraceLine) (rs : List Reply) (w : Worker) (pass : Pass) → k < length lines → eqb (get_or lines k d).cpu cpu ≡ false → HasRun set table cpu (take k lines) rs w pass → HasRun set table cpu (take (k + 1) lines) rs w pass
+pub other_run : {L : Type 0} (set : AccessContext) (table : LockTable) (cpu : ℕ) (lines : List TraceLine) (k : ℕ) (d : TraceLine) (rs : List Reply) (w : Worker L) (pass : Pass) → k < length lines → eqb (get_or lines k d).cpu cpu ≡ false → HasRun set table cpu (take k lines) rs w pass → HasRun set table cpu (take (k + 1) lines) rs w pass
 other_run set table cpu lines k d rs w pass within other h =
     let e = sym (own_same cpu lines k d within other) in
     record {
@@ -132,7 +132,7 @@ pub record Ran (set : AccessContext) (table : LockTable) (l : TraceLine) (proces
   pub place : later ≡ processor_after processor l.act r
   pub seen : AllCached (IsSeenBy table behind) later.cache
 
-pub own_run : (set : AccessContext) (table : LockTable) (cpu : ℕ) (lines : List TraceLine) (k : ℕ) (d : TraceLine) (rs ss : List Reply) (w v : Worker) (pass behind : Pass) (r : Reply)
+pub own_run : {L : Type 0} (set : AccessContext) (table : LockTable) (cpu : ℕ) (lines : List TraceLine) (k : ℕ) (d : TraceLine) (rs ss : List Reply) (w v : Worker L) (pass behind : Pass) (r : Reply)
     → k < length lines → eqb (get_or lines k d).cpu cpu ≡ true → HasRun set table cpu (take k lines) rs w pass
     → v.before.value ≡ w.before.value → ss ≡ rs ++ r ∷ [] → Ran set table (get_or lines k d) w.cpu v.cpu pass behind r
     → HasRun set table cpu (take (k + 1) lines) ss v behind

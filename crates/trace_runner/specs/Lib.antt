@@ -2,3 +2,5 @@ pub mod MachineState
 pub mod Workers
 pub mod SectionRun
 pub mod WorkerGroup
+pub mod TextLog
+pub mod ParallelRun

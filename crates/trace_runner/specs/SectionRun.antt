@@ -1,7 +1,6 @@
 -- A section: its processors, what they made together, and what it leaves.
 use Rattle.std.specs.Prelude.{IsSomeAnd, IfSome, is_some, if◌then◌else◌}
-use Rattle.std.specs.Prelude.{◌≡◌, ◌⊎◌, ℕ, ◌+◌, ◌<◌, List, [], ◌∷◌, ◌++◌, length, reverse, slice_index_or, Vec, Option, Some, None}
-use Rattle.std.specs.Global.{Global}
+use Rattle.std.specs.Prelude.{◌≡◌, ◌⊎◌, ℕ, ◌+◌, ◌<◌, List, [], ◌∷◌, ◌++◌, length, map, slice_index_or, Option, Some, None}
 use Rattle.entry_model.specs.State.{State}
 use Rattle.entry_model.specs.declared.line.Line.{Line}
 use Rattle.entry_model.specs.declared.receipt.Receipt.{Receipt}
@@ -10,6 +9,9 @@ use Rattle.entry_lock.specs.declared.table.LockTable.{LockTable}
 use Rattle.entry_lock.specs.declared.table.Pass.{Pass}
 use Rattle.entry_lock.specs.SeenLines.{IsSeen}
 use Rattle.entry_lock.specs.PassOfTable.{IsOf, view_of}
+use Rattle.entry_lock.specs.Closing.{Closes}
+use Rattle.hpt_walk.specs.Access.{AccessContext}
+use Rattle.tlb_model.specs.Processor.{Processor}
 use Rattle.trace_read.specs.declared.trace.TraceLine.{TraceLine}
 use Rattle.trace_reply.specs.declared.reply.Reply.{Reply}
 use Rattle.trace_reply.specs.Replies.{RepliedLine, AreReplies, lines_with_replies}
@@ -18,15 +20,15 @@ use Rattle.run_model.specs.Sections.{cut, section_end_on}
 use Rattle.run_model.specs.RunState.{RunState}
 use Rattle.run_model.specs.ParallelRun.{AllWork, IsClosed, RunsParallel}
 use Rattle.trace_runner.specs.declared.worker.Worker.{Worker}
-use Rattle.trace_runner.specs.Workers.{lines_of_cpu, replied_lines_of_cpu}
+use Rattle.trace_runner.specs.Workers.{Keeping, lines_of_cpu, replied_lines_of_cpu, processors_before, AreDone}
 
 -- ---- passes
 -- A worker's pass, if it has one, is of this table, with one share.
-abbrev pub HasNoOtherPass : LockTable → Worker → Type 0
+abbrev pub HasNoOtherPass : {L : Type 0} → LockTable → Worker L → Type 0
 HasNoOtherPass table w = IfSome w.pass (λ pass. IsOf table pass × (pass.shares ≡ 1))
 
 -- How many of the workers have a pass.
-abbrev pub pass_count : List Worker → ℕ
+abbrev pub pass_count : {L : Type 0} → List (Worker L) → ℕ
 pass_count [] = 0
 pass_count (w ∷ ws) = (if is_some w.pass then 1 else 0) + pass_count ws
 
@@ -36,7 +38,7 @@ made_in None = []
 made_in (Some pass) = (view_of pass).actor.receipts
 
 -- The receipts of all, one processor after the other.
-abbrev pub all_made : List Worker → List Receipt
+abbrev pub all_made : {L : Type 0} → List (Worker L) → List Receipt
 all_made [] = []
 all_made (w ∷ ws) = made_in w.pass ++ all_made ws
 
@@ -45,7 +47,7 @@ abbrev pub IsGoneFor : Option Pass → Line → Type 0
 IsGoneFor pass line = IsSomeAnd pass (λ pass. IsGone (view_of pass).fronts line)
 
 -- The line is gone for one of them.
-abbrev pub AnyGone : Line → List Worker → Type 0
+abbrev pub AnyGone : {L : Type 0} → Line → List (Worker L) → Type 0
 AnyGone line [] = ⊥
 AnyGone line (w ∷ ws) = IsGoneFor w.pass line ⊎ AnyGone line ws
 
@@ -55,7 +57,7 @@ IsSeenFor opening pass line =
     IsSomeAnd pass (λ pass. IsSeen (view_of pass).actor.lines opening line)
 
 -- One of them has seen the line.
-abbrev pub AnySeen : List State → Line → List Worker → Type 0
+abbrev pub AnySeen : {L : Type 0} → List State → Line → List (Worker L) → Type 0
 AnySeen opening line [] = ⊥
 AnySeen opening line (w ∷ ws) = IsSeenFor opening w.pass line ⊎ AnySeen opening line ws
 
@@ -76,34 +78,76 @@ pub record IsPairJoined (table : LockTable) (one other both : Option Pass) : Typ
       → IsSeenFor opening both line
 
 -- The pass into which all that workers had were joined.
-pub record IsJoinOf (table : LockTable) (ws : List Worker) (pass : Pass) : Type 0 where
-  pub of : IsOf table pass
-  pub shares : pass.shares ≡ pass_count ws
-  pub made : (view_of pass).actor.receipts ≡ all_made ws
-  pub gone : (line : Line) → AnyGone line ws → IsGone (view_of pass).fronts line
-  pub seen :
-      (opening : List State) (line : Line)
-      → AnySeen opening line ws
-      → IsSeen (view_of pass).actor.lines opening line
+pub record IsJoinOf
+    {L : Type 0}
+    (table : LockTable)
+    (ws : List (Worker L))
+    (pass : Pass)
+    : Type 0
+  where
+    pub of : IsOf table pass
+    pub shares : pass.shares ≡ pass_count ws
+    pub made : (view_of pass).actor.receipts ≡ all_made ws
+    pub gone : (line : Line) → AnyGone line ws → IsGone (view_of pass).fronts line
+    pub seen :
+        (opening : List State) (line : Line)
+        → AnySeen opening line ws
+        → IsSeen (view_of pass).actor.lines opening line
+
+-- ---- work
+-- The workers have run their lines, and the table closed on these states. Their processors and logs
+-- stand behind those that were there.
+pub record RanTogether
+    {L : Type 0}
+    (keeps : Keeping L)
+    (context : AccessContext)
+    (table : LockTable)
+    (lines : List TraceLine)
+    (ws : List (Worker L))
+    (old_cpus new_cpus : List Processor)
+    (old_logs new_logs : List L)
+    (states : List State)
+    : Type 0
+  where
+    pub ran : List (Worker L)
+    pub done : AreDone keeps context table lines ran
+    pub before : processors_before ran ≡ processors_before ws
+    pub cpus : new_cpus ≡ old_cpus ++ map (λ w. w.cpu) ran
+    pub logs : new_logs ≡ old_logs ++ map (λ w. w.log) ran
+    pub pass : Pass
+    pub joined : IsJoinOf table ran pass
+    pub closes : Closes table.opening.items (view_of pass) states
 
 -- ---- replies in file order
--- These are the processor's replies to its lines, the last one first.
-abbrev pub IsQueue : List TraceLine → ℕ → Vec Reply Global → Type 0
-IsQueue lines cpu queue = AreReplies (lines_of_cpu cpu lines) (reverse queue.items)
+-- Each processor's log keeps the replies to its lines that are picked for it.
+pub record AllKeep
+    {L : Type 0}
+    (keeps : Keeping L)
+    (lines : List TraceLine)
+    (picks : ℕ → List Reply)
+    (logs : List L)
+    : Type 0
+  where
+    pub kinds :
+        (cpu : ℕ) → cpu < length logs → AreReplies (lines_of_cpu cpu lines) (picks cpu)
+    pub kept :
+        (cpu : ℕ) (d : L)
+        → cpu < length logs
+        → keeps (slice_index_or logs cpu d) (lines_of_cpu cpu lines) (picks cpu)
 
--- There is a reply to each line, and each processor's are those that it made.
+-- There is a reply to each line, and each of so many processors' are those that are picked for it.
 pub record IsMerged
     (lines : List TraceLine)
-    (queues : List (Vec Reply Global))
+    (count : ℕ)
+    (picks : ℕ → List Reply)
     (news : List Reply)
     : Type 0
   where
     pub kinds : AreReplies lines news
     pub own :
-        (cpu : ℕ) (d : Vec Reply Global)
-        → cpu < length queues
+        (cpu : ℕ) → cpu < count
         → lines_of_processor cpu (lines_with_replies lines news)
-        ≡ replied_lines_of_cpu cpu lines (reverse (slice_index_or queues cpu d).items)
+        ≡ replied_lines_of_cpu cpu lines (picks cpu)
 
 -- ---- a section
 -- The replies to its lines: each processor worked on its own, the table closed on these states, and the run goes on with them.
@@ -126,25 +170,50 @@ pub record Sectioned
 abbrev pub Runs : RunState → List RepliedLine → Type 0
 Runs w ts = let c = cut ts in RunsParallel w c.0 c.1
 
--- These replies were put behind those of before.
+-- These replies to lines were put behind those of an output.
+abbrev pub HasGrown :
+    {O : Type 0} → Keeping O → List TraceLine → List Reply → O → O → Type 0
+HasGrown has lines news old new =
+    (ks : List TraceLine) (qs : List Reply) → has old ks qs → has new (ks ++ lines) (qs ++ news)
+
+-- The replies that were picked were put behind those of an output, in file order.
 pub record AddsReplies
+    {O : Type 0}
+    (has : Keeping O)
     (lines : List TraceLine)
-    (queues : List (Vec Reply Global))
-    (old new : List Reply)
+    (count : ℕ)
+    (picks : ℕ → List Reply)
+    (old new : O)
     : Type 0
   where
     pub news : List Reply
-    pub grown : new ≡ old ++ news
-    pub merged : IsMerged lines queues news
+    pub grown : HasGrown has lines news old new
+    pub merged : IsMerged lines count picks news
 
--- The section's replies were put behind those of before.
+-- The section's replies were put behind those of an output.
 pub record RunsSection
+    {O : Type 0}
+    (has : Keeping O)
     (w : RunState)
     (lines : List TraceLine)
-    (old new : List Reply)
+    (old new : O)
     (later : RunState)
     : Type 0
   where
     pub news : List Reply
-    pub grown : new ≡ old ++ news
+    pub grown : HasGrown has lines news old new
     pub sectioned : Sectioned w lines news later
+
+-- An output has the replies to these lines, in a run in which each processor works on its own.
+pub record HasRunFrom
+    {O : Type 0}
+    (has : Keeping O)
+    (w : RunState)
+    (lines : List TraceLine)
+    (output : O)
+    : Type 0
+  where
+    pub replies : List Reply
+    pub put : has output lines replies
+    pub kinds : AreReplies lines replies
+    pub runs : Runs w (lines_with_replies lines replies)

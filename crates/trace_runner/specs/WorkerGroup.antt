@@ -4,30 +4,35 @@ use Rattle.entry_lock.specs.declared.table.LockTable.{LockTable}
 use Rattle.hpt_walk.specs.Access.{AccessContext}
 use Rattle.trace_read.specs.declared.trace.TraceLine.{TraceLine}
 use Rattle.trace_runner.specs.declared.worker.Worker.{Worker}
-use Rattle.trace_runner.specs.Workers.{IsReady, IsDone, AllNumbered, processors_before}
+use Rattle.trace_runner.specs.Workers.{Keeping, IsReady, IsDone, AllNumbered, processors_before}
 
 -- There is one, and they are ready, the first as the processor of this number.
 pub record IsReadyGroup
+    {L : Type 0}
+    (keeps : Keeping L)
+    (room_in : L → ℕ)
     (context : AccessContext)
     (table : LockTable)
     (lines : List TraceLine)
     (first : ℕ)
-    (ws : List Worker)
+    (ws : List (Worker L))
     : Type 0
   where
     pub some : 0 < length ws
     pub few : first + length ws ≤ 64
-    pub ready : AllNumbered (λ cpu w. IsReady context table cpu lines w) first ws
+    pub ready : AllNumbered (λ cpu w. IsReady keeps room_in context table cpu lines w) first ws
 
 -- They have run their lines, each at its place.
 pub record RunsGroup
+    {L : Type 0}
+    (keeps : Keeping L)
     (context : AccessContext)
     (table : LockTable)
     (lines : List TraceLine)
     (first : ℕ)
-    (old new : List Worker)
+    (old new : List (Worker L))
     : Type 0
   where
     pub count : length new ≡ length old
-    pub done : AllNumbered (λ cpu w. IsDone context table cpu lines w) first new
+    pub done : AllNumbered (λ cpu w. IsDone keeps context table cpu lines w) first new
     pub before : processors_before new ≡ processors_before old

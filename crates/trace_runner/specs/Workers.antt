@@ -1,6 +1,6 @@
 -- The workers of a section: a processor each, with a pass of its own.
 use Rattle.std.specs.Prelude.{IsSomeAnd}
-use Rattle.std.specs.Prelude.{◌≡◌, ◌≢◌, ℕ, zero, suc, ◌+◌, ◌≤◌, ◌==◌, ◌⊎◌, List, [], ◌∷◌, length, filter, reverse, map, min, vec_capacity, Option, None, false}
+use Rattle.std.specs.Prelude.{◌≡◌, ◌≢◌, ℕ, zero, suc, ◌+◌, ◌≤◌, ◌==◌, ◌⊎◌, List, [], ◌∷◌, length, filter, map, min, Option, None, false}
 use Rattle.std.specs.List.{AllByRecursion}
 use Rattle.hpte_fields.specs.TableSize.{entry_count}
 use Rattle.entry_model.specs.declared.line.Line.{Line}
@@ -45,14 +45,19 @@ abbrev pub IsSeenBy : LockTable → Pass → Line → Type 0
 IsSeenBy table pass line =
     IsSeenInTable table.order (view_of pass).actor.lines table.opening.items line
 
+-- What a log keeps: these replies to these lines.
+abbrev pub Keeping : Type 0 → Type 1
+Keeping L = L → List TraceLine → List Reply → Type 0
+
 -- It has run its lines among these: its replies are to them, the pass made their receipts and no other, and it kept its promise from the opening fronts on.
 pub record HasRun
+    {L : Type 0}
     (context : AccessContext)
     (table : LockTable)
     (cpu : ℕ)
     (lines : List TraceLine)
     (replies : List Reply)
-    (w : Worker)
+    (w : Worker L)
     (pass : Pass)
     : Type 0
   where
@@ -75,46 +80,69 @@ pub record HasRun
 
 -- ---- ready and done
 -- It has no line among these, and so neither a pass nor a reply: it stays as it was before.
-pub record IsIdle (table : LockTable) (cpu : ℕ) (lines : List TraceLine) (w : Worker) : Type 0 where
-  pub no_line : lines_of_cpu cpu lines ≡ []
-  pub no_pass : w.pass ≡ None
-  pub none : w.replies.items ≡ []
-  pub processor : w.cpu ≡ w.before.value
-  pub hold : AllCached (Holding table.opening.items) w.cpu.cache
+pub record IsIdle
+    {L : Type 0}
+    (keeps : Keeping L)
+    (table : LockTable)
+    (cpu : ℕ)
+    (lines : List TraceLine)
+    (w : Worker L)
+    : Type 0
+  where
+    pub no_line : lines_of_cpu cpu lines ≡ []
+    pub no_pass : w.pass ≡ None
+    pub none : keeps w.log [] []
+    pub processor : w.cpu ≡ w.before.value
+    pub hold : AllCached (Holding table.opening.items) w.cpu.cache
 
 -- It has a line, a pass, no reply, and room for the replies to its lines.
 pub record HasStart
+    {L : Type 0}
+    (keeps : Keeping L)
+    (room_in : L → ℕ)
     (context : AccessContext)
     (table : LockTable)
     (cpu : ℕ)
     (lines : List TraceLine)
-    (w : Worker)
+    (w : Worker L)
     : Type 0
   where
     pub some : lines_of_cpu cpu lines ≢ []
     pub fresh : IsSomeAnd w.pass (HasRun context table cpu [] [] w)
-    pub none : w.replies.items ≡ []
-    pub room : length (lines_of_cpu cpu lines) ≤ vec_capacity w.replies
+    pub none : keeps w.log [] []
+    pub room : length (lines_of_cpu cpu lines) ≤ room_in w.log
 
 -- A worker before the section: it has a pass exactly where it has a line.
-abbrev pub IsReady : AccessContext → LockTable → ℕ → List TraceLine → Worker → Type 0
-IsReady context table cpu lines w = IsIdle table cpu lines w ⊎ HasStart context table cpu lines w
+abbrev pub IsReady :
+    {L : Type 0}
+    → Keeping L
+    → (L → ℕ)
+    → AccessContext → LockTable → ℕ → List TraceLine → Worker L → Type 0
+IsReady keeps room_in context table cpu lines w =
+    IsIdle keeps table cpu lines w ⊎ HasStart keeps room_in context table cpu lines w
 
--- It has run all of its lines. The last of its replies is the one to its first line.
+-- It has run all of its lines, and its log keeps the replies to them.
 pub record HasEnd
+    {L : Type 0}
+    (keeps : Keeping L)
     (context : AccessContext)
     (table : LockTable)
     (cpu : ℕ)
     (lines : List TraceLine)
-    (w : Worker)
+    (w : Worker L)
     : Type 0
   where
     pub some : lines_of_cpu cpu lines ≢ []
-    pub run : IsSomeAnd w.pass (HasRun context table cpu lines (reverse w.replies.items) w)
+    pub replies : List Reply
+    pub kept : keeps w.log (lines_of_cpu cpu lines) replies
+    pub run : IsSomeAnd w.pass (HasRun context table cpu lines replies w)
 
 -- A worker behind the section.
-abbrev pub IsDone : AccessContext → LockTable → ℕ → List TraceLine → Worker → Type 0
-IsDone context table cpu lines w = IsIdle table cpu lines w ⊎ HasEnd context table cpu lines w
+abbrev pub IsDone :
+    {L : Type 0}
+    → Keeping L → AccessContext → LockTable → ℕ → List TraceLine → Worker L → Type 0
+IsDone keeps context table cpu lines w =
+    IsIdle keeps table cpu lines w ⊎ HasEnd keeps context table cpu lines w
 
 -- A fact of each of a list, by its number from one on.
 abbrev pub AllNumbered : {A : Type 0} → (ℕ → A → Type 0) → ℕ → List A → Type 0
@@ -122,18 +150,24 @@ AllNumbered P number [] = Unit {0}
 AllNumbered P number (x ∷ xs) = P number x × AllNumbered P (suc number) xs
 
 -- All workers are ready, the first as processor 0.
-abbrev pub AreReady : AccessContext → LockTable → List TraceLine → List Worker → Type 0
-AreReady context table lines ws =
-    AllNumbered (λ cpu w. IsReady context table cpu lines w) 0 ws
+abbrev pub AreReady :
+    {L : Type 0}
+    → Keeping L
+    → (L → ℕ)
+    → AccessContext → LockTable → List TraceLine → List (Worker L) → Type 0
+AreReady keeps room_in context table lines ws =
+    AllNumbered (λ cpu w. IsReady keeps room_in context table cpu lines w) 0 ws
 
 -- All are done.
-abbrev pub AreDone : AccessContext → LockTable → List TraceLine → List Worker → Type 0
-AreDone context table lines ws =
-    AllNumbered (λ cpu w. IsDone context table cpu lines w) 0 ws
+abbrev pub AreDone :
+    {L : Type 0}
+    → Keeping L → AccessContext → LockTable → List TraceLine → List (Worker L) → Type 0
+AreDone keeps context table lines ws =
+    AllNumbered (λ cpu w. IsDone keeps context table cpu lines w) 0 ws
 
 -- What the processors were before the section's first line.
-abbrev pub processors_before : List Worker → List Processor
-processors_before ws = map (λ (w : Worker). w.before.value) ws
+abbrev pub processors_before : {L : Type 0} → List (Worker L) → List Processor
+processors_before ws = map (λ w. w.before.value) ws
 
 -- How many of so many processors from one on have a line among these.
 abbrev pub count_with_lines : ℕ → ℕ → List TraceLine → ℕ

@@ -1,5 +1,5 @@
 //! The workers of a section: those with lines share the table's passes.
-ghost use Rattle.std.specs.Prelude.{◌≡◌, ℕ, ◌+◌, ◌<◌, ◌≤◌, min, [], length, IfOk, IsSomeAnd};
+ghost use Rattle.std.specs.Prelude.{◌≡◌, ℕ, ◌+◌, ◌<◌, ◌≤◌, min, [], length, vec_capacity, IfOk, IsSomeAnd};
 ghost use Rattle.entry_model.specs.Fronts.{opening_fronts};
 ghost use Rattle.tlb_model.specs.Cache.{AllCached};
 ghost use Rattle.entry_lock.specs.PassOfTable.{IsOf, view_of};
@@ -7,6 +7,7 @@ ghost use Rattle.hpt_walk.specs.Access.{AccessContext};
 ghost use Rattle.trace_runner.specs.MachineState.{AllHold, Holding};
 ghost use Rattle.trace_runner.specs.Workers.{count_with_lines, lines_of_cpu, processors_before, AreReady, IsFresh, IsReady, IsRest};
 
+use crate::log::RunLog;
 use crate::worker::Worker;
 use entry_lock::{LockTable, Pass};
 use std::alloc::{AllocError, Global};
@@ -60,19 +61,20 @@ fn take_share(table: &LockTable, rest: &mut Option<Pass>) -> Pass
 
 /// A processor's worker: with a pass, and room for the replies to its lines, if it has any, and with
 /// neither else.
-fn next_worker(
+fn next_worker<L: RunLog>(
     alloc: Global,
     table: &LockTable,
     cpu: Cpu,
     rest: &mut Option<Pass>,
     number: u32,
     lines: &[TraceLine],
-) -> Result<Worker, AllocError>
+) -> Result<Worker<L>, AllocError>
     requires hold { AllCached (Holding table.now.opening.items) cpu.cache }
     requires rest { (n : ℕ)
         × IsRest table.now (min 1 (length (lines_of_cpu number lines.now)) + n) rest.old }
     ensures ready { IfOk result
-        (λ w. (context : AccessContext) → IsReady context table.now number lines.now w) }
+        (λ w. (context : AccessContext)
+        → IsReady L.keeps L.room context table.now number lines.now w) }
     ensures before { IfOk result (λ w. w.before.value ≡ cpu) }
     ensures rest { IfOk result
         (λ w. (n : ℕ)
@@ -81,7 +83,7 @@ fn next_worker(
 {
     let before = Snapshot::of(&cpu);
     let count = count_lines_of(number, lines);
-    let replies = Vec::with_capacity(alloc, count)?;
+    let log = L::with_room(alloc, count)?;
     let pass = if count > 0 {
         Some(take_share(table, rest))
     } else {
@@ -91,19 +93,19 @@ fn next_worker(
         cpu,
         before,
         pass,
-        replies,
+        log,
     })
 }
 
 /// A worker for each processor. Those that have lines share the pass, and have room for the replies
-/// to them.
-pub fn make_workers(
+/// to them. The room of the list of processors stays.
+pub fn make_workers<L: RunLog>(
     alloc: Global,
     table: &LockTable,
     pass: Pass,
     cpus: &mut Vec<Cpu>,
     lines: &[TraceLine],
-) -> Result<Vec<Worker>, AllocError>
+) -> Result<Vec<Worker<L>>, AllocError>
     requires of { IsOf table.now pass }
     requires shares { pass.shares ≡ count_with_lines (length cpus.old.items) 0 lines.now }
     requires some { 0 < pass.shares }
@@ -112,9 +114,11 @@ pub fn make_workers(
     requires fronts { (view_of pass).fronts ≡ opening_fronts table.now.opening.items }
     requires hold { AllHold table.now.opening.items cpus.old.items }
     ensures ready { IfOk result
-        (λ ws. (context : AccessContext) → AreReady context table.now lines.now ws.items) }
+        (λ ws. (context : AccessContext)
+        → AreReady L.keeps L.room context table.now lines.now ws.items) }
     ensures before { IfOk result (λ ws. processors_before ws.items ≡ cpus.old.items) }
     ensures none { IfOk result (λ ws. cpus.new.items ≡ []) }
+    ensures room { IfOk result (λ ws. length ws.items ≤ vec_capacity cpus.new) }
 {
     let count = cpus.len();
     let mut rest = Some(pass);

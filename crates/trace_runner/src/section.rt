@@ -1,17 +1,16 @@
 //! A section: the lines between two quiet ones, with a worker for each processor.
-ghost use Rattle.std.specs.Prelude.{◌≡◌, ℕ, ◌<◌, ◌++◌, length, map, IfOk, IfSome, OnOk};
+ghost use Rattle.std.specs.Prelude.{◌≡◌, ℕ, ◌+◌, ◌<◌, ◌≤◌, ◌++◌, List, length, map, vec_capacity, IfSome, OnOk};
 ghost use Rattle.std.specs.List.{AllByRecursion};
 ghost use Rattle.entry_lock.specs.PassOfTable.{IsOf};
 ghost use Rattle.trace_read.specs.declared.trace.TraceLine.{TraceLine as LineOf};
-ghost use Rattle.trace_runner.specs.declared.worker.Worker.{Worker as WorkerOf};
-ghost use Rattle.trace_runner.specs.Workers.{AllNumbered};
-ghost use Rattle.trace_runner.specs.SectionRun.{pass_count, HasNoOtherPass, IsJoinOf, IsPairJoined, IsQueue, AddsReplies};
+ghost use Rattle.trace_reply.specs.declared.reply.Reply.{Reply};
+ghost use Rattle.trace_runner.specs.SectionRun.{pass_count, HasNoOtherPass, IsJoinOf, IsPairJoined, AllKeep, AddsReplies};
 
+use crate::log::RunLog;
 use crate::worker::Worker;
 use entry_lock::{LockTable, Pass};
 use std::alloc::AllocError;
 use trace_read::TraceLine;
-use trace_reply::{Replies, Reply};
 use vcpu::Cpu;
 
 /// Joins a pass and a further one, where there are both.
@@ -30,21 +29,23 @@ fn joined(table: &LockTable, one: Option<Pass>, other: Option<Pass>) -> Option<P
     Some(both)
 }
 
-/// Joins all passes in the order of processors, and takes the processors and their replies out.
-pub fn join_workers(
+/// Joins all passes in the order of processors, and takes the processors and their logs out. It can't
+/// fail: there is room for them.
+pub fn join_workers<L: RunLog>(
     table: &LockTable,
-    workers: Vec<Worker>,
+    workers: Vec<Worker<L>>,
     cpus: &mut Vec<Cpu>,
-    queues: &mut Vec<Vec<Reply>>,
-) -> Result<Pass, AllocError>
+    logs: &mut Vec<L>,
+) -> Pass
     requires some { 0 < pass_count workers.items }
     requires passes { AllByRecursion (HasNoOtherPass table.now) workers.items }
-    ensures all { IfOk result (IsJoinOf table.now workers.items) }
-    ensures cpus { IfOk result
-        (λ pass. cpus.new.items ≡ cpus.old.items ++ map (λ (w : WorkerOf). w.cpu) workers.items) }
-    ensures queues { IfOk result
-        (λ pass. queues.new.items
-        ≡ queues.old.items ++ map (λ (w : WorkerOf). w.replies) workers.items) }
+    requires room_for_cpus { length cpus.old.items + length workers.items
+        ≤ vec_capacity cpus.old }
+    requires room_for_logs { length logs.old.items + length workers.items
+        ≤ vec_capacity logs.old }
+    ensures all { IsJoinOf table.now workers.items result }
+    ensures cpus { cpus.new.items ≡ cpus.old.items ++ map (λ w. w.cpu) workers.items }
+    ensures logs { logs.new.items ≡ logs.old.items ++ map (λ w. w.log) workers.items }
 {
     // The last one is taken without moving the others.
     let mut rest = workers;
@@ -55,30 +56,38 @@ pub fn join_workers(
             cpu,
             before: _,
             pass,
-            replies,
+            log,
         } = rest.pop().unwrap();
-        cpus.push(cpu)?;
-        queues.push(replies)?;
+        cpus.push_reserved(cpu);
+        logs.push_reserved(log);
         all = joined(table, all, pass);
     }
-    Ok(all.unwrap())
+    all.unwrap()
 }
 
-/// Puts the replies to these lines, of which each processor has its own with the first one last, in file
-/// order behind those that are there.
-pub fn merge_replies(
+/// Puts the replies to these lines, of which each processor's log has its own, in file order behind
+/// those of the output.
+pub fn merge_replies<L: RunLog>(
     lines: &[TraceLine],
-    queues: &mut Vec<Vec<Reply>>,
-    replies: &mut Replies,
+    logs: &mut Vec<L>,
+    output: &mut L::Output,
 ) -> Result<(), AllocError>
-    requires cpus { AllByRecursion (λ (l : LineOf). l.cpu < length queues.old.items) lines.now }
-    requires queues { AllNumbered (λ cpu queue. IsQueue lines.now cpu queue) 0 queues.old.items }
-    ensures merged { OnOk result
-        (AddsReplies lines.now queues.old.items replies.old.items replies.new.items) }
+    requires cpus { AllByRecursion (λ (l : LineOf). l.cpu < length logs.old.items) lines.now }
+    requires kept { (picks : ℕ → List Reply) × AllKeep L.keeps lines.now picks logs.old.items }
+    ensures merged { OnOk
+        result
+        ((picks : ℕ → List Reply)
+        → AllKeep L.keeps lines.now picks logs.old.items
+        → AddsReplies
+        L.has
+        lines.now
+        (length logs.old.items)
+        picks
+        output.old
+        output.new) }
 {
     for line in lines {
-        let reply = queues[line.cpu as usize].pop().unwrap();
-        replies.push(reply)?;
+        logs[line.cpu as usize].move_first(output)?;
     }
     Ok(())
 }

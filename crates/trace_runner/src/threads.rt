@@ -1,13 +1,13 @@
 //! The threads of a section: one for each processor that has a pass.
 ghost use Rattle.std.specs.Prelude.{◌≡◌, ℕ, ◌<◌, ◌≤◌, length, is_some};
 ghost use Rattle.std.specs.List.{list_any};
-ghost use Rattle.std.specs.Thread.{IsSync};
+ghost use Rattle.std.specs.Thread.{IsSync, IsSend};
 ghost use Rattle.hpt_walk.specs.Access.{access_context};
-ghost use Rattle.trace_runner.specs.declared.worker.Worker.{Worker as WorkerOf};
 ghost use Rattle.trace_runner.specs.Workers.{processors_before, AreDone, AreReady, NoneQuiet};
 ghost use Rattle.trace_runner.specs.WorkerGroup.{IsReadyGroup, RunsGroup};
 
 use crate::gate::Gate;
+use crate::log::ReplyLog;
 use crate::worker::{Worker, work};
 use entry_lock::LockTable;
 use frame_grants::Grants;
@@ -17,23 +17,26 @@ use trace_read::TraceLine;
 
 /// Runs the lines, each processor's in a thread of its own; a processor without lines gets none. It
 /// takes no memory for replies or receipts.
-pub fn run_workers<R: Threads + Wait + Sync, G: Gate + Sync>(
+pub fn run_workers<R: Threads + Wait + Sync, G: Gate + Sync, L: ReplyLog + Send>(
     rt: &R,
     table: &LockTable,
     gate: &G,
     grants: &Grants,
     lines: &[TraceLine],
-    workers: &mut [Worker],
+    workers: &mut [Worker<L>],
 )
     requires none_quiet { NoneQuiet lines.now }
     requires some { 0 < length workers.old }
     requires few { length workers.old ≤ 64 }
     requires ready { AreReady
+        L.keeps
+        L.room
         (access_context table.now.order grants.now.grants)
         table.now
         lines.now
         workers.old }
     ensures done { AreDone
+        L.keeps
         (access_context table.now.order grants.now.grants)
         table.now
         lines.now
@@ -46,23 +49,26 @@ pub fn run_workers<R: Threads + Wait + Sync, G: Gate + Sync>(
 /// Runs the lines of these workers, of which the first has this number. Where only one half of them has
 /// passes, that half runs in this thread, and the other stays as it is.
 #[cycle(halves)]
-fn run_from<R: Threads + Wait + Sync, G: Gate + Sync>(
+fn run_from<R: Threads + Wait + Sync, G: Gate + Sync, L: ReplyLog + Send>(
     rt: &R,
     table: &LockTable,
     gate: &G,
     grants: &Grants,
     lines: &[TraceLine],
     first: u32,
-    workers: &mut [Worker],
+    workers: &mut [Worker<L>],
 )
     requires none_quiet { NoneQuiet lines.now }
     requires ready { IsReadyGroup
+        L.keeps
+        L.room
         (access_context table.now.order grants.now.grants)
         table.now
         lines.now
         first
         workers.old }
     ensures { RunsGroup
+        L.keeps
         (access_context table.now.order grants.now.grants)
         table.now
         lines.now
@@ -88,31 +94,36 @@ fn run_from<R: Threads + Wait + Sync, G: Gate + Sync>(
 
 /// Runs the lines of both halves, of one in a thread of its own.
 #[cycle(halves)]
-fn both_halves<R: Threads + Wait + Sync, G: Gate + Sync>(
+fn both_halves<R: Threads + Wait + Sync, G: Gate + Sync, L: ReplyLog + Send>(
     rt: &R,
     table: &LockTable,
     gate: &G,
     grants: &Grants,
     lines: &[TraceLine],
     first: u32,
-    front: &mut [Worker],
+    front: &mut [Worker<L>],
     second: u32,
-    back: &mut [Worker],
+    back: &mut [Worker<L>],
 )
     requires none_quiet { NoneQuiet lines.now }
     requires front { IsReadyGroup
+        L.keeps
+        L.room
         (access_context table.now.order grants.now.grants)
         table.now
         lines.now
         first
         front.old }
     requires back { IsReadyGroup
+        L.keeps
+        L.room
         (access_context table.now.order grants.now.grants)
         table.now
         lines.now
         second
         back.old }
     ensures front { RunsGroup
+        L.keeps
         (access_context table.now.order grants.now.grants)
         table.now
         lines.now
@@ -120,6 +131,7 @@ fn both_halves<R: Threads + Wait + Sync, G: Gate + Sync>(
         front.old
         front.new }
     ensures back { RunsGroup
+        L.keeps
         (access_context table.now.order grants.now.grants)
         table.now
         lines.now
@@ -128,14 +140,17 @@ fn both_halves<R: Threads + Wait + Sync, G: Gate + Sync>(
         back.new }
 {
     let mut low = ||
-        requires { IsSync R.row × IsSync G.row × NoneQuiet lines.now
+        requires { IsSync R.row × IsSync G.row × IsSend L.row × NoneQuiet lines.now
             × IsReadyGroup
+            L.keeps
+            L.room
             (access_context table.now.order grants.now.grants)
             table.now
             lines.now
             first
             front.now }
         ensures { RunsGroup
+            L.keeps
             (access_context table.entry.now.order grants.entry.now.grants)
             table.entry.now
             lines.entry.now
@@ -144,14 +159,17 @@ fn both_halves<R: Threads + Wait + Sync, G: Gate + Sync>(
             front.exit.now }
     { run_from(rt, table, gate, grants, lines, first, front) };
     let mut high = ||
-        requires { IsSync R.row × IsSync G.row × NoneQuiet lines.now
+        requires { IsSync R.row × IsSync G.row × IsSend L.row × NoneQuiet lines.now
             × IsReadyGroup
+            L.keeps
+            L.room
             (access_context table.now.order grants.now.grants)
             table.now
             lines.now
             second
             back.now }
         ensures { RunsGroup
+            L.keeps
             (access_context table.entry.now.order grants.entry.now.grants)
             table.entry.now
             lines.entry.now
@@ -163,8 +181,8 @@ fn both_halves<R: Threads + Wait + Sync, G: Gate + Sync>(
 }
 
 /// Whether one of the workers has a pass.
-fn any_has_pass(workers: &[Worker]) -> bool
-    ensures { result ≡ list_any (λ (w : WorkerOf). is_some w.pass) workers.now }
+fn any_has_pass<L>(workers: &[Worker<L>]) -> bool
+    ensures { result ≡ list_any (λ w. is_some w.pass) workers.now }
 {
     workers.iter().any(|worker| worker.pass.is_some())
 }

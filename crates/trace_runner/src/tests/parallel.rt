@@ -1,6 +1,6 @@
 //! Parallel runs that a gate holds, so that a schedule is forced.
 use super::{accepted, replies};
-use crate::{Gate, OpenGate, run_parallel};
+use crate::{Gate, OpenGate, parallel_to_text, run_parallel, run_serial};
 use reply_text::text_of;
 use std::alloc::Global;
 use std::sync::Wait;
@@ -253,6 +253,39 @@ fn quiet_lines_cut_a_parallel_run(rt: HostRuntime) -> Result<(), Fail> {
     assert_eq!(rt;
         together(&rt, alloc, QUIET_LINES, &OpenGate)?.as_str(),
         replies(alloc, QUIET_LINES)?.as_str()
+    );
+    Ok(())
+}
+
+#[test]
+fn the_text_of_one_processor_is_that_of_the_serial_run(rt: HostRuntime) -> Result<(), Fail> {
+    let alloc = rt.alloc();
+    let trace = accepted(alloc, QUIET_LINES)?;
+    let serial = run_serial(alloc, &trace)?;
+    assert_eq!(rt;
+        parallel_to_text(&rt, alloc, &trace, &OpenGate)?.as_str(),
+        text_of(alloc, &trace, &serial)?.as_str()
+    );
+    Ok(())
+}
+
+#[test]
+fn the_texts_of_all_processors_stand_in_file_order(rt: HostRuntime) -> Result<(), Fail> {
+    let alloc = rt.alloc();
+    let input = "order 18
+cpus 3
+ram 0x0 0x2000000000 0x40000000
+begin
+2 H_ENTER 0x8000000000 0x20 0x1001 0x3012
+0 slbmte 0x8000000 0x1000
+1 H_ENTER 0x8000000000 0x28 0x1001 0x4012
+0 slbclear
+2 H_READ 0x0 0x20
+";
+    let trace = accepted(alloc, input)?;
+    assert_eq!(rt;
+        parallel_to_text(&rt, alloc, &trace, &OpenGate)?.as_str(),
+        replies(alloc, input)?.as_str()
     );
     Ok(())
 }

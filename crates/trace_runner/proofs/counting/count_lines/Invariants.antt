@@ -1,6 +1,5 @@
 use Rattle.std.proofs.Common.{◌≡◌, ◌≤◌, ◌++◌, List, drop, length}
 use Rattle.trace_reply.specs.declared.reply.Reply.{Reply}
-use Rattle.run_model.specs.RunState.{RunState}
 use Rattle.run_model.specs.SerialRun.{replies_from, state_after_lines}
 use Rattle.reply_text.specs.Summary.{IsCountOf}
 use Rattle.trace_runner.proofs.counting.count_lines.Given as goal

@@ -1,28 +1,34 @@
-use Rattle.std.proofs.Common.{◌≡◌, ◌∙◌, ap, length, arith}
-use Rattle.trace_read.specs.Trace.{AcceptedTrace}
-use Rattle.run_model.specs.RunState.{RunState}
-use Rattle.run_model.proofs.SerialGood.{opening_processors}
-use Rattle.trace_runner.proofs.ParallelAssured.{parallel_counts, parallel_is_good, parallel_assures, parallel_is_serial}
+use Rattle.std.proofs.Common.{◌≡◌, ℕ, length}
+use Rattle.trace_reply.specs.Replies.{AreReplies}
+use Rattle.run_model.specs.SerialRun.{serial_replies}
+use Rattle.run_model.specs.GoodRun.{IsGoodRun}
+use Rattle.run_model.specs.Assurances.{Assures}
+use Rattle.run_model.specs.Laws.{HasOneProcessor}
+use Rattle.trace_runner.proofs.WorkSteps.{kinds_count}
+use Rattle.trace_runner.proofs.ParallelAssured.{ok_replies}
 use Rattle.trace_runner.proofs.parallel.run_parallel.Goals as goal
 
-pub run_sections-requires-clause-some : goal.run_sections-requires-clause-some
-run_sections-requires-clause-some g c κs within =
-    let size : length c.in_ok-machine.machine.processors ≡ c.args.trace.now.config.cpus = ap (λ (w : RunState). length w.processors) c.in_ok-machine.ensures.run_state ∙ opening_processors c.args.trace.now in
-    omega (arith, size, c.keeps_limits.ensures.configured.settings.some)
-
-pub run_sections-requires-clause-few_cpus : goal.run_sections-requires-clause-few_cpus
-run_sections-requires-clause-few_cpus g c κs within =
-    let size : length c.in_ok-machine.machine.processors ≡ c.args.trace.now.config.cpus = ap (λ (w : RunState). length w.processors) c.in_ok-machine.ensures.run_state ∙ opening_processors c.args.trace.now in
-    omega (arith, size, c.keeps_limits.ensures.configured.settings.few)
+pub returns-clause-kinds : goal.returns-clause-kinds
+returns-clause-kinds g c =
+    let t = c.args.trace.now in
+    ok_replies t c.run_logged.result (λ rs. AreReplies t.lines rs) (λ rs kinds good assured one. kinds) c.run_logged.ensures
 
 pub returns-clause-count : goal.returns-clause-count
-returns-clause-count g c = parallel_counts c.args.trace.now c.as_slice.result.now c.run_sections.result (c.as_slice.ensures ∙ ap (λ (t : AcceptedTrace). t.lines) c.trace.view_is) c.run_sections.ensures.kinds
+returns-clause-count g c =
+    let t = c.args.trace.now in
+    ok_replies t c.run_logged.result (λ rs. length rs ≡ length t.lines) (λ rs kinds good assured one. kinds_count t.lines rs kinds) c.run_logged.ensures
 
 pub returns-clause-good : goal.returns-clause-good
-returns-clause-good g c = parallel_is_good c.args.trace.now c.in_ok-machine.machine c.as_slice.result.now c.run_sections.result c.keeps_limits.ensures c.in_ok-machine.ensures.run_state (c.as_slice.ensures ∙ ap (λ (t : AcceptedTrace). t.lines) c.trace.view_is) c.run_sections.ensures.kinds c.run_sections.ensures.runs
+returns-clause-good g c =
+    let t = c.args.trace.now in
+    ok_replies t c.run_logged.result (λ rs. IsGoodRun t rs) (λ rs kinds good assured one. good) c.run_logged.ensures
 
 pub returns-clause-assured : goal.returns-clause-assured
-returns-clause-assured g c = parallel_assures c.args.trace.now c.in_ok-machine.machine c.as_slice.result.now c.run_sections.result c.keeps_limits.ensures c.in_ok-machine.ensures.run_state (c.as_slice.ensures ∙ ap (λ (t : AcceptedTrace). t.lines) c.trace.view_is) c.run_sections.ensures.kinds c.run_sections.ensures.runs
+returns-clause-assured g c =
+    let t = c.args.trace.now in
+    ok_replies t c.run_logged.result (λ rs. Assures t rs) (λ rs kinds good assured one. assured) c.run_logged.ensures
 
 pub returns-clause-one : goal.returns-clause-one
-returns-clause-one g c = parallel_is_serial c.args.trace.now c.in_ok-machine.machine c.as_slice.result.now c.run_sections.result c.keeps_limits.ensures c.in_ok-machine.ensures.run_state (c.as_slice.ensures ∙ ap (λ (t : AcceptedTrace). t.lines) c.trace.view_is) c.run_sections.ensures.kinds c.run_sections.ensures.runs
+returns-clause-one g c =
+    let t = c.args.trace.now in
+    ok_replies t c.run_logged.result (λ rs. (cpu : ℕ) → HasOneProcessor cpu t.lines → rs ≡ serial_replies t) (λ rs kinds good assured one. one) c.run_logged.ensures

@@ -1,13 +1,13 @@
-use Rattle.std.proofs.Common.{◌≡◌, ◌+◌, ◌<◌, ◌≤◌, ◌∙◌, sym, subst, refl, get_or, false, length, [], arith}
+use Rattle.std.proofs.Common.{◌≡◌, ◌+◌, ◌++◌, ◌<◌, ◌≤◌, ◌∙◌, sym, subst, refl, get_or, false, length, [], ◌∷◌, arith}
 use Rattle.std.specs.List.{AllByRecursion}
 use Rattle.trace_read.specs.declared.trace.TraceLine.{TraceLine}
 use Rattle.trace_read.specs.declared.trace.Act.TheVariants.{Call}
 use Rattle.trace_runner.specs.Workers.{NoneQuiet}
 use Rattle.trace_runner.proofs.MergedReplies.{each_line}
-use Rattle.trace_runner.proofs.SectionsRun.{part, Done, done_none, done_more, done_end, no_quiet_more, no_quiet_yet, part_each, section_processors, section_number}
+use Rattle.trace_runner.proofs.SectionsRun.{part, done_none, done_more, put_more, run_ended, no_quiet_more, no_quiet_yet, part_each, section_processors, section_number}
 use Rattle.trace_reply.specs.Places.{reply_in}
 use Rattle.trace_runner.proofs.parallel.run_sections.Goals as goal
-use Rattle.trace_runner.proofs.parallel.run_sections.Goals.{then-is_quiet+in_ok-machine+in_ok-line+in_ok-push, else-is_quiet}
+use Rattle.trace_runner.proofs.parallel.run_sections.Goals.{then-is_quiet+in_ok-machine+in_ok-line+in_ok-put, else-is_quiet}
 
 -- what a read past the end would give
 abbrev d : TraceLine
@@ -19,7 +19,9 @@ loop-i-init g c = record {
   none_quiet = tt;
   processors = refl;
   number = omega (arith, c.requires.number);
-  done = subst (Done c.args.opened c.args.lines.now 0 c.args.opened) (sym (c.reserve.ensures.same ∙ c.new-replies.ensures.none)) (done_none c.args.opened c.args.lines.now);
+  replies = [];
+  put = c.in_ok-output.ensures;
+  done = done_none c.args.opened c.args.lines.now;
 }
 
 pub section-requires-clause-cpus : goal.section-requires-clause-cpus
@@ -45,22 +47,26 @@ pub loop-i-preserved : goal.loop-i-preserved
 loop-i-preserved g c =
     let i = c.loop-i.invariant in
     elim c.if-is_quiet.branch [
-      | then-is_quiet+in_ok-machine+in_ok-line+in_ok-push w ↦
+      | then-is_quiet+in_ok-machine+in_ok-line+in_ok-put w ↦
           let e = w.in_ok-machine.ensures in
           let k = w.in_ok-line.ensures in
-          rw (w.machine-is, w.replies-is, w.start-is) (record {
+          rw (w.machine-is, w.output-is, w.start-is) (record {
             low = omega arith;
             none_quiet = no_quiet_yet c.args.lines.now (c.loop-i.i + 1);
             processors = k.cpus ∙ section_processors c.loop-i.machine w.in_ok-machine.machine _ _ e.sectioned ∙ i.processors;
             number = omega (arith, k.number, section_number c.loop-i.machine w.in_ok-machine.machine _ _ e.sectioned, i.number);
-            done = done_more c.args.opened c.loop-i.machine w.in_ok-machine.machine w.line.new.self c.args.lines.now c.loop-i.start c.loop-i.i d c.loop-i.replies.items w.section.new.replies.items e.news w.push.new.self.items (reply_in w.line.new.place) i.low c.loop-i-test.true i.done i.none_quiet e.sectioned (sym c.is_quiet.ensures ∙ w.if-is_quiet.true) k.reply e.grown (rw (w.into_reply.ensures) at w.in_ok-push.ensures.ok);
+            replies = (i.replies ++ e.news) ++ reply_in w.line.new.place ∷ [];
+            put = put_more g.L.RunLog.has c.args.lines.now c.loop-i.start c.loop-i.i d i.replies e.news (reply_in w.line.new.place) c.loop-i.output w.section.new.output w.put.new.output i.low c.loop-i-test.true i.put e.grown w.in_ok-put.ensures;
+            done = done_more c.args.opened c.loop-i.machine w.in_ok-machine.machine w.line.new.self c.args.lines.now c.loop-i.start c.loop-i.i d i.replies e.news (reply_in w.line.new.place) i.low c.loop-i-test.true i.done i.none_quiet e.sectioned (sym c.is_quiet.ensures ∙ w.if-is_quiet.true) k.reply;
           })
       | else-is_quiet w ↦
-          rw (w.machine-is, w.replies-is, w.start-is) (record {
+          rw (w.machine-is, w.output-is, w.start-is) (record {
             low = omega (arith, i.low);
             none_quiet = no_quiet_more c.args.lines.now c.loop-i.start c.loop-i.i d i.low c.loop-i-test.true i.none_quiet (sym c.is_quiet.ensures ∙ w.if-is_quiet.false);
             processors = i.processors;
             number = omega (arith, i.number);
+            replies = i.replies;
+            put = i.put;
             done = i.done;
           })
     ]
@@ -79,12 +85,8 @@ section-requires-2-clause-some g c κs within = subst (λ n. 0 < n) (sym c.loop-
 pub section-requires-2-clause-few : goal.section-requires-2-clause-few
 section-requires-2-clause-few g c κs within = subst (λ n. n ≤ 64) (sym c.loop-i.invariant.processors) c.requires.few_cpus
 
-pub returns-clause-kinds : goal.returns-clause-kinds
-returns-clause-kinds g c =
+pub returns : goal.returns
+returns g c =
     let last : c.loop-i.i ≡ length c.args.lines.now = omega (arith, c.loop-i-test.false, c.loop-i.auto.i-end) in
-    (done_end c.args.opened c.loop-i.machine c.in_ok-section.field-0 c.args.lines.now c.loop-i.start c.loop-i.i c.loop-i.replies.items c.section-2.new.replies.items c.loop-i.invariant.low last c.loop-i.invariant.done c.loop-i.invariant.none_quiet c.in_ok-section.ensures).kinds
-
-pub returns-clause-runs : goal.returns-clause-runs
-returns-clause-runs g c =
-    let last : c.loop-i.i ≡ length c.args.lines.now = omega (arith, c.loop-i-test.false, c.loop-i.auto.i-end) in
-    (done_end c.args.opened c.loop-i.machine c.in_ok-section.field-0 c.args.lines.now c.loop-i.start c.loop-i.i c.loop-i.replies.items c.section-2.new.replies.items c.loop-i.invariant.low last c.loop-i.invariant.done c.loop-i.invariant.none_quiet c.in_ok-section.ensures).runs
+    let i = c.loop-i.invariant in
+    run_ended g.L.RunLog.has c.args.opened c.loop-i.machine c.in_ok-section.field-0 c.args.lines.now c.loop-i.start c.loop-i.i i.replies c.loop-i.output c.section-2.new.output i.low last i.done i.none_quiet i.put c.in_ok-section.ensures

@@ -1,4 +1,5 @@
-use Rattle.std.proofs.Common.{◌≡◌, ◌≤◌, length}
+use Rattle.std.proofs.Common.{◌≡◌, ◌≤◌, List, length, take}
+use Rattle.trace_reply.specs.declared.reply.Reply.{Reply}
 use Rattle.trace_runner.specs.Workers.{NoneQuiet}
 use Rattle.trace_runner.proofs.SectionsRun.{part, Done}
 use Rattle.trace_runner.proofs.parallel.run_sections.Given as goal
@@ -9,5 +10,7 @@ invariant-loop-i g l = record {
   none_quiet : NoneQuiet (part l.start l.i l.lines);
   processors : length l.machine.processors ≡ length l.fn.opened.processors;
   number : l.machine.memory.table.number ≤ l.i;
-  done : Done l.fn.opened l.lines l.start l.machine l.replies.items;
+  replies : List Reply;
+  put : g.L.RunLog.has l.output (take l.start l.lines) replies;
+  done : Done l.fn.opened l.lines l.start l.machine replies;
 }

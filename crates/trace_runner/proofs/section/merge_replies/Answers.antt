@@ -1,9 +1,9 @@
-use Rattle.std.proofs.Common.{◌<◌, ◌+◌, ◌∙◌, [], false, set, ◌++◌, sym, ap, subst, length, get_or, option_to_list, Vec, Global}
-use Rattle.std.proofs.lemmas.List.{get_or_default}
+use Rattle.std.proofs.Common.{◌+◌, ◌<◌, ◌∙◌, [], false, refl, sym, subst, length, drop, get_or, arith}
+use Rattle.std.proofs.lemmas.List.{length-set}
 use Rattle.trace_read.specs.declared.trace.TraceLine.{TraceLine}
 use Rattle.trace_read.specs.declared.trace.Act.TheVariants.{Call}
-use Rattle.trace_reply.specs.declared.reply.Reply.{Reply}
-use Rattle.trace_runner.proofs.MergedReplies.{Merging, merging_none, merging_more, each_line}
+use Rattle.trace_runner.specs.Workers.{lines_of_cpu}
+use Rattle.trace_runner.proofs.MergedReplies.{merging_none, merging_first, merging_more, merging_all, each_line}
 use Rattle.trace_runner.proofs.section.merge_replies.Goals as goal
 
 -- what a read past the end would give
@@ -11,13 +11,33 @@ abbrev d : TraceLine
 d = record { number = 0; cpu = 0; act = Call 0 [] false }
 
 pub loop-line-init : goal.loop-line-init
-loop-line-init c = merging_none c.args.lines.now c.args.queues.now.items c.args.replies.now.items c.requires.queues
+loop-line-init g c = record {
+  size = refl;
+  merging = λ picks k. merging_none g.L.ReplyLog.keeps g.L.RunLog.has c.args.lines.now picks c.args.logs.now.items c.args.output.now k;
+}
+
+pub move_first-requires : goal.move_first-requires
+move_first-requires g c =
+    let i = c.loop-line.invariant in
+    let lines = c.args.lines.now in
+    let k = c.loop-line.line-index in
+    let l = get_or lines k d in
+    let here = each_line (λ (l : TraceLine). l.cpu < length c.args.logs.now.items) lines k d c.requires.cpus c.loop-line-test.true in
+    let first = merging_first g.L.ReplyLog.keeps g.L.RunLog.has lines k (length c.args.logs.now.items) d c.requires.kept.0 c.loop-line.logs.items c.index_mut.result.now c.args.output.now c.loop-line.output c.loop-line-test.true here (sym c.index_mut.ensures.value) (i.merging c.requires.kept.0 c.requires.kept.1) in
+    record { some = (l, first.x, lines_of_cpu l.cpu (drop (k + 1) lines), first.ss, first.kept) }
 
 pub loop-line-preserved : goal.loop-line-preserved
-loop-line-preserved c =
+loop-line-preserved g c =
     let i = c.loop-line.invariant in
-    let here = subst (λ n. (get_or c.args.lines.now c.loop-line.line-index d).cpu < n) (sym i.size) (each_line (λ (l : TraceLine). l.cpu < length c.args.queues.now.items) c.args.lines.now c.loop-line.line-index d c.requires.cpus c.loop-line-test.true) in
-    subst (Merging c.args.lines.now (c.loop-line.line-index + 1) c.args.queues.now.items (set c.loop-line.queues.items (get_or c.args.lines.now c.loop-line.line-index d).cpu c.pop.new.self) c.args.replies.now.items) (sym c.in_ok-push.ensures.ok)
-    (merging_more c.args.lines.now c.loop-line.line-index d c.args.queues.now.items c.loop-line.queues.items c.pop.new.self c.unwrap-reply.result c.args.replies.now.items c.loop-line.replies.items c.loop-line-test.true here
-    (λ e. ap (λ (q : Vec Reply Global). q.items) (get_or_default c.loop-line.queues.items (get_or c.args.lines.now c.loop-line.line-index d).cpu e c.index_mut.result.now here ∙ sym c.index_mut.ensures.value) ∙ c.pop.ensures.items ∙ ap (λ o. c.pop.new.self.items ++ option_to_list o) c.unwrap-reply.ensures)
-    i)
+    let lines = c.args.lines.now in
+    let k = c.loop-line.line-index in
+    let l = get_or lines k d in
+    let here = each_line (λ (l : TraceLine). l.cpu < length c.args.logs.now.items) lines k d c.requires.cpus c.loop-line-test.true in
+    let inside : l.cpu < length c.loop-line.logs.items = subst (λ n. l.cpu < n) (sym i.size) here in
+    record {
+      size = length-set c.loop-line.logs.items l.cpu c.move_first.new.self ∙ i.size;
+      merging = λ picks keep. merging_more g.L.ReplyLog.keeps g.L.RunLog.has lines k (length c.args.logs.now.items) d picks c.loop-line.logs.items c.index_mut.result.now c.move_first.new.self c.args.output.now c.loop-line.output c.move_first.new.output c.loop-line-test.true here inside (sym c.index_mut.ensures.value) c.in_ok-move_first.ensures.left c.in_ok-move_first.ensures.moved (i.merging picks keep);
+    }
+
+pub returns : goal.returns
+returns g c = record { merged = λ picks keep. merging_all g.L.ReplyLog.keeps g.L.RunLog.has c.args.lines.now c.loop-line.line-index (length c.args.logs.now.items) picks c.loop-line.logs.items c.args.output.now c.loop-line.output (omega (arith, c.loop-line-test.false)) (c.loop-line.invariant.merging picks keep) }

@@ -21,7 +21,7 @@ returns-clause-line g c =
     let b = c.run_act.new.store.store in
     let size : length (view_of a.pass).fronts ≡ 2 ^ (a.table.now.order - 4) = subst (λ (z : LockTable × Pass). length (view_of z.1).fronts ≡ 2 ^ (z.0.order - 4)) (λ j. (sym e.1 j, sym e.0 j)) c.requires.size in
     let k = c.run_act.ensures in
-    rw (c.into_reply.ensures) (subst (λ (z : LockTable × (Pass × Pass)). WorksLine (access_context z.0.order c.args.grants.now.grants) (view_of z.1.0).fronts c.args.cpu.now (replied_line c.args.line.now (reply_in c.run_act.new.place)) (view_of z.1.1).fronts)
+    (subst (λ (z : LockTable × (Pass × Pass)). WorksLine (access_context z.0.order c.args.grants.now.grants) (view_of z.1.0).fronts c.args.cpu.now (replied_line c.args.line.now (reply_in c.run_act.new.place)) (view_of z.1.1).fronts)
     (λ j. (e.1 j, (e.0 j, sym c.into_pass-pass.ensures j)))
     (line_works a.table.now c.args.grants.now.grants c.args.line.now c.args.cpu.now a.pass b.pass (reply_in c.run_act.new.place) k.made.0 size k.call k.access k.comes_later k.gone))
 

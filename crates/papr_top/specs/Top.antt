@@ -1,5 +1,5 @@
 -- What the program answers and writes.
-use Rattle.std.specs.Prelude.{◌≡◌, ℕ, ◌≤◌, List, [], ◌++◌, length, Option, Some, None, IsSomeAnd, Result, Ok, Err, IsOk, codes}
+use Rattle.std.specs.Prelude.{◌≡◌, ℕ, ◌≤◌, List, [], ◌++◌, length, Option, Some, None, IsSomeAnd, Result, Ok, Err, IsOk, IsErr, codes}
 use Rattle.std.specs.Fmt.{decimal}
 use Rattle.trace_io.specs.Outside.{Took, Put, AtEnd}
 use Rattle.trace_read.specs.declared.why.Why.{Why}
@@ -168,3 +168,9 @@ abbrev pub HasInput : Option Command → Option (List ℕ) → Type 0
 HasInput None left = ⊥
 HasInput (Some (commands.Drill seed lines)) left = Unit {0}
 HasInput (Some reading) left = IsSomeAnd left (λ bytes. IsOk (trace_of bytes))
+
+-- The words are a command that reads a trace, and what the source tells is none.
+abbrev pub HasRefusedInput : Option Command → Option (List ℕ) → Type 0
+HasRefusedInput None left = ⊥
+HasRefusedInput (Some (commands.Drill seed lines)) left = ⊥
+HasRefusedInput (Some reading) left = IsSomeAnd left (λ bytes. IsErr (trace_of bytes))

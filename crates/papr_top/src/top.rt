@@ -1,7 +1,7 @@
 ghost use Rattle.std.specs.Prelude.{◌≡◌, ◌≢◌, ◌≤◌, ◌⊎◌, None, Some};
 ghost use Rattle.trace_io.specs.Outside.{Rose};
 ghost use Rattle.trace_gen.specs.Generated.{generated_trace};
-ghost use Rattle.papr_top.specs.Top.{IsOutcome, HasInput, EndsReading, EndsDrill, IsSerialText, IsParallelText};
+ghost use Rattle.papr_top.specs.Top.{IsOutcome, HasInput, HasRefusedInput, EndsReading, EndsDrill, IsSerialText, IsParallelText};
 ghost use Rattle.papr_top.specs.Commands.{without_par};
 ghost use Rattle.papr_top.specs.Commands as words_of;
 
@@ -31,6 +31,10 @@ fn run<S: Source, K: Sink>(alloc: Global, source: &mut S, sink: &mut K) -> Statu
         → Rose (S.faults source.old) (S.faults source.new) }
     ensures write_fault { result ≡ Status.WriteFault
         → Rose (K.faults sink.old) (K.faults sink.new) }
+    ensures no_read_fault { result ≢ Status.ReadFault
+        → S.faults source.new ≡ S.faults source.old }
+    ensures no_write_fault { result ≢ Status.WriteFault
+        → K.faults sink.new ≡ K.faults sink.old }
     ensures source_faults { S.faults source.old ≤ S.faults source.new }
     ensures sink_faults { K.faults sink.old ≤ K.faults sink.new }
 {
@@ -64,6 +68,10 @@ fn par<R: Threads + Wait + Sync, S: Source, K: Sink, G: Gate + Sync>(
         → Rose (S.faults source.old) (S.faults source.new) }
     ensures write_fault { result ≡ Status.WriteFault
         → Rose (K.faults sink.old) (K.faults sink.new) }
+    ensures no_read_fault { result ≢ Status.ReadFault
+        → S.faults source.new ≡ S.faults source.old }
+    ensures no_write_fault { result ≢ Status.WriteFault
+        → K.faults sink.new ≡ K.faults sink.old }
     ensures source_faults { S.faults source.old ≤ S.faults source.new }
     ensures sink_faults { K.faults sink.old ≤ K.faults sink.new }
 {
@@ -90,6 +98,8 @@ fn drill<K: Sink>(alloc: Global, seed: u64, lines: u32, sink: &mut K) -> Status
         result }
     ensures write_fault { result ≡ Status.WriteFault
         → Rose (K.faults sink.old) (K.faults sink.new) }
+    ensures no_write_fault { result ≢ Status.WriteFault
+        → K.faults sink.new ≡ K.faults sink.old }
     ensures sink_faults { K.faults sink.old ≤ K.faults sink.new }
 {
     match summary(alloc, seed, lines) {
@@ -129,13 +139,24 @@ pub fn papr_serial<S: Source, K: Sink>(
         → ¬ Rose (S.faults source.old) (S.faults source.new)
         → ¬ Rose (K.faults sink.old) (K.faults sink.new)
         → (result ≡ Status.Done) ⊎ (result ≡ Status.Memory) }
+    // An input that is no trace is refused there, unless memory ends.
+    ensures refuses { HasRefusedInput
+        (without_par (words_of.command_of words.now))
+        (S.left source.old)
+        → ¬ Rose (S.faults source.old) (S.faults source.new)
+        → ¬ Rose (K.faults sink.old) (K.faults sink.new)
+        → (result ≡ Status.Refused) ⊎ (result ≡ Status.Memory) }
     // Under other words than `run` the source is left as it is.
     ensures untouched { words_of.command_of words.now ≢ Some Command.Run → source.new ≡ source.old }
-    // A fault is one of the source's or of the sink's own.
+    // A fault is one of the source's or of the sink's own, and else their counts stand.
     ensures read_fault { result ≡ Status.ReadFault
         → Rose (S.faults source.old) (S.faults source.new) }
     ensures write_fault { result ≡ Status.WriteFault
         → Rose (K.faults sink.old) (K.faults sink.new) }
+    ensures no_read_fault { result ≢ Status.ReadFault
+        → S.faults source.new ≡ S.faults source.old }
+    ensures no_write_fault { result ≢ Status.WriteFault
+        → K.faults sink.new ≡ K.faults sink.old }
     ensures source_faults { S.faults source.old ≤ S.faults source.new }
     ensures sink_faults { K.faults sink.old ≤ K.faults sink.new }
 {
@@ -176,15 +197,26 @@ pub fn papr<R: Threads + Wait + Sync, S: Source, K: Sink, G: Gate + Sync>(
         → ¬ Rose (S.faults source.old) (S.faults source.new)
         → ¬ Rose (K.faults sink.old) (K.faults sink.new)
         → (result ≡ Status.Done) ⊎ (result ≡ Status.Memory) }
+    // An input that is no trace is refused there, unless memory ends.
+    ensures refuses { HasRefusedInput
+        (words_of.command_of words.now)
+        (S.left source.old)
+        → ¬ Rose (S.faults source.old) (S.faults source.new)
+        → ¬ Rose (K.faults sink.old) (K.faults sink.new)
+        → (result ≡ Status.Refused) ⊎ (result ≡ Status.Memory) }
     // Under other words than `run` and `par` the source is left as it is.
     ensures untouched { words_of.command_of words.now ≢ Some Command.Run
         → words_of.command_of words.now ≢ Some Command.Par
         → source.new ≡ source.old }
-    // A fault is one of the source's or of the sink's own.
+    // A fault is one of the source's or of the sink's own, and else their counts stand.
     ensures read_fault { result ≡ Status.ReadFault
         → Rose (S.faults source.old) (S.faults source.new) }
     ensures write_fault { result ≡ Status.WriteFault
         → Rose (K.faults sink.old) (K.faults sink.new) }
+    ensures no_read_fault { result ≢ Status.ReadFault
+        → S.faults source.new ≡ S.faults source.old }
+    ensures no_write_fault { result ≢ Status.WriteFault
+        → K.faults sink.new ≡ K.faults sink.old }
     ensures source_faults { S.faults source.old ≤ S.faults source.new }
     ensures sink_faults { K.faults sink.old ≤ K.faults sink.new }
 {

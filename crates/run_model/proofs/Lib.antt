@@ -22,6 +22,9 @@ pub mod PlacedCaches
 pub mod LowStampRuns
 pub mod AllSafe
 pub mod ClearedBits
+pub mod Refusals
+pub mod RefusedLines
+pub mod RefusedResizes
 pub mod SmallPartition
 mod AssuranceRows
 mod CachedAccessRows

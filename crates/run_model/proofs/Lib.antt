@@ -31,3 +31,4 @@ mod CachedAccessRows
 mod HistoryRows
 mod SectionRows
 mod ParallelRows
+mod RefusedRows

@@ -75,7 +75,7 @@ removals_are_kept = refl
 -- The pair behind the removed one leaves its entry, and the removed entry is empty.
 pairs_leave : AllByRecursion (LeavesEntry true) (removed ∷ not_found ∷ [])
 unfolding removed not_found entry
-pairs_leave = (λ stands. absurd (let clash : true ≡ false = stands in cc), (λ _. refl), tt)
+pairs_leave = ((λ stands. absurd (let clash : true ≡ false = stands in cc)), ((λ _. refl), tt))
 
 removed_is_gone : after_of removed ≡ empty_state 2
 unfolding removed entry

@@ -97,7 +97,7 @@ pub record RefusedLinesLeave (s : Section) : Type 0 where
       ≡ with_states s.before.memory (states_of (section_end s.before s.replied_lines))
 
 -- ---- resize calls
--- A prepare that answers H_NO_MEM has dropped a pending table of another order, and a commit that answers H_PTEG_FULL the pending table.
+-- A prepare that answers H_NO_MEM and a commit that answers H_PTEG_FULL have dropped the pending table.
 abbrev pub drops_pending : Hcall → Rc → Bool
 drops_pending calls.Prepare rc.NoMem = true
 drops_pending calls.Commit rc.PtegFull = true

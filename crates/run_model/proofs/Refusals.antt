@@ -1,5 +1,5 @@
 -- The receipts of a hypervisor call that is refused leave their entries, but for pairs that a bulk removal has removed.
-use Rattle.std.specs.Prelude.{nat_lt, if◌then◌else◌, ◌==◌, ◌+◌, map, flat_map}
+use Rattle.std.specs.Prelude.{nat_lt, ◌==◌, ◌+◌, map, flat_map}
 use Rattle.std.proofs.Common.{◌≡◌, ℕ, List, [], ◌∷◌, Bool, true, false, ap, sym, ◌∙◌, refl, subst, ◌⊎◌, inl, inr, Option, Some, None}
 use Rattle.std.specs.List.{AllByRecursion}
 use Rattle.std.proofs.lemmas.Bool.{cases_Bool, cond_both, false≢true}
@@ -11,7 +11,6 @@ use Rattle.frame_grants.specs.declared.grant.Grant.{Grant}
 use Rattle.entry_model.specs.State.{State, empty_state}
 use Rattle.entry_model.specs.declared.operation.Answer.{Answer}
 use Rattle.entry_model.specs.declared.operation.Op.{Op}
-use Rattle.entry_model.specs.declared.operation.Test.{Test}
 use Rattle.entry_model.specs.declared.receipt.Receipt.{Receipt}
 use Rattle.entry_model.specs.declared.hreply.HReply.{HReply}
 use Rattle.entry_model.specs.Receipt.{after_of, is_at, is_taken, is_worn}
@@ -35,7 +34,7 @@ use Rattle.entry_model.specs.declared.operation.Op.TheVariants as ops
 
 -- ---- answers without a change
 -- The answers that come with a change.
-abbrev pub is_change : Answer → Bool
+abbrev is_change : Answer → Bool
 is_change answers.Entered = true
 is_change answers.Removed = true
 is_change answers.Protected = true
@@ -77,7 +76,7 @@ IsWithout r = is_change r.answer ≡ false
 abbrev AreWithout : List Receipt → Type 0
 AreWithout rs = AllByRecursion IsWithout rs
 
-pub leaves : (keeps : Bool) (r : Receipt) → after_of r ≡ r.before → LeavesEntry keeps r
+leaves : (keeps : Bool) (r : Receipt) → after_of r ≡ r.before → LeavesEntry keeps r
 leaves true r stands = λ _. stands
 leaves false r stands = stands
 

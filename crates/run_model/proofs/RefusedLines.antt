@@ -1,8 +1,8 @@
 -- In a good run a line that is refused leaves the entries of its receipts, its processor's segments, and its cache but for a line that was gone.
-use Rattle.std.specs.Prelude.{find, not, is_none, MatchBool, if◌then◌else◌}
-use Rattle.std.proofs.Common.{◌≡◌, ℕ, List, [], ◌∷◌, Bool, true, false, ap, sym, ◌∙◌, refl, subst, ◌⊎◌, inl, inr, Option, Some, None, filter, set}
+use Rattle.std.specs.Prelude.{not, is_none}
+use Rattle.std.proofs.Common.{◌≡◌, ℕ, List, [], ◌∷◌, Bool, true, false, ap, sym, ◌∙◌, refl, subst, ◌⊎◌, inl, inr, Option, Some, None}
 use Rattle.std.specs.List.{AllByRecursion}
-use Rattle.std.proofs.lemmas.Bool.{cases_Bool, cond_both, false≢true}
+use Rattle.std.proofs.lemmas.Bool.{cases_Bool, false≢true}
 use Rattle.std.proofs.lemmas.List.{set-get_or}
 use Rattle.power_addr.specs.Pages.{VirtualPage}
 use Rattle.power_addr.proofs.SamePages.{page_same}
@@ -24,7 +24,7 @@ use Rattle.entry_model.specs.declared.line.Line.{Line}
 use Rattle.entry_model.specs.declared.operation.Answer.{Answer}
 use Rattle.entry_model.specs.declared.operation.Answer.TheVariants as answers
 use Rattle.entry_model.specs.declared.receipt.Receipt.{Receipt}
-use Rattle.entry_model.specs.Receipt.{is_no_match, is_access, is_at, found_of}
+use Rattle.entry_model.specs.Receipt.{is_no_match, is_at, found_of}
 use Rattle.entry_model.specs.Trial.{Call, IsTrial}
 use Rattle.entry_model.proofs.OperationLaws.{access_undone}
 use Rattle.hpt_walk.specs.Access.{AccessContext, IsAccessReply, IsByWay, hit_calls, landing_at, outcome_by, outcome_of, logical_of, mode_for, request}
@@ -47,7 +47,7 @@ use Rattle.run_model.specs.GoodRun.{EachLineOfProcessor, IsAccessLine, CallsAreR
 use Rattle.run_model.specs.Landings.{Lands, LandsByItsEntry, AccessesLand}
 use Rattle.run_model.specs.RefusedCalls.{ends_at, is_refused, LeavesEntry, LeavesAll, RefusedLinesLeave, cache_without}
 use Rattle.run_model.proofs.AllSafe.{accesses_land}
-use Rattle.run_model.proofs.Refusals.{leaves, hcall_leaves}
+use Rattle.run_model.proofs.Refusals.{hcall_leaves}
 use Rattle.trace_read.specs.declared.trace.Act.TheVariants as acts
 use Rattle.trace_reply.specs.declared.reply.Reply.TheVariants as replies
 

@@ -1,6 +1,6 @@
 -- Worked refusals, and what they leave.
 use Rattle.std.specs.Prelude.{replicate}
-use Rattle.std.proofs.Common.{◌≡◌, ℕ, List, [], ◌∷◌, true, false, Some, None, refl, ap}
+use Rattle.std.proofs.Common.{◌≡◌, [], ◌∷◌, true, false, Some, None, refl, ap}
 use Rattle.std.specs.List.{AllByRecursion}
 use Rattle.papr_codes.specs.Hcalls.{hcall_of, row_of}
 use Rattle.papr_codes.specs.declared.codes.Rc.TheVariants.{LongBusy, NoMem, Parameter, PtegFull}
@@ -15,18 +15,16 @@ use Rattle.h_enter.specs.Enter.{candidates}
 use Rattle.h_update.specs.Bulk.{asked_by, bulk_calls, bulk_told, h_bulk_remove_plan}
 use Rattle.hpt_resize.specs.Resize.{outcome_of_prepare}
 use Rattle.hpt_resize.specs.TableMemory.{prepare_result}
-use Rattle.tlb_model.specs.Cache.{empty_cache}
 use Rattle.tlb_model.specs.Processor.{new_processor}
 use Rattle.trace_read.specs.declared.trace.Act.{Act}
 use Rattle.trace_read.specs.declared.trace.Act.TheVariants.{Call, SlbMte}
 use Rattle.trace_read.specs.declared.trace.TraceLine.{TraceLine}
 use Rattle.trace_read.specs.Trace.{is_quiet}
 use Rattle.trace_reply.specs.declared.reply.Reply.{Reply}
-use Rattle.trace_reply.specs.Replies.{receipts_in}
 use Rattle.run_model.specs.LineReplies.{hcall_plan}
 use Rattle.run_model.specs.RunState.{RunState, reply_of_code, run_resize, run_quiet_line}
 use Rattle.run_model.specs.SerialRun.{line_result, run_line}
-use Rattle.run_model.specs.RefusedCalls.{is_refused, keeps_removals_by, LeavesEntry, run_left}
+use Rattle.run_model.specs.RefusedCalls.{is_refused, keeps_removals_by, LeavesEntry, run_left, DropsAnother}
 use Rattle.run_model.proofs.SmallPartition.{small, memory_of, calls}
 use Rattle.entry_model.specs.declared.operation.Op.TheVariants as ops
 use Rattle.trace_reply.specs.declared.reply.Reply.TheVariants as replies
@@ -115,6 +113,15 @@ prepare_leaves = refl
 left_without_memory : run_left prepare (reply_of_code NoMem) with_pending ≡ record with_entry { memory = memory_of [] }
 unfolding prepare with_pending with_entry hcall_of row_of taken_without
 left_without_memory = refl
+
+-- The pending table was of another order than the one that was asked for.
+of_another_order : DropsAnother prepare (reply_of_code NoMem) with_pending
+unfolding prepare with_pending with_entry hcall_of row_of
+of_another_order = refl
+
+of_the_order_itself : DropsAnother (Call 0x36C (0 ∷ 19 ∷ []) true) (reply_of_code NoMem) with_pending → ⊥
+unfolding with_pending with_entry hcall_of row_of
+of_the_order_itself h = let clash : true ≡ false = h in cc
 
 -- With another code it is kept.
 left_in_place : run_left prepare (reply_of_code Parameter) with_pending ≡ with_pending

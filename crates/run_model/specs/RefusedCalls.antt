@@ -1,5 +1,5 @@
 -- Which calls and accesses are refused, and that these change nothing but in three cases, which are named here. The grants are a constant of the run.
-use Rattle.std.specs.Prelude.{◌≡◌, Bool, true, false, not, List, [], ◌∷◌, Option, Some, None, IfSome}
+use Rattle.std.specs.Prelude.{◌≡◌, ℕ, Bool, true, false, not, List, [], ◌∷◌, Option, Some, None, IfSome, slice_index}
 use Rattle.std.specs.List.{AllByRecursion}
 use Rattle.papr_codes.specs.declared.calls.Hcall.{Hcall}
 use Rattle.papr_codes.specs.declared.codes.Rc.{Rc}
@@ -9,14 +9,14 @@ use Rattle.entry_model.specs.declared.line.Line.{Line}
 use Rattle.entry_model.specs.declared.operation.Answer.{Answer}
 use Rattle.entry_model.specs.declared.receipt.Receipt.{Receipt}
 use Rattle.entry_model.specs.Receipt.{after_of}
-use Rattle.hpt_resize.specs.Resize.{pool_without}
+use Rattle.hpt_resize.specs.Resize.{is_pending, pool_without}
 use Rattle.hpt_resize.specs.TableMemory.{TableMemory, with_states}
 use Rattle.tlb_model.specs.Cache.{set_of, without_page}
 use Rattle.tlb_model.specs.Processor.{Processor}
 use Rattle.tlb_model.specs.Sets.{with_set}
 use Rattle.trace_read.specs.declared.trace.Act.{Act}
 use Rattle.trace_reply.specs.declared.reply.Reply.{Reply}
-use Rattle.trace_reply.specs.Replies.{RepliedLine, receipts_in}
+use Rattle.trace_reply.specs.Replies.{receipts_in}
 use Rattle.run_model.specs.Processors.{processor_after, gone_line_of}
 use Rattle.run_model.specs.RunState.{RunState, states_of}
 use Rattle.run_model.specs.Sections.{Section, section_end}
@@ -121,17 +121,34 @@ run_left (acts.Call number args spelt) (replies.Hcall h) w =
     record w { memory = memory_left (drops_pending (hcall_of number) h.rc) w.memory }
 run_left act reply w = w
 
--- The section behind a refused quiet line opens on just that.
-abbrev pub LeavesRun : Section → Section → Type 0
-LeavesRun s next =
+-- A prepare that answers H_NO_MEM found no pending table of its order.
+abbrev pub FoundNone : Hcall → Rc → List ℕ → TableMemory → Type 0
+FoundNone calls.Prepare rc.NoMem args memory =
+    is_pending (slice_index args 1) memory.pending ≡ false
+FoundNone call code args memory = Unit {0}
+
+-- The same of a line: a table that it drops for want of memory is of another order.
+abbrev pub DropsAnother : Act → Reply → RunState → Type 0
+DropsAnother (acts.Call number args spelt) (replies.Hcall h) w =
+    FoundNone (hcall_of number) h.rc args w.memory
+DropsAnother act reply w = Unit {0}
+
+-- What the run carries before a refused quiet line, and after it.
+pub record LeavesRun (act : Act) (reply : Reply) (old new : RunState) : Type 0 where
+  pub left : new ≡ run_left act reply old
+  pub another : DropsAnother act reply old
+
+-- The section behind a refused quiet line opens on what that left of the one before it.
+abbrev pub OpensOnRest : Section → Section → Type 0
+OpensOnRest s next =
     IfSome
     s.quiet
     (λ q. is_refused q.line.act q.reply ≡ true
-    → next.before ≡ run_left q.line.act q.reply (section_end s.before s.replied_lines))
+    → LeavesRun q.line.act q.reply (section_end s.before s.replied_lines) next.before)
 
 -- So does each.
 abbrev pub RefusedQuietLinesLeave : List Section → Type 0
 RefusedQuietLinesLeave [] = Unit {0}
 RefusedQuietLinesLeave (s ∷ []) = Unit {0}
 RefusedQuietLinesLeave (s ∷ next ∷ rest) =
-    LeavesRun s next × RefusedQuietLinesLeave (next ∷ rest)
+    OpensOnRest s next × RefusedQuietLinesLeave (next ∷ rest)

@@ -1,11 +1,11 @@
 //! A trace that resizes its table: the source or the sink fails at each call in turn, and the input ends
 //! behind each byte.
 
-use super::{list, run, text_in};
-use crate::{Status, papr_serial};
+use super::faults::faulty;
+use super::run;
+use crate::Status;
 use std::alloc::Global;
 use std::test::Fail;
-use trace_io::{MemorySink, MemorySource};
 
 /// The lines, each with its reply. `begin` is the third.
 const LINES: &[(&str, &str)] = &[
@@ -59,14 +59,9 @@ const READ: usize = 7;
 
 const WRITTEN: usize = 5;
 
-/// The status and what was written, from a source and to a sink that fail at their calls of these
-/// numbers; none where the number is 0.
-fn faulty(alloc: Global, input: &str, read: u64, write: u64) -> Result<(Status, String), Fail> {
-    let bytes = input.as_bytes().to_vec(alloc)?;
-    let mut source = MemorySource::new(bytes, READ, vec![in alloc; read]?);
-    let mut sink = MemorySink::new(alloc, WRITTEN, vec![in alloc; write]?, 65_536)?;
-    let status = papr_serial(alloc, &list(alloc, &["run"])?, &mut source, &mut sink);
-    Ok((status, text_in(alloc, &sink)?))
+/// The status and what was written under `run`, where these calls of the source and the sink fail.
+fn run_faulty(alloc: Global, input: &str, faults: (u64, u64)) -> Result<(Status, String), Fail> {
+    faulty(alloc, &["run"], input, (READ, WRITTEN), faults)
 }
 
 #[test]
@@ -76,19 +71,19 @@ fn each_read_and_each_write_may_fail(rt: HostRuntime) -> Result<(), Fail> {
     // The last read finds the end.
     let reads = input.len().div_ceil(READ) + 1;
     for call in 1..=reads {
-        let answered = faulty(alloc, input.as_str(), call as u64, 0)?;
+        let answered = run_faulty(alloc, input.as_str(), (call as u64, 0))?;
         assert_eq!(rt; answered, (Status::ReadFault, String::new(alloc)), "at read {call}");
     }
     let writes = replies.len().div_ceil(WRITTEN);
     for call in 1..=writes {
-        let (status, text) = faulty(alloc, input.as_str(), 0, call as u64)?;
+        let (status, text) = run_faulty(alloc, input.as_str(), (0, call as u64))?;
         assert_eq!(rt; status, Status::WriteFault, "at write {call}");
         assert!(rt; replies.as_str().starts_with(text.as_str()), "at write {call}");
         let taken = (text.len() / WRITTEN, text.len() % WRITTEN);
         assert_eq!(rt; taken, (call - 1, 0), "at write {call}");
     }
     // There are no further calls.
-    let answered = faulty(alloc, input.as_str(), reads as u64 + 1, writes as u64 + 1)?;
+    let answered = run_faulty(alloc, input.as_str(), (reads as u64 + 1, writes as u64 + 1))?;
     assert_eq!(rt; answered, (Status::Done, replies));
     Ok(())
 }

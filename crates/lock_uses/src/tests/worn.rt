@@ -3,10 +3,11 @@
 
 ghost use Rattle.std.specs.Prelude.{◌≡◌, IfOk, vec_len};
 ghost use Rattle.hpte_fields.specs.TableSize.{entry_count};
+ghost use Rattle.tlb_model.specs.Cache.{empty_cache};
 
 use super::{DWORD0, DWORD1, ENTRIES, GROUP, LANDS, ORDER, memory, processor};
 use entry_lock::{LockTable, NoPause, Waiting};
-use entry_model::{Answer, By, EntryState, EntryStore, HReply, Outcome, Receipts};
+use entry_model::{AccessReply, Answer, By, EntryState, EntryStore, HReply, Outcome, Receipts};
 use frame_grants::Grants;
 use h_enter::h_enter;
 use h_update::{h_bulk_remove, h_clear_mod, h_clear_ref, h_protect, h_read, h_remove};
@@ -16,6 +17,7 @@ use std::alloc::{AllocError, Global};
 use std::process::Abort;
 use std::test::Fail;
 use storage_prot::Want;
+use vcpu::Cpu;
 
 /// A hypervisor call on the entry.
 #[derive(Clone, Copy, Debug)]
@@ -124,6 +126,13 @@ fn replied<T: EntryStore>(store: &mut T, grants: &Grants, call: Call) -> HReply 
     }
 }
 
+/// A load from the page, by a processor that has cached nothing.
+fn load<T: EntryStore>(cpu: &mut Cpu, store: &mut T, grants: &Grants) -> AccessReply
+    requires { cpu.old.cache ≡ empty_cache }
+{
+    cpu.access(store, grants, 0x5000, Want::Load, false)
+}
+
 /// There is one receipt, of the entry in this state.
 fn assert_receipt(rt: &impl Abort, made: &Receipts, before: EntryState, answer: Answer) {
     let made = made.as_slice();
@@ -143,9 +152,13 @@ fn assert_unchanged<T: EntryStore>(rt: &impl Abort, store: &mut T) {
         assert_eq!(rt; reply.words.as_slice(), row.words, "at {:?}", row.call);
         assert_receipt(rt, &reply.receipts, worn(false), row.answer);
     }
-    let load = processor(rt).access(store, &grants, 0x5000, Want::Load, false);
-    assert_eq!(rt; (load.outcome, load.by), (Outcome::At(LANDS), Some(By::Walk)));
-    assert_receipt(rt, &load.receipts, worn(false), Answer::At);
+    let mut cpu = processor(rt);
+    let loaded = load(&mut cpu, store, &grants);
+    assert_eq!(rt;
+        (loaded.outcome, loaded.by),
+        (Outcome::At(LANDS), Some(By::Walk))
+    );
+    assert_receipt(rt, &loaded.receipts, worn(false), Answer::At);
     let read = h_read(store, 0, GROUP);
     assert_receipt(rt, &read.receipts, worn(true), Answer::Words);
 }

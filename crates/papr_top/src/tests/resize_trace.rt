@@ -72,13 +72,20 @@ fn each_read_and_each_write_may_fail(rt: HostRuntime) -> Result<(), Fail> {
     let reads = input.len().div_ceil(READ) + 1;
     for call in 1..=reads {
         let answered = run_faulty(alloc, input.as_str(), (call as u64, 0))?;
-        assert_eq!(rt; answered, (Status::ReadFault, String::new(alloc)), "at read {call}");
+        assert_eq!(rt;
+            answered,
+            (Status::ReadFault, String::new(alloc)),
+            "at read {call}"
+        );
     }
     let writes = replies.len().div_ceil(WRITTEN);
     for call in 1..=writes {
         let (status, text) = run_faulty(alloc, input.as_str(), (0, call as u64))?;
         assert_eq!(rt; status, Status::WriteFault, "at write {call}");
-        assert!(rt; replies.as_str().starts_with(text.as_str()), "at write {call}");
+        assert!(rt;
+            replies.as_str().starts_with(text.as_str()),
+            "at write {call}"
+        );
         let taken = (text.len() / WRITTEN, text.len() % WRITTEN);
         assert_eq!(rt; taken, (call - 1, 0), "at write {call}");
     }
@@ -110,7 +117,11 @@ fn an_input_may_end_behind_each_line(rt: HostRuntime) -> Result<(), Fail> {
         };
         // The LF of the last line may be absent.
         let without = input.as_str().trim_end();
-        assert_eq!(rt; run(alloc, without.as_bytes())?, wanted, "without LF, {count} lines");
+        assert_eq!(rt;
+            run(alloc, without.as_bytes())?,
+            wanted,
+            "without LF, {count} lines"
+        );
         assert_eq!(rt; run(alloc, input.as_bytes())?, wanted, "at {count} lines");
     }
     Ok(())
@@ -127,7 +138,8 @@ fn is_front(alloc: Global, count: usize, answered: &(Status, String)) -> Result<
     Ok(match status {
         Status::Done => is_whole && text.as_str().starts_with(replies.as_str()),
         Status::Refused => {
-            text.as_str().starts_with(refusal(alloc, count + 1)?.as_str())
+            text.as_str()
+                .starts_with(refusal(alloc, count + 1)?.as_str())
                 || !is_whole && *text == no_begin
         }
         _ => false,
@@ -141,7 +153,11 @@ fn an_input_may_end_in_each_line(rt: HostRuntime) -> Result<(), Fail> {
         let (mut input, _) = front(alloc, count)?;
         for letter in line.trim_end().chars() {
             let answered = run(alloc, input.as_bytes())?;
-            assert!(rt; is_front(alloc, count, &answered)?, "at {input}: {}", answered.1);
+            assert!(rt;
+                is_front(alloc, count, &answered)?,
+                "at {input}: {}",
+                answered.1
+            );
             input.push(letter)?;
         }
     }

@@ -62,7 +62,7 @@ fn answer(alloc: Global, taken: u32) -> Result<String, Fail> {
 fn count(alloc: Global, text: &str, answer: &str) -> Result<u32, Fail> {
     let mut found = 0u32;
     for (call, line) in (0..EACH * PROCESSORS).zip(text.split('\n')) {
-        let number = FIRST + call;
+        let number = FIRST.saturating_add(call);
         let cpu = call / EACH;
         let reply = format!(in alloc; "{number} {cpu} H_ENTER {answer}")?;
         if line == reply.as_str() {

@@ -90,7 +90,11 @@ fn each_read_and_each_write_may_fail(rt: HostRuntime) -> Result<(), Fail> {
         assert_eq!(rt; taken, (call - 1, 0), "at write {call}");
     }
     // There are no further calls.
-    let answered = run_faulty(alloc, input.as_str(), (reads as u64 + 1, writes as u64 + 1))?;
+    let last = (
+        (reads as u64).saturating_add(1),
+        (writes as u64).saturating_add(1),
+    );
+    let answered = run_faulty(alloc, input.as_str(), last)?;
     assert_eq!(rt; answered, (Status::Done, replies));
     Ok(())
 }
@@ -132,14 +136,14 @@ fn an_input_may_end_behind_each_line(rt: HostRuntime) -> Result<(), Fail> {
 fn is_front(alloc: Global, count: usize, answered: &(Status, String)) -> Result<bool, Fail> {
     let (status, text) = answered;
     let (_, replies) = front(alloc, count)?;
-    let mut no_begin = refusal(alloc, count + 2)?;
+    let mut no_begin = refusal(alloc, count.saturating_add(2))?;
     no_begin.push_str("begin\n")?;
     let is_whole = count >= CONFIGURATION;
     Ok(match status {
         Status::Done => is_whole && text.as_str().starts_with(replies.as_str()),
         Status::Refused => {
             text.as_str()
-                .starts_with(refusal(alloc, count + 1)?.as_str())
+                .starts_with(refusal(alloc, count.saturating_add(1))?.as_str())
                 || !is_whole && *text == no_begin
         }
         _ => false,

@@ -7,6 +7,7 @@ ghost use Rattle.entry_lock.specs.PassOfTable.{IsOf};
 mod accesses;
 mod calls;
 mod threads;
+mod worn;
 
 use entry_lock::{LockTable, Pass};
 use entry_model::EntryState;

@@ -3,9 +3,11 @@ mod drills;
 mod entering;
 mod entries;
 mod faults;
+mod full_group;
 mod long_trace;
 mod par;
 mod refusals;
+mod resize_trace;
 mod resizing;
 mod words;
 

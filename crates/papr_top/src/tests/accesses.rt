@@ -18,6 +18,20 @@ pub const WALKS: &[Row] = &[
         ],
     },
     Row {
+        name: "another page, in its own group",
+        config: BASIS,
+        lines: &[
+            "0 slbmte 0x8000000 0x1000",
+            "0 H_ENTER 0x0 0x28 0x1001 0x3012",
+            "0 load 0x4000 priv",
+        ],
+        replies: &[
+            "4 0 slbmte ok",
+            "5 0 H_ENTER 0 0x28 | 0x28.0.0.entered",
+            "6 0 load at 0x2000003000 walk | 0x28.1.0.at",
+        ],
+    },
+    Row {
         name: "in the second group",
         config: BASIS,
         lines: &[
@@ -130,6 +144,26 @@ pub const CHANGED_PAGES: &[Row] = &[
             "8 0 load at 0x2000003000 hit | 0x20.1.2.at",
             "9 1 H_PROTECT 0 | 0x20.1.2.protected",
             "10 0 load at 0x2000003000 walk | 0x20.2.2.at",
+        ],
+    },
+    Row {
+        name: "two entries of one page: the first serves, and then the second",
+        config: BASIS,
+        lines: &[
+            "0 slbmte 0x8000000 0x1000",
+            "0 H_ENTER 0x8000000000 0x20 0x1001 0x3012",
+            "0 H_ENTER 0x8000000000 0x21 0x1001 0x4012",
+            "0 load 0x5000 priv",
+            "0 H_REMOVE 0x0 0x20 0x0",
+            "0 load 0x5000 priv",
+        ],
+        replies: &[
+            "4 0 slbmte ok",
+            "5 0 H_ENTER 0 0x20 | 0x20.0.0.entered",
+            "6 0 H_ENTER 0 0x21 | 0x21.0.0.entered",
+            "7 0 load at 0x2000003000 walk | 0x20.1.0.at",
+            "8 0 H_REMOVE 0 0x1001 0x3112 | 0x20.1.2.removed",
+            "9 0 load at 0x2000004000 walk | 0x20.2.0.nomatch 0x21.1.0.at",
         ],
     },
     Row {

@@ -1,3 +1,5 @@
+ghost use Rattle.std.specs.Prelude.{◌≤◌};
+
 use super::{list, text_in};
 use crate::{Status, papr_serial};
 use std::alloc::Global;
@@ -8,12 +10,21 @@ use trace_io::{MemorySink, MemorySource};
 const INPUT: &str =
     "order 18\nram 0x0 0x2000000000 0x40000000\nbegin\n0 H_ENTER 0x0 0x20 0x1001 0x3012";
 
-/// The status and what was written, from a source of pieces of 16 bytes to a sink of pieces of 8, which
-/// fail at their calls of these numbers; none where the number is 0.
-fn faulty(alloc: Global, words: &[&str], read: u64, write: u64) -> Result<(Status, String), Fail> {
-    let input = INPUT.as_bytes().to_vec(alloc)?;
-    let mut source = MemorySource::new(input, 16, vec![in alloc; read]?);
-    let mut sink = MemorySink::new(alloc, 8, vec![in alloc; write]?, 4096)?;
+/// The status and what was written, from a source and to a sink of pieces of these sizes, which fail at
+/// their calls of these numbers; none where the number is 0.
+pub fn faulty(
+    alloc: Global,
+    words: &[&str],
+    input: &str,
+    pieces: (usize, usize),
+    faults: (u64, u64),
+) -> Result<(Status, String), Fail>
+    requires source { 1 ≤ pieces.0 }
+    requires sink { 1 ≤ pieces.1 }
+{
+    let bytes = input.as_bytes().to_vec(alloc)?;
+    let mut source = MemorySource::new(bytes, pieces.0, vec![in alloc; faults.0]?);
+    let mut sink = MemorySink::new(alloc, pieces.1, vec![in alloc; faults.1]?, 65_536)?;
     let status = papr_serial(alloc, &list(alloc, words)?, &mut source, &mut sink);
     Ok((status, text_in(alloc, &sink)?))
 }
@@ -34,7 +45,7 @@ fn a_fault_of_source_or_sink_ends_the_run(rt: HostRuntime) -> Result<(), Fail> {
         (drill, 1, 2, Status::WriteFault, "lines 4\n"),
         (&[], 1, 2, Status::WriteFault, "papr: us"),
     ] {
-        let (ended, written) = faulty(alloc, words, read, write)?;
+        let (ended, written) = faulty(alloc, words, INPUT, (16, 8), (read, write))?;
         assert_eq!(rt; ended, status, "at {words:?}, {read}, {write}");
         assert_eq!(rt; written.as_str(), text, "at {words:?}, {read}, {write}");
     }

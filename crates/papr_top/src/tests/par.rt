@@ -29,7 +29,7 @@ fn faulty<R: Threads + Wait + Sync>(
 }
 
 /// The status and the text of an input under `par`.
-fn together<R: Threads + Wait + Sync>(
+pub fn together<R: Threads + Wait + Sync>(
     rt: &R,
     alloc: Global,
     input: &str,

@@ -29,6 +29,16 @@ try() {
     fi
 }
 
+# refuses WORDS COMMAND..: status 2, and a message that has the words.
+refuses() {
+    local words=$1 status
+    shift
+    "$@" </dev/null >"$work/out" 2>"$work/message"
+    status=$?
+    cat "$work/message"
+    [ "$status" -eq 2 ] && grep -qF -- "$words" "$work/message"
+}
+
 # finish: the counts, and the script's status.
 finish() {
     echo "$passed passed, $failed failed, $skipped skipped"

@@ -28,6 +28,7 @@ dist = out/dist
 tools = from-qemu:qemu-log-to-trace history:entry-history picture:run-picture receipts:receipts why:why
 tool_name = $(firstword $(subst :, ,$(1)))
 tool_file = $(lastword $(subst :, ,$(1)))
+link_tool = ln -sf ../share/papr/$(1) $(bindir)/papr-$(2);
 commands = $(foreach tool,$(tools),papr-$(call tool_name,$(tool)))
 tool_files = $(foreach tool,$(tools),tools/$(call tool_file,$(tool)))
 modules = tools/common.py tools/grants.py tools/replies.py tools/svg.py
@@ -53,12 +54,13 @@ install: $(PROGRAM)
 	$(INSTALL) -m 755 $(PROGRAM) $(bindir)/papr
 	$(INSTALL) -m 755 $(tool_files) $(tooldir)
 	$(INSTALL) -m 644 $(modules) $(tooldir)
-	$(foreach tool,$(tools),ln -sf ../share/papr/$(call tool_file,$(tool)) $(bindir)/papr-$(call tool_name,$(tool)) &&) true
+	$(foreach tool,$(tools),$(call link_tool,$(call tool_file,$(tool)),$(call tool_name,$(tool))))
 	$(INSTALL) -m 644 $(pages) $(mandir)
 	$(INSTALL) -m 644 completions/papr.bash $(bashdir)/papr
 	$(INSTALL) -m 644 completions/papr.zsh $(zshdir)/_papr
 	$(INSTALL) -m 644 completions/papr.fish $(fishdir)/papr.fish
-	for command in $(commands); do ln -sf papr $(bashdir)/$$command && ln -sf papr.fish $(fishdir)/$$command.fish; done
+	for command in $(commands); do ln -sf papr $(bashdir)/$$command; done
+	for command in $(commands); do ln -sf papr.fish $(fishdir)/$$command.fish; done
 	$(INSTALL) -m 644 $(texts) $(docdir)
 	$(INSTALL) -m 644 $(documents) $(docdir)/docs
 	$(INSTALL) -m 644 $(filter-out examples/check,$(examples)) $(exampledir)

@@ -47,7 +47,7 @@ def page(name: str) -> Path:
 
 
 def program() -> str:
-    """The program: the one of these sources, or of an installed tool the one that the shell finds."""
+    """The program: that of these sources, or of an installed tool the one that the shell finds."""
     wrapper = HERE.parent / "papr"
     return str(wrapper) if wrapper.is_file() else "papr"
 

@@ -1,24 +1,43 @@
-# Builds papr and puts it, its page, its completion and its examples in their usual places.
+# Builds papr, puts it and what belongs to it in their usual places, and makes packages.
 #
 #   make                          build the program where it is missing or older than its sources
 #   make check                    run the examples and the tests of the tools
 #   make install PREFIX=/usr      install; DESTDIR is put in front of every path
 #   make uninstall PREFIX=/usr    take away what install put there
+#   make dist                     the committed sources as out/dist/papr-VERSION.tar.gz
+#   make deb                      a Debian package of the program, out/dist/papr_VERSION_ARCHITECTURE.deb
 
 PREFIX ?= /usr/local
 DESTDIR ?=
 PROGRAM ?= crates/papr_main/out/papr_main
 INSTALL ?= install
+VERSION := $(shell cat VERSION)
 
+share = $(DESTDIR)$(PREFIX)/share
 bindir = $(DESTDIR)$(PREFIX)/bin
-mandir = $(DESTDIR)$(PREFIX)/share/man/man1
-completiondir = $(DESTDIR)$(PREFIX)/share/bash-completion/completions
-docdir = $(DESTDIR)$(PREFIX)/share/doc/papr
+tooldir = $(share)/papr
+mandir = $(share)/man/man1
+docdir = $(share)/doc/papr
 exampledir = $(docdir)/examples
+bashdir = $(share)/bash-completion/completions
+zshdir = $(share)/zsh/site-functions
+fishdir = $(share)/fish/vendor_completions.d
+dist = out/dist
 
+# A tool's name behind papr-, and its file in tools/.
+tools = from-qemu:qemu-log-to-trace history:entry-history picture:run-picture receipts:receipts why:why
+tool_name = $(firstword $(subst :, ,$(1)))
+tool_file = $(lastword $(subst :, ,$(1)))
+link_tool = ln -sf ../share/papr/$(1) $(bindir)/papr-$(2);
+commands = $(foreach tool,$(tools),papr-$(call tool_name,$(tool)))
+tool_files = $(foreach tool,$(tools),tools/$(call tool_file,$(tool)))
+modules = tools/common.py tools/grants.py tools/replies.py tools/svg.py
+pages = man/papr.1 $(commands:%=man/%.1)
 examples = $(wildcard examples/*)
+texts = README.md CHANGELOG.md CONTRIBUTING.md LICENSE-APACHE LICENSE-MIT
+documents = $(wildcard docs/*.md docs/*.svg)
 
-.PHONY: all check install uninstall
+.PHONY: all check install uninstall dist deb
 
 all:
 	./papr run <examples/first.trace >/dev/null
@@ -31,14 +50,33 @@ $(PROGRAM):
 	./papr run <examples/first.trace >/dev/null
 
 install: $(PROGRAM)
-	$(INSTALL) -d $(bindir) $(mandir) $(completiondir) $(exampledir)
+	$(INSTALL) -d $(bindir) $(tooldir) $(mandir) $(docdir)/docs $(exampledir) $(bashdir) $(zshdir) $(fishdir)
 	$(INSTALL) -m 755 $(PROGRAM) $(bindir)/papr
-	$(INSTALL) -m 644 man/papr.1 $(mandir)/papr.1
-	$(INSTALL) -m 644 completions/papr.bash $(completiondir)/papr
+	$(INSTALL) -m 755 $(tool_files) $(tooldir)
+	$(INSTALL) -m 644 $(modules) $(tooldir)
+	$(foreach tool,$(tools),$(call link_tool,$(call tool_file,$(tool)),$(call tool_name,$(tool))))
+	$(INSTALL) -m 644 $(pages) $(mandir)
+	$(INSTALL) -m 644 completions/papr.bash $(bashdir)/papr
+	$(INSTALL) -m 644 completions/papr.zsh $(zshdir)/_papr
+	$(INSTALL) -m 644 completions/papr.fish $(fishdir)/papr.fish
+	for command in $(commands); do ln -sf papr $(bashdir)/$$command; done
+	for command in $(commands); do ln -sf papr.fish $(fishdir)/$$command.fish; done
+	$(INSTALL) -m 644 $(texts) $(docdir)
+	$(INSTALL) -m 644 $(documents) $(docdir)/docs
 	$(INSTALL) -m 644 $(filter-out examples/check,$(examples)) $(exampledir)
 	$(INSTALL) -m 755 examples/check $(exampledir)/check
 
 uninstall:
-	rm -f $(bindir)/papr $(mandir)/papr.1 $(completiondir)/papr
-	rm -f $(addprefix $(exampledir)/,$(notdir $(examples)))
-	rmdir $(exampledir) $(docdir) 2>/dev/null || true
+	rm -f $(addprefix $(bindir)/,papr $(commands)) $(addprefix $(mandir)/,$(notdir $(pages)))
+	rm -f $(addprefix $(bashdir)/,papr $(commands)) $(zshdir)/_papr
+	rm -f $(addprefix $(fishdir)/,papr.fish $(addsuffix .fish,$(commands)))
+	rm -f $(addprefix $(tooldir)/,$(notdir $(tool_files) $(modules))) $(tooldir)/__pycache__/*
+	rm -f $(addprefix $(docdir)/,$(texts) $(documents) $(examples))
+	rmdir $(exampledir) $(docdir)/docs $(docdir) $(tooldir)/__pycache__ $(tooldir) 2>/dev/null || true
+
+dist:
+	mkdir -p $(dist)
+	git archive --format=tar.gz --prefix=papr-$(VERSION)/ -o $(dist)/papr-$(VERSION).tar.gz HEAD
+
+deb: $(PROGRAM)
+	tools/debian $(VERSION) $(PROGRAM) $(dist)

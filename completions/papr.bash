@@ -1,4 +1,9 @@
-# Completion of papr's words in bash. Files behind `<` are completed by bash itself.
+# Completion of papr's words and of its tools' options in bash. Files behind `<` are completed by bash itself.
+
+# The options of a tool, as its help lists them.
+_papr_options() {
+    "$1" --help 2>/dev/null | grep -oE -- '--[a-z][a-z-]+' | sort -u
+}
 
 _papr() {
     COMPREPLY=()
@@ -7,4 +12,14 @@ _papr() {
     fi
 }
 
+_papr_tool() {
+    local word=${COMP_WORDS[COMP_CWORD]}
+    if [[ $word == -* ]]; then
+        mapfile -t COMPREPLY < <(compgen -W "$(_papr_options "$1")" -- "$word")
+    else
+        mapfile -t COMPREPLY < <(compgen -f -- "$word")
+    fi
+}
+
 complete -F _papr papr
+complete -o filenames -F _papr_tool papr-from-qemu papr-history papr-picture papr-receipts papr-why

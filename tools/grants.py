@@ -4,6 +4,8 @@ from collections import Counter
 from dataclasses import dataclass
 from typing import Iterable, Optional
 
+from common import Bad
+
 MOST_GRANTS = 64
 GRANULE = 4_096
 POOL = (0x10_0000_0000, 0x10_0000_0000 + 2**24)  # where tables lie by default
@@ -24,10 +26,6 @@ LARGE_SIZES = (
 
 Range = tuple[int, int]  # first byte, and one past the last
 Page = tuple[str, Range]  # `ram` or `io`, and the logical range
-
-
-class Bad(Exception):
-    """An argument or an input from which no trace can be made."""
 
 
 @dataclass(frozen=True)

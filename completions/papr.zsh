@@ -1,0 +1,20 @@
+#compdef papr papr-from-qemu papr-history papr-picture papr-receipts papr-why
+# Completion of papr's words and of its tools' options in zsh.
+
+_papr() {
+    if [[ $service != papr ]]; then
+        _arguments -s '*:file:_files' -- && return
+    elif ((CURRENT == 2)); then
+        _values 'word' \
+            'run[run a trace from standard input]' \
+            'par[run it with a thread for each processor]' \
+            'drill[run a generated trace: SEED LINES]'
+    elif [[ $words[2] == drill ]]; then
+        case $CURRENT in
+            3) _message 'seed: a number below 2^64' ;;
+            4) _message 'lines: a number up to 100,000' ;;
+        esac
+    fi
+}
+
+_papr "$@"

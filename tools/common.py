@@ -1,0 +1,76 @@
+"""What the tools share: numbers as a trace writes them, input, and how a tool ends."""
+
+import argparse
+import os
+import re
+import signal
+import sys
+from contextlib import contextmanager
+from pathlib import Path
+from typing import Callable, Iterator, Optional, TextIO
+
+HERE = Path(__file__).resolve().parent
+NAME = os.path.basename(sys.argv[0])  # of the tool that runs
+
+
+class Bad(Exception):
+    """An argument or an input with which a tool can't do its work."""
+
+
+def read_number(word: str) -> int:
+    """A number as a trace writes it: decimal, or hexadecimal behind 0x, below 2^64."""
+    if not re.fullmatch(r"0[xX][0-9a-fA-F]{1,16}|[0-9]{1,20}", word):
+        raise argparse.ArgumentTypeError(f"`{word}` is no number")
+    value = int(word, 16) if word[:2] in ("0x", "0X") else int(word)
+    if value >= 2**64:
+        raise argparse.ArgumentTypeError(f"`{word}` is not below 2^64")
+    return value
+
+
+@contextmanager
+def text_of(path: Optional[str]) -> Iterator[TextIO]:
+    """The file's text, or that of standard input where no file or `-` is named."""
+    if path in (None, "-"):
+        yield sys.stdin
+    else:
+        with open(path, encoding="ascii") as text:
+            yield text
+
+
+def page(name: str) -> Path:
+    """A page of the documents: beside the tools in a checkout, or where `make install` put it."""
+    places = [HERE.parent / "docs" / name, HERE.parent / "doc" / "papr" / "docs" / name]
+    for place in places:
+        if place.is_file():
+            return place
+    raise Bad(f"{name} is missing; looked for {' and '.join(map(str, places))}")
+
+
+def program() -> str:
+    """The program: that of these sources, or of an installed tool the one that the shell finds."""
+    wrapper = HERE.parent / "papr"
+    return str(wrapper) if wrapper.is_file() else "papr"
+
+
+def note(words: object) -> None:
+    """A line on standard error."""
+    print(f"{NAME}: {words}", file=sys.stderr)
+
+
+def run_tool(work: Callable[[], Optional[int]]) -> int:
+    """Does a tool's work. The answer is the exit status: 2 and a message where it can't be done."""
+    try:
+        status = work()
+        sys.stdout.flush()
+        return status or 0
+    except (Bad, UnicodeDecodeError) as error:
+        note(error)
+    except KeyboardInterrupt:
+        return 128 + signal.SIGINT
+    except BrokenPipeError:
+        # The reader has what it wanted; nothing more can be flushed.
+        os.dup2(os.open(os.devnull, os.O_WRONLY), sys.stdout.fileno())
+        return 0
+    except OSError as error:
+        note(f"{error.filename or 'output'}: {error.strerror}")
+    return 2

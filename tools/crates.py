@@ -1,0 +1,50 @@
+"""The crates of this repository and what each stands on, as crates.txt lists them."""
+
+from pathlib import Path
+
+from common import HERE, Bad
+
+TOP = HERE.parent
+CRATES = TOP / "crates"
+PARTS = ("src", "specs", "proofs")
+
+
+def lines_of(listed: Path) -> dict[str, str]:
+    """The lines of a crates.txt by the crate's name."""
+    found = {}
+    for line in listed.read_text(encoding="utf-8").splitlines():
+        told = line.split("#")[0].strip()
+        if told:
+            found[told.partition(":")[0].split()[0]] = told
+    return found
+
+
+def uses_of(lines: dict[str, str]) -> dict[str, list[str]]:
+    """The crates of the same list that each crate's line names; those of the kit are left out."""
+    return {
+        name: [used for used in line.partition(":")[2].split() if used in lines]
+        for name, line in lines.items()
+    }
+
+
+def with_those_below(names: list[str], uses: dict[str, list[str]]) -> list[str]:
+    """The crates and all that they stand on, each behind those that it uses."""
+    found: list[str] = []
+
+    def visit(name: str) -> None:
+        if name in found:
+            return
+        for used in uses[name]:
+            visit(used)
+        found.append(name)
+
+    for name in names:
+        if name not in uses:
+            raise Bad(f"crates.txt has no crate `{name}`")
+        visit(name)
+    return found
+
+
+def folders_of(name: str) -> list[Path]:
+    """Where the files of a crate are that its proof and its library rest on."""
+    return [part for part in (CRATES / name / it for it in PARTS) if part.is_dir()]

@@ -12,6 +12,3 @@ mod prepared;
 pub use carry::{Collision, rehash};
 pub use current::{CommitAnswer, Current};
 pub use prepared::Resize;
-
-#[cfg(test)]
-mod tests;

@@ -13,6 +13,3 @@ mod top;
 pub use status::Status;
 pub use top::{papr, papr_serial};
 pub use trace_runner::{Gate, OpenGate};
-
-#[cfg(test)]
-mod tests;

@@ -13,6 +13,3 @@ mod text;
 pub use counts::Counts;
 pub use summary::{summary_of, summary_of_counts};
 pub use text::{REPLY_ROOM, put_place, put_reply, text_of};
-
-#[cfg(test)]
-mod tests;

@@ -22,6 +22,3 @@ pub use std_edge::{StdSink, StdSource};
 pub use steady_sink::SteadySink;
 pub use steady_source::SteadySource;
 pub use writing::write_all;
-
-#[cfg(test)]
-mod tests;

@@ -14,6 +14,3 @@ mod landing;
 mod passing;
 
 pub use cpu::Cpu;
-
-#[cfg(test)]
-mod tests;

@@ -52,51 +52,67 @@ def without_generics(text):
     return out
 
 
-def read_file(path, crate, file):
-    functions, owner, current, header = [], None, None, None
-    for line in open(path, encoding='utf8'):
-        line = line.rstrip('\n')
-        if re.match(r'\s*//', line):
-            continue
-        if header is not None or OWNER.match(line):
-            header = (header or '') + ' ' + line.strip()
-            if line.endswith('}'):
-                header = None
-            elif line.endswith('{'):
-                owner, header = Owner(header.strip()), None
-            continue
-        if line == '}':
-            owner = None
-        head = FUNCTION.match(line)
-        if head and (len(head.group(1)) == 0 or owner):
-            current = Function(crate, file, owner if head.group(1) else None, head.group(3), bool(head.group(2)))
-            functions.append(current)
-            part = 'signature'
-        if current is None:
-            continue
-        if part == 'body':
-            if line == head_indent(current) + '}':
-                current = None
+class FileReader:
+    """Reads the functions of a file, line by line."""
+
+    def __init__(self, crate, file):
+        self.crate, self.file = crate, file
+        self.functions = []
+        self.owner, self.header = None, ''
+        self.current, self.part = None, ''
+
+    def read(self, path):
+        for line in open(path, encoding='utf8'):
+            line = line.rstrip('\n')
+            if re.match(r'\s*//', line):
+                continue
+            if self.header or OWNER.match(line):
+                self.read_header(line)
             else:
-                current.body += line + '\n'
-            continue
+                self.read_line(line)
+        return self.functions
+
+    def read_header(self, line):
+        """A line of the head of an `impl` or a trait."""
+        self.header += ' ' + line.strip()
+        if line.endswith('{'):
+            self.owner = Owner(self.header.strip())
+        if line.endswith(('{', '}')):
+            self.header = ''
+
+    def read_line(self, line):
+        if line == '}':
+            self.owner = None
+        head = FUNCTION.match(line)
+        if head and (not head.group(1) or self.owner):
+            owner = self.owner if head.group(1) else None
+            self.current = Function(self.crate, self.file, owner, head.group(3), bool(head.group(2)))
+            self.functions.append(self.current)
+            self.part = 'signature'
+        if self.current and self.part == 'body':
+            self.read_body(line)
+        elif self.current:
+            self.read_contract(line)
+
+    def read_body(self, line):
+        if line == ('    }' if self.current.owner else '}'):
+            self.current = None
+        else:
+            self.current.body += line + '\n'
+
+    def read_contract(self, line):
+        """A line of the signature or of the clauses. A function of a trait may end here, and so may an empty one."""
         clause = CLAUSE.match(line)
         if clause:
-            current.clauses.append((clause.group(1), clause.group(2) or ''))
-            part = 'clauses'
-        if part == 'signature':
-            current.signature += ' ' + line.strip()
-        if line.endswith(';') and owner and owner.is_trait:
-            current = None
-        elif line.strip() == '{' or part == 'signature' and line.endswith('{'):
-            part = 'body'
-        elif part == 'signature' and line.endswith('{}'):
-            current = None
-    return functions
-
-
-def head_indent(function):
-    return '    ' if function.owner else ''
+            self.current.clauses.append((clause.group(1), clause.group(2) or ''))
+            self.part = 'clauses'
+        if self.part == 'signature':
+            self.current.signature += ' ' + line.strip()
+        ends = line.endswith(';') and self.owner and self.owner.is_trait
+        if ends or self.part == 'signature' and line.endswith('{}'):
+            self.current = None
+        elif line.strip() == '{' or self.part == 'signature' and line.endswith('{'):
+            self.part = 'body'
 
 
 def exported(crate_folder):
@@ -123,7 +139,7 @@ def read_functions(root):
                 path = os.path.join(place, file)
                 inside = os.path.relpath(path, top)
                 if file.endswith('.rt') and re.split(r'\W', inside)[0] != 'tests':
-                    found += read_file(path, crate, inside)
+                    found += FileReader(crate, inside).read(path)
         for one in found:
             if one.owner:
                 reached = one.is_pub or one.owner.is_trait or bool(one.owner.meets)

@@ -1,6 +1,8 @@
 -- The text of a run of a trace.
-use Rattle.std.specs.Prelude.{◌≡◌, ℕ, List, Option, Ok}
+use Rattle.std.specs.Prelude.{◌≡◌, ℕ, List, Option, Ok, Err}
 use Rattle.trace_io.specs.Outside.{Put}
+use Rattle.trace_read.specs.declared.parser.TraceError.{TraceError}
+use Rattle.trace_read.specs.declared.parser.TraceError.TheVariants as errors
 use Rattle.trace_read.specs.Trace.{AcceptedTrace}
 use Rattle.trace_read.specs.Grammar.{trace_of}
 use Rattle.trace_reply.specs.declared.reply.Reply.{Reply}
@@ -24,3 +26,8 @@ pub record PutsTextOfBytes (bytes : List ℕ) (old new : Option (List ℕ)) : Ty
   pub text : List ℕ
   pub told : IsTextOfBytes bytes text
   pub put : Put old text new
+
+-- The bytes are no trace, by this line and reason; of want of memory nothing is told.
+abbrev pub TellsRefusal : TraceError → List ℕ → Type 0
+TellsRefusal (errors.Line line why) bytes = trace_of bytes ≡ Err (line, why)
+TellsRefusal errors.Memory bytes = Unit {0}

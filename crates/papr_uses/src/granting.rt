@@ -1,4 +1,5 @@
-ghost use Rattle.std.specs.Prelude.{◌≡◌, ◌<◌, ◌+◌, Some, IfOk};
+ghost use Rattle.std.specs.Prelude.{◌≡◌, ◌<◌, ◌+◌, None, Some, IfOk, MatchResult};
+ghost use Rattle.frame_grants.specs.Grants.{add_refusal};
 
 use frame_grants::{Grant, GrantError, Grants, Kind};
 
@@ -10,7 +11,11 @@ pub fn grant_and_ask(
     offset: u64,
 ) -> Result<Option<(u64, Kind)>, GrantError>
     requires { offset < grant.length }
-    ensures { IfOk result (λ at. at ≡ Some (grant.machine + offset, grant.kind)) }
+    ensures at { IfOk result (λ at. at ≡ Some (grant.machine + offset, grant.kind)) }
+    ensures told { MatchResult
+        result
+        (λ _. add_refusal grants.old grant ≡ None)
+        (λ e. add_refusal grants.old grant ≡ Some e) }
 {
     grants.add(grant)?;
     Ok(grants.machine_of(grant.logical + offset, 1))

@@ -1,4 +1,4 @@
-ghost use Rattle.std.specs.Prelude.{◌≡◌, ℕ, ◌<◌, All, IfOk, OnOk, OnErr, length, reverse, slice_index_or};
+ghost use Rattle.std.specs.Prelude.{◌≡◌, ◌==◌, ◌||◌, ℕ, ◌<◌, nat_lt, All, Err, IfOk, OnOk, OnErr, IsOkUnless, MatchBool, length, reverse, slice_index_or};
 ghost use Rattle.entry_model.specs.History.{IsLegal, history};
 ghost use Rattle.entry_model.specs.Run.{state_at};
 ghost use Rattle.lock_core.specs.Laws.{IsFair, published_state};
@@ -14,6 +14,7 @@ use std::alloc::Global;
 #[tactic(auto, unfolding(lock_core::specs::Steps::after_step, lock_core::specs::Steps::is_allowed))]
 fn try_step(core: &mut Core, alloc: Global, actor: u32, step: Step) -> Result<(), CoreError>
     ensures after { OnOk result (core.new ≡ after_step core.old actor step) }
+    ensures memory { IsOkUnless result CoreError.Memory }
     ensures entries { length core.new.entries ≡ length core.old.entries }
     ensures actors { length core.new.actors ≡ length core.old.actors }
 {
@@ -32,6 +33,10 @@ pub fn machine_after(
     steps: &[(u32, Step)],
 ) -> Result<Core, CoreError>
     requires { All IsFair states.now }
+    ensures refused { MatchBool
+        (actors == 0 || nat_lt 64 actors)
+        (result ≡ Err CoreError.Actors)
+        (IsOkUnless result CoreError.Memory) }
     ensures ran { IfOk
         result
         (λ core. core ≡ run (opening_machine states.now actors) (reverse steps.now)) }

@@ -1,16 +1,18 @@
-ghost use Rattle.std.specs.Prelude.{◌≡◌, ◌<◌, ◌≤◌, ◌-◌, ◌/◌, ◌^◌, IfSome};
+ghost use Rattle.std.specs.Prelude.{◌≡◌, ◌<◌, ◌≤◌, ◌-◌, ◌/◌, ◌^◌, is_some, IfSome};
 ghost use Rattle.hpte_fields.specs.TableSize.{entry_count};
+ghost use Rattle.hpt_hash.specs.Entries.{page_at};
 
 use hpt_hash::{groups, page_of};
 use hpte_fields::secondary;
 
 /// The group to which the page of an entry hashes, for the entry's H: the group that the entry
-/// stands in.
+/// stands in. None exactly where the entry is one of no page.
 pub fn group_of_entry(order: u8, index: u32, dword0: u64, dword1: u64) -> Option<u64>
     requires order_low { 18 ≤ order }
     requires order_high { order ≤ 22 }
     requires in_table { index < entry_count order }
-    ensures { IfSome result (λ group. group ≡ index / 8) }
+    ensures group { IfSome result (λ group. group ≡ index / 8) }
+    ensures exact { is_some result ≡ is_some (page_at order index dword0 dword1) }
 {
     let page = page_of(order, index, dword0, dword1)?;
     let (first, second) = groups(&page, order);

@@ -1,5 +1,5 @@
-ghost use Rattle.std.specs.Prelude.{◌≡◌, ◌≤◌, false, Contains, IfSome, IfNone};
-ghost use Rattle.hpt_pool.specs.Pool.{block_at, lowest_place, overlap};
+ghost use Rattle.std.specs.Prelude.{◌≡◌, ◌⊎◌, ℕ, ◌≤◌, false, Contains, Some, None, IfSome, IfNone};
+ghost use Rattle.hpt_pool.specs.Pool.{block_at, lowest_place, overlap, with_block};
 
 use hpt_pool::Pool;
 
@@ -29,6 +29,13 @@ pub fn take_pair(pool: &mut Pool, first: u8, second: u8) -> Option<(u64, u64)>
     ensures first { IfSome result (λ places. Contains pool.new.taken (block_at places.0 first)) }
     ensures second { IfSome result (λ places. Contains pool.new.taken (block_at places.1 second)) }
     ensures neither { IfNone result (pool.new ≡ pool.old) }
+    // There is no room for the first, or beside it none for the second.
+    ensures full { IfNone
+        result
+        ((lowest_place pool.old first ≡ None)
+        ⊎ ((place : ℕ)
+        × (lowest_place pool.old first ≡ Some place)
+        × (lowest_place (with_block pool.old (block_at place first)) second ≡ None))) }
 {
     // Each call of a pool tells that its blocks are sound, and giving back needs that of the pool before.
     let _order = pool.order();

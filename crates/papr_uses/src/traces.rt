@@ -1,6 +1,6 @@
-ghost use Rattle.std.specs.Prelude.{◌≡◌, ◌≤◌, IfOk, string_bytes};
+ghost use Rattle.std.specs.Prelude.{◌≡◌, ◌≤◌, IfOk, IfErr, string_bytes};
 ghost use Rattle.trace_gen.specs.Generated.{generated_trace};
-ghost use Rattle.papr_uses.specs.RunText.{IsTextOf, IsTextOfBytes};
+ghost use Rattle.papr_uses.specs.RunText.{IsTextOf, IsTextOfBytes, TellsRefusal};
 
 use reply_text::text_of;
 use std::alloc::{AllocError, Global};
@@ -18,7 +18,8 @@ fn text_of_run(alloc: Global, trace: &Trace) -> Result<String, AllocError>
 
 /// The text of a good run of the trace that the bytes give.
 pub fn text_of_bytes(alloc: Global, bytes: &[u8]) -> Result<String, TraceError>
-    ensures { IfOk result (λ s. IsTextOfBytes bytes.now (string_bytes s)) }
+    ensures text { IfOk result (λ s. IsTextOfBytes bytes.now (string_bytes s)) }
+    ensures refused { IfErr result (λ e. TellsRefusal e bytes.now) }
 {
     let trace = parse(alloc, bytes)?;
     match text_of_run(alloc, &trace) {

@@ -1,4 +1,4 @@
-ghost use Rattle.std.specs.Prelude.{◌≡◌, ◌≤◌, ◌<◌, ℕ, List, [], take, length, Option, IfOk, OnErr};
+ghost use Rattle.std.specs.Prelude.{◌≡◌, ◌≤◌, ◌<◌, ℕ, List, [], take, length, Option, IfOk, OnOk, OnErr};
 ghost use Rattle.trace_io.specs.Outside.{Took, Put, AtEnd, Rose};
 
 /// A read or a write that failed. Nothing was taken.
@@ -20,6 +20,7 @@ pub trait Source {
         ensures took { IfOk result (λ n. Took (left self.old) (take n into.new) (left self.new)) }
         ensures end { IfOk result (λ n. n ≡ 0 → 0 < length into.old → AtEnd (left self.new)) }
         ensures nothing { OnErr result (Took (left self.old) [] (left self.new)) }
+        ensures stands { OnOk result (faults self.new ≡ faults self.old) }
         ensures faults { faults self.old ≤ faults self.new }
         ensures cause { OnErr result (Rose (faults self.old) (faults self.new)) };
 }
@@ -39,6 +40,7 @@ pub trait Sink {
         ensures room { IfOk result (λ n. n ≤ length piece.now) }
         ensures put { IfOk result (λ n. Put (taken self.old) (take n piece.now) (taken self.new)) }
         ensures nothing { OnErr result (Put (taken self.old) [] (taken self.new)) }
+        ensures stands { OnOk result (faults self.new ≡ faults self.old) }
         ensures faults { faults self.old ≤ faults self.new }
         ensures cause { OnErr result (Rose (faults self.old) (faults self.new)) };
 }

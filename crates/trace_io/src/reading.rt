@@ -58,6 +58,8 @@ pub fn read_all<S: Source>(
     ensures memory { IsErrOf result ReadAllError.Memory
         → TookWithin limit (S.left source.old) (S.left source.new) }
 
+    ensures stands { ¬ IsErrOf result ReadAllError.Fault
+        → S.faults source.new ≡ S.faults source.old }
     ensures faults { S.faults source.old ≤ S.faults source.new }
     ensures cause { IsErrOf result ReadAllError.Fault
         → Rose (S.faults source.old) (S.faults source.new) }

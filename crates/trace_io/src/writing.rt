@@ -1,4 +1,4 @@
-ghost use Rattle.std.specs.Prelude.{◌≤◌, OnOk, OnErr};
+ghost use Rattle.std.specs.Prelude.{◌≡◌, ◌≤◌, OnOk, OnErr};
 ghost use Rattle.trace_io.specs.Outside.{Put, PutPrefix, Rose};
 
 use crate::outside::{Failed, Sink};
@@ -7,6 +7,7 @@ use crate::outside::{Failed, Sink};
 pub fn write_all<K: Sink>(sink: &mut K, text: &[u8]) -> Result<(), Failed>
     ensures whole { OnOk result (Put (K.taken sink.old) text.now (K.taken sink.new)) }
     ensures front { OnErr result (PutPrefix text.now (K.taken sink.old) (K.taken sink.new)) }
+    ensures stands { OnOk result (K.faults sink.new ≡ K.faults sink.old) }
     ensures faults { K.faults sink.old ≤ K.faults sink.new }
     ensures cause { OnErr result (Rose (K.faults sink.old) (K.faults sink.new)) }
 {

@@ -1,5 +1,7 @@
 -- What the program answers and writes.
-use Rattle.std.specs.Prelude.{◌≡◌, ℕ, ◌≤◌, List, [], ◌++◌, length, Option, Some, None, IsSomeAnd, Result, Ok, Err, IsOk, codes}
+use Rattle.std.specs.Prelude.{◌≡◌, ℕ, ◌≤◌, List, [], ◌++◌, length, Option, Some, None, IsSomeAnd, Result, Ok, Err, IsOk, IsErr, codes, String, string_bytes}
+use Rattle.std.specs.declared.alloc.AllocError.{AllocError}
+use Rattle.std.specs.declared.alloc.Global.{Global}
 use Rattle.std.specs.Fmt.{decimal}
 use Rattle.trace_io.specs.Outside.{Took, Put, AtEnd}
 use Rattle.trace_read.specs.declared.why.Why.{Why}
@@ -55,6 +57,14 @@ pub record IsParallelText (t : AcceptedTrace) (text : List ℕ) : Type 0 where
   pub replies : List Reply
   pub is : text ≡ text_of t replies
   pub assured : IsAssured t replies
+
+-- The text of a result that may be given of the trace.
+abbrev pub IsMade :
+    (AcceptedTrace → Result (String Global) AllocError → Type 0)
+    → AcceptedTrace
+    → List ℕ
+    → Type 0
+IsMade gives t text = (s : String Global) × gives t (Ok s) × (string_bytes s ≡ text)
 
 -- ---- what a call leaves
 -- The bytes left in the source and those taken by the sink, before and after, where they are told.
@@ -168,3 +178,9 @@ abbrev pub HasInput : Option Command → Option (List ℕ) → Type 0
 HasInput None left = ⊥
 HasInput (Some (commands.Drill seed lines)) left = Unit {0}
 HasInput (Some reading) left = IsSomeAnd left (λ bytes. IsOk (trace_of bytes))
+
+-- The words are a command that reads a trace, and what the source tells is none.
+abbrev pub HasRefusedInput : Option Command → Option (List ℕ) → Type 0
+HasRefusedInput None left = ⊥
+HasRefusedInput (Some (commands.Drill seed lines)) left = ⊥
+HasRefusedInput (Some reading) left = IsSomeAnd left (λ bytes. IsErr (trace_of bytes))

@@ -1,4 +1,4 @@
-ghost use Rattle.std.specs.Prelude.{◌≡◌, ◌≤◌, [], ◌⊎◌};
+ghost use Rattle.std.specs.Prelude.{◌≡◌, ◌≢◌, ◌≤◌, [], ◌⊎◌};
 ghost use Rattle.trace_io.specs.Outside.{Rose, Put};
 ghost use Rattle.papr_top.specs.Finish.{Finishes, EndsRefused};
 
@@ -18,6 +18,7 @@ pub fn finish<K: Sink>(sink: &mut K, text: &[u8], status: Status) -> Status
         (K.faults sink.old)
         (K.faults sink.new)
         result }
+    ensures no_fault { result ≢ Status.WriteFault → K.faults sink.new ≡ K.faults sink.old }
     ensures faults { K.faults sink.old ≤ K.faults sink.new }
 {
     match write_all(sink, text) {
@@ -35,6 +36,7 @@ pub fn refuse<K: Sink>(alloc: Global, sink: &mut K, error: NoTrace) -> Status
         (K.faults sink.old)
         (K.faults sink.new)
         result }
+    ensures no_fault { result ≢ Status.WriteFault → K.faults sink.new ≡ K.faults sink.old }
     ensures faults { K.faults sink.old ≤ K.faults sink.new }
 {
     match error {

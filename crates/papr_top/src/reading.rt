@@ -1,4 +1,4 @@
-ghost use Rattle.std.specs.Prelude.{◌≡◌, ◌≤◌, Err};
+ghost use Rattle.std.specs.Prelude.{◌≡◌, ◌≢◌, ◌≤◌, Err};
 ghost use Rattle.trace_io.specs.Outside.{Rose};
 ghost use Rattle.papr_top.specs.Top.{IsInput};
 
@@ -21,6 +21,7 @@ pub enum NoTrace {
 pub fn read_trace<S: Source>(alloc: Global, source: &mut S) -> Result<Trace, NoTrace>
     ensures input { IsInput result (S.left source.old) (S.left source.new) }
     ensures fault { result ≡ Err NoTrace.Fault → Rose (S.faults source.old) (S.faults source.new) }
+    ensures no_fault { result ≢ Err NoTrace.Fault → S.faults source.new ≡ S.faults source.old }
     ensures faults { S.faults source.old ≤ S.faults source.new }
 {
     match read_all(alloc, source, MOST_BYTES) {

@@ -1,7 +1,8 @@
 ghost use Rattle.std.specs.Prelude.{◌≡◌, ◌≢◌, ◌≤◌, ◌⊎◌, None, Some};
+ghost use Rattle.std.specs.Fn.{FnOnceReturnsAt};
 ghost use Rattle.trace_io.specs.Outside.{Rose};
 ghost use Rattle.trace_gen.specs.Generated.{generated_trace};
-ghost use Rattle.papr_top.specs.Top.{IsOutcome, HasInput, EndsReading, EndsDrill, IsSerialText, IsParallelText};
+ghost use Rattle.papr_top.specs.Top.{IsOutcome, HasInput, HasRefusedInput, EndsReading, EndsDrill, IsMade};
 ghost use Rattle.papr_top.specs.Commands.{without_par};
 ghost use Rattle.papr_top.specs.Commands as words_of;
 
@@ -10,49 +11,23 @@ use crate::command::{Command, command_of};
 use crate::ending::{finish, refuse};
 use crate::reading::read_trace;
 use crate::status::Status;
-use std::alloc::Global;
+use std::alloc::{AllocError, Global};
 use std::sync::Wait;
 use std::thread::Threads;
 use trace_io::{Sink, Source};
+use trace_read::Trace;
 use trace_runner::Gate;
 
-/// `run`: reads the source to its end, and writes the replies of the serial run, or the refusal.
-fn run<S: Source, K: Sink>(alloc: Global, source: &mut S, sink: &mut K) -> Status
-    ensures outcome { EndsReading
-        IsSerialText
-        (record {
-          left = S.left source.old;
-          left_after = S.left source.new;
-          taken = K.taken sink.old;
-          taken_after = K.taken sink.new;
-        })
-        result }
-    ensures read_fault { result ≡ Status.ReadFault
-        → Rose (S.faults source.old) (S.faults source.new) }
-    ensures write_fault { result ≡ Status.WriteFault
-        → Rose (K.faults sink.old) (K.faults sink.new) }
-    ensures source_faults { S.faults source.old ≤ S.faults source.new }
-    ensures sink_faults { K.faults sink.old ≤ K.faults sink.new }
-{
-    match read_trace(alloc, source) {
-        Ok(trace) => match serial_text(alloc, &trace) {
-            Ok(text) => finish(sink, text.as_bytes(), Status::Done),
-            Err(_) => Status::Memory,
-        },
-        Err(error) => refuse(alloc, sink, error),
-    }
-}
-
-/// `par`: the same, with a thread for each processor that has lines.
-fn par<R: Threads + Wait + Sync, S: Source, K: Sink, G: Gate + Sync>(
-    rt: &R,
+/// Reads the source to its end, and writes the text that is made of the trace, or the refusal.
+fn answer_input<S: Source, K: Sink, F: FnOnce(&Trace) -> Result<String, AllocError>>(
     alloc: Global,
     source: &mut S,
     sink: &mut K,
-    gate: &G,
+    text_of: F,
 ) -> Status
+    requires { F.IsAlwaysCallable text_of }
     ensures outcome { EndsReading
-        IsParallelText
+        (IsMade (FnOnceReturnsAt F.FnOnce text_of))
         (record {
           left = S.left source.old;
           left_after = S.left source.new;
@@ -64,11 +39,15 @@ fn par<R: Threads + Wait + Sync, S: Source, K: Sink, G: Gate + Sync>(
         → Rose (S.faults source.old) (S.faults source.new) }
     ensures write_fault { result ≡ Status.WriteFault
         → Rose (K.faults sink.old) (K.faults sink.new) }
+    ensures no_read_fault { result ≢ Status.ReadFault
+        → S.faults source.new ≡ S.faults source.old }
+    ensures no_write_fault { result ≢ Status.WriteFault
+        → K.faults sink.new ≡ K.faults sink.old }
     ensures source_faults { S.faults source.old ≤ S.faults source.new }
     ensures sink_faults { K.faults sink.old ≤ K.faults sink.new }
 {
     match read_trace(alloc, source) {
-        Ok(trace) => match parallel_text(rt, alloc, &trace, gate) {
+        Ok(trace) => match text_of(&trace) {
             Ok(text) => finish(sink, text.as_bytes(), Status::Done),
             Err(_) => Status::Memory,
         },
@@ -90,6 +69,8 @@ fn drill<K: Sink>(alloc: Global, seed: u64, lines: u32, sink: &mut K) -> Status
         result }
     ensures write_fault { result ≡ Status.WriteFault
         → Rose (K.faults sink.old) (K.faults sink.new) }
+    ensures no_write_fault { result ≢ Status.WriteFault
+        → K.faults sink.new ≡ K.faults sink.old }
     ensures sink_faults { K.faults sink.old ≤ K.faults sink.new }
 {
     match summary(alloc, seed, lines) {
@@ -129,18 +110,29 @@ pub fn papr_serial<S: Source, K: Sink>(
         → ¬ Rose (S.faults source.old) (S.faults source.new)
         → ¬ Rose (K.faults sink.old) (K.faults sink.new)
         → (result ≡ Status.Done) ⊎ (result ≡ Status.Memory) }
+    // An input that is no trace is refused there, unless memory ends.
+    ensures refuses { HasRefusedInput
+        (without_par (words_of.command_of words.now))
+        (S.left source.old)
+        → ¬ Rose (S.faults source.old) (S.faults source.new)
+        → ¬ Rose (K.faults sink.old) (K.faults sink.new)
+        → (result ≡ Status.Refused) ⊎ (result ≡ Status.Memory) }
     // Under other words than `run` the source is left as it is.
     ensures untouched { words_of.command_of words.now ≢ Some Command.Run → source.new ≡ source.old }
-    // A fault is one of the source's or of the sink's own.
+    // A fault is one of the source's or of the sink's own, and else their counts stand.
     ensures read_fault { result ≡ Status.ReadFault
         → Rose (S.faults source.old) (S.faults source.new) }
     ensures write_fault { result ≡ Status.WriteFault
         → Rose (K.faults sink.old) (K.faults sink.new) }
+    ensures no_read_fault { result ≢ Status.ReadFault
+        → S.faults source.new ≡ S.faults source.old }
+    ensures no_write_fault { result ≢ Status.WriteFault
+        → K.faults sink.new ≡ K.faults sink.old }
     ensures source_faults { S.faults source.old ≤ S.faults source.new }
     ensures sink_faults { K.faults sink.old ≤ K.faults sink.new }
 {
     match command_of(words) {
-        Some(Command::Run) => run(alloc, source, sink),
+        Some(Command::Run) => answer_input(alloc, source, sink, |trace| serial_text(alloc, trace)),
         Some(Command::Drill { seed, lines }) => drill(alloc, seed, lines, sink),
         None | Some(Command::Par) => finish(sink, b"papr: usage\n", Status::Usage),
     }
@@ -176,20 +168,36 @@ pub fn papr<R: Threads + Wait + Sync, S: Source, K: Sink, G: Gate + Sync>(
         → ¬ Rose (S.faults source.old) (S.faults source.new)
         → ¬ Rose (K.faults sink.old) (K.faults sink.new)
         → (result ≡ Status.Done) ⊎ (result ≡ Status.Memory) }
+    // An input that is no trace is refused there, unless memory ends.
+    ensures refuses { HasRefusedInput
+        (words_of.command_of words.now)
+        (S.left source.old)
+        → ¬ Rose (S.faults source.old) (S.faults source.new)
+        → ¬ Rose (K.faults sink.old) (K.faults sink.new)
+        → (result ≡ Status.Refused) ⊎ (result ≡ Status.Memory) }
     // Under other words than `run` and `par` the source is left as it is.
     ensures untouched { words_of.command_of words.now ≢ Some Command.Run
         → words_of.command_of words.now ≢ Some Command.Par
         → source.new ≡ source.old }
-    // A fault is one of the source's or of the sink's own.
+    // A fault is one of the source's or of the sink's own, and else their counts stand.
     ensures read_fault { result ≡ Status.ReadFault
         → Rose (S.faults source.old) (S.faults source.new) }
     ensures write_fault { result ≡ Status.WriteFault
         → Rose (K.faults sink.old) (K.faults sink.new) }
+    ensures no_read_fault { result ≢ Status.ReadFault
+        → S.faults source.new ≡ S.faults source.old }
+    ensures no_write_fault { result ≢ Status.WriteFault
+        → K.faults sink.new ≡ K.faults sink.old }
     ensures source_faults { S.faults source.old ≤ S.faults source.new }
     ensures sink_faults { K.faults sink.old ≤ K.faults sink.new }
 {
     match command_of(words) {
-        Some(Command::Par) => par(rt, alloc, source, sink, gate),
+        Some(Command::Par) => answer_input(
+            alloc,
+            source,
+            sink,
+            |trace| parallel_text(rt, alloc, trace, gate),
+        ),
         _ => papr_serial(alloc, words, source, sink),
     }
 }

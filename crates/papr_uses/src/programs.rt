@@ -1,4 +1,4 @@
-ghost use Rattle.std.specs.Prelude.{◌≡◌, ◌≢◌, ◌⊎◌, IsOk};
+ghost use Rattle.std.specs.Prelude.{◌≡◌, ◌≢◌, ◌⊎◌, IsOk, IsErr};
 ghost use Rattle.trace_io.specs.Memory.{told};
 ghost use Rattle.trace_read.specs.Grammar.{trace_of};
 ghost use Rattle.papr_uses.specs.RunText.{PutsTextOfBytes};
@@ -18,6 +18,9 @@ pub fn run_program(alloc: Global, input: Vec<u8>, sink: &mut SteadySink) -> Stat
     // A trace is run to its end, unless memory ends.
     ensures complete { IsOk (trace_of input.items)
         → (result ≡ Status.Done) ⊎ (result ≡ Status.Memory) }
+    // An input that is no trace is refused, unless memory ends.
+    ensures refuses { IsErr (trace_of input.items)
+        → (result ≡ Status.Refused) ⊎ (result ≡ Status.Memory) }
     ensures text { result ≡ Status.Done
         → PutsTextOfBytes input.items (told sink.old) (told sink.new) }
 {

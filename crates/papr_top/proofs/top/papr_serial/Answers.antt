@@ -1,8 +1,8 @@
 use Rattle.std.proofs.Common.{◌≡◌, Some}
 use Rattle.papr_top.specs.Commands.{command_of}
 use Rattle.papr_top.specs.declared.command.Command.TheVariants as commands
-use Rattle.papr_top.specs.Top.{Run, IsSerialText}
-use Rattle.papr_top.proofs.Completeness.{reading_done}
+use Rattle.papr_top.specs.Top.{Run}
+use Rattle.papr_top.proofs.Completeness.{reading_done, reading_refused}
 use Rattle.papr_top.proofs.top.papr_serial.Goals as goal
 
 pub returns-in-Some-Run-clause-complete : goal.returns-in-Some-Run-clause-complete
@@ -10,5 +10,13 @@ returns-in-Some-Run-clause-complete g c = λ input no_read_fault no_write_fault.
     let asked : command_of c.args.words.now ≡ Some commands.Run = cc in
     let left = g.S.Source.left in
     let taken = g.K.Sink.taken in
-    let ran : Run = record { left = left c.args.source.now; left_after = left c.run.new.source; taken = taken c.args.sink.now; taken_after = taken c.run.new.sink } in
-    reading_done IsSerialText ran c.run.result c.run.ensures.outcome (rw asked at input) (λ is. no_read_fault (c.run.ensures.read_fault is)) (λ is. no_write_fault (c.run.ensures.write_fault is))
+    let ran : Run = record { left = left c.args.source.now; left_after = left c.answer_input.new.source; taken = taken c.args.sink.now; taken_after = taken c.answer_input.new.sink } in
+    reading_done _ ran c.answer_input.result c.answer_input.ensures.outcome (rw asked at input) (λ is. no_read_fault (c.answer_input.ensures.read_fault is)) (λ is. no_write_fault (c.answer_input.ensures.write_fault is))
+
+pub returns-in-Some-Run-clause-refuses : goal.returns-in-Some-Run-clause-refuses
+returns-in-Some-Run-clause-refuses g c = λ input no_read_fault no_write_fault.
+    let asked : command_of c.args.words.now ≡ Some commands.Run = cc in
+    let left = g.S.Source.left in
+    let taken = g.K.Sink.taken in
+    let ran : Run = record { left = left c.args.source.now; left_after = left c.answer_input.new.source; taken = taken c.args.sink.now; taken_after = taken c.answer_input.new.sink } in
+    reading_refused _ ran c.answer_input.result c.answer_input.ensures.outcome (rw asked at input) (λ is. no_read_fault (c.answer_input.ensures.read_fault is)) (λ is. no_write_fault (c.answer_input.ensures.write_fault is))

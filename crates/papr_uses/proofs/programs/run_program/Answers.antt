@@ -11,6 +11,11 @@ returns-clause-complete c = λ accepted.
     let word : command_of (c.in-Ok.word ∷ []) ≡ Some commands.Run = run_word c.in-Ok.word c.in-Ok.ensures.ok in
     c.papr_serial.ensures.complete (rw (word, c.new-source.ensures) accepted) never_rose never_rose
 
+pub returns-clause-refuses : goal.returns-clause-refuses
+returns-clause-refuses c = λ refused.
+    let word : command_of (c.in-Ok.word ∷ []) ≡ Some commands.Run = run_word c.in-Ok.word c.in-Ok.ensures.ok in
+    c.papr_serial.ensures.refuses (rw (word, c.new-source.ensures) refused) never_rose never_rose
+
 pub returns-clause-text : goal.returns-clause-text
 returns-clause-text c = λ done.
     let word : command_of (c.in-Ok.word ∷ []) ≡ Some commands.Run = run_word c.in-Ok.word c.in-Ok.ensures.ok in

@@ -22,9 +22,13 @@ pub mod PlacedCaches
 pub mod LowStampRuns
 pub mod AllSafe
 pub mod ClearedBits
+pub mod Refusals
+pub mod RefusedLines
+pub mod RefusedResizes
 pub mod SmallPartition
 mod AssuranceRows
 mod CachedAccessRows
 mod HistoryRows
 mod SectionRows
 mod ParallelRows
+mod RefusedRows

@@ -12,6 +12,7 @@ use Rattle.run_model.specs.ShownStores.{NoStoreIsLostIn, ClearedBitsAreShown}
 use Rattle.run_model.specs.CommittedResizes.{ResizesKeepTranslations}
 use Rattle.run_model.specs.Landings.{AccessesLand, IsUnworn}
 use Rattle.run_model.specs.CachedAccesses.{AccessesUseCaches}
+use Rattle.run_model.specs.RefusedCalls.{RefusedLinesLeave, RefusedQuietLinesLeave}
 use Rattle.run_model.specs.ParallelRun.{IsParallel}
 
 -- ---- which runs are good
@@ -92,3 +93,19 @@ CachedLinesAreCurrentOrGone =
     (t : AcceptedTrace) (rs : List Reply)
     → IsGoodRun t rs
     → AllByRecursion AccessesUseCaches (sections_of t rs)
+
+-- ---- what a refusal leaves
+-- In a good run a refused line changes no entry, no segment and no other cached line than one that was gone; but a bulk removal that ends with H_PARAMETER or H_HARDWARE keeps the pairs that it has removed.
+abbrev pub RefusedLinesChangeNothing : Type 0
+RefusedLinesChangeNothing =
+    (t : AcceptedTrace) (rs : List Reply)
+    → IsAccepted t
+    → IsGoodRun t rs
+    → AllByRecursion RefusedLinesLeave (sections_of t rs)
+
+-- In a good run a refused resize call changes nothing; but a prepare that answers H_NO_MEM and a commit that answers H_PTEG_FULL have dropped the pending table.
+abbrev pub RefusedResizesChangeNothing : Type 0
+RefusedResizesChangeNothing =
+    (t : AcceptedTrace) (rs : List Reply)
+    → IsGoodRun t rs
+    → RefusedQuietLinesLeave (sections_of t rs)

@@ -1,6 +1,6 @@
 //! Laws of the runs of a trace. Each function does nothing, and its contract is the law.
 
-ghost use Rattle.run_model.specs.Laws.{SerialIsGood, ParallelIsGood, SerialIsParallel, SerialIsTheOneGoodRun, NoStoreIsLost, ClearingRepliesShow, ResizesKeepBoltedPages, AccessesLandByTheirEntries, CachedLinesAreCurrentOrGone, NoEntryIsWorn};
+ghost use Rattle.run_model.specs.Laws.{SerialIsGood, ParallelIsGood, SerialIsParallel, SerialIsTheOneGoodRun, NoStoreIsLost, ClearingRepliesShow, ResizesKeepBoltedPages, AccessesLandByTheirEntries, CachedLinesAreCurrentOrGone, NoEntryIsWorn, RefusedLinesChangeNothing, RefusedResizesChangeNothing};
 
 /// The serial run of a trace is a good run.
 pub fn serial_is_good()
@@ -54,4 +54,16 @@ pub fn cached_lines_are_current_or_gone()
 /// In a good run no reply is H_HARDWARE.
 pub fn no_entry_is_worn()
     ensures { NoEntryIsWorn }
+{}
+
+/// In a good run a call, an access or an slbmte that is refused changes no entry, no segment and no cached
+/// line but one that was gone; a bulk removal keeps the pairs that it removed before it was refused.
+pub fn refused_lines_change_nothing()
+    ensures { RefusedLinesChangeNothing }
+{}
+
+/// In a good run a resize call that is refused changes nothing, but that a prepare without memory and a
+/// commit on which two entries meet drop the pending table.
+pub fn refused_resizes_change_nothing()
+    ensures { RefusedResizesChangeNothing }
 {}

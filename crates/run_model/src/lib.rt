@@ -9,6 +9,7 @@ mod laws;
 
 pub use laws::{
     accesses_land_by_their_entries, cached_lines_are_current_or_gone, clearing_replies_show,
-    no_entry_is_worn, no_store_is_lost, one_good_run, parallel_is_good, resizes_keep_bolted_pages,
+    no_entry_is_worn, no_store_is_lost, one_good_run, parallel_is_good,
+    refused_lines_change_nothing, refused_resizes_change_nothing, resizes_keep_bolted_pages,
     serial_is_good, serial_is_parallel,
 };

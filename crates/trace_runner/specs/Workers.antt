@@ -1,6 +1,6 @@
 -- The workers of a section: a processor each, with a pass of its own.
 use Rattle.std.specs.Prelude.{IsSomeAnd}
-use Rattle.std.specs.Prelude.{◌≡◌, ◌≢◌, ℕ, zero, suc, ◌+◌, ◌≤◌, ◌==◌, ◌⊎◌, List, [], ◌∷◌, length, filter, map, min, Option, None, false}
+use Rattle.std.specs.Prelude.{◌≡◌, ◌≢◌, ℕ, zero, suc, ◌+◌, ◌<◌, ◌≤◌, ◌==◌, ◌⊎◌, List, [], ◌∷◌, length, slice_index, filter, map, min, Option, None, false}
 use Rattle.std.specs.List.{AllByRecursion}
 use Rattle.hpte_fields.specs.TableSize.{entry_count}
 use Rattle.entry_model.specs.declared.line.Line.{Line}
@@ -174,6 +174,13 @@ abbrev pub count_with_lines : ℕ → ℕ → List TraceLine → ℕ
 count_with_lines zero cpu lines = 0
 count_with_lines (suc n) cpu lines =
     min 1 (length (lines_of_cpu cpu lines)) + count_with_lines n (suc cpu) lines
+
+-- Of each processor that there is a number for, it is that of its lines.
+abbrev pub AreCounts : List TraceLine → List ℕ → Type 0
+AreCounts lines counts =
+    (cpu : ℕ)
+    → cpu < length counts
+    → slice_index counts cpu ≡ length (lines_of_cpu cpu lines)
 
 -- A pass with so many shares that has made no step.
 pub record IsFresh (table : LockTable) (shares : ℕ) (pass : Pass) : Type 0 where

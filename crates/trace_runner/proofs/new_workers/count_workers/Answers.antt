@@ -1,7 +1,7 @@
 use Rattle.std.proofs.Common.{arith}
 use Rattle.trace_runner.proofs.CountedWorkers.{count_all, count_step, count_none}
 use Rattle.trace_runner.proofs.new_workers.count_workers.Goals as goal
-use Rattle.trace_runner.proofs.new_workers.count_workers.Goals.{then-count_lines_of-gt0, else-count_lines_of-gt0}
+use Rattle.trace_runner.proofs.new_workers.count_workers.Goals.{then-has_line, else-has_line}
 
 pub loop-number-init : goal.loop-number-init
 loop-number-init c = record { count = omega (arith, count_all c.args.cpus c.args.lines.now); low = omega arith }
@@ -13,9 +13,9 @@ pub loop-number-preserved : goal.loop-number-preserved
 loop-number-preserved c =
     let i = c.loop-number.invariant in
     let step = count_step c.args.cpus c.loop-number.number c.args.lines.now c.loop-number-test.true in
-    elim c.if-count_lines_of-gt0.branch [
-      | then-count_lines_of-gt0 w ↦ record { count = omega (arith, w.count-is, i.count, step, c.count_lines_of.ensures, w.if-count_lines_of-gt0.true); low = omega (arith, w.count-is, i.low) }
-      | else-count_lines_of-gt0 w ↦ record { count = omega (arith, w.count-is, i.count, step, c.count_lines_of.ensures, w.if-count_lines_of-gt0.false); low = omega (arith, w.count-is, i.low) }
+    elim c.if-has_line.branch [
+      | then-has_line w ↦ record { count = omega (arith, w.count-is, i.count, step, c.has_line.ensures.yes w.if-has_line.true); low = omega (arith, w.count-is, i.low) }
+      | else-has_line w ↦ record { count = omega (arith, w.count-is, i.count, step, c.has_line.ensures.no w.if-has_line.false); low = omega (arith, w.count-is, i.low) }
     ]
 
 pub returns : goal.returns

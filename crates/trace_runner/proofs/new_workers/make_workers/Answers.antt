@@ -1,8 +1,10 @@
-use Rattle.std.proofs.Common.{◌≡◌, ◌+◌, ◌-◌, ◌∙◌, ◌++◌, sym, ap, refl, subst, arith, length, ◌∷◌, Some, reverse}
-use Rattle.std.proofs.lemmas.List.{reverse-reverse}
+use Rattle.std.proofs.Common.{◌≡◌, ◌+◌, ◌-◌, ◌<◌, ◌∙◌, min, ◌++◌, sym, ap, refl, subst, arith, length, ◌∷◌, Some, reverse}
+use Rattle.std.proofs.lemmas.List.{reverse-reverse, get_or_read}
+use Rattle.std.specs.List.{AllByRecursion}
+use Rattle.trace_read.specs.declared.trace.TraceLine.{TraceLine}
 use Rattle.trace_runner.specs.declared.worker.Worker.{Worker}
 use Rattle.trace_runner.specs.MachineState.{AllHold}
-use Rattle.trace_runner.specs.Workers.{count_with_lines, processors_before, IsReady, IsRest, AllNumbered}
+use Rattle.trace_runner.specs.Workers.{count_with_lines, lines_of_cpu, processors_before, IsReady, IsRest, AllNumbered}
 use Rattle.trace_runner.proofs.CountedWorkers.{count_all, count_step}
 use Rattle.trace_runner.proofs.JoinedWorkers.{popped_first, popped_count}
 use Rattle.trace_runner.proofs.Numbered.{all_push}
@@ -33,7 +35,11 @@ next_worker-requires-clause-hold g c κs within =
 pub next_worker-requires-clause-rest : goal.next_worker-requires-clause-rest
 next_worker-requires-clause-rest g c κs within =
     let lines = c.args.lines.now in
-    (count_with_lines (c.len-count.result - (c.loop-i.i + 1)) (c.loop-i.i + 1) lines, subst (λ n. IsRest c.args.table.now n c.loop-i.rest) (count_step c.len-count.result c.loop-i.i lines c.loop-i-test.true) c.loop-i.invariant.rest)
+    let counts = c.in_ok-counts.counts.items in
+    let rest = count_with_lines (c.len-count.result - (c.loop-i.i + 1)) (c.loop-i.i + 1) lines in
+    let inside : c.loop-i.i < length counts = omega (arith, c.in_ok-counts.ensures.size, c.loop-i-test.true) in
+    let own : c.index.result.now ≡ length (lines_of_cpu c.loop-i.i lines) = get_or_read counts c.loop-i.i _ inside c.index.ensures 0 ∙ c.in_ok-counts.ensures.counts c.loop-i.i inside in
+    (rest, subst (λ n. IsRest c.args.table.now n c.loop-i.rest) (count_step c.len-count.result c.loop-i.i lines c.loop-i-test.true ∙ ap (λ m. min 1 m + rest) (sym own)) c.loop-i.invariant.rest)
 
 pub loop-i-preserved : goal.loop-i-preserved
 loop-i-preserved g c =
@@ -45,8 +51,12 @@ loop-i-preserved g c =
     let x = c.unwrap-cpu.result in
     let cut : reverse c.loop-i.cpus.items ≡ x ∷ reverse c.pop.new.self.items = popped_first c.loop-i.cpus.items c.pop.new.self.items c.pop.result x c.pop.ensures.items c.unwrap-cpu.ensures in
     let held : AllHold table.opening.items (x ∷ (reverse c.pop.new.self.items)) = subst (AllHold table.opening.items) cut i.hold in
+    let counts = c.in_ok-counts.counts.items in
+    let rest = count_with_lines (c.len-count.result - (c.loop-i.i + 1)) (c.loop-i.i + 1) lines in
+    let inside : c.loop-i.i < length counts = omega (arith, c.in_ok-counts.ensures.size, c.loop-i-test.true) in
+    let own : c.index.result.now ≡ length (lines_of_cpu c.loop-i.i lines) = get_or_read counts c.loop-i.i _ inside c.index.ensures 0 ∙ c.in_ok-counts.ensures.counts c.loop-i.i inside in
     record {
-      rest = k.rest (count_with_lines (c.len-count.result - (c.loop-i.i + 1)) (c.loop-i.i + 1) lines) (subst (λ n. IsRest table n c.loop-i.rest) (count_step c.len-count.result c.loop-i.i lines c.loop-i-test.true) i.rest);
+      rest = k.rest rest (subst (λ n. IsRest table n c.loop-i.rest) (count_step c.len-count.result c.loop-i.i lines c.loop-i-test.true ∙ ap (λ m. min 1 m + rest) (sym own)) i.rest);
       hold = held.1;
       count = omega (arith, i.count, popped_count c.loop-i.cpus.items c.pop.new.self.items c.pop.result x c.pop.ensures.items c.unwrap-cpu.ensures);
       room = c.pop.ensures.capacity ∙ i.room;
@@ -54,8 +64,13 @@ loop-i-preserved g c =
       before = ap (λ l. processors_before l ++ (reverse c.pop.new.self.items)) c.in_ok-push.ensures.items
           ∙ map_push (λ (y : Worker g.row.L.Denot). y.before.value) c.loop-i.workers.items w x (reverse c.pop.new.self.items) k.before ∙ ap (λ l. processors_before c.loop-i.workers.items ++ l) (sym cut) ∙ i.before;
       ready = λ set. subst (λ l. AllNumbered (λ j y. IsReady g.L.ReplyLog.keeps g.L.ReplyLog.room set table j lines y) 0 l) (sym c.in_ok-push.ensures.items)
-          (all_push (λ j y. IsReady g.L.ReplyLog.keeps g.L.ReplyLog.room set table j lines y) 0 c.loop-i.workers.items w (i.ready set) (let e : c.loop-i.i ≡ 0 + length c.loop-i.workers.items = omega (arith, i.size) in subst (λ n. IsReady g.L.ReplyLog.keeps g.L.ReplyLog.room set table n lines w) e (k.ready set)));
+          (all_push (λ j y. IsReady g.L.ReplyLog.keeps g.L.ReplyLog.room set table j lines y) 0 c.loop-i.workers.items w (i.ready set) (let e : c.loop-i.i ≡ 0 + length c.loop-i.workers.items = omega (arith, i.size) in subst (λ n. IsReady g.L.ReplyLog.keeps g.L.ReplyLog.room set table n lines w) e (k.ready set c.loop-i.i lines own)));
     }
 
 pub returns-clause-room : goal.returns-clause-room
 returns-clause-room g c = omega (arith, c.loop-i.invariant.size, c.loop-i.invariant.room, c.args.cpus.now.ok.0, c.args.cpus.now.ok.1)
+
+pub count_by_cpu-requires : goal.count_by_cpu-requires
+count_by_cpu-requires g c =
+    let same : length c.args.cpus.now.items ≡ c.len-count.result = omega arith in
+    record { on_cpus = subst (λ n. AllByRecursion (λ (l : TraceLine). l.cpu < n) c.args.lines.now) same c.requires.on_cpus }

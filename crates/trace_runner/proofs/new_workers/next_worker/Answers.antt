@@ -4,11 +4,11 @@ use Rattle.trace_runner.proofs.new_workers.next_worker.Goals as goal
 use Rattle.trace_runner.proofs.new_workers.next_worker.Goals.{then-count-gt0, else-count-gt0}
 
 pub returns-clause-ready : goal.returns-clause-ready
-returns-clause-ready g c set =
+returns-clause-ready g c set number lines same =
     let table = c.args.table.now in
     let k = c.in_ok-log.ensures in
     let size : length table.opening.items ≡ 2 ^ (table.order - 4) = ap length table.lists.opening_is ∙ table.sized.size in
     elim c.if-count-gt0.branch [
-      | then-count-gt0 w ↦ worker_starts g.L.ReplyLog.keeps g.L.ReplyLog.room set table c.args.number c.args.lines.now _ w.take_share.result c.args.cpu size c.requires.hold w.take_share.ensures.fresh (refl, c.of-before.ensures) w.pass-is k.none (omega (arith, w.if-count-gt0.true, c.count_lines_of-count.ensures)) (omega (arith, k.room, c.count_lines_of-count.ensures))
-      | else-count-gt0 w ↦ worker_idles g.L.ReplyLog.keeps g.L.ReplyLog.room set table c.args.number c.args.lines.now _ c.args.cpu c.requires.hold (refl, c.of-before.ensures) w.pass-is k.none (omega (arith, w.if-count-gt0.false, c.count_lines_of-count.ensures))
+      | then-count-gt0 w ↦ worker_starts g.L.ReplyLog.keeps g.L.ReplyLog.room set table number lines _ w.take_share.result c.args.cpu size c.requires.hold w.take_share.ensures.fresh (refl, c.of-before.ensures) w.pass-is k.none (omega (arith, w.if-count-gt0.true, same)) (omega (arith, k.room, same))
+      | else-count-gt0 w ↦ worker_idles g.L.ReplyLog.keeps g.L.ReplyLog.room set table number lines _ c.args.cpu c.requires.hold (refl, c.of-before.ensures) w.pass-is k.none (omega (arith, w.if-count-gt0.false, same))
     ]

@@ -10,6 +10,9 @@ use std::collections::VecDeque;
 use trace_read::TraceLine;
 use trace_reply::ReplyPlace;
 
+/// Room in the text of a run for the line of a common reply. Longer texts make theirs as they grow.
+const COMMON_ROOM: usize = 128;
+
 /// The text of the replies, one behind the other, and where the text of each ends. That of the first
 /// one begins at `start`.
 #[derive(Drop)]
@@ -53,8 +56,8 @@ impl RunLog for ReplyText {
         })
     }
 
-    fn output(alloc: Global, _lines: usize) -> Result<String, AllocError> {
-        Ok(String::new(alloc))
+    fn output(alloc: Global, lines: usize) -> Result<String, AllocError> {
+        String::with_capacity(alloc, lines.saturating_mul(COMMON_ROOM))
     }
 
     fn put(text: &mut String, line: &TraceLine, place: &mut ReplyPlace) -> Result<(), AllocError> {

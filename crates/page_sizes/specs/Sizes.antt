@@ -9,12 +9,19 @@ pub record Row : Type 0 where
   pub actual : ℕ
   pub low : ℕ
 
--- The rows of a page larger than 4 KB: 64 KB, 16 MB and 16 GB, the base page as large as the actual one.
+-- The row of a base page and an actual page with this low part.
+abbrev pub row_of : ℕ → ℕ → ℕ → Row
+row_of base actual low = record { base = base; actual = actual; low = low }
+
+-- The rows of an actual page larger than 4 KB: 64 KB, 16 MB and 16 GB with a base page as large, then 4 KB in 64 KB, 4 KB in 16 MB and 64 KB in 16 MB.
 abbrev pub large_rows : List Row
 large_rows =
-    record { base = 16; actual = 16; low = 1 }
-    ∷ record { base = 24; actual = 24; low = 0 }
-    ∷ record { base = 34; actual = 34; low = 3 }
+    row_of 16 16 1
+    ∷ row_of 24 24 0
+    ∷ row_of 34 34 3
+    ∷ row_of 12 16 7
+    ∷ row_of 12 24 0x38
+    ∷ row_of 16 24 8
     ∷ []
 
 -- The part of the real page number below the actual page size, in units of 4 KB.
@@ -25,14 +32,15 @@ low_of dword1 actual = dword1 / 2 ^ 12 % 2 ^ (actual - 12)
 abbrev pub row_fits : ℕ → Row → Bool
 row_fits dword1 row = low_of dword1 row.actual == row.low
 
--- The row of a large page that fits, or none.
-abbrev pub large_size : ℕ → Option PageSize
-large_size dword1 =
-    option_map
-    (λ (row : Row). record { base = row.base; actual = row.actual })
-    (find (row_fits dword1) large_rows)
+-- The sizes of a row.
+abbrev pub size_in : Row → PageSize
+size_in row = record { base = row.base; actual = row.actual }
 
--- With L clear the page is 4 KB; with L set the row that fits says its size.
+-- The size of a large page whose row fits, or none.
+abbrev pub large_size : ℕ → Option PageSize
+large_size dword1 = option_map size_in (find (row_fits dword1) large_rows)
+
+-- With L clear the page is 4 KB; with L set the row that fits says its sizes.
 abbrev pub size_of : ℕ → ℕ → Option PageSize
 size_of dword0 dword1 =
     if bit_and dword0 0x04 == 0 then Some (record { base = 12; actual = 12 }) else large_size dword1

@@ -107,6 +107,13 @@ page_at-complete order index dword0 dword1 p low is entry =
     (λ i. rebuilt_page (one_tb i) (number i) (sized.2 i) (hash i)) ∙ rebuilt_page-is p is in
     page_at-made order index dword0 dword1 p (record { valid = entry.valid; size = sized.0; sized = sized.1; rebuilt = rebuilt; tag = entry.tag; group = entry.group })
 
+-- An entry is one of no two pages.
+pub one_page : (order index dword0 dword1 : ℕ) (p q : VirtualPage) → 18 ≤ order → IsPage p → IsPage q → IsPageOf order index dword0 dword1 p → IsPageOf order index dword0 dword1 q → p ≡ q
+one_page order index dword0 dword1 p q low is is' of of' =
+    let first : page_at order index dword0 dword1 ≡ Some p = page_at-complete order index dword0 dword1 p low is of in
+    let second : page_at order index dword0 dword1 ≡ Some q = page_at-complete order index dword0 dword1 q low is' of' in
+    cc
+
 -- Of four facts the fifth follows: the tag holds B.
 suited-page : (order index dword0 dword1 : ℕ) (p : VirtualPage) → IsPage p → dword0 < 2 ^ 64 → SuitsPage order index dword0 dword1 p → IsPageOf order index dword0 dword1 p
 suited-page order index dword0 dword1 p is range suits =

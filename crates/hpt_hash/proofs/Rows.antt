@@ -66,3 +66,24 @@ no_segment = refl
 huge_page : page_at 18 0xE0 0x4000000015240005 0x400003012 ≡ Some (virtual_page true 0x15 34 9)
 unfolding page_at group_of tag_of
 huge_page = refl
+
+-- ---- a base page inside a larger one
+-- Page 5 of segment 1, of 4 KB, in an actual page of 64 KB: the group is that of page 5.
+small_in_64_kb : page_at 18 0x20 0x1005 0x17012 ≡ Some (virtual_page false 1 12 5)
+unfolding page_at group_of tag_of
+small_in_64_kb = refl
+
+-- The next base page of the same 64 KB has group 7, so an entry for it stands there.
+the_next_in_64_kb : page_at 18 0x38 0x1005 0x17012 ≡ Some (virtual_page false 1 12 6)
+unfolding page_at group_of tag_of
+the_next_in_64_kb = refl
+
+-- In one of 16 MB: 1 xor 5 again.
+small_in_16_mb : page_at 18 0x20 0x1005 0x7038012 ≡ Some (virtual_page false 1 12 5)
+unfolding page_at group_of tag_of
+small_in_16_mb = refl
+
+-- Page 0x580 of segment 1, of 64 KB, in one of 16 MB: 1 xor 0x580 is group 0x581, entry 0x2C08.
+medium_in_16_mb : page_at 18 0x2C08 0x1585 0x3008012 ≡ Some (virtual_page false 1 16 0x580)
+unfolding page_at group_of tag_of
+medium_in_16_mb = refl

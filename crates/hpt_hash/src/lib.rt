@@ -7,8 +7,10 @@
 
 mod entry;
 mod hash;
+mod laws;
 #[cfg(test)]
 mod tests;
 
 pub use entry::page_of;
 pub use hash::groups;
+pub use laws::one_page_of_an_entry;

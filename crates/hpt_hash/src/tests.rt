@@ -44,7 +44,7 @@ fn groups_of_pages(rt: HostRuntime) -> Result<(), Fail> {
 type EntryRow = (u32, u64, u64, bool, u64, u8, u64);
 
 /// The pages of entries: a tag is the virtual address without its low 23 bits, from bit 7 on, and B.
-const ENTRIES: [EntryRow; 7] = [
+const ENTRIES: [EntryRow; 10] = [
     // 1 * 2^28 + 5 * 2^12 = 0x1000_5000 has the tag 0x1000; group 4
     (0x20, 0x1001, 0x3012, false, 1, 12, 5),
     // group 0x7FB, with H
@@ -94,6 +94,12 @@ const ENTRIES: [EntryRow; 7] = [
         34,
         9,
     ),
+    // 4 KB in 64 KB (L, and 7 as the last digit of the real page number): 0x1000_5000 as above,
+    // and the next base page of the same 64 KB, 1 ^ 6 = 7
+    (0x20, 0x1005, 0x1_7012, false, 1, 12, 5),
+    (0x38, 0x1005, 0x1_7012, false, 1, 12, 6),
+    // 64 KB in 16 MB: 0x1580_0000 without 16 bits is 0x1580, its page 0x580, and 1 ^ 0x580 = 0x581
+    (0x2C08, 0x1585, 0x300_8012, false, 1, 16, 0x580),
 ];
 
 #[test]
@@ -113,6 +119,8 @@ fn entries_of_no_page(rt: HostRuntime) -> Result<(), Fail> {
     assert_eq!(rt; page_of(18, 0x20, 0x1000, 0x3012), None);
     // L is set, and the real page number encodes no size
     assert_eq!(rt; page_of(18, 0x20, 0x1005, 0x2012), None);
+    // 64 KB in 16 MB: 1 ^ 5 is the group of the actual page's number, and not that of page 0x580
+    assert_eq!(rt; page_of(18, 0x20, 0x1585, 0x300_8012), None);
     // B is 2
     assert_eq!(rt; page_of(18, 0x20, 0x8000_0000_0000_1001, 0x3012), None);
     // 16 GB in a segment of 256 MB

@@ -6,8 +6,8 @@ use Rattle.std.proofs.lemmas.Nat.{pow_pos}
 use Rattle.storage_prot.specs.Protection.{allowed}
 use Rattle.page_sizes.specs.declared.size.PageSize.{PageSize}
 use Rattle.page_sizes.specs.Sizes.{size_of}
-use Rattle.hpte_fields.specs.Fields.{frame_of, protected_word, without_rc, pp_of, is_no_execute}
-use Rattle.hpte_fields.proofs.PageBits.{page_bits, same_size, same_frame, without_rc_page, protected_page}
+use Rattle.hpte_fields.specs.Fields.{page_bits, frame_of, protected_word, without_rc, pp_of, is_no_execute}
+use Rattle.hpte_fields.proofs.PageBits.{same_size, same_frame, without_rc_page, protected_page}
 use Rattle.frame_grants.specs.declared.grant.Grant.{Grant}
 use Rattle.frame_grants.specs.declared.grant.Kind.{Kind}
 use Rattle.frame_grants.specs.Grants.{machine_range}

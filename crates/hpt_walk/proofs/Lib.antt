@@ -4,6 +4,7 @@ pub mod Found
 pub mod Decided
 pub mod Walks
 pub mod Telling
+pub mod ActualPages
 pub mod PageUses
 pub mod Unchanged
 mod Rows

@@ -19,6 +19,7 @@ use Rattle.hpt_walk.specs.Access.{logical_of, outcome_of}
 use Rattle.hpt_walk.specs.Translations.{translations}
 use Rattle.entry_model.specs.declared.operation.Op.TheVariants as ops
 use Rattle.entry_model.specs.declared.access_reply.Outcome.TheVariants as outcomes
+use Rattle.entry_model.specs.declared.operation.Answer.TheVariants.{NoMatch}
 
 -- Page 5 of segment 1, in pages of 4 KB: its groups in the smallest table are 4 and 0x7FB.
 abbrev page : VirtualPage
@@ -69,6 +70,28 @@ in_small_page = refl
 in_large_page : logical_of 0x5678 large ≡ 0x55678
 in_large_page = refl
 
+-- A base page of 4 KB in 64 KB at frame 0x10000, and one of 64 KB in 16 MB at frame 0x3000000.
+abbrev in_64_kb : State
+in_64_kb = record mapped { dword0 = 0x1005; dword1 = 0x17012 }
+
+abbrev in_16_mb : State
+in_16_mb = record mapped { dword0 = 0x1585; dword1 = 0x3008012 }
+
+in_base_page_of_64_kb : logical_of 0x5678 in_64_kb ≡ 0x15678
+in_base_page_of_64_kb = refl
+
+in_base_page_of_16_mb : logical_of 0x5801234 in_16_mb ≡ 0x3801234
+in_base_page_of_16_mb = refl
+
+at_base_page : outcome_of grants 0x5000 (load 0x20 in_64_kb ∷ []) ≡ outcomes.At 0x2000015000
+unfolding outcome_of machine_range tag_of has_base permission rows
+at_base_page = refl
+
+-- An access of 64 KB pages doesn't match a base page of 4 KB, whatever its actual page.
+of_another_base_size : (receipt_of 0x20 in_64_kb (access_op (virtual_page false 1 16 0) (access_mode false false Load) false)).answer ≡ NoMatch
+unfolding tag_of has_base
+of_another_base_size = refl
+
 at_granted : outcome_of grants 0x5678 (load 0x20 (empty_state 0) ∷ load 0x21 mapped ∷ []) ≡ outcomes.At 0x2000003678
 unfolding outcome_of machine_range tag_of has_base permission rows
 at_granted = refl
@@ -90,3 +113,8 @@ not_granted = refl
 listed : translations 18 (record mapped { dword0 = 0x5 } ∷ record mapped { dword0 = 0x1 } ∷ empty_state 0 ∷ []) ≡ record { page = virtual_page false 0 12 0; entry = 1 } ∷ []
 unfolding translations page_at group_of tag_of
 listed = refl
+
+-- An entry that maps 64 KB for base page 0 is one of that page alone.
+one_base_page : translations 18 (record mapped { dword0 = 0x5; dword1 = 0x17012 } ∷ []) ≡ record { page = virtual_page false 0 12 0; entry = 0 } ∷ []
+unfolding translations page_at group_of tag_of
+one_base_page = refl

@@ -1,8 +1,8 @@
 -- What is proved of the accesses of a page.
-use Rattle.std.specs.Prelude.{◌≡◌, ℕ, ◌/◌, ◌^◌, ◌<◌, ◌≤◌, ◌↔◌, Bool, false, IsTrue, List, find, Option, option_map}
+use Rattle.std.specs.Prelude.{◌≡◌, ◌≢◌, ℕ, ◌/◌, ◌%◌, ◌^◌, ◌<◌, ◌≤◌, ◌↔◌, Bool, false, IsTrue, List, find, Option, option_map}
 use Rattle.std.specs.List.{AllByRecursion}
 use Rattle.power_addr.specs.Pages.{VirtualPage, IsPage}
-use Rattle.hpte_fields.specs.Fields.{is_secondary}
+use Rattle.hpte_fields.specs.Fields.{is_secondary, page_bits}
 use Rattle.hpt_hash.specs.Hash.{group_of}
 use Rattle.hpt_hash.specs.Entries.{IsPageOf}
 use Rattle.slb_model.specs.declared.segment.Segment.{Segment}
@@ -20,7 +20,7 @@ use Rattle.entry_model.specs.Run.{IsRun}
 use Rattle.entry_model.specs.Trial.{IsTrial}
 use Rattle.hpt_walk.specs.Walk.{access_op, walk_calls, walk_entries}
 use Rattle.hpt_walk.specs.declared.request.Request.{Request}
-use Rattle.hpt_walk.specs.Access.{AccessContext, IsHit, IsAccessReply}
+use Rattle.hpt_walk.specs.Access.{AccessContext, IsHit, IsAccessReply, actual_size, logical_of}
 use Rattle.hpt_walk.specs.Translations.{TranslatesItsPage, StandsInItsGroup, translations, is_paired}
 
 -- ---- an access and the page of an entry
@@ -49,6 +49,29 @@ AccessTellsPage =
     → group_of page order secondary ≡ entry / 8
     → IsEntryState s
     → TellsPage order entry page s (reply_of s (access_op page mode secondary)).0
+
+-- ---- a base page inside a larger one
+-- An access of any other page by an entry of that page's group is NoMatch, also where both are base pages of the actual page that the entry maps.
+abbrev pub OtherPagesDontMatch : Type 0
+OtherPagesDontMatch =
+    (order entry : ℕ) (page other : VirtualPage) (mode : AccessMode) (secondary : Bool) (s : State)
+    → 18 ≤ order
+    → IsPage page
+    → IsPage other
+    → other ≢ page
+    → IsPageOf order entry s.dword0 s.dword1 page
+    → group_of other order secondary ≡ entry / 8
+    → IsEntryState s
+    → (reply_of s (access_op other mode secondary)).0 ≡ NoMatch
+
+-- The logical address of an access has the real page number's bits from the actual size up, and the effective address's bits below it.
+pub record LiesInActualPage (ea : ℕ) (s : State) : Type 0 where
+  pub page : logical_of ea s / 2 ^ actual_size s ≡ page_bits s.dword1 / 2 ^ actual_size s
+  pub offset : logical_of ea s % 2 ^ actual_size s ≡ ea % 2 ^ actual_size s
+
+-- So of each effective address and each entry.
+abbrev pub AddressesLieInActualPages : Type 0
+AddressesLieInActualPages = (ea : ℕ) (s : State) → LiesInActualPage ea s
 
 -- ---- the page that an access used
 -- The entry of a receipt was one of the page when the receipt was made.

@@ -1,11 +1,23 @@
 //! Laws of the accesses of a page. Each function does nothing, and its contract is the law.
 
-ghost use Rattle.hpt_walk.specs.Laws.{AccessTellsPage, WalksUseTheirPage, HitsUseTheirPage, OnlyAtChangesEntries, WalkFindsFirst, WalksGiveLines, LinesMatchAccesses, CurrentLinesDecide};
+ghost use Rattle.hpt_walk.specs.Laws.{AccessTellsPage, OtherPagesDontMatch, AddressesLieInActualPages, WalksUseTheirPage, HitsUseTheirPage, OnlyAtChangesEntries, WalkFindsFirst, WalksGiveLines, LinesMatchAccesses, CurrentLinesDecide};
 
 /// An access of a page, made on an entry of one of the page's two groups with H to match, answers
 /// NoMatch exactly where the entry isn't one of the page.
 pub fn access_tells_page()
     ensures { AccessTellsPage }
+{}
+
+/// An access of another page than the entry's is answered NoMatch, also where both are base pages
+/// of the actual page that the entry maps.
+pub fn other_pages_dont_match()
+    ensures { OtherPagesDontMatch }
+{}
+
+/// The address of an access lies in the actual page that the entry maps, at the effective
+/// address's offset in a page of that size.
+pub fn addresses_lie_in_actual_pages()
+    ensures { AddressesLieInActualPages }
 {}
 
 /// In a walk of a page, an answer that used an entry's translation used one of an entry of the page.

@@ -3,12 +3,8 @@ use Rattle.std.proofs.Common.{◌≡◌, ℕ, ◌+◌, ◌*◌, ◌/◌, ◌^◌
 use Rattle.std.specs.Int.Bits.{and_zero_l, and_zero_r, or_zero_r}
 use Rattle.std.proofs.lemmas.Nat.{and_block}
 use Rattle.page_sizes.specs.Sizes.{size_of}
-use Rattle.hpte_fields.specs.Fields.{frame_of, protected_word, without_rc}
+use Rattle.hpte_fields.specs.Fields.{page_bits, frame_of, protected_word, without_rc}
 use Rattle.hpte_fields.proofs.Masks.{mask_of_or, masks_join, field_stays}
-
--- The real page number, with the part that encodes the page's size.
-abbrev pub page_bits : ℕ → ℕ
-page_bits dword1 = bit_and dword1 0x0FFFFFFFFFFFF000
 
 -- ---- they say the size and the frame
 size_by_bits : (dword0 dword1 : ℕ) → size_of dword0 (page_bits dword1) ≡ size_of dword0 dword1

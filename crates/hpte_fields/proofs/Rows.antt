@@ -75,5 +75,12 @@ stored = refl
 no_segment : normal_words 0x8000000000001001 0x3012 ≡ None
 no_segment = refl
 
+-- A base page of 4 KB in 64 KB, and one of 64 KB in 16 MB.
+stored_in_64_kb : normal_words 0x1005 0x17012 ≡ Some (0x1005, 0x17012)
+stored_in_64_kb = refl
+
+stored_in_16_mb : normal_words 0x1584 0x3008012 ≡ Some (0x1585, 0x3008012)
+stored_in_16_mb = refl
+
 no_size : normal_words 0x1005 0x2012 ≡ None
 no_size = refl

@@ -65,9 +65,13 @@ pp_of dword1 = dword1 / 2 ^ 63 * 4 + dword1 % 2 ^ 2
 abbrev pub key_of : ℕ → ℕ
 key_of dword1 = dword1 / 2 ^ 60 % 2 ^ 2 * 2 ^ 3 + dword1 / 2 ^ 9 % 2 ^ 3
 
+-- The real page number at its place, the part that encodes the page's size included.
+abbrev pub page_bits : ℕ → ℕ
+page_bits dword1 = bit_and dword1 0x0FFFFFFFFFFFF000
+
 -- The address that the real page number gives, with its bits below the actual page size cleared.
 abbrev pub frame_of : ℕ → ℕ → ℕ
-frame_of dword1 actual = bit_and dword1 0x0FFFFFFFFFFFF000 / 2 ^ actual * 2 ^ actual
+frame_of dword1 actual = page_bits dword1 / 2 ^ actual * 2 ^ actual
 
 -- R is set.
 abbrev pub is_referenced : ℕ → Bool

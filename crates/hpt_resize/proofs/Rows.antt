@@ -24,6 +24,11 @@ to_a_smaller_table : target_of 19 18 (entry 0x1011 0x4012) 0x25 ≡ Some 0x25
 unfolding target_of carried_page page_at group_of tag_of entry
 to_a_smaller_table = refl
 
+-- A base page of 4 KB in 64 KB goes where its base page belongs, as the same page by itself does.
+in_a_larger_page : target_of 18 19 (entry 0x801015 0x27012) 0x22 ≡ Some 0x4022
+unfolding target_of carried_page page_at group_of tag_of entry
+in_a_larger_page = refl
+
 -- Not in a group of its page.
 of_no_page : target_of 18 19 (entry 0x1015 0x11012) 0x400 ≡ None
 unfolding target_of carried_page page_at group_of tag_of entry

@@ -1,8 +1,8 @@
 ghost use Rattle.std.specs.Prelude.{◌≡◌, ◌≤◌, ◌+◌, ◌*◌, ◌++◌, length, drop, codes, OnOk, OnErr, string_bytes};
 ghost use Rattle.std.specs.Fmt.{decimal};
 ghost use Rattle.std.specs.Io.{StartsWith};
-ghost use Rattle.reply_text.specs.Room.{TakesAtMost};
-ghost use Rattle.reply_text.specs.Text.{answer_word, bits_digit, receipt_text, receipts_text};
+ghost use Rattle.receipt_text.specs.Room.{TakesAtMost};
+ghost use Rattle.receipt_text.specs.Receipts.{answer_word, bits_digit, receipt_text, receipts_text};
 
 use crate::numbers::{write_hexadecimal, write_piece};
 use entry_model::{Answer, EntryState, Receipt};

@@ -1,7 +1,7 @@
 use Rattle.std.proofs.Common.{◌≡◌, ◌+◌, ◌*◌, ◌≤◌, ◌++◌, take, string_bytes, string_len, string_capacity}
 use Rattle.std.specs.List.{flat_map}
-use Rattle.reply_text.specs.Text.{receipt_text}
-use Rattle.reply_text.proofs.receipts.put_receipts.Given as goal
+use Rattle.receipt_text.specs.Receipts.{receipt_text}
+use Rattle.receipt_text.proofs.receipts.put_receipts.Given as goal
 
 abbrev pub invariant-loop-receipt : goal.invariant-loop-receipt
 invariant-loop-receipt l = record {

@@ -1,10 +1,10 @@
 use Rattle.std.proofs.Common.{◌≡◌, ◌-◌, ◌∙◌, drop, arith, length-drop, string_bytes}
 use Rattle.std.proofs.lemmas.List.{take_all}
 use Rattle.std.proofs.lemmas.Str.{IsUtf8-from_ascii}
-use Rattle.reply_text.specs.Text.{receipt_text}
-use Rattle.reply_text.proofs.Prefixes.{OnOk-push_str}
-use Rattle.reply_text.proofs.ReceiptSteps.{IsAscii-receipt_text}
-use Rattle.reply_text.proofs.receipts.put_receipt.Goals as goal
+use Rattle.receipt_text.specs.Receipts.{receipt_text}
+use Rattle.receipt_text.proofs.Prefixes.{OnOk-push_str}
+use Rattle.receipt_text.proofs.ReceiptSteps.{IsAscii-receipt_text}
+use Rattle.receipt_text.proofs.receipts.put_receipt.Goals as goal
 
 pub from_utf8_unchecked-requires : goal.from_utf8_unchecked-requires
 from_utf8_unchecked-requires c =

@@ -2,8 +2,8 @@ use Rattle.std.proofs.Common.{◌≡◌, ◌∙◌, ap, arith, append_assoc, app
 use Rattle.std.proofs.lemmas.Fmt.{length-decimal-le}
 use Rattle.std.proofs.lemmas.List.{drop_all}
 use Rattle.entry_model.specs.declared.receipt.Receipt.{Receipt}
-use Rattle.reply_text.proofs.Lengths.{decimal_short, hex_short}
-use Rattle.reply_text.proofs.receipts.write_receipt.Goals as goal
+use Rattle.receipt_text.proofs.Lengths.{decimal_short, hex_short}
+use Rattle.receipt_text.proofs.receipts.write_receipt.Goals as goal
 
 pub write_digits-stamp-requires : goal.write_digits-stamp-requires
 write_digits-stamp-requires c =

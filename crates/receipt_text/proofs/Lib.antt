@@ -1,0 +1,5 @@
+pub mod Lengths
+mod NumberSteps
+pub mod Prefixes
+mod ReceiptSteps
+mod ReceiptRows

@@ -1,0 +1,44 @@
+-- The text of receipts: what a reply's line shows of each.
+use Rattle.std.specs.Prelude.{ℕ, ◌+◌, List, [], ◌∷◌, ◌++◌, if◌then◌else◌, codes}
+use Rattle.std.specs.List.{flat_map}
+use Rattle.std.specs.Fmt.{decimal}
+use Rattle.entry_model.specs.State.{State}
+use Rattle.entry_model.specs.declared.operation.Answer.{Answer}
+use Rattle.entry_model.specs.declared.operation.Answer.TheVariants.{Entered, Taken, Removed, Protected, Was, Words, NotFound, NoMatch, Denied, At, Worn}
+use Rattle.entry_model.specs.declared.receipt.Receipt.{Receipt}
+use Rattle.receipt_text.specs.Numbers.{hex}
+
+-- The word of an answer.
+abbrev pub answer_word : Answer → List ℕ
+answer_word Entered = codes "entered"
+answer_word Taken = codes "taken"
+answer_word Removed = codes "removed"
+answer_word Protected = codes "protected"
+answer_word Was = codes "was"
+answer_word Words = codes "read"
+answer_word NotFound = codes "notfound"
+answer_word NoMatch = codes "nomatch"
+answer_word Denied = codes "denied"
+answer_word At = codes "at"
+answer_word Worn = codes "worn"
+
+-- 2 for R plus 1 for C.
+abbrev pub bits_digit : State → ℕ
+bits_digit s = (if s.referenced then 2 else 0) + (if s.changed then 1 else 0)
+
+-- ENTRY.STAMP.BITS.ANSWER behind a space; stamp and bits are those before.
+abbrev pub receipt_text : Receipt → List ℕ
+receipt_text r =
+    codes " "
+    ++ hex r.entry
+    ++ codes "."
+    ++ decimal r.before.stamp
+    ++ codes "."
+    ++ decimal (bits_digit r.before)
+    ++ codes "."
+    ++ answer_word r.answer
+
+-- The receipts of a reply, behind a bar; nothing where there are none.
+abbrev pub receipts_text : List Receipt → List ℕ
+receipts_text [] = []
+receipts_text (r ∷ rs) = codes " |" ++ flat_map receipt_text (r ∷ rs)

@@ -35,7 +35,7 @@ impl Pass {
         self.shares
     }
 
-    /// As `try_apply`. The pause is called where the try takes the entry's lock.
+    /// As `try_apply`, with a pause for tests: no clause says that it is called.
     pub fn try_with<P: Pause>(
         &mut self,
         table: &LockTable,

@@ -1,7 +1,8 @@
-/// A hook for tests: what is called while an operation holds its entry.
+/// A hook for tests, by which they stop an operation where it holds its entry. That it is called there,
+/// and nowhere else, is shown by tests alone: it takes `&self` and gives nothing, so that no clause can
+/// ask for it.
 pub trait Pause {
-    /// Called once for each lock step that takes an entry, before the holder's next step. It always
-    /// returns, and nothing is said of what it does.
+    /// It always returns. No clause says when it is called, or what it does.
     fn held(&self);
 }
 

@@ -19,8 +19,7 @@ pub struct Waiting<'a, R, P> {
 }
 
 impl<'a, R, P> Waiting<'a, R, P> {
-    /// The store of a pass of this table. The pause is called each time that a call takes an
-    /// entry's lock, before its next step.
+    /// The store of a pass of this table, with a pause for tests: no clause says that it is called.
     pub fn new(rt: &'a R, table: &'a LockTable, pass: Pass, pause: &'a P) -> Waiting<'a, R, P>
         requires { IsOf table.now pass }
         ensures { (result.pass ≡ pass) × (result.table.now ≡ table.now) }

@@ -9,7 +9,7 @@ mod second;
 mod stored;
 mod table_size;
 
-pub use bits::{BOLTED, CHANGED, REFERENCED, SECONDARY, TAG, VALID};
+pub use bits::{BOLTED, CHANGED, REFERENCED, SECONDARY, TAG, VALID, bits_are_those_of_the_fields};
 pub use first::{bolted, one_tb, secondary, tag_of};
 pub use second::{frame, key, no_execute, pp, protected, wimg};
 pub use stored::normal;

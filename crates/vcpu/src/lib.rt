@@ -13,4 +13,6 @@ mod cpu;
 mod landing;
 mod passing;
 
+pub use asking::{key, operation};
 pub use cpu::Cpu;
+pub use landing::{outcome, outcome_at};

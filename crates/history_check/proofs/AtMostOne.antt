@@ -3,6 +3,7 @@ use Rattle.std.proofs.Common.{◌≡◌, ℕ, List, [], ◌∷◌, Bool, true, f
 use Rattle.std.proofs.lemmas.Bool.{cases_Bool}
 use Rattle.papr_codes.specs.Hcalls.{hcall_of}
 use Rattle.storage_prot.specs.declared.want.Want.{Want}
+use Rattle.power_addr.specs.Pages.{VirtualPage}
 use Rattle.entry_model.specs.declared.operation.Answer.{Answer}
 use Rattle.entry_model.specs.declared.line.Line.{Line}
 use Rattle.entry_model.specs.declared.hreply.HReply.{HReply}
@@ -130,12 +131,12 @@ way_alike set seg a c d (Some Walk) (Some Hit) r q h k w m = absurd (hit≢walk 
 way_alike set seg a c d None way' r q h k w m = absurd (no_way set seg a c r h)
 way_alike set seg a c d (Some way) None r q h k w m = absurd (no_way set seg a d q k)
 
-segment_alike : (set : AccessContext) (s s' : List (List Line)) (a : Request) (o : Option Segment) (r q : AccessReply) → IsAccessReply set s a o r → IsAccessReply set s' a o q → SameWay r.by q.by → SameMarks r.receipts q.receipts → AllAlike (zip r.receipts q.receipts)
+segment_alike : (set : AccessContext) (s s' : VirtualPage → Option Line) (a : Request) (o : Option Segment) (r q : AccessReply) → IsAccessReply set s a o r → IsAccessReply set s' a o q → SameWay r.by q.by → SameMarks r.receipts q.receipts → AllAlike (zip r.receipts q.receipts)
 segment_alike set s s' a None r q h k w m = subst (λ (x : AccessReply). AllAlike (zip x.receipts q.receipts)) (sym h) tt
-segment_alike set s s' a (Some seg) r q h k w m = way_alike set seg a (cached_line s seg.page) (cached_line s' seg.page) r.by q.by r q h k w m
+segment_alike set s s' a (Some seg) r q h k w m = way_alike set seg a (s seg.page) (s' seg.page) r.by q.by r q h k w m
 
 reach_alike : (set : AccessContext) (s s' : Processor) (want : Want) (ea : ℕ) (user : Bool) (r q : Reply) → s.slots ≡ s'.slots → IsReplyToAccess set s (acts.Access want ea user) r → IsReplyToAccess set s' (acts.Access want ea user) q → ShowsSame r q → AllAlike (LinePairs r q)
-reach_alike set s s' want ea user (replies.Access r) (replies.Access q) e h k m = segment_alike set s.cache s'.cache (request want ea user) (segment_of s.slots ea) r q h (subst (λ l. IsAccessReply set s'.cache (request want ea user) (segment_of l ea) q) (sym e) k) m.way m.marks
+reach_alike set s s' want ea user (replies.Access r) (replies.Access q) e h k m = segment_alike set (cached_line s.cache) (cached_line s'.cache) (request want ea user) (segment_of s.slots ea) r q h (subst (λ l. IsAccessReply set (cached_line s'.cache) (request want ea user) (segment_of l ea) q) (sym e) k) m.way m.marks
 reach_alike set s s' want ea user (replies.Access r) (replies.Hcall q) e h k m = absurd k
 reach_alike set s s' want ea user (replies.Access r) (replies.Segment q) e h k m = absurd k
 reach_alike set s s' want ea user (replies.Access r) (replies.Dump q) e h k m = absurd k
@@ -209,12 +210,12 @@ way_same set seg a c (Some Walk) (Some Hit) r q x y h k w m z = absurd (hit≢wa
 way_same set seg a c None way' r q x y h k w m z = absurd (no_way set seg a c r h)
 way_same set seg a c (Some way) None r q x y h k w m z = absurd (no_way set seg a c q k)
 
-segment_same : (set : AccessContext) (s : List (List Line)) (a : Request) (o : Option Segment) (r q : AccessReply) → IsAccessReply set s a o r → IsAccessReply set s a o q → SameWay r.by q.by → SameMarks r.receipts q.receipts → AllBefore (zip r.receipts q.receipts) → r ≡ q
+segment_same : (set : AccessContext) (s : VirtualPage → Option Line) (a : Request) (o : Option Segment) (r q : AccessReply) → IsAccessReply set s a o r → IsAccessReply set s a o q → SameWay r.by q.by → SameMarks r.receipts q.receipts → AllBefore (zip r.receipts q.receipts) → r ≡ q
 segment_same set s a None r q h k w m z = h ∙ sym k
-segment_same set s a (Some seg) r q h k w m z = way_same set seg a (cached_line s seg.page) r.by q.by r q refl refl h k w m z
+segment_same set s a (Some seg) r q h k w m z = way_same set seg a (s seg.page) r.by q.by r q refl refl h k w m z
 
 reach_same : (set : AccessContext) (s : Processor) (want : Want) (ea : ℕ) (user : Bool) (r q : Reply) → IsReplyToAccess set s (acts.Access want ea user) r → IsReplyToAccess set s (acts.Access want ea user) q → ShowsSame r q → AllBefore (LinePairs r q) → r ≡ q
-reach_same set s want ea user (replies.Access r) (replies.Access q) h k m z = ap replies.Access (segment_same set s.cache (request want ea user) (segment_of s.slots ea) r q h k m.way m.marks z)
+reach_same set s want ea user (replies.Access r) (replies.Access q) h k m z = ap replies.Access (segment_same set (cached_line s.cache) (request want ea user) (segment_of s.slots ea) r q h k m.way m.marks z)
 reach_same set s want ea user (replies.Access r) (replies.Hcall q) h k m z = absurd k
 reach_same set s want ea user (replies.Access r) (replies.Segment q) h k m z = absurd k
 reach_same set s want ea user (replies.Access r) (replies.Dump q) h k m z = absurd k

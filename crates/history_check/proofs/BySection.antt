@@ -153,9 +153,10 @@ reaches_first t text j =
 pub reaches_next : (t : AcceptedTrace) (text : List ℕ) (k : ℕ) (w : RunState) (ms : List TraceLine) (l : TraceLine) (ns : List TraceLine) (x : List ℕ) (rs : List Reply) (r : Reply) (y : List ℕ) → IsPlain w → PlainLines ms → AllByRecursion (λ (l : TraceLine). l.cpu < length w.processors) ms → is_quiet l.act ≡ true → IsOfKind l.act r → IsFound w ms (Some (record { line = l; reply = r })) x rs (reply_text l r ++ y) → Reaches t text k w (ms ++ l ∷ ns) x → Reaches t text (suc k) (next_run w ms rs l) ns y
 reaches_next t text k w ms l ns x rs r y plain h cpus q kind found before j =
     let e : k + suc j ≡ suc k + j = omega arith in
-    let lines : lines_to (suc j) (ms ++ l ∷ ns) ≡ ms ++ l ∷ lines_to j ns = lines_plain j ms l ns h q in
-    ((λ z. behind_found w ms l (lines_to j ns) x rs r y plain h cpus q found (subst (λ ls. Explains w ls x) lines ((before (suc j)).0 (subst (λ n. Explains (opening_run t.config) (lines_to n t.lines) text) (sym e) z)))),
-      (λ z. subst (λ n. Explains (opening_run t.config) (lines_to n t.lines) text) e ((before (suc j)).1 (subst (λ ls. Explains w ls x) (sym lines) (step_in w ms l (lines_to j ns) x h q (record { replies = rs; reply = r; rest = y; kind = kind; found = found; later = z }))))))
+    let lines : lines_to (suc j) (ms ++ l ∷ ns) ≡ ms ++ l ∷ lines_to j ns = lines_plain j ms l ns h q in (
+      (λ z. behind_found w ms l (lines_to j ns) x rs r y plain h cpus q found (subst (λ ls. Explains w ls x) lines ((before (suc j)).0 (subst (λ n. Explains (opening_run t.config) (lines_to n t.lines) text) (sym e) z)))),
+      (λ z. subst (λ n. Explains (opening_run t.config) (lines_to n t.lines) text) e ((before (suc j)).1 (subst (λ ls. Explains w ls x) (sym lines) (step_in w ms l (lines_to j ns) x h q (record { replies = rs; reply = r; rest = y; kind = kind; found = found; later = z }))))),
+    )
 
 -- A section that isn't found fails.
 pub none_found : (t : AcceptedTrace) (text : List ℕ) (k : ℕ) (w : RunState) (ms : List TraceLine) (l : TraceLine) (ns : List TraceLine) (x : List ℕ) → PlainLines ms → is_quiet l.act ≡ true → ((rs : List Reply) (r : Reply) (y : List ℕ) → IsFound w ms (Some (record { line = l; reply = r })) x rs (reply_text l r ++ y) → ⊥) → Reaches t text k w (ms ++ l ∷ ns) x → BeginsGood (trace_to (suc k) t) text → ⊥

@@ -61,13 +61,13 @@ pub run_legal : (a b : List State) (ms rs : List Receipt) → Regrouped ms rs �
 run_legal a b ms rs same run e = history_regrouped e (state_at a e) (state_at b e) ms rs same (run_history e a b ms run)
 
 -- ---- what a run fixes
-after_step : (a : List State) (r : Receipt) → r.before ≡ state_at a r.entry → states_after a r ≡ after_step a (step_of r)
-after_step a r h = ap (slice_set a r.entry) (next_is r ∙ ap (next_by (step_op r.op) r.answer) h)
+receipt_step : (a : List State) (r : Receipt) → r.before ≡ state_at a r.entry → states_after a r ≡ after_step a (step_of r)
+receipt_step a r h = ap (slice_set a r.entry) (next_is r ∙ ap (next_by (step_op r.op) r.answer) h)
 
 pub run_fixes : (a b : List State) (rs : List Receipt) → IsRun a rs b → (before_each rs ≡ found_states a (map step_of rs)) × (b ≡ ending_states a (map step_of rs))
 run_fixes a b [] h = (refl, h)
 run_fixes a b (r ∷ rs) h =
-    let next : h.0 ≡ after_step a (step_of r) = h.1.after ∙ after_step a r h.1.before in
+    let next : h.0 ≡ after_step a (step_of r) = h.1.after ∙ receipt_step a r h.1.before in
     let rest = run_fixes (after_step a (step_of r)) b rs (subst (λ s. IsRun s rs b) next h.2) in
     ((λ i. h.1.before i ∷ rest.0 i), rest.1)
 
@@ -83,4 +83,4 @@ fixed_run a (r ∷ rs) within h =
     let here : r.before ≡ state_at a r.entry = head_state r.before (state_at a r.entry) (before_each rs) (found_states (after_step a (step_of r)) (map step_of rs)) h in
     let rest : before_each rs ≡ found_states (after_step a (step_of r)) (map step_of rs) = tail_states r.before (state_at a r.entry) (before_each rs) (found_states (after_step a (step_of r)) (map step_of rs)) h in
     let size : length (after_step a (step_of r)) ≡ length a = length-set a r.entry _ in
-    (after_step a (step_of r), record { in_table = within.0; before = here; after = sym (after_step a r here) }, fixed_run (after_step a (step_of r)) rs (subst (λ n. AllByRecursion (λ (r : Receipt). r.entry < n) rs) (sym size) within.1) rest)
+    (after_step a (step_of r), record { in_table = within.0; before = here; after = sym (receipt_step a r here) }, fixed_run (after_step a (step_of r)) rs (subst (λ n. AllByRecursion (λ (r : Receipt). r.entry < n) rs) (sym size) within.1) rest)

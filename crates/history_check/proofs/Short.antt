@@ -8,7 +8,7 @@ use Rattle.papr_codes.specs.declared.calls.Hcall.{Hcall}
 use Rattle.papr_codes.specs.declared.calls.Hcall.TheVariants as calls
 use Rattle.papr_codes.specs.declared.codes.Rc.{Rc}
 use Rattle.papr_codes.specs.Hcalls.{hcall_of}
-use Rattle.hpt_pool.specs.Pool.{PoolState, no_blocks}
+use Rattle.hpt_pool.specs.Pool.{PoolState}
 use Rattle.entry_model.specs.State.{State, empty_state}
 use Rattle.entry_model.specs.declared.receipt.Receipt.{Receipt}
 use Rattle.entry_model.specs.Receipt.{after_of}
@@ -73,9 +73,10 @@ section_low w ts quiet h g =
     let along : (e : ℕ) → e < n → AllByRecursion (λ (r : Receipt). IsLow r.before) (history e (receipts_made w ts)) × IsLow (state_at (states_of (section_end w ts)) e) = λ e k. legal_low (state_at (states_of w) e) (state_at (states_of (section_end w ts)) e) (history e (receipts_made w ts)) (g.legal e k) (each_at IsLow (states_of w) e (empty_state 0) (omega arith) h.low) in
     let stamps = each_from_histories (λ (r : Receipt). IsLow r.before) n (receipts_made w ts) g.in_table (λ e k. (along e k).0) in
     let few : n ≤ 2 ^ 18 = small_table w h in
-    let both = each_both (λ (r : Receipt). r.entry < n) (λ (r : Receipt). IsLow r.before) (receipts_made w ts) g.in_table stamps in
-    (each_map (λ (r : Receipt). (r.entry < n) × IsLow r.before) IsShort (receipts_made w ts) (λ r x. record { entry = omega (arith, x.0); stamp = omega (arith, x.1) }) both,
-      each_state IsLow (states_of (section_end w ts)) (λ e k. (along e (subst (λ l. e < l) (closed_size w ts) k)).1))
+    let both = each_both (λ (r : Receipt). r.entry < n) (λ (r : Receipt). IsLow r.before) (receipts_made w ts) g.in_table stamps in (
+      each_map (λ (r : Receipt). (r.entry < n) × IsLow r.before) IsShort (receipts_made w ts) (λ r x. record { entry = omega (arith, x.0); stamp = omega (arith, x.1) }) both,
+      each_state IsLow (states_of (section_end w ts)) (λ e k. (along e (subst (λ l. e < l) (closed_size w ts) k)).1),
+    )
 
 -- The receipts of each line of a section.
 abbrev pub ShortLines : List RepliedLine → Type 0
@@ -157,6 +158,6 @@ pub opening_plain : (t : AcceptedTrace) → IsAccepted t → IsPlain (opening_ru
 unfolding opening_run opening_memory empty_states
 opening_plain t is =
     let c = t.config in
-    let below : c.order ≤ c.limit = is.configured.within in
-    let most : c.limit ≤ 22 = is.configured.at_most in
-    record { memory = opening_stands c.limit c.order (no_blocks c.granted.pool_base c.granted.pool_order) is.configured.at_most is.configured.at_least; high = omega arith; low = each_replicate (entry_count c.order) }
+    let below : c.order ≤ c.limit = is.configured.settings.within in
+    let most : c.limit ≤ 22 = is.configured.settings.at_most in
+    record { memory = opening_stands c.limit c.order c.granted.pool_base c.granted.pool_order is.configured.settings.at_most is.configured.settings.at_least; high = omega arith; low = each_replicate (entry_count c.order) }

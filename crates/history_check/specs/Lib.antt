@@ -6,3 +6,4 @@ pub mod Replay
 pub mod Ordered
 pub mod Steps
 pub mod Hits
+pub mod ReplayLaws

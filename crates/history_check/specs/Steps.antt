@@ -79,8 +79,8 @@ unfoldable pub place_by : Mark → Op → ℕ
 place_by m op =
     (m.stamp * 4 + bit_count m.bits) * 2
     + (if is_unchanged op m.answer (nat_le 2 m.bits) ((m.bits == 1) || (m.bits == 3))
-      then 0
-      else 1)
+    then 0
+    else 1)
 
 -- ---- what a line's marks say of its receipts
 -- The operations of calls, in turn.

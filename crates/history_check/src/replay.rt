@@ -101,7 +101,7 @@ impl<'a> Replay<'a> {
 impl<'a> EntryStore for Replay<'a> {
     ghost use Rattle.std.specs.Prelude.{refl};
     ghost use Rattle.history_check.specs.Replay.{IsReplayed, IsSeen, IsGone};
-    ghost use Rattle.history_check.proofs.ReplayLaws.{made_more, order_stays, seen_stays, shown_is_seen};
+    ghost use Rattle.history_check.specs.ReplayLaws.{made_more, order_stays, seen_stays, shown_is_seen};
 
     ghost made = { IsReplayed };
 

@@ -17,9 +17,9 @@ use Rattle.run_model.specs.LineReplies.{IsCallReply, IsReplyToAccess}
 use Rattle.run_model.specs.RunState.{RunState, context_of, states_of, opening_run, run_quiet_line}
 use Rattle.run_model.specs.Histories.{lines_of_processor, receipts_by, receipts_from_processor}
 use Rattle.run_model.specs.Sections.{receipts_made, section_end, cut, cut_before, sections_from, processors_after_lines}
-use Rattle.run_model.specs.GoodRun.{IsGoodRun, EachLineOfProcessor, IsAccessLine}
+use Rattle.run_model.specs.GoodRun.{IsGoodRun, EachLineOfProcessor, IsAccessLine, IsGoodSection}
 use Rattle.run_model.proofs.Each.{each_append, each_front, each_back}
-use Rattle.run_model.proofs.SectionGood.{IsGoodSection, quiet_size}
+use Rattle.run_model.proofs.SectionGood.{quiet_size}
 use Rattle.run_model.proofs.SerialGood.{opening_processors}
 use Rattle.run_model.proofs.OneProcessor.{together}
 use Rattle.history_check.specs.ReplyMarks.{ShowsSame, AllShowSame}

@@ -9,20 +9,17 @@ use Rattle.trace_reply.specs.Replies.{RepliedLine, IsOfKind, AreReplies, lines_w
 use Rattle.reply_text.specs.Text.{reply_text, text_from, text_of}
 use Rattle.run_model.specs.RunState.{RunState, opening_run, run_quiet_line}
 use Rattle.run_model.specs.Sections.{section_end, cut, cut_before, sections_from}
-use Rattle.run_model.specs.GoodRun.{IsGoodRun}
+use Rattle.run_model.specs.GoodRun.{IsGoodRun, IsGoodSection}
 use Rattle.run_model.proofs.LinesByProcessor.{Cpus}
-use Rattle.run_model.proofs.SectionGood.{IsGoodSection, quiet_size}
+use Rattle.run_model.proofs.SectionGood.{quiet_size}
 use Rattle.run_model.proofs.SerialGood.{opening_processors}
 use Rattle.run_model.proofs.OneProcessor.{together}
+use Rattle.history_check.specs.FoundSection.{lines_text}
 use Rattle.history_check.proofs.TextMarks.{line_shows, cancel}
 use Rattle.history_check.proofs.Short.{IsPlain, ShortLines, section_short, quiet_plain, opening_plain}
 use Rattle.history_check.proofs.AtMostOneRun.{Twice, first, second, ones, twos, Shown, Plain, AllSame, section_same, cut_twice, rest_ones, rest_twos, both_ones, both_twos, cut_ones, cut_twos, AllCut, cut_each, uncut_each, PlainCut, cut_plain, ones_twos, closed_size, twice_of, twice_ones, twice_twos, twice_cpus, same_replies}
 
 -- ---- texts of replied_lines
-abbrev pub lines_text : List RepliedLine → List ℕ
-lines_text [] = []
-lines_text (t ∷ ts) = reply_text t.line t.reply ++ lines_text ts
-
 abbrev parts_text : List RepliedLine → List (RepliedLine × List RepliedLine) → List ℕ
 parts_text ts [] = lines_text ts
 parts_text ts (q ∷ qs) = lines_text ts ++ (reply_text q.0.line q.0.reply ++ parts_text q.1 qs)

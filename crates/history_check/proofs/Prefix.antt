@@ -8,8 +8,8 @@ use Rattle.trace_reply.specs.declared.reply.Reply.{Reply}
 use Rattle.trace_reply.specs.Replies.{RepliedLine, AreReplies, lines_with_replies}
 use Rattle.run_model.specs.RunState.{RunState, states_of, opening_run, run_quiet_line}
 use Rattle.run_model.specs.Sections.{cut, cut_before, section_end, sections_from}
-use Rattle.run_model.specs.GoodRun.{IsGoodRun}
-use Rattle.run_model.proofs.SectionGood.{IsGoodSection, section_good}
+use Rattle.run_model.specs.GoodRun.{IsGoodRun, IsGoodSection}
+use Rattle.run_model.proofs.SectionGood.{section_good}
 use Rattle.run_model.proofs.SerialGood.{good_of}
 use Rattle.run_model.proofs.OneProcessor.{together}
 use Rattle.history_check.specs.Verdict.{with_lines}

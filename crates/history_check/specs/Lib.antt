@@ -7,3 +7,4 @@ pub mod Ordered
 pub mod Steps
 pub mod Hits
 pub mod ReplayLaws
+pub mod FoundSection

@@ -8,3 +8,5 @@ pub mod Steps
 pub mod Hits
 pub mod ReplayLaws
 pub mod FoundSection
+pub mod PlacedSteps
+pub mod OrderedSteps

@@ -14,5 +14,7 @@ mod landing;
 mod passing;
 
 pub use asking::{key, operation};
+pub use by_walk::kept_line;
 pub use cpu::Cpu;
 pub use landing::{outcome, outcome_at};
+pub use passing::refill;

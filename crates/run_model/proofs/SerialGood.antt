@@ -23,12 +23,12 @@ use Rattle.run_model.specs.Processors.{processor_at}
 use Rattle.run_model.specs.RunState.{RunState, context_of, states_of, opening_run, run_resize, run_quiet_line}
 use Rattle.run_model.specs.SerialRun.{current_line, result_by_line, result_by_segment, line_result, run_line, replies_from, serial_replies}
 use Rattle.run_model.specs.Sections.{cut, cut_before, sections_of}
-use Rattle.run_model.specs.GoodRun.{AreLegal, AreInOrder, CallsAreReplied, AccessesAreReplied, QuietIsReplied, IsGoodRun}
+use Rattle.run_model.specs.GoodRun.{AreLegal, AreInOrder, CallsAreReplied, AccessesAreReplied, QuietIsReplied, IsGoodRun, IsGoodSection}
 use Rattle.run_model.proofs.Each.{each_map}
 use Rattle.run_model.proofs.Memories.{opening_stands}
 use Rattle.run_model.proofs.CachesHold.{ProcessorFresh, empty_fresh}
 use Rattle.run_model.proofs.SerialUndisturbed.{SoundRunState, serial_stands}
-use Rattle.run_model.proofs.SectionGood.{IsGoodSection, AllCpus, sections_good}
+use Rattle.run_model.proofs.SectionGood.{AllCpus, sections_good}
 use Rattle.papr_codes.specs.declared.calls.Hcall.TheVariants as calls
 use Rattle.trace_read.specs.declared.trace.Act.TheVariants as acts
 

@@ -1,0 +1,45 @@
+-- Marks: what the text of a reply shows of its receipts.
+use Rattle.std.specs.Prelude.{◌≡◌, ℕ, ◌<◌, ◌≤◌, ◌^◌, List, [], ◌∷◌, ◌++◌, length, drop, Option, Some, None, MatchOption, if◌then◌else◌, codes, Bool, false, ◌==◌, ◌&&◌}
+use Rattle.std.specs.List.{AllByRecursion, flat_map}
+use Rattle.std.specs.Fmt.{decimal}
+use Rattle.reply_text.specs.Text.{hex, answer_word}
+use Rattle.history_check.specs.declared.mark.Mark.{Mark}
+
+-- ENTRY.STAMP.BITS.ANSWER behind a space.
+abbrev pub mark_text : Mark → List ℕ
+mark_text m =
+    codes " "
+    ++ hex m.entry
+    ++ codes "."
+    ++ decimal m.stamp
+    ++ codes "."
+    ++ decimal m.bits
+    ++ codes "."
+    ++ answer_word m.answer
+
+-- A space, with a bar first in what follows it.
+abbrev pub is_bar : ℕ → List ℕ → Bool
+is_bar c [] = false
+is_bar c (d ∷ ds) = (c == 32) && (d == 124)
+
+-- What stands behind the first space and bar of a line.
+abbrev pub behind_bar : List ℕ → Option (List ℕ)
+behind_bar [] = None
+behind_bar (c ∷ cs) = if is_bar c cs then Some (drop 1 cs) else behind_bar cs
+
+-- The numbers of a mark are in their ranges.
+pub record IsMark (m : Mark) : Type 0 where
+  pub entry : m.entry < 2 ^ 32
+  pub stamp : m.stamp < 2 ^ 32
+  pub bits : m.bits < 4
+
+-- 1 to 16 marks in their spelling, and nothing else.
+pub record AreSpelt (rest : List ℕ) (ms : List Mark) : Type 0 where
+  pub some : 1 ≤ length ms
+  pub most : length ms ≤ 16
+  pub marks : AllByRecursion IsMark ms
+  pub text : rest ≡ flat_map mark_text ms
+
+-- The marks of a line; a line without a bar has none.
+abbrev pub HasMarks : List ℕ → List Mark → Type 0
+HasMarks line ms = MatchOption (behind_bar line) (ms ≡ []) (λ rest. AreSpelt rest ms)

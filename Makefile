@@ -25,7 +25,7 @@ fishdir = $(share)/fish/vendor_completions.d
 dist = out/dist
 
 # A tool's name behind papr-, and its file in tools/.
-tools = from-qemu:qemu-log-to-trace history:entry-history picture:run-picture receipts:receipts why:why
+tools = from-qemu:qemu-log-to-trace history:entry-history picture:run-picture receipts:receipts why:why bad-line:bad-line
 tool_name = $(firstword $(subst :, ,$(1)))
 tool_file = $(lastword $(subst :, ,$(1)))
 link_tool = ln -sf ../share/papr/$(1) $(bindir)/papr-$(2);

@@ -8,7 +8,7 @@ _papr_options() {
 _papr() {
     COMPREPLY=()
     if [ "$COMP_CWORD" -eq 1 ]; then
-        mapfile -t COMPREPLY < <(compgen -W 'run par drill' -- "${COMP_WORDS[COMP_CWORD]}")
+        mapfile -t COMPREPLY < <(compgen -W 'run par check drill' -- "${COMP_WORDS[COMP_CWORD]}")
     fi
 }
 
@@ -22,4 +22,4 @@ _papr_tool() {
 }
 
 complete -F _papr papr
-complete -o filenames -F _papr_tool papr-from-qemu papr-history papr-picture papr-receipts papr-why
+complete -o filenames -F _papr_tool papr-from-qemu papr-history papr-picture papr-receipts papr-why papr-bad-line

@@ -3,6 +3,7 @@
 complete -c papr -f
 complete -c papr -n __fish_is_first_token -a run -d 'Run a trace from standard input'
 complete -c papr -n __fish_is_first_token -a par -d 'Run it with a thread for each processor'
+complete -c papr -n __fish_is_first_token -a check -d 'Judge a text of replies behind a trace'
 complete -c papr -n __fish_is_first_token -a drill -d 'Run a generated trace: SEED LINES'
 
 complete -c papr-from-qemu -s o -l output -r -d 'Write the trace to this file'
@@ -19,6 +20,6 @@ complete -c papr-history -l changes -d 'Only receipts that changed the entry'
 complete -c papr-receipts -l csv -d 'Comma-separated, with a head'
 complete -c papr-receipts -l json -d 'A list of objects'
 complete -c papr-receipts -l replies -d 'A row for each reply'
-for tool in papr-from-qemu papr-history papr-picture papr-receipts papr-why
+for tool in papr-from-qemu papr-history papr-picture papr-receipts papr-why papr-bad-line
     complete -c $tool -s h -l help -d 'What the tool does'
 end

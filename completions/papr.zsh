@@ -1,4 +1,4 @@
-#compdef papr papr-from-qemu papr-history papr-picture papr-receipts papr-why
+#compdef papr papr-from-qemu papr-history papr-picture papr-receipts papr-why papr-bad-line
 # Completion of papr's words and of its tools' options in zsh.
 
 _papr() {
@@ -8,6 +8,7 @@ _papr() {
         _values 'word' \
             'run[run a trace from standard input]' \
             'par[run it with a thread for each processor]' \
+            'check[judge a text of replies behind a trace]' \
             'drill[run a generated trace: SEED LINES]'
     elif [[ $words[2] == drill ]]; then
         case $CURRENT in

@@ -1,50 +1,74 @@
--- A command that has its input is done, and one whose input is no trace refuses it, where neither source nor sink fails, unless memory ends.
-use Rattle.std.proofs.Common.{◌≡◌, ◌≢◌, ◌⊎◌, ℕ, ◌^◌, ◌<◌, ◌≤◌, List, [], ◌++◌, length, true, false, Option, Some, None, Result, IsSomeAnd, IsOk, IsErr, sym, refl, subst, ap, ◌∙◌, inl, inr, arith, length-append}
+-- A command that has its input is answered, and one whose input can't be read so refuses it, where neither source nor sink fails, unless memory ends.
+use Rattle.std.proofs.Common.{◌≡◌, ◌≢◌, ◌⊎◌, ℕ, ◌^◌, ◌<◌, ◌≤◌, List, [], ◌++◌, length, true, false, Option, Some, None, Result, Ok, Err, IsSomeAnd, IsOk, IsErr, sym, refl, subst, ap, ◌∙◌, inl, inr, arith, length-append}
 use Rattle.std.proofs.lemmas.Bool.{cases_lt}
 use Rattle.std.proofs.lemmas.List.{append-nil}
-use Rattle.trace_read.specs.declared.why.Why.{Why}
-use Rattle.trace_read.specs.Trace.{AcceptedTrace}
-use Rattle.trace_read.specs.Grammar.{trace_of}
+use Rattle.papr_top.specs.declared.reason.Reason.{Reason}
 use Rattle.papr_top.specs.declared.status.Status.{Status}
-use Rattle.papr_top.specs.declared.status.Status.TheVariants.{Done, Usage, Refused, ReadFault, WriteFault, Memory}
-use Rattle.papr_top.specs.Top.{Run, Reads, EndsReading}
-use Rattle.papr_top.proofs.Outcomes.{long_refused}
+use Rattle.papr_top.specs.declared.status.Status.TheVariants.{Done, Usage, Refused, ReadFault, WriteFault, Memory, CheckNo}
+use Rattle.papr_top.specs.Inputs.{JudgedInput, judged_input, trace_input}
+use Rattle.papr_top.specs.Top.{Run, Reads, EndsReading, WithDone, IsVerdictText, IsAnswered}
+use Rattle.trace_read.specs.Trace.{AcceptedTrace}
+use Rattle.papr_top.specs.declared.command.Command.{Command}
+use Rattle.papr_top.specs.declared.command.Command.TheVariants.{Check}
+use Rattle.papr_top.proofs.Outcomes.{RefusesLong, long_trace, long_judged}
 
--- What is read is the whole of what was left, or both are past the limit: a trace, or refused as it is.
-read_whole : (left bytes rest : List ℕ) → left ≡ bytes ++ rest → (length bytes ≤ 2 ^ 24 → rest ≡ []) → trace_of bytes ≡ trace_of left
-read_whole left bytes rest took end =
+-- What is read is the whole of what was left, or both are past the limit: they read alike.
+read_whole : {A : Type 0} (reads : List ℕ → Result A (ℕ × Reason)) (left bytes rest : List ℕ) → RefusesLong reads → left ≡ bytes ++ rest → (length bytes ≤ 2 ^ 24 → rest ≡ []) → reads bytes ≡ reads left
+read_whole reads left bytes rest refuses took end =
     elim (cases_lt (2 ^ 24) (length bytes)) [
       | inl past ↦
           (let longer : 2 ^ 24 < length left = omega (arith, ap length took, length-append bytes rest) in
-          long_refused bytes past ∙ sym (long_refused left longer))
-      | inr within ↦ ap trace_of (sym (took ∙ ap (λ z. bytes ++ z) (end within) ∙ append-nil bytes))
+          refuses bytes past ∙ sym (refuses left longer))
+      | inr within ↦ ap reads (sym (took ∙ ap (λ z. bytes ++ z) (end within) ∙ append-nil bytes))
     ]
 
--- What was read parses as the input that the source told.
-told_input : (P : Result AcceptedTrace (ℕ × Why) → Type 0) (left left_after : Option (List ℕ)) (bytes : List ℕ) → IsSomeAnd left (λ input. P (trace_of input)) → Reads left bytes left_after → P (trace_of bytes)
-told_input P None left_after bytes holds read = absurd holds
-told_input P (Some left) None bytes holds read = absurd read.took
-told_input P (Some left) (Some rest) bytes holds read =
-    subst P (sym (read_whole left bytes rest read.took read.end)) holds
+-- What was read reads as the input that the source told.
+told_input : {A : Type 0} (reads : List ℕ → Result A (ℕ × Reason)) (P : Result A (ℕ × Reason) → Type 0) (left left_after : Option (List ℕ)) (bytes : List ℕ) → RefusesLong reads → IsSomeAnd left (λ input. P (reads input)) → Reads left bytes left_after → P (reads bytes)
+told_input reads P None left_after bytes refuses holds read = absurd holds
+told_input reads P (Some left) None bytes refuses holds read = absurd read.took
+told_input reads P (Some left) (Some rest) bytes refuses holds read =
+    subst P (sym (read_whole reads left bytes rest refuses read.took read.end)) holds
 
--- A command that reads a trace.
-pub reading_done : (says : AcceptedTrace → List ℕ → Type 0) (run : Run) (result : Status) → EndsReading says run result → IsSomeAnd run.left (λ input. IsOk (trace_of input)) → result ≢ ReadFault → result ≢ WriteFault → (result ≡ Done) ⊎ (result ≡ Memory)
-reading_done says run Done ends accepted no_read_fault no_write_fault = inl refl
-reading_done says run Memory ends accepted no_read_fault no_write_fault = inr refl
-reading_done says run Refused ends accepted no_read_fault no_write_fault =
-    (let wrong : false ≡ true = subst IsOk ends.refused (told_input IsOk run.left run.left_after ends.bytes accepted ends.read) in
+-- A command that reads an input that it takes.
+reading_done : {A : Type 0} (reads : List ℕ → Result A (ℕ × Reason)) (says : A → Status → List ℕ → Type 0) (run : Run) (result : Status) → RefusesLong reads → EndsReading reads says run result → IsSomeAnd run.left (λ input. IsOk (reads input)) → result ≢ ReadFault → result ≢ WriteFault → (result ≡ Done) ⊎ ((result ≡ CheckNo) ⊎ (result ≡ Memory))
+reading_done reads says run Done refuses ends accepted no_read_fault no_write_fault = inl refl
+reading_done reads says run CheckNo refuses ends accepted no_read_fault no_write_fault = inr (inl refl)
+reading_done reads says run Memory refuses ends accepted no_read_fault no_write_fault = inr (inr refl)
+reading_done reads says run Refused refuses ends accepted no_read_fault no_write_fault =
+    (let wrong : false ≡ true = subst IsOk ends.refused (told_input reads IsOk run.left run.left_after ends.bytes refuses accepted ends.read) in
     cc)
-reading_done says run ReadFault ends accepted no_read_fault no_write_fault = absurd (no_read_fault refl)
-reading_done says run WriteFault ends accepted no_read_fault no_write_fault = absurd (no_write_fault refl)
-reading_done says run Usage ends accepted no_read_fault no_write_fault = absurd ends
+reading_done reads says run ReadFault refuses ends accepted no_read_fault no_write_fault = absurd (no_read_fault refl)
+reading_done reads says run WriteFault refuses ends accepted no_read_fault no_write_fault = absurd (no_write_fault refl)
+reading_done reads says run Usage refuses ends accepted no_read_fault no_write_fault = absurd ends
+
+-- A command of a trace has one status for it.
+pub trace_done : (command : Option Command) (says : AcceptedTrace → List ℕ → Type 0) (run : Run) (result : Status) → EndsReading trace_input (WithDone says) run result → IsSomeAnd run.left (λ input. IsOk (trace_input input)) → result ≢ ReadFault → result ≢ WriteFault → IsAnswered command result ⊎ (result ≡ Memory)
+trace_done command says run result ends accepted no_read_fault no_write_fault =
+    at result ends (reading_done trace_input (WithDone says) run result long_trace ends accepted no_read_fault no_write_fault) where
+      at : (status : Status) → EndsReading trace_input (WithDone says) run status → (status ≡ Done) ⊎ ((status ≡ CheckNo) ⊎ (status ≡ Memory)) → IsAnswered command status ⊎ (status ≡ Memory)
+      at status ended (inl done) = inl (subst (IsAnswered command) (sym done) tt)
+      at status ended (inr (inl no)) = absurd ((subst (EndsReading trace_input (WithDone says) run) no ended).said)
+      at status ended (inr (inr memory)) = inr memory
+
+-- A judgement has two.
+pub judged_done : (run : Run) (result : Status) → EndsReading judged_input IsVerdictText run result → IsSomeAnd run.left (λ input. IsOk (judged_input input)) → result ≢ ReadFault → result ≢ WriteFault → IsAnswered (Some Check) result ⊎ (result ≡ Memory)
+judged_done run result ends accepted no_read_fault no_write_fault =
+    at (reading_done judged_input IsVerdictText run result long_judged ends accepted no_read_fault no_write_fault) where
+      at : (result ≡ Done) ⊎ ((result ≡ CheckNo) ⊎ (result ≡ Memory)) → IsAnswered (Some Check) result ⊎ (result ≡ Memory)
+      at (inl done) = inl (subst (IsAnswered (Some Check)) (sym done) tt)
+      at (inr (inl no)) = inl (subst (IsAnswered (Some Check)) (sym no) tt)
+      at (inr (inr memory)) = inr memory
 
 -- One whose input is refused.
-pub reading_refused : (says : AcceptedTrace → List ℕ → Type 0) (run : Run) (result : Status) → EndsReading says run result → IsSomeAnd run.left (λ input. IsErr (trace_of input)) → result ≢ ReadFault → result ≢ WriteFault → (result ≡ Refused) ⊎ (result ≡ Memory)
-reading_refused says run Refused ends refused no_read_fault no_write_fault = inl refl
-reading_refused says run Memory ends refused no_read_fault no_write_fault = inr refl
-reading_refused says run Done ends refused no_read_fault no_write_fault =
-    (let wrong : false ≡ true = subst IsErr ends.accepted (told_input IsErr run.left run.left_after ends.bytes refused ends.read) in
+pub reading_refused : {A : Type 0} (reads : List ℕ → Result A (ℕ × Reason)) (says : A → Status → List ℕ → Type 0) (run : Run) (result : Status) → RefusesLong reads → EndsReading reads says run result → IsSomeAnd run.left (λ input. IsErr (reads input)) → result ≢ ReadFault → result ≢ WriteFault → (result ≡ Refused) ⊎ (result ≡ Memory)
+reading_refused reads says run Refused refuses ends refused no_read_fault no_write_fault = inl refl
+reading_refused reads says run Memory refuses ends refused no_read_fault no_write_fault = inr refl
+reading_refused reads says run Done refuses ends refused no_read_fault no_write_fault =
+    (let wrong : false ≡ true = subst IsErr ends.accepted (told_input reads IsErr run.left run.left_after ends.bytes refuses refused ends.read) in
     cc)
-reading_refused says run ReadFault ends refused no_read_fault no_write_fault = absurd (no_read_fault refl)
-reading_refused says run WriteFault ends refused no_read_fault no_write_fault = absurd (no_write_fault refl)
-reading_refused says run Usage ends refused no_read_fault no_write_fault = absurd ends
+reading_refused reads says run CheckNo refuses ends refused no_read_fault no_write_fault =
+    (let wrong : false ≡ true = subst IsErr ends.accepted (told_input reads IsErr run.left run.left_after ends.bytes refuses refused ends.read) in
+    cc)
+reading_refused reads says run ReadFault refuses ends refused no_read_fault no_write_fault = absurd (no_read_fault refl)
+reading_refused reads says run WriteFault refuses ends refused no_read_fault no_write_fault = absurd (no_write_fault refl)
+reading_refused reads says run Usage refuses ends refused no_read_fault no_write_fault = absurd ends

@@ -4,7 +4,7 @@ use Rattle.std.specs.Str.{bytes_eq}
 use Rattle.std.specs.declared.alloc.Global.{Global}
 use Rattle.trace_read.specs.Numbers.{number_of}
 use Rattle.papr_top.specs.declared.command.Command.{Command}
-use Rattle.papr_top.specs.declared.command.Command.TheVariants.{Run, Par, Drill}
+use Rattle.papr_top.specs.declared.command.Command.TheVariants.{Run, Par, Check, Drill}
 
 -- At most 100,000 lines are generated.
 abbrev pub drill_by : Option ℕ → Option ℕ → Option Command
@@ -15,14 +15,15 @@ drill_by seed lines = None
 unfoldable pub drill_of : List ℕ → List ℕ → Option Command
 drill_of seed lines = drill_by (number_of seed) (number_of lines)
 
--- `run` or `par`.
+-- `run`, `par` or `check`.
 unfoldable pub reading_of : List ℕ → Option Command
 reading_of word =
     if bytes_eq word (codes "run") then Some Run
     else if bytes_eq word (codes "par") then Some Par
+    else if bytes_eq word (codes "check") then Some Check
     else None
 
--- `run`, `par`, or `drill SEED LINES`.
+-- `run`, `par`, `check`, or `drill SEED LINES`.
 unfoldable pub command_of : List (String Global) → Option Command
 command_of (word ∷ []) = reading_of (string_bytes word)
 command_of (word ∷ seed ∷ lines ∷ []) =
@@ -35,6 +36,7 @@ command_of other = None
 abbrev pub IsInRange : Command → Type 0
 IsInRange Run = Unit {0}
 IsInRange Par = Unit {0}
+IsInRange Check = Unit {0}
 IsInRange (Drill seed lines) = lines ≤ 100000
 
 -- The command without threads: `par` is none of its forms.

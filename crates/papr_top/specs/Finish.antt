@@ -1,8 +1,8 @@
 -- How a text is written.
 use Rattle.std.specs.Prelude.{◌≡◌, ◌⊎◌, ℕ, List, [], ◌++◌, Option}
 use Rattle.trace_io.specs.Outside.{Put, Rose}
-use Rattle.papr_top.specs.declared.reading.NoTrace.{NoTrace}
-use Rattle.papr_top.specs.declared.reading.NoTrace.TheVariants as missing
+use Rattle.papr_top.specs.declared.reading.NoInput.{NoInput}
+use Rattle.papr_top.specs.declared.reading.NoInput.TheVariants as missing
 use Rattle.papr_top.specs.declared.status.Status.{Status}
 use Rattle.papr_top.specs.declared.status.Status.TheVariants.{Refused, ReadFault, WriteFault, Memory}
 use Rattle.papr_top.specs.Top.{refusal_text}
@@ -24,9 +24,9 @@ WritesNothing status taken taken_after result = (result ≡ status) × Put taken
 
 -- A refused input is answered by its line, unless memory ends; a fault and want of memory are answered by nothing.
 abbrev pub EndsRefused :
-    NoTrace → Option (List ℕ) → Option (List ℕ) → ℕ → ℕ → Status → Type 0
-EndsRefused (missing.Refused line why) taken taken_after faults faults_after result =
-    Finishes Refused (refusal_text line why) taken taken_after faults faults_after result
+    NoInput → Option (List ℕ) → Option (List ℕ) → ℕ → ℕ → Status → Type 0
+EndsRefused (missing.Refused line reason) taken taken_after faults faults_after result =
+    Finishes Refused (refusal_text line reason) taken taken_after faults faults_after result
     ⊎ WritesNothing Memory taken taken_after result
 EndsRefused missing.Fault taken taken_after faults faults_after result =
     WritesNothing ReadFault taken taken_after result

@@ -1,4 +1,7 @@
 pub mod Status
 pub mod Commands
+pub mod Inputs
 pub mod Top
 pub mod Finish
+pub mod Reading
+pub mod Laws

@@ -14,6 +14,8 @@ pub enum Command {
     Run,
     /// Runs the trace that is read, with a thread for each processor that has lines.
     Par,
+    /// Judges whether the text behind a trace is that of a good run of it.
+    Check,
     /// Runs a generated trace: its seed, and how many lines are drawn, at most 100,000.
     Drill { seed: u64, lines: u32 },
 }
@@ -44,6 +46,7 @@ fn reading(word: &str) -> Option<Command>
     match word {
         "run" => Some(Command::Run),
         "par" => Some(Command::Par),
+        "check" => Some(Command::Check),
         _ => None,
     }
 }

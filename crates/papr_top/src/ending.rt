@@ -3,7 +3,7 @@ ghost use Rattle.trace_io.specs.Outside.{Rose, Put};
 ghost use Rattle.papr_top.specs.Finish.{Finishes, EndsRefused};
 
 use crate::answer::refusal;
-use crate::reading::NoTrace;
+use crate::reading::NoInput;
 use crate::status::Status;
 use std::alloc::Global;
 use trace_io::{Sink, write_all};
@@ -27,8 +27,8 @@ pub fn finish<K: Sink>(sink: &mut K, text: &[u8], status: Status) -> Status
     }
 }
 
-/// Answers that there is no trace: the line that refuses the input is written, and else nothing.
-pub fn refuse<K: Sink>(alloc: Global, sink: &mut K, error: NoTrace) -> Status
+/// Answers that there is no input: the line that refuses the input is written, and else nothing.
+pub fn refuse<K: Sink>(alloc: Global, sink: &mut K, error: NoInput) -> Status
     ensures end { EndsRefused
         error
         (K.taken sink.old)
@@ -40,11 +40,11 @@ pub fn refuse<K: Sink>(alloc: Global, sink: &mut K, error: NoTrace) -> Status
     ensures faults { K.faults sink.old ≤ K.faults sink.new }
 {
     match error {
-        NoTrace::Refused { line, why } => match refusal(alloc, line, why) {
+        NoInput::Refused { line, reason } => match refusal(alloc, line, reason) {
             Ok(text) => finish(sink, text.as_bytes(), Status::Refused),
             Err(_) => Status::Memory,
         },
-        NoTrace::Fault => Status::ReadFault,
-        NoTrace::Memory => Status::Memory,
+        NoInput::Fault => Status::ReadFault,
+        NoInput::Memory => Status::Memory,
     }
 }

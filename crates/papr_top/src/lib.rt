@@ -1,15 +1,19 @@
 //! What the program `papr` does: it reads a trace of hypervisor calls and memory accesses, runs its
-//! lines one after the other, and writes the reply to each with its receipts; or it generates a trace,
-//! runs it, and writes a summary.
+//! lines one after the other, and writes the reply to each with its receipts; or it judges whether a text
+//! is that of such a run; or it generates a trace, runs it, and writes a summary.
 #![tactic(auto)]
 
 mod answer;
 mod command;
+mod cutting;
 mod ending;
+mod laws;
 mod reading;
+mod reason;
 mod status;
 mod top;
 
+pub use laws::written_texts_are_good;
 pub use status::Status;
 pub use top::{papr, papr_serial};
 pub use trace_runner::{Gate, OpenGate};

@@ -1,41 +1,94 @@
-ghost use Rattle.std.specs.Prelude.{◌≡◌, ◌≢◌, ◌≤◌, Err};
+ghost use Rattle.std.specs.Prelude.{◌≡◌, ◌≢◌, ◌≤◌, IfOk, IfErr, Err, length};
 ghost use Rattle.trace_io.specs.Outside.{Rose};
-ghost use Rattle.papr_top.specs.Top.{IsInput};
+ghost use Rattle.trace_read.specs.Grammar.{most_bytes};
+ghost use Rattle.papr_top.specs.Inputs.{trace_input, judged_input};
+ghost use Rattle.papr_top.specs.Top.{Reads, IsInput};
+ghost use Rattle.papr_top.specs.Reading.{WasLong, IsJudged, IsVerdictOfInput, without_trace};
 
+use crate::cutting::{cut, line_count};
+use crate::reason::Reason;
+use history_check::{Verdict, check_replies};
 use std::alloc::Global;
 use trace_io::{ReadAllError, Source, read_all};
 use trace_read::{MOST_BYTES, Trace, TraceError, Why, parse};
 
-/// Why there is no trace.
+/// Why there is no input.
 #[derive(Clone, Copy, PartialEq, Eq, Debug)]
-pub enum NoTrace {
-    /// The input is refused: the first refused line, and the reason.
-    Refused { line: u32, why: Why },
+pub enum NoInput {
+    /// It is refused: the first refused line, and the reason.
+    Refused { line: u32, reason: Reason },
     /// The source failed.
     Fault,
     /// There is not enough memory.
     Memory,
 }
 
-/// Reads the source to its end, and gives the trace that it is.
-pub fn read_trace<S: Source>(alloc: Global, source: &mut S) -> Result<Trace, NoTrace>
-    ensures input { IsInput result (S.left source.old) (S.left source.new) }
-    ensures fault { result ≡ Err NoTrace.Fault → Rose (S.faults source.old) (S.faults source.new) }
-    ensures no_fault { result ≢ Err NoTrace.Fault → S.faults source.new ≡ S.faults source.old }
+/// Reads the source to its end. An input past the limit is refused before its first line.
+fn read_bytes<S: Source>(alloc: Global, source: &mut S) -> Result<Vec<u8>, NoInput>
+    ensures bytes { IfOk result (λ v. Reads (S.left source.old) v.items (S.left source.new)) }
+    ensures within { IfOk result (λ v. length v.items ≤ most_bytes) }
+    ensures long { IfErr result (λ e. WasLong e (S.left source.old) (S.left source.new)) }
+    ensures fault { result ≡ Err NoInput.Fault → Rose (S.faults source.old) (S.faults source.new) }
+    ensures no_fault { result ≢ Err NoInput.Fault → S.faults source.new ≡ S.faults source.old }
     ensures faults { S.faults source.old ≤ S.faults source.new }
 {
-    match read_all(alloc, source, MOST_BYTES) {
-        Ok(bytes) => match parse(alloc, &bytes) {
-            Ok(trace) => Ok(trace),
-            Err(TraceError::Line { line, why }) => Err(NoTrace::Refused { line, why }),
-            Err(TraceError::Memory) => Err(NoTrace::Memory),
-        },
-        // An input past the limit is refused before its first line.
-        Err(ReadAllError::Long) => Err(NoTrace::Refused {
+    read_all(alloc, source, MOST_BYTES).map_err(|error| match error {
+        ReadAllError::Long => NoInput::Refused {
             line: 0,
-            why: Why::Long,
-        }),
-        Err(ReadAllError::Fault) => Err(NoTrace::Fault),
-        Err(ReadAllError::Memory) => Err(NoTrace::Memory),
+            reason: Reason::Trace(Why::Long),
+        },
+        ReadAllError::Fault => NoInput::Fault,
+        ReadAllError::Memory => NoInput::Memory,
+    })
+}
+
+/// What a trace that is none says of the input.
+fn no_trace(error: TraceError) -> NoInput
+    ensures { result ≡ without_trace error }
+{
+    match error {
+        TraceError::Line { line, why } => NoInput::Refused {
+            line,
+            reason: Reason::Trace(why),
+        },
+        TraceError::Memory => NoInput::Memory,
     }
+}
+
+/// Reads the source to its end, and gives the trace that it is.
+pub fn read_trace<S: Source>(alloc: Global, source: &mut S) -> Result<Trace, NoInput>
+    ensures input { IsInput trace_input result (S.left source.old) (S.left source.new) }
+    ensures fault { result ≡ Err NoInput.Fault → Rose (S.faults source.old) (S.faults source.new) }
+    ensures no_fault { result ≢ Err NoInput.Fault → S.faults source.new ≡ S.faults source.old }
+    ensures faults { S.faults source.old ≤ S.faults source.new }
+{
+    let bytes = read_bytes(alloc, source)?;
+    parse(alloc, &bytes).map_err(no_trace)
+}
+
+/// Whether the text behind the line `replies` is that of a good run of the trace before it.
+fn judge(alloc: Global, bytes: &[u8]) -> Result<Verdict, NoInput>
+    requires { length bytes.now ≤ most_bytes }
+    ensures judged { IsJudged bytes.now result }
+    ensures no_fault { result ≢ Err NoInput.Fault }
+{
+    let Some((trace, text)) = cut(bytes) else {
+        return Err(NoInput::Refused {
+            line: line_count(bytes) + 1,
+            reason: Reason::NoReplies,
+        });
+    };
+    let trace = parse(alloc, trace).map_err(no_trace)?;
+    check_replies(alloc, &trace, text).map_err(|_| NoInput::Memory)
+}
+
+/// Reads the source to its end, and judges the text that it holds behind a trace.
+pub fn read_verdict<S: Source>(alloc: Global, source: &mut S) -> Result<Verdict, NoInput>
+    ensures verdict { IsVerdictOfInput result (S.left source.old) (S.left source.new) }
+    ensures fault { result ≡ Err NoInput.Fault → Rose (S.faults source.old) (S.faults source.new) }
+    ensures no_fault { result ≢ Err NoInput.Fault → S.faults source.new ≡ S.faults source.old }
+    ensures faults { S.faults source.old ≤ S.faults source.new }
+{
+    let bytes = read_bytes(alloc, source)?;
+    judge(alloc, &bytes)
 }

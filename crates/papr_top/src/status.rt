@@ -16,6 +16,8 @@ pub enum Status {
     WriteFault,
     /// There is not enough memory.
     Memory,
+    /// The text that was judged is not that of a good run.
+    CheckNo,
 }
 
 impl Status {
@@ -30,6 +32,7 @@ impl Status {
             Status::ReadFault => 3,
             Status::WriteFault => 4,
             Status::Memory => 5,
+            Status::CheckNo => 6,
         }
     }
 }

@@ -2,14 +2,15 @@ ghost use Rattle.std.specs.Prelude.{◌≡◌, ◌≢◌, ◌≤◌, ◌⊎◌, 
 ghost use Rattle.std.specs.Fn.{FnOnceReturnsAt};
 ghost use Rattle.trace_io.specs.Outside.{Rose};
 ghost use Rattle.trace_gen.specs.Generated.{generated_trace};
-ghost use Rattle.papr_top.specs.Top.{IsOutcome, HasInput, HasRefusedInput, EndsReading, EndsDrill, IsMade};
+ghost use Rattle.papr_top.specs.Inputs.{trace_input, judged_input};
+ghost use Rattle.papr_top.specs.Top.{IsOutcome, HasInput, HasRefusedInput, IsAnswered, EndsReading, EndsDrill, IsMade, WithDone, IsVerdictText};
 ghost use Rattle.papr_top.specs.Commands.{without_par};
 ghost use Rattle.papr_top.specs.Commands as words_of;
 
-use crate::answer::{parallel_text, serial_text, summary};
+use crate::answer::{parallel_text, serial_text, status_of, summary, verdict_line};
 use crate::command::{Command, command_of};
 use crate::ending::{finish, refuse};
-use crate::reading::read_trace;
+use crate::reading::{read_trace, read_verdict};
 use crate::status::Status;
 use std::alloc::{AllocError, Global};
 use std::sync::Wait;
@@ -27,7 +28,8 @@ fn answer_input<S: Source, K: Sink, F: FnOnce(&Trace) -> Result<String, AllocErr
 ) -> Status
     requires { F.IsAlwaysCallable text_of }
     ensures outcome { EndsReading
-        (IsMade (FnOnceReturnsAt F.FnOnce text_of))
+        trace_input
+        (WithDone (IsMade (FnOnceReturnsAt F.FnOnce text_of)))
         (record {
           left = S.left source.old;
           left_after = S.left source.new;
@@ -49,6 +51,39 @@ fn answer_input<S: Source, K: Sink, F: FnOnce(&Trace) -> Result<String, AllocErr
     match read_trace(alloc, source) {
         Ok(trace) => match text_of(&trace) {
             Ok(text) => finish(sink, text.as_bytes(), Status::Done),
+            Err(_) => Status::Memory,
+        },
+        Err(error) => refuse(alloc, sink, error),
+    }
+}
+
+/// `check`: reads the source to its end, and writes the verdict on the text behind its trace, or the
+/// refusal.
+fn check<S: Source, K: Sink>(alloc: Global, source: &mut S, sink: &mut K) -> Status
+    ensures outcome { EndsReading
+        judged_input
+        IsVerdictText
+        (record {
+          left = S.left source.old;
+          left_after = S.left source.new;
+          taken = K.taken sink.old;
+          taken_after = K.taken sink.new;
+        })
+        result }
+    ensures read_fault { result ≡ Status.ReadFault
+        → Rose (S.faults source.old) (S.faults source.new) }
+    ensures write_fault { result ≡ Status.WriteFault
+        → Rose (K.faults sink.old) (K.faults sink.new) }
+    ensures no_read_fault { result ≢ Status.ReadFault
+        → S.faults source.new ≡ S.faults source.old }
+    ensures no_write_fault { result ≢ Status.WriteFault
+        → K.faults sink.new ≡ K.faults sink.old }
+    ensures source_faults { S.faults source.old ≤ S.faults source.new }
+    ensures sink_faults { K.faults sink.old ≤ K.faults sink.new }
+{
+    match read_verdict(alloc, source) {
+        Ok(verdict) => match verdict_line(alloc, verdict) {
+            Ok(text) => finish(sink, text.as_bytes(), status_of(verdict)),
             Err(_) => Status::Memory,
         },
         Err(error) => refuse(alloc, sink, error),
@@ -83,7 +118,9 @@ fn drill<K: Sink>(alloc: Global, seed: u64, lines: u32, sink: &mut K) -> Status
 ///
 /// `run` reads the source to its end and writes the replies of the serial run: [`Status::Done`].
 /// An input that is no trace is refused with its first refused line and the reason:
-/// [`Status::Refused`]. `drill SEED LINES` leaves the source as it is, and writes the summary of the
+/// [`Status::Refused`]. `check` reads a trace, a line `replies` and a text, and writes whether the
+/// text is that of a good run of the trace: `good`, or `bad section K` with the first section that no
+/// good run explains, [`Status::CheckNo`]. `drill SEED LINES` leaves the source as it is, and writes the summary of the
 /// serial run of a generated trace. Other words leave it too, and are answered with a usage line:
 /// [`Status::Usage`]. All text goes to the sink. [`Status::Memory`] is want of memory.
 pub fn papr_serial<S: Source, K: Sink>(
@@ -109,16 +146,19 @@ pub fn papr_serial<S: Source, K: Sink>(
     ensures complete { HasInput (without_par (words_of.command_of words.now)) (S.left source.old)
         → ¬ Rose (S.faults source.old) (S.faults source.new)
         → ¬ Rose (K.faults sink.old) (K.faults sink.new)
-        → (result ≡ Status.Done) ⊎ (result ≡ Status.Memory) }
-    // An input that is no trace is refused there, unless memory ends.
+        → IsAnswered (without_par (words_of.command_of words.now)) result
+        ⊎ (result ≡ Status.Memory) }
+    // An input that can't be read so is refused there, unless memory ends.
     ensures refuses { HasRefusedInput
         (without_par (words_of.command_of words.now))
         (S.left source.old)
         → ¬ Rose (S.faults source.old) (S.faults source.new)
         → ¬ Rose (K.faults sink.old) (K.faults sink.new)
         → (result ≡ Status.Refused) ⊎ (result ≡ Status.Memory) }
-    // Under other words than `run` the source is left as it is.
-    ensures untouched { words_of.command_of words.now ≢ Some Command.Run → source.new ≡ source.old }
+    // Under other words than `run` and `check` the source is left as it is.
+    ensures untouched { words_of.command_of words.now ≢ Some Command.Run
+        → words_of.command_of words.now ≢ Some Command.Check
+        → source.new ≡ source.old }
     // A fault is one of the source's or of the sink's own, and else their counts stand.
     ensures read_fault { result ≡ Status.ReadFault
         → Rose (S.faults source.old) (S.faults source.new) }
@@ -133,6 +173,7 @@ pub fn papr_serial<S: Source, K: Sink>(
 {
     match command_of(words) {
         Some(Command::Run) => answer_input(alloc, source, sink, |trace| serial_text(alloc, trace)),
+        Some(Command::Check) => check(alloc, source, sink),
         Some(Command::Drill { seed, lines }) => drill(alloc, seed, lines, sink),
         None | Some(Command::Par) => finish(sink, b"papr: usage\n", Status::Usage),
     }
@@ -167,17 +208,18 @@ pub fn papr<R: Threads + Wait + Sync, S: Source, K: Sink, G: Gate + Sync>(
     ensures complete { HasInput (words_of.command_of words.now) (S.left source.old)
         → ¬ Rose (S.faults source.old) (S.faults source.new)
         → ¬ Rose (K.faults sink.old) (K.faults sink.new)
-        → (result ≡ Status.Done) ⊎ (result ≡ Status.Memory) }
-    // An input that is no trace is refused there, unless memory ends.
+        → IsAnswered (words_of.command_of words.now) result ⊎ (result ≡ Status.Memory) }
+    // An input that can't be read so is refused there, unless memory ends.
     ensures refuses { HasRefusedInput
         (words_of.command_of words.now)
         (S.left source.old)
         → ¬ Rose (S.faults source.old) (S.faults source.new)
         → ¬ Rose (K.faults sink.old) (K.faults sink.new)
         → (result ≡ Status.Refused) ⊎ (result ≡ Status.Memory) }
-    // Under other words than `run` and `par` the source is left as it is.
+    // Under other words than `run`, `par` and `check` the source is left as it is.
     ensures untouched { words_of.command_of words.now ≢ Some Command.Run
         → words_of.command_of words.now ≢ Some Command.Par
+        → words_of.command_of words.now ≢ Some Command.Check
         → source.new ≡ source.old }
     // A fault is one of the source's or of the sink's own, and else their counts stand.
     ensures read_fault { result ≡ Status.ReadFault

@@ -1,4 +1,4 @@
-ghost use Rattle.std.specs.Prelude.{◌≡◌, ◌≤◌, true, ◌∷◌, length, take, vec_len, OnOk, OnErr};
+ghost use Rattle.std.specs.Prelude.{◌≡◌, ◌≤◌, true, ◌∷◌, ◌++◌, length, take, vec_len, OnOk, OnErr, MatchOption};
 ghost use Rattle.std.specs.List.{slice_split, list_all, position_or_len};
 ghost use Rattle.trace_read.specs.TextLines.{is_lf, is_printable, raw_lines, without_cr, words_of, is_remark, texts};
 ghost use Rattle.trace_read.specs.Rest.{parts_left, rest_size};
@@ -7,7 +7,7 @@ use memchr::memchr;
 use std::alloc::AllocError;
 
 /// The lines of an input that are still to be read, if there are any: one LF at its end ends the last.
-pub fn lines(bytes: &[u8]) -> Option<&[u8]>
+pub fn lines_of(bytes: &[u8]) -> Option<&[u8]>
     ensures { parts_left result ≡ raw_lines bytes.now }
 {
     match bytes {
@@ -24,9 +24,13 @@ fn line_end(text: &[u8]) -> usize
     memchr(b'\n', text).unwrap_or(text.len())
 }
 
-/// The first line, and what follows its LF.
+/// The first line, and what follows its LF; `None` where no LF ends it.
 pub fn split_line(text: &[u8]) -> (&[u8], Option<&[u8]>)
     ensures parts { slice_split is_lf text.now ≡ result.0.now ∷ parts_left result.1 }
+    ensures whole { MatchOption
+        result.1
+        (text.now ≡ result.0.now)
+        (λ rest. text.now ≡ result.0.now ++ 10 ∷ rest.now) }
     ensures shorter { rest_size result.1 ≤ length text.now }
 {
     let end = line_end(text);

@@ -3,7 +3,7 @@ ghost use Rattle.trace_read.specs.Grammar.{trace_of};
 ghost use Rattle.trace_read.specs.Read.{IsParsed, error_of};
 ghost use Rattle.trace_read.specs.Trace.{IsAccepted};
 
-use crate::lines::{lines, split_line};
+use crate::lines::{lines_of, split_line};
 use crate::reader::Reader;
 use crate::stop::Stop;
 use crate::trace::Trace;
@@ -45,7 +45,7 @@ pub fn parse(alloc: Global, bytes: &[u8]) -> Result<Trace, TraceError>
     }
     let mut words = Vec::new(alloc);
     let mut reader = Reader::new(alloc);
-    let mut rest = lines(bytes);
+    let mut rest = lines_of(bytes);
     while let Some(text) = rest {
         let (line, after) = split_line(text);
         let number = reader.taken() + 1;

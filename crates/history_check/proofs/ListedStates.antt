@@ -92,7 +92,7 @@ sorted_numbers n ys same up =
     all_numbers n 0 ys (length_permutation (range_with_len 0 n) ys same ∙ length-range_with_len 0 n) (rising_from ys (IsStrictlyIncreasing-from_distinct ys up (IsDistinct-IsPermutation eqb flips (range_with_len 0 n) ys same (range_distinct 0 n)))) (λ j q. omega arith) (λ j q. let r : slice_index ys j < n = below j 0 q in omega arith)
 
 -- ---- a list in order, and its keys
-keys_rise : {X : Type 0} (f : X → ℕ) (xs : List X) → IsNonDecreasingBy f xs → IsNonDecreasing (map f xs)
+pub keys_rise : {X : Type 0} (f : X → ℕ) (xs : List X) → IsNonDecreasingBy f xs → IsNonDecreasing (map f xs)
 keys_rise f [] up i j d le low = absurd (omega arith)
 keys_rise f (x ∷ xs) up i j d le low =
     let size : length (map f (x ∷ xs)) ≡ length (x ∷ xs) = length-map (x ∷ xs) f in
@@ -100,7 +100,7 @@ keys_rise f (x ∷ xs) up i j d le low =
     let low' : j < length (x ∷ xs) = omega arith in
     subst (λ z. z ≤ get_or (map f (x ∷ xs)) j d) (sym (at i (omega arith))) (subst (λ z. f (get_or (x ∷ xs) i x) ≤ z) (sym (at j low')) (up i j x le low'))
 
-rise_by_keys : {X : Type 0} (f : X → ℕ) (xs : List X) → IsNonDecreasing (map f xs) → IsNonDecreasingBy f xs
+pub rise_by_keys : {X : Type 0} (f : X → ℕ) (xs : List X) → IsNonDecreasing (map f xs) → IsNonDecreasingBy f xs
 rise_by_keys f xs up i j d le low =
     let size : length (map f xs) ≡ length xs = length-map xs f in
     let keys : get_or (map f xs) i 0 ≤ get_or (map f xs) j 0 = up i j 0 le (omega arith) in

@@ -3,12 +3,10 @@
 #![tactic(auto)]
 
 mod accesses;
-mod bars;
 mod calls;
 mod context;
 mod judging;
 mod laws;
-mod mark;
 mod ordering;
 mod placed;
 mod processor;
@@ -17,12 +15,10 @@ mod steps;
 mod verdict;
 
 pub use accesses::{hit_on, walk_on};
-pub use bars::{answer_of, behind_bar};
 pub use calls::{all_calls, call_on};
 pub use context::Context;
 pub use judging::check_replies;
 pub use laws::{at_most_one, earlier_sections_stand, good_runs_are_good, one_verdict};
-pub use mark::Mark;
 pub use processor::Processor;
 pub use replay::Replay;
 pub use placed::{PlacedStep, find_states};

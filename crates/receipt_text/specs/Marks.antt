@@ -1,21 +1,8 @@
--- Marks: what the text of a reply shows of its receipts.
-use Rattle.std.specs.Prelude.{◌≡◌, ℕ, ◌<◌, ◌≤◌, ◌^◌, List, [], ◌∷◌, ◌++◌, length, drop, Option, Some, None, MatchOption, if◌then◌else◌, codes, Bool, false, ◌==◌, ◌&&◌}
+-- The marks of a line: what its text shows of each receipt.
+use Rattle.std.specs.Prelude.{◌≡◌, ℕ, ◌<◌, ◌≤◌, ◌^◌, ◌==◌, ◌&&◌, Bool, false, List, [], ◌∷◌, length, drop, Option, Some, None, MatchOption, if◌then◌else◌}
 use Rattle.std.specs.List.{AllByRecursion, flat_map}
-use Rattle.std.specs.Fmt.{decimal}
-use Rattle.reply_text.specs.Text.{hex, answer_word}
-use Rattle.history_check.specs.declared.mark.Mark.{Mark}
-
--- ENTRY.STAMP.BITS.ANSWER behind a space.
-abbrev pub mark_text : Mark → List ℕ
-mark_text m =
-    codes " "
-    ++ hex m.entry
-    ++ codes "."
-    ++ decimal m.stamp
-    ++ codes "."
-    ++ decimal m.bits
-    ++ codes "."
-    ++ answer_word m.answer
+use Rattle.receipt_text.specs.declared.mark.Mark.{Mark}
+use Rattle.receipt_text.specs.Receipts.{mark_text}
 
 -- A space, with a bar first in what follows it.
 abbrev pub is_bar : ℕ → List ℕ → Bool
@@ -40,6 +27,6 @@ pub record AreSpelt (rest : List ℕ) (ms : List Mark) : Type 0 where
   pub marks : AllByRecursion IsMark ms
   pub text : rest ≡ flat_map mark_text ms
 
--- The marks of a line; a line without a bar has none.
+-- The marks of a line; a line without a space and bar has none.
 abbrev pub HasMarks : List ℕ → List Mark → Type 0
 HasMarks line ms = MatchOption (behind_bar line) (ms ≡ []) (λ rest. AreSpelt rest ms)

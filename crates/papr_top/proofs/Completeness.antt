@@ -47,7 +47,7 @@ trace_done command says run result ends accepted no_read_fault no_write_fault =
     at result ends (reading_done trace_input (WithDone says) run result long_trace ends accepted no_read_fault no_write_fault) where
       at : (status : Status) → EndsReading trace_input (WithDone says) run status → (status ≡ Done) ⊎ ((status ≡ CheckNo) ⊎ (status ≡ Memory)) → IsAnswered command status ⊎ (status ≡ Memory)
       at status ended (inl done) = inl (subst (IsAnswered command) (sym done) tt)
-      at status ended (inr (inl no)) = absurd ((subst (EndsReading trace_input (WithDone says) run) no ended).said)
+      at status ended (inr (inl bad)) = absurd ((subst (EndsReading trace_input (WithDone says) run) bad ended).said)
       at status ended (inr (inr memory)) = inr memory
 
 -- A judgement has two.
@@ -56,7 +56,7 @@ judged_done run result ends accepted no_read_fault no_write_fault =
     at (reading_done judged_input IsVerdictText run result long_judged ends accepted no_read_fault no_write_fault) where
       at : (result ≡ Done) ⊎ ((result ≡ CheckNo) ⊎ (result ≡ Memory)) → IsAnswered (Some Check) result ⊎ (result ≡ Memory)
       at (inl done) = inl (subst (IsAnswered (Some Check)) (sym done) tt)
-      at (inr (inl no)) = inl (subst (IsAnswered (Some Check)) (sym no) tt)
+      at (inr (inl bad)) = inl (subst (IsAnswered (Some Check)) (sym bad) tt)
       at (inr (inr memory)) = inr memory
 
 -- One whose input is refused.

@@ -1,7 +1,7 @@
 -- How a command that reads ends, from what was read and how the text was written.
 use Rattle.std.proofs.Common.{◌≡◌, ℕ, ◌^◌, ◌<◌, List, length, Result, Ok, Err, Option, sym, refl, subst, inl, inr, ap, ◌∙◌, arith, lt-ltb}
-use Rattle.trace_io.specs.Outside.{Took}
 use Rattle.trace_read.specs.declared.why.Why.TheVariants.{Long}
+use Rattle.trace_read.specs.Trace.{AcceptedTrace}
 use Rattle.trace_read.specs.Grammar.{trace_of}
 use Rattle.papr_top.specs.Inputs.{trace_input, judged_input, with_reason}
 use Rattle.papr_top.specs.declared.reading.NoInput.{NoInput}
@@ -9,8 +9,11 @@ use Rattle.papr_top.specs.declared.reading.NoInput.TheVariants as missing
 use Rattle.papr_top.specs.declared.reason.Reason.{Reason}
 use Rattle.papr_top.specs.declared.reason.Reason.TheVariants as reasons
 use Rattle.papr_top.specs.declared.status.Status.{Status}
-use Rattle.papr_top.specs.declared.status.Status.TheVariants.{Done, CheckNo}
-use Rattle.papr_top.specs.Top.{Run, IsInput, IsOutput, EndsReading, refusal_text}
+use Rattle.papr_top.specs.declared.status.Status.TheVariants.{Done, Usage, Refused, ReadFault, WriteFault, Memory, CheckNo}
+use Rattle.history_check.specs.declared.verdict.Verdict.{Verdict}
+use Rattle.history_check.specs.declared.verdict.Verdict.TheVariants as verdicts
+use Rattle.papr_top.specs.Top.{Run, IsInput, IsOutput, IsVerdictText, WithDone, EndsReading, refusal_text, verdict_text, status_with}
+use Rattle.papr_top.specs.Reading.{WasLong, IsVerdictOfInput}
 use Rattle.papr_top.specs.Finish.{Finishes, EndsRefused}
 
 -- An input past the limit is refused as line 0, whatever reads it.
@@ -19,14 +22,21 @@ RefusesLong reads = (bytes : List ℕ) → 2 ^ 24 < length bytes → reads bytes
 
 pub long_trace : RefusesLong trace_input
 unfolding trace_of
-long_trace bytes h = ap with_reason (rw (lt-ltb _ _ h) refl)
+long_trace bytes h =
+    let long : trace_of bytes ≡ Err (0, Long) = rw (lt-ltb _ _ h) refl in
+    ap with_reason long
 
 pub long_judged : RefusesLong judged_input
 unfolding judged_input
 long_judged bytes h = rw (lt-ltb _ _ h) refl
 
-pub long_input : {A : Type 0} (reads : List ℕ → Result A (ℕ × Reason)) (left left_after : Option (List ℕ)) → RefusesLong reads → (bytes : List ℕ) × (2 ^ 24 < length bytes) × Took left bytes left_after → IsInput reads (Err (missing.Refused 0 (reasons.Trace Long))) left left_after
-long_input reads left left_after refuses read = (read.0, record { took = read.2; end = λ short. absurd (omega (arith, read.1)) }, refuses read.0 read.1)
+-- What was not read is no input for a command that refuses long ones.
+pub refused_long : {A : Type 0} (reads : List ℕ → Result A (ℕ × Reason)) (error : NoInput) (left left_after : Option (List ℕ)) → RefusesLong reads → WasLong error left left_after → IsInput reads (Err error) left left_after
+refused_long reads (missing.Refused line reason) left left_after refuses long =
+    let read = long.2 in
+    (read.0, record { took = read.2; end = λ short. absurd (omega (arith, read.1)) }, refuses read.0 read.1 ∙ (λ i. Err (sym long.0 i, sym long.1 i)))
+refused_long reads missing.Fault left left_after refuses long = tt
+refused_long reads missing.Memory left left_after refuses long = tt
 
 -- A text that may be written of the input, with this status, was being written.
 pub answered : {A : Type 0} (reads : List ℕ → Result A (ℕ × Reason)) (says : A → Status → List ℕ → Type 0) (run : Run) (x : A) (text : List ℕ) (faults faults_after : ℕ) (result : Status) → IsInput reads (Ok x) run.left run.left_after → says x Done text → Finishes Done text run.taken run.taken_after faults faults_after result → EndsReading reads says run result
@@ -51,3 +61,38 @@ refused reads says run (missing.Refused line reason) faults faults_after result 
 refused reads says run (missing.Refused line reason) faults faults_after result input (inr ended) = subst (EndsReading reads says run) (sym ended.0) ended.1
 refused reads says run missing.Fault faults faults_after result input ended = subst (EndsReading reads says run) (sym ended.0) ended.1
 refused reads says run missing.Memory faults faults_after result input ended = subst (EndsReading reads says run) (sym ended.0) ended.1
+
+-- ---- a judgement
+-- What wasn't judged is no input, for the same reason.
+pub no_verdict : (error : NoInput) (left left_after : Option (List ℕ)) → IsVerdictOfInput (Err error) left left_after → IsInput judged_input (Err error) left left_after
+no_verdict (missing.Refused line reason) left left_after said = said
+no_verdict missing.Fault left left_after said = tt
+no_verdict missing.Memory left left_after said = tt
+
+-- The line that tells the verdict was being written, with its status.
+pub verdict_told : (run : Run) (verdict : Verdict) (faults faults_after : ℕ) (result : Status) → IsVerdictOfInput (Ok verdict) run.left run.left_after → Finishes (status_with verdict) (verdict_text verdict) run.taken run.taken_after faults faults_after result → EndsReading judged_input IsVerdictText run result
+verdict_told run verdicts.Good faults faults_after result said ends =
+    let judged = said.2 in
+    answered judged_input IsVerdictText run judged.0 (verdict_text verdicts.Good) faults faults_after result (said.0, said.1, judged.1) (record { verdict = verdicts.Good; judged = judged.2; comes = refl; is = refl }) ends
+verdict_told run (verdicts.Bad section) faults faults_after result said ends =
+    let judged = said.2 in
+    answered_no judged_input IsVerdictText run judged.0 (verdict_text (verdicts.Bad section)) faults faults_after result (said.0, said.1, judged.1) (record { verdict = verdicts.Bad section; judged = judged.2; comes = refl; is = refl }) ends
+
+-- ---- a weaker text
+-- What may be written with some status, of an input that is read so.
+output_weaker : (says weak : AcceptedTrace → List ℕ → Type 0) (text : List ℕ) → ((t : AcceptedTrace) → says t text → weak t text) → (read : Result AcceptedTrace (ℕ × Reason)) → IsOutput (WithDone says) read text → IsOutput (WithDone weak) read text
+output_weaker says weak text to (Err refusal) output = output
+output_weaker says weak text to (Ok t) output = at output.0 output.1 where
+  at : (status : Status) → WithDone says t status text → IsOutput (WithDone weak) (Ok t) text
+  at Done said = (Done, to t said)
+  at other said = absurd said
+
+-- A command that writes one kind of text ends as one that writes a weaker kind.
+pub ends_weaker : (says weak : AcceptedTrace → List ℕ → Type 0) (run : Run) (result : Status) → ((t : AcceptedTrace) (text : List ℕ) → says t text → weak t text) → EndsReading trace_input (WithDone says) run result → EndsReading trace_input (WithDone weak) run result
+ends_weaker says weak run Done to ends = record { bytes = ends.bytes; input = ends.input; text = ends.text; read = ends.read; accepted = ends.accepted; said = to ends.input ends.text ends.said; written = ends.written }
+ends_weaker says weak run CheckNo to ends = absurd ends.said
+ends_weaker says weak run Refused to ends = ends
+ends_weaker says weak run ReadFault to ends = ends
+ends_weaker says weak run WriteFault to ends = record { bytes = ends.bytes; text = ends.text; read = ends.read; output = output_weaker says weak ends.text (λ t. to t ends.text) (trace_input ends.bytes) ends.output; written = ends.written }
+ends_weaker says weak run Memory to ends = ends
+ends_weaker says weak run Usage to ends = absurd ends

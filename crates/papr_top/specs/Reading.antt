@@ -1,9 +1,8 @@
 -- What reading an input gives.
 use Rattle.std.specs.Prelude.{◌≡◌, ℕ, ◌<◌, List, length, Option, Result, Ok, Err}
 use Rattle.trace_io.specs.Outside.{Took}
-use Rattle.trace_read.specs.declared.parser.TraceError.{TraceError}
-use Rattle.trace_read.specs.declared.parser.TraceError.TheVariants as errors
 use Rattle.trace_read.specs.declared.why.Why.TheVariants as whys
+use Rattle.trace_read.specs.Trace.{AcceptedTrace}
 use Rattle.trace_read.specs.Grammar.{most_bytes}
 use Rattle.history_check.specs.declared.verdict.Verdict.{Verdict}
 use Rattle.history_check.specs.Verdict.{IsVerdict}
@@ -11,6 +10,7 @@ use Rattle.papr_top.specs.Inputs.{JudgedInput, judged_input}
 use Rattle.papr_top.specs.Top.{Reads}
 use Rattle.papr_top.specs.declared.reading.NoInput.{NoInput}
 use Rattle.papr_top.specs.declared.reading.NoInput.TheVariants as missing
+use Rattle.papr_top.specs.declared.reason.Reason.{Reason}
 use Rattle.papr_top.specs.declared.reason.Reason.TheVariants as reasons
 
 -- Only an input past the limit is refused before it is looked at.
@@ -21,10 +21,12 @@ WasLong (missing.Refused line reason) left left_after =
     × ((bytes : List ℕ) × (most_bytes < length bytes) × Took left bytes left_after)
 WasLong other left left_after = Unit {0}
 
--- What is told of an input whose trace is none.
-abbrev pub without_trace : TraceError → NoInput
-without_trace (errors.Line line why) = missing.Refused line (reasons.Trace why)
-without_trace errors.Memory = missing.Memory
+-- The trace that was parsed, or the refusal, as is said; of want of memory nothing is told.
+abbrev pub IsParsedInput :
+    Result AcceptedTrace NoInput → Result AcceptedTrace (ℕ × Reason) → Type 0
+IsParsedInput (Ok t) said = said ≡ Ok t
+IsParsedInput (Err (missing.Refused line reason)) said = said ≡ Err (line, reason)
+IsParsedInput (Err other) said = Unit {0}
 
 -- The verdict on these bytes, or why there is none.
 abbrev pub IsJudged : List ℕ → Result Verdict NoInput → Type 0

@@ -1,4 +1,4 @@
-ghost use Rattle.std.specs.Prelude.{◌≡◌, ◌≤◌, ◌^◌, length, IfSome, IfNone, Some, None};
+ghost use Rattle.std.specs.Prelude.{◌≡◌, ◌≤◌, ◌+◌, ◌^◌, length, IfSome, IfNone, Some, None};
 ghost use Rattle.trace_read.specs.TextLines.{raw_lines};
 ghost use Rattle.papr_top.specs.Inputs.{is_replies_line, cut_of};
 
@@ -35,7 +35,8 @@ pub fn cut(bytes: &[u8]) -> Option<(&[u8], &[u8])>
 /// How many lines an input has.
 pub fn line_count(bytes: &[u8]) -> u32
     requires { length bytes.now ≤ 2 ^ 24 }
-    ensures { result ≡ length (raw_lines bytes.now) }
+    ensures count { result ≡ length (raw_lines bytes.now) }
+    ensures few { result ≤ 2 ^ 24 + 1 }
 {
     let mut count = 0;
     let mut rest = lines_of(bytes);

@@ -1,9 +1,10 @@
 ghost use Rattle.std.specs.Prelude.{◌≡◌, ◌≢◌, ◌≤◌, IfOk, IfErr, Err, length};
 ghost use Rattle.trace_io.specs.Outside.{Rose};
 ghost use Rattle.trace_read.specs.Grammar.{most_bytes};
+ghost use Rattle.trace_read.specs.Trace.{IsAccepted};
 ghost use Rattle.papr_top.specs.Inputs.{trace_input, judged_input};
 ghost use Rattle.papr_top.specs.Top.{Reads, IsInput};
-ghost use Rattle.papr_top.specs.Reading.{WasLong, IsJudged, IsVerdictOfInput, without_trace};
+ghost use Rattle.papr_top.specs.Reading.{WasLong, IsParsedInput, IsJudged, IsVerdictOfInput};
 
 use crate::cutting::{cut, line_count};
 use crate::reason::Reason;
@@ -42,16 +43,19 @@ fn read_bytes<S: Source>(alloc: Global, source: &mut S) -> Result<Vec<u8>, NoInp
     })
 }
 
-/// What a trace that is none says of the input.
-fn no_trace(error: TraceError) -> NoInput
-    ensures { result ≡ without_trace error }
+/// The trace that the bytes are, or why they are none.
+fn parse_input(alloc: Global, bytes: &[u8]) -> Result<Trace, NoInput>
+    ensures parsed { IsParsedInput result (trace_input bytes.now) }
+    ensures accepted { IfOk result IsAccepted }
+    ensures no_fault { result ≢ Err NoInput.Fault }
 {
-    match error {
-        TraceError::Line { line, why } => NoInput::Refused {
+    match parse(alloc, bytes) {
+        Ok(trace) => Ok(trace),
+        Err(TraceError::Line { line, why }) => Err(NoInput::Refused {
             line,
             reason: Reason::Trace(why),
-        },
-        TraceError::Memory => NoInput::Memory,
+        }),
+        Err(TraceError::Memory) => Err(NoInput::Memory),
     }
 }
 
@@ -63,7 +67,7 @@ pub fn read_trace<S: Source>(alloc: Global, source: &mut S) -> Result<Trace, NoI
     ensures faults { S.faults source.old ≤ S.faults source.new }
 {
     let bytes = read_bytes(alloc, source)?;
-    parse(alloc, &bytes).map_err(no_trace)
+    parse_input(alloc, &bytes)
 }
 
 /// Whether the text behind the line `replies` is that of a good run of the trace before it.
@@ -78,8 +82,11 @@ fn judge(alloc: Global, bytes: &[u8]) -> Result<Verdict, NoInput>
             reason: Reason::NoReplies,
         });
     };
-    let trace = parse(alloc, trace).map_err(no_trace)?;
-    check_replies(alloc, &trace, text).map_err(|_| NoInput::Memory)
+    let trace = parse_input(alloc, trace)?;
+    match check_replies(alloc, &trace, text) {
+        Ok(verdict) => Ok(verdict),
+        Err(_) => Err(NoInput::Memory),
+    }
 }
 
 /// Reads the source to its end, and judges the text that it holds behind a trace.

@@ -1,8 +1,10 @@
 use Rattle.std.proofs.Common.{◌≡◌, Some}
 use Rattle.papr_top.specs.Commands.{command_of}
 use Rattle.papr_top.specs.declared.command.Command.TheVariants as commands
-use Rattle.papr_top.specs.Top.{Run}
-use Rattle.papr_top.proofs.Completeness.{reading_done, reading_refused}
+use Rattle.papr_top.specs.Top.{Run, WithDone, IsVerdictText}
+use Rattle.papr_top.specs.Inputs.{trace_input, judged_input}
+use Rattle.papr_top.proofs.Completeness.{trace_done, judged_done, reading_refused}
+use Rattle.papr_top.proofs.Outcomes.{long_trace, long_judged}
 use Rattle.papr_top.proofs.top.papr_serial.Goals as goal
 
 pub returns-in-Some-Run-clause-complete : goal.returns-in-Some-Run-clause-complete
@@ -11,7 +13,7 @@ returns-in-Some-Run-clause-complete g c = λ input no_read_fault no_write_fault.
     let left = g.S.Source.left in
     let taken = g.K.Sink.taken in
     let ran : Run = record { left = left c.args.source.now; left_after = left c.answer_input.new.source; taken = taken c.args.sink.now; taken_after = taken c.answer_input.new.sink } in
-    reading_done _ ran c.answer_input.result c.answer_input.ensures.outcome (rw asked at input) (λ is. no_read_fault (c.answer_input.ensures.read_fault is)) (λ is. no_write_fault (c.answer_input.ensures.write_fault is))
+    trace_done _ _ ran c.answer_input.result c.answer_input.ensures.outcome (rw asked at input) (λ is. no_read_fault (c.answer_input.ensures.read_fault is)) (λ is. no_write_fault (c.answer_input.ensures.write_fault is))
 
 pub returns-in-Some-Run-clause-refuses : goal.returns-in-Some-Run-clause-refuses
 returns-in-Some-Run-clause-refuses g c = λ input no_read_fault no_write_fault.
@@ -19,4 +21,20 @@ returns-in-Some-Run-clause-refuses g c = λ input no_read_fault no_write_fault.
     let left = g.S.Source.left in
     let taken = g.K.Sink.taken in
     let ran : Run = record { left = left c.args.source.now; left_after = left c.answer_input.new.source; taken = taken c.args.sink.now; taken_after = taken c.answer_input.new.sink } in
-    reading_refused _ ran c.answer_input.result c.answer_input.ensures.outcome (rw asked at input) (λ is. no_read_fault (c.answer_input.ensures.read_fault is)) (λ is. no_write_fault (c.answer_input.ensures.write_fault is))
+    reading_refused trace_input (WithDone _) ran c.answer_input.result long_trace c.answer_input.ensures.outcome (rw asked at input) (λ is. no_read_fault (c.answer_input.ensures.read_fault is)) (λ is. no_write_fault (c.answer_input.ensures.write_fault is))
+
+pub returns-in-Some-Check-clause-complete : goal.returns-in-Some-Check-clause-complete
+returns-in-Some-Check-clause-complete g c = λ input no_read_fault no_write_fault.
+    let asked : command_of c.args.words.now ≡ Some commands.Check = cc in
+    let left = g.S.Source.left in
+    let taken = g.K.Sink.taken in
+    let ran : Run = record { left = left c.args.source.now; left_after = left c.check.new.source; taken = taken c.args.sink.now; taken_after = taken c.check.new.sink } in
+    rw asked (judged_done ran c.check.result c.check.ensures.outcome (rw asked at input) (λ is. no_read_fault (c.check.ensures.read_fault is)) (λ is. no_write_fault (c.check.ensures.write_fault is)))
+
+pub returns-in-Some-Check-clause-refuses : goal.returns-in-Some-Check-clause-refuses
+returns-in-Some-Check-clause-refuses g c = λ input no_read_fault no_write_fault.
+    let asked : command_of c.args.words.now ≡ Some commands.Check = cc in
+    let left = g.S.Source.left in
+    let taken = g.K.Sink.taken in
+    let ran : Run = record { left = left c.args.source.now; left_after = left c.check.new.source; taken = taken c.args.sink.now; taken_after = taken c.check.new.sink } in
+    reading_refused judged_input IsVerdictText ran c.check.result long_judged c.check.ensures.outcome (rw asked at input) (λ is. no_read_fault (c.check.ensures.read_fault is)) (λ is. no_write_fault (c.check.ensures.write_fault is))

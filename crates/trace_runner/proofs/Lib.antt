@@ -14,6 +14,7 @@ pub mod CountedWorkers
 pub mod JoinedWorkers
 pub mod MergedReplies
 pub mod Numbered
+pub mod DealtLines
 pub mod WorkerGroups
 pub mod SectionWork
 pub mod SectionPromises

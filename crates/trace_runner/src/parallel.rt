@@ -11,10 +11,11 @@ ghost use Rattle.trace_runner.specs.Workers.{NoneQuiet};
 ghost use Rattle.trace_runner.specs.SectionRun.{HasRunFrom, RunsSection};
 ghost use Rattle.trace_runner.specs.ParallelRun.{IsOutputOfRun, IsTextOfRun};
 
+use crate::dealing::{count_workers, deal_lines};
 use crate::gate::Gate;
 use crate::log::RunLog;
 use crate::machine::Machine;
-use crate::new_workers::{count_workers, make_workers};
+use crate::new_workers::make_workers;
 use crate::opening::open_machine;
 use crate::queue_log::ReplyQueue;
 use crate::section::merge_replies;
@@ -53,11 +54,12 @@ fn section<R: Threads + Wait + Sync, G: Gate + Sync, L: RunLog>(
     } = machine;
     let order = partition.order();
     let mut logs: Vec<L> = Vec::with_capacity(alloc, cpus.len())?;
-    let passes = count_workers(cpus.len(), lines);
+    let dealt = deal_lines(alloc, cpus.len(), lines)?;
+    let passes = count_workers(dealt.as_slice());
     let Ok((table, pass)) = LockTable::open(alloc, partition.take_states(), order, passes) else {
         return Err(AllocError);
     };
-    let workers = make_workers(alloc, &table, pass, &mut cpus, lines)?;
+    let workers = make_workers(alloc, &table, pass, &mut cpus, dealt)?;
     let closing = run_together(
         rt,
         table,

@@ -3,7 +3,7 @@ use Rattle.std.specs.List.{AllByRecursion}
 use Rattle.trace_read.specs.declared.trace.TraceLine.{TraceLine}
 use Rattle.trace_read.specs.declared.trace.Act.TheVariants.{Call}
 use Rattle.trace_runner.specs.Workers.{NoneQuiet}
-use Rattle.trace_runner.proofs.MergedReplies.{each_line}
+use Rattle.trace_runner.proofs.MergedReplies.{each_at}
 use Rattle.trace_runner.proofs.SectionsRun.{part, done_none, done_more, put_more, run_ended, no_quiet_more, no_quiet_yet, part_each, section_processors, section_number}
 use Rattle.trace_reply.specs.Places.{reply_in}
 use Rattle.trace_runner.proofs.parallel.run_sections.Goals as goal
@@ -36,7 +36,7 @@ section-requires-clause-few g c κs within = subst (λ n. n ≤ 64) (sym c.loop-
 pub line-requires-clause-cpu : goal.line-requires-clause-cpu
 line-requires-clause-cpu g c =
     let size : length c.in_ok-machine.machine.processors ≡ length c.args.opened.processors = section_processors c.loop-i.machine c.in_ok-machine.machine _ _ c.in_ok-machine.ensures.sectioned ∙ c.loop-i.invariant.processors in
-    subst (λ n. (get_or c.args.lines.now c.loop-i.i d).cpu < n) (sym size) (each_line (λ (l : TraceLine). l.cpu < length c.args.opened.processors) c.args.lines.now c.loop-i.i d c.requires.cpus c.loop-i-test.true)
+    subst (λ n. (get_or c.args.lines.now c.loop-i.i d).cpu < n) (sym size) (each_at (λ (l : TraceLine). l.cpu < length c.args.opened.processors) c.args.lines.now c.loop-i.i d c.requires.cpus c.loop-i-test.true)
 
 pub line-requires-clause-number : goal.line-requires-clause-number
 line-requires-clause-number g c =

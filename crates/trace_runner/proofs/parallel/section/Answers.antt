@@ -8,9 +8,11 @@ use Rattle.run_model.specs.RunState.{RunState}
 use Rattle.hpt_walk.specs.Access.{access_context}
 use Rattle.trace_runner.specs.MachineState.{run_state_of}
 use Rattle.trace_runner.specs.Workers.{count_with_lines}
+use Rattle.trace_runner.specs.DealtLines.{count_with_own}
 use Rattle.trace_runner.specs.SectionRun.{RunsSection}
 use Rattle.trace_runner.proofs.NewWorkers.{nil_of}
-use Rattle.trace_runner.proofs.CountedWorkers.{some_worker, few_workers}
+use Rattle.trace_runner.proofs.CountedWorkers.{some_worker}
+use Rattle.trace_runner.proofs.DealtLines.{with_lines, few_with_own}
 use Rattle.trace_runner.proofs.SectionsRun.{empty_section}
 use Rattle.trace_runner.proofs.SectionPromises.{Promised, not_empty, workers_count, together_anew, some_keep, logs_count, section_extends, section_holds}
 use Rattle.trace_runner.proofs.parallel.section.Goals as goal
@@ -26,31 +28,31 @@ pub open-requires-clause-some_pass : goal.open-requires-clause-some_pass
 open-requires-clause-some_pass g c =
     let some = not_empty c.args.lines.now (sym c.is_empty.ensures ∙ c.if-is_empty.false) in
     let on_cpus = subst (λ (v : RunState). AllByRecursion (λ (l : TraceLine). l.cpu < length v.processors) c.args.lines.now) (sym c.machine.view_is) c.requires.cpus in
-    let same : c.len-2.result ≡ length c.machine.inside.cpus.items = omega arith in
-    let count = c.count_workers-passes.ensures.count ∙ ap (λ n. count_with_lines n 0 c.args.lines.now) same in
+    let same : length c.in_ok-dealt.dealt.items ≡ length c.machine.inside.cpus.items = omega (arith, c.in_ok-dealt.ensures.size) in
+    let count = c.count_workers-passes.ensures.count ∙ ap count_with_own c.as_slice.ensures.value ∙ with_lines c.args.lines.now 0 c.in_ok-dealt.dealt.items c.in_ok-dealt.ensures.dealt ∙ ap (λ n. count_with_lines n 0 c.args.lines.now) same in
     omega (arith, count, some_worker (length c.machine.inside.cpus.items) c.args.lines.now some on_cpus)
 
 pub open-requires-clause-few : goal.open-requires-clause-few
 open-requires-clause-few g c =
     let few = subst (λ (v : RunState). length v.processors ≤ 64) (sym c.machine.view_is) c.requires.few in
-    omega (arith, c.count_workers-passes.ensures.count, few_workers c.len-2.result 0 c.args.lines.now, few)
+    omega (arith, c.count_workers-passes.ensures.count, ap count_with_own c.as_slice.ensures.value, few_with_own c.in_ok-dealt.dealt.items, c.in_ok-dealt.ensures.size, few)
 
 pub run_together-closing-requires-clause-ready : goal.run_together-closing-requires-clause-ready
-run_together-closing-requires-clause-ready g c κs within = c.in_ok-workers.ensures.ready (access_context c.in-Ok.table.order c.grants.result.now.grants)
+run_together-closing-requires-clause-ready g c κs within = c.in_ok-workers.ensures.ready (access_context c.in-Ok.table.order c.grants.result.now.grants) c.args.lines.now c.in_ok-dealt.ensures.dealt
 
 pub run_together-closing-requires-clause-some : goal.run_together-closing-requires-clause-some
 run_together-closing-requires-clause-some g c κs within =
     let some = not_empty c.args.lines.now (sym c.is_empty.ensures ∙ c.if-is_empty.false) in
     let on_cpus = subst (λ (v : RunState). AllByRecursion (λ (l : TraceLine). l.cpu < length v.processors) c.args.lines.now) (sym c.machine.view_is) c.requires.cpus in
-    let same : c.len-2.result ≡ length c.machine.inside.cpus.items = omega arith in
-    let count = c.count_workers-passes.ensures.count ∙ ap (λ n. count_with_lines n 0 c.args.lines.now) same in
+    let same : length c.in_ok-dealt.dealt.items ≡ length c.machine.inside.cpus.items = omega (arith, c.in_ok-dealt.ensures.size) in
+    let count = c.count_workers-passes.ensures.count ∙ ap count_with_own c.as_slice.ensures.value ∙ with_lines c.args.lines.now 0 c.in_ok-dealt.dealt.items c.in_ok-dealt.ensures.dealt ∙ ap (λ n. count_with_lines n 0 c.args.lines.now) same in
     omega (arith, c.in-Ok.ensures.passes, count, some_worker (length c.machine.inside.cpus.items) c.args.lines.now some on_cpus)
 
 pub run_together-closing-requires-clause-passes : goal.run_together-closing-requires-clause-passes
 run_together-closing-requires-clause-passes g c κs within =
     let count = workers_count c.in_ok-workers.workers.items c.machine.inside.cpus.items c.in_ok-workers.ensures.before in
-    let same : c.len-2.result ≡ length c.in_ok-workers.workers.items = omega (arith, count) in
-    c.in-Ok.ensures.passes ∙ c.count_workers-passes.ensures.count ∙ ap (λ n. count_with_lines n 0 c.args.lines.now) same
+    let same : length c.in_ok-dealt.dealt.items ≡ length c.in_ok-workers.workers.items = omega (arith, c.in_ok-dealt.ensures.size, count) in
+    c.in-Ok.ensures.passes ∙ c.count_workers-passes.ensures.count ∙ ap count_with_own c.as_slice.ensures.value ∙ with_lines c.args.lines.now 0 c.in_ok-dealt.dealt.items c.in_ok-dealt.ensures.dealt ∙ ap (λ n. count_with_lines n 0 c.args.lines.now) same
 
 pub run_together-closing-requires-clause-few : goal.run_together-closing-requires-clause-few
 run_together-closing-requires-clause-few g c κs within =

@@ -1,5 +1,5 @@
 //! The parallel run: between two quiet lines, a thread for each processor that has lines there.
-ghost use Rattle.std.specs.Prelude.{◌≡◌, ℕ, ◌<◌, ◌≤◌, ◌^◌, length, IfOk, string_bytes};
+ghost use Rattle.std.specs.Prelude.{◌≡◌, ℕ, ◌<◌, ◌≤◌, ◌-◌, ◌^◌, length, IfOk, string_bytes};
 ghost use Rattle.std.specs.List.{AllByRecursion};
 ghost use Rattle.trace_read.specs.declared.trace.TraceLine.{TraceLine as LineOf};
 ghost use Rattle.trace_reply.specs.Replies.{AreReplies};
@@ -8,7 +8,7 @@ ghost use Rattle.run_model.specs.GoodRun.{IsGoodRun};
 ghost use Rattle.run_model.specs.Assurances.{Assures};
 ghost use Rattle.run_model.specs.Laws.{HasOneProcessor};
 ghost use Rattle.trace_runner.specs.Workers.{NoneQuiet};
-ghost use Rattle.trace_runner.specs.SectionRun.{HasRunFrom, RunsSection};
+ghost use Rattle.trace_runner.specs.SectionRun.{HasRunFrom, RunsSection, RunsToQuiet};
 ghost use Rattle.trace_runner.specs.ParallelRun.{IsOutputOfRun, IsTextOfRun};
 
 use crate::dealing::{count_workers, deal_lines};
@@ -75,6 +75,32 @@ fn section<R: Threads + Wait + Sync, G: Gate + Sync, L: RunLog>(
     Ok(Machine { partition, cpus })
 }
 
+/// Runs a section and the quiet line that ends it, and puts the replies behind those of the output.
+fn section_to_quiet<R: Threads + Wait + Sync, G: Gate + Sync, L: RunLog>(
+    rt: &R,
+    alloc: Global,
+    machine: Machine,
+    gate: &G,
+    lines: &[TraceLine],
+    quiet: &TraceLine,
+    output: &mut L::Output,
+) -> Result<Machine, AllocError>
+    requires none_quiet { NoneQuiet lines.now }
+    requires cpus { AllByRecursion (λ (l : LineOf). l.cpu < length machine.processors) lines.now }
+    requires some { 0 < length machine.processors }
+    requires few { length machine.processors ≤ 64 }
+    requires cpu { quiet.now.cpu < length machine.processors }
+    requires number { machine.memory.table.number < 2 ^ 32 - 1 }
+    ensures { IfOk result
+        (λ later. RunsToQuiet L.has machine lines.now quiet.now output.old output.new later) }
+{
+    let mut later = section::<R, G, L>(rt, alloc, machine, gate, lines, output)?;
+    let mut place = ReplyPlace::new();
+    later.line(alloc, quiet, &mut place)?;
+    L::put(output, quiet, &mut place)?;
+    Ok(later)
+}
+
 /// Runs lines: sections, one after the other, and the quiet lines between them.
 fn run_sections<R: Threads + Wait + Sync, G: Gate + Sync, L: RunLog>(
     rt: &R,
@@ -93,13 +119,17 @@ fn run_sections<R: Threads + Wait + Sync, G: Gate + Sync, L: RunLog>(
     let mut machine = opened;
     let mut output = L::output(alloc, lines.len())?;
     let mut start = 0;
-    // One place for the replies to all quiet lines.
-    let mut place = ReplyPlace::new();
     for i in 0..lines.len() {
         if lines[i].act.is_quiet() {
-            machine = section::<R, G, L>(rt, alloc, machine, gate, &lines[start..i], &mut output)?;
-            machine.line(alloc, &lines[i], &mut place)?;
-            L::put(&mut output, &lines[i], &mut place)?;
+            machine = section_to_quiet::<R, G, L>(
+                rt,
+                alloc,
+                machine,
+                gate,
+                &lines[start..i],
+                &lines[i],
+                &mut output,
+            )?;
             start = i + 1;
         }
     }

@@ -1,5 +1,7 @@
 //! The workers of a section: those with lines share the table's passes.
-ghost use Rattle.std.specs.Prelude.{◌≡◌, ℕ, ◌+◌, ◌<◌, ◌≤◌, min, List, [], true, false, length, vec_capacity, IfOk, IsSomeAnd};
+ghost use Rattle.std.specs.Prelude.{◌≡◌, ◌≢◌, ℕ, ◌+◌, ◌<◌, ◌≤◌, min, List, [], length, vec_len, vec_capacity, IfOk, IsSomeAnd};
+ghost use Rattle.std.specs.List.{AllByRecursion};
+ghost use Rattle.hpte_fields.specs.TableSize.{entry_count};
 ghost use Rattle.trace_read.specs.declared.trace.TraceLine.{TraceLine as LineOf};
 ghost use Rattle.entry_model.specs.Fronts.{opening_fronts};
 ghost use Rattle.tlb_model.specs.Cache.{AllCached};
@@ -7,13 +9,16 @@ ghost use Rattle.entry_lock.specs.PassOfTable.{IsOf, view_of};
 ghost use Rattle.hpt_walk.specs.Access.{AccessContext};
 ghost use Rattle.trace_runner.specs.MachineState.{AllHold, Holding};
 ghost use Rattle.trace_runner.specs.DealtLines.{AreDealt, count_with_own};
-ghost use Rattle.trace_runner.specs.Workers.{processors_before, AreOwn, AreReady, IsFresh, IsReady, IsRest};
+ghost use Rattle.trace_runner.specs.Workers.{count_with_lines, processors_before, AreOwn, AreReady, IsFresh, IsReady, IsRest};
 
+use crate::dealing::{count_workers, deal_lines};
 use crate::log::RunLog;
 use crate::worker::Worker;
 use entry_lock::{LockTable, Pass};
+use entry_model::EntryState;
 use std::alloc::{AllocError, Global};
 use std::snapshot::Snapshot;
+use trace_read::TraceLine;
 use vcpu::Cpu;
 
 /// A pass with one share of what is left.
@@ -71,9 +76,48 @@ fn next_worker<L: RunLog>(
     })
 }
 
+/// A table of these states, and a worker for each processor. Those that have lines share the table's
+/// passes. The room of the list of processors stays.
+pub fn open_section<L: RunLog>(
+    alloc: Global,
+    states: Vec<EntryState>,
+    order: u8,
+    cpus: &mut Vec<Cpu>,
+    lines: &[TraceLine],
+) -> Result<(LockTable, Vec<Worker<L>>), AllocError>
+    requires low { 18 ≤ order }
+    requires high { order ≤ 22 }
+    requires whole { vec_len states ≡ entry_count order }
+    requires some { lines.now ≢ [] }
+    requires few { length cpus.old.items ≤ 64 }
+    requires on_cpus { AllByRecursion
+        (λ (l : LineOf). l.cpu < length cpus.old.items)
+        lines.now }
+    requires hold { AllHold states.items cpus.old.items }
+    ensures opening { IfOk result (λ r. r.0.opening.items ≡ states.items) }
+    ensures order { IfOk result (λ r. r.0.order ≡ order) }
+    ensures some { IfOk result (λ r. 0 < r.0.passes) }
+    ensures passes { IfOk result
+        (λ r. r.0.passes ≡ count_with_lines (length r.1.items) 0 lines.now) }
+    ensures ready { IfOk result
+        (λ r. (context : AccessContext)
+        → AreReady L.keeps L.room context r.0 lines.now r.1.items) }
+    ensures before { IfOk result (λ r. processors_before r.1.items ≡ cpus.old.items) }
+    ensures none { IfOk result (λ r. cpus.new.items ≡ []) }
+    ensures room { IfOk result (λ r. length r.1.items ≤ vec_capacity cpus.new) }
+{
+    let dealt = deal_lines(alloc, cpus.len(), lines)?;
+    let passes = count_workers(dealt.as_slice());
+    let Ok((table, pass)) = LockTable::open(alloc, states, order, passes) else {
+        return Err(AllocError);
+    };
+    let workers = make_workers(alloc, &table, pass, cpus, dealt)?;
+    Ok((table, workers))
+}
+
 /// A worker for each processor, with the lines that were dealt to it. Those that have lines share the
 /// pass, and have room for the replies to them. The room of the list of processors stays.
-pub fn make_workers<L: RunLog>(
+fn make_workers<L: RunLog>(
     alloc: Global,
     table: &LockTable,
     pass: Pass,

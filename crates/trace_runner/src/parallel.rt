@@ -11,25 +11,23 @@ ghost use Rattle.trace_runner.specs.Workers.{NoneQuiet};
 ghost use Rattle.trace_runner.specs.SectionRun.{HasRunFrom, RunsSection, RunsToQuiet};
 ghost use Rattle.trace_runner.specs.ParallelRun.{IsOutputOfRun, IsTextOfRun};
 
-use crate::dealing::{count_workers, deal_lines};
 use crate::gate::Gate;
 use crate::log::RunLog;
 use crate::machine::Machine;
-use crate::new_workers::make_workers;
+use crate::new_workers::open_section;
 use crate::opening::open_machine;
 use crate::queue_log::ReplyQueue;
 use crate::section::merge_replies;
 use crate::text_log::ReplyText;
 use crate::together::run_together;
-use entry_lock::LockTable;
 use std::alloc::{AllocError, Global};
 use std::sync::Wait;
 use std::thread::Threads;
 use trace_read::{Trace, TraceLine};
 use trace_reply::{Replies, ReplyPlace};
 
-/// Runs the lines of a section, each processor in a thread of its own, and puts the replies behind
-/// those of the output.
+/// Runs the lines of a section, in a thread for each processor that has some, and puts the replies
+/// behind those of the output.
 fn section<R: Threads + Wait + Sync, G: Gate + Sync, L: RunLog>(
     rt: &R,
     alloc: Global,
@@ -54,12 +52,8 @@ fn section<R: Threads + Wait + Sync, G: Gate + Sync, L: RunLog>(
     } = machine;
     let order = partition.order();
     let mut logs: Vec<L> = Vec::with_capacity(alloc, cpus.len())?;
-    let dealt = deal_lines(alloc, cpus.len(), lines)?;
-    let passes = count_workers(dealt.as_slice());
-    let Ok((table, pass)) = LockTable::open(alloc, partition.take_states(), order, passes) else {
-        return Err(AllocError);
-    };
-    let workers = make_workers(alloc, &table, pass, &mut cpus, dealt)?;
+    let states = partition.take_states();
+    let (table, workers) = open_section::<L>(alloc, states, order, &mut cpus, lines)?;
     let closing = run_together(
         rt,
         table,
@@ -151,8 +145,8 @@ fn run_logged<R: Threads + Wait + Sync, G: Gate + Sync, L: RunLog>(
     run_sections::<R, G, L>(rt, alloc, machine, gate, trace.lines.as_slice())
 }
 
-/// The replies of a parallel run of a trace: between two quiet lines each processor runs its lines in
-/// a thread of its own. They are a good run.
+/// The replies of a parallel run of a trace: between two quiet lines each processor that has lines
+/// there runs them in a thread of its own. They are a good run.
 pub fn run_parallel<R: Threads + Wait + Sync, G: Gate + Sync>(
     rt: &R,
     alloc: Global,

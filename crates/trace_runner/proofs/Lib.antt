@@ -3,10 +3,6 @@ pub mod Holding
 pub mod Resizing
 pub mod RunSteps
 pub mod Assured
-mod RunRows
-mod CallRows
-mod QuietRows
-mod WholeRows
 pub mod WorkSteps
 pub mod NewWorkers
 pub mod CountedReplies

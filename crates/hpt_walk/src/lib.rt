@@ -6,6 +6,7 @@
 
 mod access;
 mod laws;
+mod logical;
 mod request;
 mod walking;
 
@@ -14,5 +15,6 @@ pub use laws::{
     access_tells_page, current_lines_decide, hits_use_their_page, lines_match_accesses,
     only_at_changes_entries, walk_finds_first, walks_give_lines, walks_use_their_page,
 };
+pub use logical::logical_of;
 pub use request::Request;
 pub use walking::{WalkAnswer, walk, walk_into};

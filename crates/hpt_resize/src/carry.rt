@@ -80,7 +80,8 @@ pub fn rehash_into(
 {
     for index in 0..states.len() {
         if let Some(target) = target_index(order_from, order_to, &states[index], index) {
-            if into[target].valid {
+            let standing = into[target];
+            if standing.valid {
                 return Err(Collision {
                     first: first(order_from, order_to, states, index, target) as u32,
                     second: index as u32,

@@ -1,2 +1,3 @@
-pub mod Tables
+pub mod Filling
 pub mod Outcomes
+pub mod Searching

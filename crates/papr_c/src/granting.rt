@@ -10,7 +10,7 @@ use pool_range::{PoolRange, RangeError};
 /// Why a list of grants wasn't made: the number of the refusal, or 0, and the index of the grant that
 /// is refused.
 #[repr(C)]
-#[derive(Clone, Copy, PartialEq, Eq, Debug)]
+#[derive(Clone, Copy)]
 pub struct PaprMaking {
     pub index: usize,
     pub refusal: u32,
@@ -18,7 +18,7 @@ pub struct PaprMaking {
 
 /// The machine range of a logical one, if there is one.
 #[repr(C)]
-#[derive(Clone, Copy, PartialEq, Eq, Debug)]
+#[derive(Clone, Copy)]
 pub struct PaprRange {
     /// The machine address of the first byte, or 0.
     pub machine: u64,

@@ -6,7 +6,7 @@ use h_enter::GrantedMemory;
 
 /// A range of the guest's logical addresses and the machine range behind it, in bytes.
 #[repr(C)]
-#[derive(Clone, Copy, PartialEq, Eq, Debug)]
+#[derive(Clone, Copy)]
 pub struct PaprGrant {
     /// The first logical address.
     pub logical: u64,

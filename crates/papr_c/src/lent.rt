@@ -45,7 +45,8 @@ impl<'a> EntryStore for LentTable<'a> {
     ghost use Rattle.entry_model.proofs.LineLaws.{run_holds, run_shows, run_leaves, run_past};
     ghost use Rattle.papr_table.specs.TableState.{IsSeen, IsGone};
     ghost use Rattle.papr_c.specs.Lent.{table_of, IsLent};
-    ghost use Rattle.papr_c.proofs.Tables.{lent_more};
+    ghost use Rattle.std.proofs.Common.{◌∙◌};
+    ghost use Rattle.entry_model.proofs.Runs.{run_more};
 
     ghost made = { λ a b xs. IsLent a.entries a.order b.entries b.order xs };
 
@@ -84,7 +85,13 @@ impl<'a> EntryStore for LentTable<'a> {
     ghost made_none = { λ s. record { name = refl; made = record { run = refl; order = refl } } };
 
     ghost made_more = { λ a b c xs ys h k.
-        lent_more a.entries a.order b.entries b.order c.entries c.order xs ys h k };
+        record {
+          name = k.name ∙ h.name;
+          made = record {
+            run = run_more a.entries.now b.entries.now c.entries.now xs ys h.made.run k.made.run;
+            order = k.made.order ∙ h.made.order;
+          };
+        } };
 
     ghost order_stays = { λ a b xs h. h.made.order };
 

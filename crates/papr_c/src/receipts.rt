@@ -6,7 +6,7 @@ use entry_model::{Answer, EntryState, Receipt};
 /// One operation that was made on one entry, as C sees it. The two doublewords are those from before
 /// it, so that an emulator can drop from its own cache what it had of the entry.
 #[repr(C)]
-#[derive(Clone, Copy, PartialEq, Eq, Debug)]
+#[derive(Clone, Copy)]
 pub struct PaprReceipt {
     /// Doubleword 0 before; V is clear where the entry was empty.
     pub dword0: u64,

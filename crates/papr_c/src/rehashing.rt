@@ -9,7 +9,7 @@ use papr_codes::Rc;
 
 /// What a rehash answers, and for H_PTEG_FULL the two entries that would meet, and where.
 #[repr(C)]
-#[derive(Clone, Copy, PartialEq, Eq, Debug)]
+#[derive(Clone, Copy)]
 pub struct PaprRehash {
     pub rc: i64,
     /// The lower index in the old table.

@@ -10,7 +10,7 @@ use papr_codes::Rc;
 /// What a hypervisor call answers: its return code, as register 3 has it, and how many of the
 /// caller's places for words and for receipts were filled.
 #[repr(C)]
-#[derive(Clone, Copy, PartialEq, Eq, Debug)]
+#[derive(Clone, Copy)]
 pub struct PaprReply {
     pub rc: i64,
     pub words: u32,

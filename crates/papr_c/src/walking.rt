@@ -22,7 +22,7 @@ const REFUSED: u32 = 3;
 
 /// What an access asks, in a segment that its caller has looked up.
 #[repr(C)]
-#[derive(Clone, Copy, PartialEq, Eq, Debug)]
+#[derive(Clone, Copy)]
 pub struct PaprAccess {
     /// The effective address.
     pub ea: u64,
@@ -43,7 +43,7 @@ pub struct PaprAccess {
 
 /// What a walk found.
 #[repr(C)]
-#[derive(Clone, Copy, PartialEq, Eq, Debug)]
+#[derive(Clone, Copy)]
 pub struct PaprWalk {
     /// The logical address, where the access is allowed; else 0.
     pub logical: u64,

@@ -1,3 +1,4 @@
 pub mod Filling
 pub mod Outcomes
+pub mod Makings
 pub mod Searching

@@ -1,12 +1,13 @@
 -- Grants in order of their logical ranges, and the one of them that holds a range.
 use Rattle.std.specs.Prelude.{option_map, All, AllPairs}
 use Rattle.std.proofs.Common.{◌≡◌, ◌≢◌, ℕ, zero, suc, ◌+◌, ◌-◌, ◌<◌, ◌≤◌, ◌^◌, ◌==◌, List, [], ◌∷◌, ◌++◌, length, map, nat_le, take, set, get_or, find, Bool, true, false, ◌&&◌, if◌then◌else◌, Option, Some, None, refl, sym, ap, subst, ◌∙◌, arith, ◌⊎◌, inl, inr, nat_lt}
-use Rattle.std.proofs.lemmas.Bool.{cases_Bool, cases_lt, and_from, and_left, and_right, lt-ltb, ne_eqb, leb-true, le-leb}
+use Rattle.std.proofs.lemmas.Bool.{cases_Bool, cases_lt, and_left, and_right, lt-ltb, ne_eqb}
 use Rattle.std.proofs.lemmas.Bool.Decides.{leb_tells}
 use Rattle.std.proofs.lemmas.List.Elements.{All-get_or}
 use Rattle.std.proofs.lemmas.List.{get_or-map, length-map, get_or-take, length-take-le, length-set}
 use Rattle.std.proofs.Math.Seq.{take-suc-set, take-suc}
 use Rattle.std.proofs.Math.Numerals.{add-one}
+use Rattle.basics.proofs.Lists.{AllPairs-head, AllPairs-tail}
 use Rattle.frame_grants.specs.declared.grant.Grant.{Grant}
 use Rattle.frame_grants.specs.declared.grant.Kind.{Kind}
 use Rattle.frame_grants.specs.Grants.{no_grant, holds, machine_at, machine_range, meets_logical, IsPlaced}
@@ -37,8 +38,8 @@ find_only p (x ∷ xs) d (suc i) below others =
 pairs_at : {X : Type 0} (R : X → X → Type 0) (xs : List X) (d : X) (j k : ℕ) → AllPairs R xs → j < k → k < length xs → R (get_or xs j d) (get_or xs k d)
 pairs_at R [] d j k all less inside = absurd (omega (arith, inside))
 pairs_at R (x ∷ xs) d j zero all less inside = absurd (omega (arith, less))
-pairs_at R (x ∷ xs) d zero (suc k) all less inside = All-get_or (R x) xs k d (omega (arith, inside)) all.0
-pairs_at R (x ∷ xs) d (suc j) (suc k) all less inside = pairs_at R xs d j k all.1 (omega (arith, less)) (omega (arith, inside))
+pairs_at R (x ∷ xs) d zero (suc k) all less inside = All-get_or (R x) xs k d (omega (arith, inside)) (AllPairs-head R x xs all)
+pairs_at R (x ∷ xs) d (suc j) (suc k) all less inside = pairs_at R xs d j k (AllPairs-tail R x xs all) (omega (arith, less)) (omega (arith, inside))
 
 -- ---- a list of grants
 -- The grant at an index of the list.
@@ -64,8 +65,8 @@ ends_before lower higher less has apart = at (cases_lt higher.logical (lower.log
   at : (higher.logical < lower.logical + lower.length) ⊎ (lower.logical + lower.length ≤ higher.logical) → lower.logical + lower.length ≤ higher.logical
   at (inr before) = before
   at (inl meets) =
-      let one : nat_lt lower.logical (higher.logical + higher.length) ≡ true = lt-ltb _ _ (omega arith) in
-      let two : nat_lt higher.logical (lower.logical + lower.length) ≡ true = lt-ltb _ _ meets in
+      let one : nat_lt lower.logical (higher.logical + higher.length) ≡ true = lt-ltb lower.logical (higher.logical + higher.length) (omega (arith, less, has)) in
+      let two : nat_lt higher.logical (lower.logical + lower.length) ≡ true = lt-ltb higher.logical (lower.logical + lower.length) meets in
       absurd (cc)
 
 -- The list of grants that stand apart is in order.
@@ -78,7 +79,7 @@ in_order list grants room same apart = record { rising = rising; low = low } whe
   rising j k less inside =
       let below : j < length grants = omega arith in
       let placed : IsPlaced (get_or grants k no_grant) = All-get_or IsPlaced grants k no_grant inside apart.placed in
-      let before = ends_before (get_or grants j no_grant) (get_or grants k no_grant) (pairs_at _ grants no_grant j k apart.rising less inside) placed.has_bytes (pairs_at _ grants no_grant j k apart.apart less inside) in
+      let before = ends_before (get_or grants j no_grant) (get_or grants k no_grant) (pairs_at (λ (lower higher : Grant). lower.logical < higher.logical) grants no_grant j k apart.rising less inside) placed.has_bytes (pairs_at (λ (lower higher : Grant). meets_logical lower higher ≡ false) grants no_grant j k apart.apart less inside) in
       rw (← here j below, ← here k inside) at before
 
   low : (k : ℕ) → k < length grants → (fields_at list k).machine + (fields_at list k).length ≤ 2 ^ 60
@@ -108,14 +109,10 @@ below_more grants count middle logical order inside below k less = at (cases_lt 
 not_le : (a b : ℕ) → b < a → nat_le a b ≡ false
 not_le a b less = at (leb_tells a b) where
   at : ((nat_le a b ≡ true) × (a ≤ b)) ⊎ ((nat_le a b ≡ false) × (b < a)) → nat_le a b ≡ false
-  at (inl yes) = absurd (omega (arith, yes.1))
-  at (inr no) = no.0
+  at (inl held) = absurd (omega (arith, less, held.1))
+  at (inr past) = past.0
 
-pub holds_is : (logical length : ℕ) (g : PaprGrant) → g.logical ≤ logical → length ≤ g.length → logical - g.logical ≤ g.length - length → holds logical length (grant_of g) ≡ true
-holds_is logical length g from fits rest =
-    and_from (nat_le g.logical logical) (nat_le (logical + length) (g.logical + g.length)) (le-leb g.logical logical from) (le-leb (logical + length) (g.logical + g.length) (omega arith))
-
-pub holds_not : (logical length : ℕ) (g : PaprGrant) → g.logical ≤ logical → g.logical + g.length < logical + length → holds logical length (grant_of g) ≡ false
+holds_not : (logical length : ℕ) (g : PaprGrant) → g.logical ≤ logical → g.logical + g.length < logical + length → holds logical length (grant_of g) ≡ false
 holds_not logical length g from past =
     and_right (nat_le g.logical logical) (nat_le (logical + length) (g.logical + g.length)) (not_le (logical + length) (g.logical + g.length) past)
 
@@ -178,3 +175,9 @@ machine_by grants count logical bytes last room order counted some =
     at : (p h ≡ true) ⊎ (p h ≡ false) → option_map (machine_at logical) (if p g then Some g else None) ≡ (if p h then Some (machine_at logical h) else None)
     at (inl passes) = rw (same, passes) refl
     at (inr fails) = rw (same, fails) refl
+
+-- The same by how many grants there are up to that one.
+pub machine_last : (grants : List PaprGrant) (count logical bytes below : ℕ) → count ≤ length grants → IsInOrder grants count → IsCountBelow grants count logical below → 0 < below → 0 < bytes → machine_range (listed grants count) logical bytes ≡ (if holds logical bytes (grant_of (fields_at grants (below - 1))) then Some (machine_at logical (grant_of (fields_at grants (below - 1)))) else None)
+machine_last grants count logical bytes below room order counted begins some =
+    let same : below ≡ suc (below - 1) = omega arith in
+    machine_by grants count logical bytes (below - 1) room order (subst (λ (n : ℕ). IsCountBelow grants count logical n) same counted) some

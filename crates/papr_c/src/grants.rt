@@ -1,4 +1,5 @@
 ghost use Rattle.std.specs.Prelude.{◌≡◌, ◌≤◌, ◌<◌, ℕ, length};
+ghost use Rattle.frame_grants.specs.Grants.{holds};
 ghost use Rattle.papr_c.specs.Grants.{kind_of, grant_of, fields_at, listed, IsInOrder, AreListed};
 
 use frame_grants::{Grant, Kind};
@@ -46,6 +47,15 @@ impl PaprGrant {
         if self.is_io { Kind::Io } else { Kind::Ram }
     }
 
+    /// Whether the whole logical range lies in the grant. Its end may be past 2^64.
+    fn holds(&self, logical: u64, length: u64) -> bool
+        ensures { result ≡ holds logical length (grant_of self.now) }
+    {
+        self.logical <= logical
+            && logical - self.logical <= self.length
+            && length <= self.length - (logical - self.logical)
+    }
+
     /// The same grant, as C has it.
     pub fn of(grant: &Grant) -> PaprGrant
         ensures { grant_of result ≡ grant.now }
@@ -67,7 +77,7 @@ pub struct PaprGrants {
     pub grants: [PaprGrant; 64],
     pub count: u32,
 
-    ghost few: { count ≤ 64 },
+    ghost few: { count ≤ length grants },
     ghost in_order: { IsInOrder grants count },
 }
 
@@ -118,15 +128,17 @@ impl GrantedMemory for PaprGrants {
     ghost grants = { λ list. listed list.grants list.count };
 
     fn machine_of(&self, logical: u64, length: u64) -> Option<(u64, Kind)> {
+        if length == 0 {
+            return None;
+        }
         let below = self.count_below(logical);
-        if below == 0 || length == 0 {
+        if below == 0 {
             return None;
         }
         let grant = &self.grants[below - 1];
-        let offset = logical - grant.logical;
-        if length > grant.length || offset > grant.length - length {
+        if !grant.holds(logical, length) {
             return None;
         }
-        Some((grant.machine + offset, grant.kind()))
+        Some((grant.machine + (logical - grant.logical), grant.kind()))
     }
 }

@@ -1,5 +1,5 @@
 -- A list of grants that is made one grant after the other.
-use Rattle.std.proofs.Common.{◌≡◌, ℕ, ◌+◌, ◌<◌, ◌≤◌, List, [], length, drop, get_or, Option, Some, None, refl, ap, arith}
+use Rattle.std.proofs.Common.{◌≡◌, ℕ, ◌+◌, ◌<◌, ◌≤◌, List, length, drop, get_or, Some, None, refl}
 use Rattle.std.proofs.Math.Numerals.{add-one}
 use Rattle.std.proofs.Math.Seq.{drop-cons}
 use Rattle.std.proofs.lemmas.List.{drop_all}
@@ -8,7 +8,7 @@ use Rattle.pool_range.specs.declared.range.RangeError.{RangeError}
 use Rattle.frame_grants.specs.declared.error.GrantError.{GrantError}
 use Rattle.frame_grants.specs.Grants.{GrantedMemory, no_grants, add_refusal, with_grant}
 use Rattle.papr_c.specs.declared.grants.PaprGrant.{PaprGrant}
-use Rattle.papr_c.specs.Grants.{grant_of, making_from, making_of, Making, Made, Refused, NoPool}
+use Rattle.papr_c.specs.Grants.{grant_of, making_from, making_of, Making}
 
 -- There is no pool.
 pub without_pool : (base order : ℕ) (given : List PaprGrant) (e : RangeError) → range_refusal base order ≡ Some e → making_of base order given ≡ Making.NoPool e

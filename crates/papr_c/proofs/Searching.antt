@@ -1,15 +1,14 @@
 -- Grants in order of their logical ranges, and the one of them that holds a range.
-use Rattle.std.specs.Prelude.{option_map, All, AllPairs}
-use Rattle.std.proofs.Common.{◌≡◌, ◌≢◌, ℕ, zero, suc, ◌+◌, ◌-◌, ◌<◌, ◌≤◌, ◌^◌, ◌==◌, List, [], ◌∷◌, ◌++◌, length, map, nat_le, take, set, get_or, find, Bool, true, false, ◌&&◌, if◌then◌else◌, Option, Some, None, refl, sym, ap, subst, ◌∙◌, arith, ◌⊎◌, inl, inr, nat_lt}
+use Rattle.std.specs.Prelude.{option_map, AllPairs}
+use Rattle.std.proofs.Common.{◌≡◌, ◌≢◌, ℕ, zero, suc, ◌+◌, ◌-◌, ◌<◌, ◌≤◌, ◌^◌, ◌==◌, List, [], ◌∷◌, ◌++◌, length, map, nat_le, take, set, get_or, find, Bool, true, false, if◌then◌else◌, Some, None, refl, sym, ap, subst, ◌∙◌, arith, ◌⊎◌, inl, inr, nat_lt}
 use Rattle.std.proofs.lemmas.Bool.{cases_Bool, cases_lt, and_left, and_right, lt-ltb, ne_eqb}
 use Rattle.std.proofs.lemmas.Bool.Decides.{leb_tells}
 use Rattle.std.proofs.lemmas.List.Elements.{All-get_or}
-use Rattle.std.proofs.lemmas.List.{get_or-map, length-map, get_or-take, length-take-le, length-set}
+use Rattle.std.proofs.lemmas.List.{get_or-map, length-map, get_or-take, length-take-le}
 use Rattle.std.proofs.Math.Seq.{take-suc-set, take-suc}
 use Rattle.std.proofs.Math.Numerals.{add-one}
 use Rattle.basics.proofs.Lists.{AllPairs-head, AllPairs-tail}
 use Rattle.frame_grants.specs.declared.grant.Grant.{Grant}
-use Rattle.frame_grants.specs.declared.grant.Kind.{Kind}
 use Rattle.frame_grants.specs.Grants.{no_grant, holds, machine_at, machine_range, meets_logical, IsPlaced}
 use Rattle.papr_c.specs.declared.grants.PaprGrant.{PaprGrant}
 use Rattle.papr_c.specs.Grants.{fields_at, grant_of, no_fields, listed, IsInOrder, AreListed}
@@ -55,9 +54,9 @@ listed_long grants count room = length-map (take count grants) grant_of ∙ leng
 pub listed_more : (list : List PaprGrant) (grants : List Grant) (i : ℕ) (g : PaprGrant) (d : Grant) → i < length list → i < length grants → map grant_of (take i list) ≡ take i grants → grant_of g ≡ get_or grants i d → map grant_of (take (i + 1) (set list i g)) ≡ take (i + 1) grants
 listed_more list grants i g d below inside same is =
     rw (add-one, take-suc-set list i g below, map_end grant_of (take i list) g, same, is, take-suc grants i d inside) refl where
-  map_end : {X Y : Type 0} (f : X → Y) (xs : List X) (x : X) → map f (xs ++ x ∷ []) ≡ map f xs ++ f x ∷ []
-  map_end f [] x = refl
-  map_end f (y ∷ ys) x = ap (λ rest. f y ∷ rest) (map_end f ys x)
+      map_end : {X Y : Type 0} (f : X → Y) (xs : List X) (x : X) → map f (xs ++ x ∷ []) ≡ map f xs ++ f x ∷ []
+      map_end f [] x = refl
+      map_end f (y ∷ ys) x = ap (λ rest. f y ∷ rest) (map_end f ys x)
 
 -- Two ranges of grants that don't meet, of which one begins below the other.
 ends_before : (lower higher : Grant) → lower.logical < higher.logical → 0 < higher.length → meets_logical lower higher ≡ false → lower.logical + lower.length ≤ higher.logical
@@ -150,7 +149,7 @@ machine_none grants count logical bytes room order counted = at (cases_lt 0 byte
   at : (0 < bytes) ⊎ (bytes ≤ 0) → machine_range (listed grants count) logical bytes ≡ None
   at (inl some) =
       let none : find (holds logical bytes) (listed grants count) ≡ None =
-          find_none (holds logical bytes) (listed grants count) no_grant (λ k inside. fails_at (holds logical bytes) grants count (λ j. suc j ≢ 0) room (λ j below other. others_fail grants count logical bytes 0 j order counted some below other) k inside (λ e. omega (arith, e))) in
+      find_none (holds logical bytes) (listed grants count) no_grant (λ k inside. fails_at (holds logical bytes) grants count (λ j. suc j ≢ 0) room (λ j below other. others_fail grants count logical bytes 0 j order counted some below other) k inside (λ e. omega (arith, e))) in
       if_zero bytes None (option_map (machine_at logical) (find (holds logical bytes) (listed grants count))) some ∙ ap (option_map (machine_at logical)) none
   at (inr zero_bytes) =
       let no_bytes : bytes ≡ 0 = omega arith in
@@ -170,11 +169,11 @@ machine_by grants count logical bytes last room order counted some =
     if_zero bytes None (option_map (machine_at logical) (find (holds logical bytes) (listed grants count))) some
     ∙ ap (option_map (machine_at logical)) only
     ∙ pushed (holds logical bytes) (get_or (listed grants count) last no_grant) (grant_of (fields_at grants last)) here where
-  pushed : (p : Grant → Bool) (g h : Grant) → g ≡ h → option_map (machine_at logical) (if p g then Some g else None) ≡ (if p h then Some (machine_at logical h) else None)
-  pushed p g h same = at (cases_Bool (p h)) where
-    at : (p h ≡ true) ⊎ (p h ≡ false) → option_map (machine_at logical) (if p g then Some g else None) ≡ (if p h then Some (machine_at logical h) else None)
-    at (inl passes) = rw (same, passes) refl
-    at (inr fails) = rw (same, fails) refl
+      pushed : (p : Grant → Bool) (g h : Grant) → g ≡ h → option_map (machine_at logical) (if p g then Some g else None) ≡ (if p h then Some (machine_at logical h) else None)
+      pushed p g h same = at (cases_Bool (p h)) where
+        at : (p h ≡ true) ⊎ (p h ≡ false) → option_map (machine_at logical) (if p g then Some g else None) ≡ (if p h then Some (machine_at logical h) else None)
+        at (inl passes) = rw (same, passes) refl
+        at (inr fails) = rw (same, fails) refl
 
 -- The same by how many grants there are up to that one.
 pub machine_last : (grants : List PaprGrant) (count logical bytes below : ℕ) → count ≤ length grants → IsInOrder grants count → IsCountBelow grants count logical below → 0 < below → 0 < bytes → machine_range (listed grants count) logical bytes ≡ (if holds logical bytes (grant_of (fields_at grants (below - 1))) then Some (machine_at logical (grant_of (fields_at grants (below - 1)))) else None)

@@ -35,8 +35,7 @@ table_after (Some c) from to entries = replicate (entry_count to) (empty_state 0
 abbrev pub outcome_of_rehash : ℕ → List State → ℕ → List State → PaprRehash × List State
 outcome_of_rehash from entries to into =
     if is_table from entries && is_table to into
-    then
-    (
+    then (
       rehash_told (collision_of from to entries),
       table_after (collision_of from to entries) from to entries,
     )

@@ -1,5 +1,5 @@
 -- What a walk of C leaves: what it found, the entries, and the places for receipts.
-use Rattle.std.specs.Prelude.{ℕ, ◌==◌, Bool, if◌then◌else◌, List, length, map, min, Option, Some, None}
+use Rattle.std.specs.Prelude.{ℕ, ◌==◌, if◌then◌else◌, List, length, map, min, Option, Some, None}
 use Rattle.storage_prot.specs.declared.want.Want.{Want}
 use Rattle.storage_prot.specs.declared.want.Want.TheVariants.{Load, Store, Fetch}
 use Rattle.power_addr.specs.Pages.{VirtualPage, page_of_address}

@@ -36,7 +36,6 @@ pub extern "C" fn papr_h_enter(
     }
     let mut made = Receipts::new();
     let mut table = LentTable::lend(entries, order);
-    let registers =
-        h_enter_granted_into(&mut table, grants, flags, ptex, pteh, ptel, &mut made);
+    let registers = h_enter_granted_into(&mut table, grants, flags, ptex, pteh, ptel, &mut made);
     hand_over(&registers, &made, words, receipts)
 }

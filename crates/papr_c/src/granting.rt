@@ -68,16 +68,25 @@ pub extern "C" fn papr_make_grants(
 {
     let pool = match PoolRange::new(pool_base, u64::from(pool_order)) {
         Ok(pool) => pool,
-        Err(error) => return PaprMaking { index: 0, refusal: pool_refusal_number(error) },
+        Err(error) => return PaprMaking {
+            index: 0,
+            refusal: pool_refusal_number(error),
+        },
     };
     let mut grants = Grants::new(pool.base, pool.order);
     for index in 0..given.len() {
         if let Err(error) = grants.add(given[index].grant()) {
-            return PaprMaking { index, refusal: grant_refusal_number(error) };
+            return PaprMaking {
+                index,
+                refusal: grant_refusal_number(error),
+            };
         }
     }
     *list = PaprGrants::of(grants.list());
-    PaprMaking { index: 0, refusal: 0 }
+    PaprMaking {
+        index: 0,
+        refusal: 0,
+    }
 }
 
 /// The machine range of the `length` bytes from a logical address, where one grant of the list holds

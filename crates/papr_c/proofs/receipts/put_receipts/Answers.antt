@@ -12,7 +12,7 @@ loop-i-preserved c =
     let inside : c.loop-i.i < length c.args.places.now = omega (arith, c.loop-i-test.true, c.min-count.ensures) in
     let read : c.index-made-i.result ≡ get_or c.args.made.now c.loop-i.i blank_receipt = get_or_read c.args.made.now c.loop-i.i c.index-made-i.result below c.index-made-i.is blank_receipt in
     let item : c.shown.result ≡ get_or (map shown_receipt c.args.made.now) c.loop-i.i (shown_receipt blank_receipt) =
-        (c.shown.ensures ∙ ap shown_receipt read) ∙ sym (get_or-map shown_receipt c.args.made.now c.loop-i.i blank_receipt (shown_receipt blank_receipt) below) in
+    (c.shown.ensures ∙ ap shown_receipt read) ∙ sym (get_or-map shown_receipt c.args.made.now c.loop-i.i blank_receipt (shown_receipt blank_receipt) below) in
     fill_more (map shown_receipt c.args.made.now) c.args.places.now c.loop-i.places c.loop-i.i (shown_receipt blank_receipt) c.shown.result in_items inside c.loop-i.invariant item
 
 pub returns-clause-filled : goal.returns-clause-filled

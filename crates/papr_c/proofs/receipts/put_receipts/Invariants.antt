@@ -1,4 +1,4 @@
-use Rattle.std.proofs.Common.{◌≡◌, ◌≤◌, ◌++◌, length, map, take, drop, min}
+use Rattle.std.proofs.Common.{◌≡◌, ◌++◌, map, take, drop}
 use Rattle.papr_c.specs.Places.{shown_receipt}
 use Rattle.papr_c.proofs.receipts.put_receipts.Given as goal
 

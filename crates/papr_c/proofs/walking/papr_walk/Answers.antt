@@ -1,5 +1,4 @@
-use Rattle.std.proofs.Common.{◌≡◌, Some, rules, sym, ◌∙◌}
-use Rattle.papr_c.specs.Walks.{page_of, want_of}
+use Rattle.std.proofs.Common.{rules}
 use Rattle.papr_c.proofs.Outcomes.{walk_is}
 use Rattle.papr_c.proofs.walking.papr_walk.Goals as goal
 

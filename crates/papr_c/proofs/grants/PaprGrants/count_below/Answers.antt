@@ -1,5 +1,5 @@
 use Rattle.std.proofs.Common.{arith}
-use Rattle.papr_c.proofs.Searching.{above_more, below_more}
+use Rattle.papr_c.proofs.Searching.{above_more}
 use Rattle.papr_c.proofs.grants.PaprGrants.count_below.Goals as goal
 
 pub loop-low-preserved : goal.loop-low-preserved

@@ -1,7 +1,6 @@
-use Rattle.std.proofs.Common.{◌≡◌, ◌<◌, ◌≤◌, length, take, map, ◌∙◌, ap, arith}
+use Rattle.std.proofs.Common.{◌≡◌, length, ◌∙◌, arith}
 use Rattle.std.proofs.lemmas.List.{length-set, take_all}
 use Rattle.frame_grants.specs.Grants.{no_grant}
-use Rattle.papr_c.specs.Grants.{grant_of}
 use Rattle.papr_c.proofs.Searching.{listed_more, in_order}
 use Rattle.papr_c.proofs.grants.PaprGrants.of.Goals as goal
 

@@ -1,4 +1,4 @@
-use Rattle.std.proofs.Common.{◌≡◌, ◌<◌, ◌≤◌, sym, ◌∙◌, arith}
+use Rattle.std.proofs.Common.{sym, ◌∙◌, arith}
 use Rattle.papr_c.proofs.Searching.{IsCountBelow, machine_none, machine_empty, machine_last}
 use Rattle.papr_c.proofs.grants.PaprGrantsGrantedMemory.machine_of.Goals as goal
 

@@ -4,7 +4,7 @@
 #   make check                    run the examples and the tests of the tools
 #   make install PREFIX=/usr      install; DESTDIR is put in front of every path. install-program leaves out the
 #                                 library for C, install-library installs it alone
-#   make library                  build the library for C where it is missing
+#   make library                  prove and build the library for C, over what earlier checks kept
 #   make uninstall PREFIX=/usr    take away what install put there
 #   make dist                     the committed sources as out/dist/papr-VERSION.tar.gz
 #   make deb                      a Debian package of the program, out/dist/papr_VERSION_ARCHITECTURE.deb
@@ -57,10 +57,11 @@ $(PROGRAM):
 	./papr run <examples/first.trace >/dev/null
 
 # Proves the library and those below it, and builds it.
-$(LIBRARY):
+library:
 	cd crates/papr_c && rt lib
 
-library: $(LIBRARY)
+$(LIBRARY):
+	$(MAKE) library
 
 define pc_file
 prefix=$(PREFIX)

@@ -1,5 +1,5 @@
-use Rattle.vcpu.proofs.Offsets.{masked, masked_small}
-use Rattle.vcpu.proofs.landing.offset.Goals as goal
+use Rattle.hpt_walk.proofs.Offsets.{masked, masked_small}
+use Rattle.hpt_walk.proofs.logical.offset.Goals as goal
 
 pub returns-clause-value : goal.returns-clause-value
 returns-clause-value c = masked c.args.ea c.args.actual c.requires

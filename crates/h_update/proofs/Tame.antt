@@ -7,6 +7,7 @@ use Rattle.papr_codes.specs.FlagBits.{has_flag}
 use Rattle.papr_codes.specs.declared.codes.Rc.{Rc}
 use Rattle.entry_model.specs.declared.operation.Answer.{Answer}
 use Rattle.entry_model.specs.declared.operation.Op.{Op}
+use Rattle.entry_model.specs.declared.operation.Test.{Test}
 use Rattle.entry_model.specs.declared.receipt.Receipt.{Receipt}
 use Rattle.entry_model.specs.Receipt.{is_worn}
 use Rattle.entry_model.specs.Trial.{Call, IsTrial, plan_of_code, call}
@@ -71,15 +72,20 @@ h_read_tame W order flags ptex = at (cases_Bool (nat_lt ptex (2 ^ (order - 4))))
   at (inr outside) = rw outside (refused_tame W)
 
 -- ---- H_BULK_REMOVE
-before_enters : (W : ℕ → ℕ → Type 0) (asks : Asked) (cs : List Call) → AllByRecursion (λ (c : Call). EntersOnly W c.op) cs → AllByRecursion (λ (c : Call). EntersOnly W c.op) (calls_before asks cs)
-before_enters W End cs h = tt
-before_enters W (Remove entry test) cs h = (tt, h)
-before_enters W Refused cs h = tt
+-- what holds of each removal holds of each call
+before_each : (Q : Op → Type 0) (asks : Asked) (cs : List Call) → ((test : Test) → Q (ops.Remove test)) → AllByRecursion (λ (c : Call). Q c.op) cs → AllByRecursion (λ (c : Call). Q c.op) (calls_before asks cs)
+before_each Q End cs q h = tt
+before_each Q (Remove entry test) cs q h = (q test, h)
+before_each Q Refused cs q h = tt
 
-bulk_enters : (W : ℕ → ℕ → Type 0) (order : ℕ) (ps : List Pair) → AllByRecursion (λ (c : Call). EntersOnly W c.op) (bulk_calls order ps)
+bulk_each : (Q : Op → Type 0) (order : ℕ) (ps : List Pair) → ((test : Test) → Q (ops.Remove test)) → AllByRecursion (λ (c : Call). Q c.op) (bulk_calls order ps)
 unfolding bulk_calls
-bulk_enters W order [] = tt
-bulk_enters W order (p ∷ ps) = before_enters W (asked_by order p) (bulk_calls order ps) (bulk_enters W order ps)
+bulk_each Q order [] q = tt
+bulk_each Q order (p ∷ ps) q = before_each Q (asked_by order p) (bulk_calls order ps) q (bulk_each Q order ps q)
+
+pub h_bulk_remove_each : (Q : Op → Type 0) (order : ℕ) (words : List ℕ) → ((test : Test) → Q (ops.Remove test)) → AllByRecursion (λ (c : Call). Q c.op) (h_bulk_remove_plan order words).calls
+unfolding h_bulk_remove_plan
+h_bulk_remove_each Q order words q = bulk_each Q order (pairs_of words) q
 
 before_cost : (asks : Asked) (cs : List Call) → calls_cost cs ≤ 32 → calls_cost (calls_before asks cs) ≤ 32
 before_cost End cs h = omega arith
@@ -109,4 +115,4 @@ bulk_fine order (p ∷ ps) rs trial fine = pair_fine (asked_by order p) p ps (bu
 
 pub h_bulk_remove_tame : (W : ℕ → ℕ → Type 0) (order : ℕ) (words : List ℕ) → IsTame W (h_bulk_remove_plan order words)
 unfolding h_bulk_remove_plan
-h_bulk_remove_tame W order words = record { enters = bulk_enters W order (pairs_of words); few = bulk_cost order (pairs_of words); code = λ rs trial fine. bulk_fine order (pairs_of words) rs trial fine }
+h_bulk_remove_tame W order words = record { enters = bulk_each (EntersOnly W) order (pairs_of words) (λ test. tt); few = bulk_cost order (pairs_of words); code = λ rs trial fine. bulk_fine order (pairs_of words) rs trial fine }

@@ -22,7 +22,7 @@ onto_short (suc k) n zero acc small =
 onto_short (suc k) n (suc m) acc small =
     let front : List ℕ = digit_glyph false (n % 16) ∷ acc in
     let power : suc m + 1 ≡ m + 1 + 1 = omega arith in
-    let less : n / 16 < 16 ^ (m + 1) = fewer n (m + 1) (subst (λ e. n < 16 ^ e) power small) in
+    let less : n / 16 < 16 ^ (m + 1) = fewer 16 n (m + 1) (omega arith) (subst (λ e. n < 16 ^ e) power small) in
     let rest : length (digits_onto k 16 false (n / 16) front) ≤ m + 1 + length front = onto_short k (n / 16) m front less in
     either_short (eqb (n / 16) 0) front (digits_onto k 16 false (n / 16) front) (suc m + 1 + length acc) (omega arith) (omega (arith, rest))
 

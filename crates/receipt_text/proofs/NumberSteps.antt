@@ -1,6 +1,6 @@
 -- The digits of a number in base 16, from the last to the first.
-use Rattle.std.proofs.Common.{◌++◌, ◌≡◌, ℕ, zero, suc, ◌+◌, ◌/◌, ◌%◌, ◌^◌, ◌<◌, Bool, true, false, List, [], ◌∷◌, eqb, cond, refl, arith, add-one}
-use Rattle.std.proofs.Math.Nat.{pow-suc}
+use Rattle.std.proofs.Common.{◌++◌, ◌≡◌, ℕ, zero, suc, ◌+◌, ◌/◌, ◌%◌, ◌^◌, ◌<◌, Bool, true, false, List, [], ◌∷◌, eqb, cond, refl, subst, arith, add-one}
+use Rattle.std.proofs.Math.Nat.{pow-suc, div-lt_iff_lt-mul}
 use Rattle.std.proofs.lemmas.Bool.{ne_eqb}
 use Rattle.std.proofs.lemmas.Bool.Decides.{nat_tests}
 use Rattle.std.proofs.lemmas.Str.Ascii.{IsAscii-cons, IsAscii-nil}
@@ -22,19 +22,21 @@ cond-append : (first : Bool) (xs ys more xs' ys' : List ℕ) → xs' ≡ xs ++ m
 cond-append true xs ys more xs' ys' p q = p
 cond-append false xs ys more xs' ys' p q = q
 
-digits_onto-append : (k n : ℕ) (acc more : List ℕ) → digits_onto k 16 false n (acc ++ more) ≡ digits_onto k 16 false n acc ++ more
-digits_onto-append zero n acc more = refl
-digits_onto-append (suc k) n acc more =
-    let front = digit_glyph false (n % 16) ∷ acc in
-    cond-append (eqb (n / 16) 0) front (digits_onto k 16 false (n / 16) front) more (front ++ more) (digits_onto k 16 false (n / 16) (front ++ more)) refl (digits_onto-append k (n / 16) front more)
+pub digits_onto-append : (base k n : ℕ) (acc more : List ℕ) → digits_onto k base false n (acc ++ more) ≡ digits_onto k base false n acc ++ more
+digits_onto-append base zero n acc more = refl
+digits_onto-append base (suc k) n acc more =
+    let front = digit_glyph false (n % base) ∷ acc in
+    cond-append (eqb (n / base) 0) front (digits_onto k base false (n / base) front) more (front ++ more) (digits_onto k base false (n / base) (front ++ more)) refl (digits_onto-append base k (n / base) front more)
 
 pub digits_onto_start : (n : ℕ) (more : List ℕ) → digits_onto 64 16 false n more ≡ digits 16 false n ++ more
 unfolding digits
-digits_onto_start n more = digits_onto-append 64 n [] more
+digits_onto_start n more = digits_onto-append 16 64 n [] more
 
 -- One digit fewer.
-pub fewer : (n k : ℕ) → n < 16 ^ (k + 1) → n / 16 < 16 ^ k
-fewer n k small = let more : n < 16 ^ suc k = rw add-one at small in omega (arith, pow-suc 16 k)
+pub fewer : (base n k : ℕ) → 0 < base → n < base ^ (k + 1) → n / base < base ^ k
+fewer base n k some small =
+    let more : n < base ^ suc k = rw add-one at small in
+    (div-lt_iff_lt-mul {k = base} {x = n} {y = base ^ k} some).1 (subst (λ m. n < m) (pow-suc base k) more)
 
 -- ---- digits are ASCII
 glyph_IsAscii : (d : ℕ) → d < 16 → digit_glyph false d < 128

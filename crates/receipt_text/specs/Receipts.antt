@@ -6,6 +6,7 @@ use Rattle.entry_model.specs.State.{State}
 use Rattle.entry_model.specs.declared.operation.Answer.{Answer}
 use Rattle.entry_model.specs.declared.operation.Answer.TheVariants.{Entered, Taken, Removed, Protected, Was, Words, NotFound, NoMatch, Denied, At, Worn}
 use Rattle.entry_model.specs.declared.receipt.Receipt.{Receipt}
+use Rattle.receipt_text.specs.declared.mark.Mark.{Mark}
 use Rattle.receipt_text.specs.Numbers.{hex}
 
 -- The word of an answer.
@@ -26,17 +27,32 @@ answer_word Worn = codes "worn"
 abbrev pub bits_digit : State → ℕ
 bits_digit s = (if s.referenced then 2 else 0) + (if s.changed then 1 else 0)
 
--- ENTRY.STAMP.BITS.ANSWER behind a space; stamp and bits are those before.
+-- ENTRY.STAMP.BITS.ANSWER
+abbrev pub mark_word : Mark → List ℕ
+mark_word m =
+    hex m.entry
+    ++ codes "."
+    ++ decimal m.stamp
+    ++ codes "."
+    ++ decimal m.bits
+    ++ codes "."
+    ++ answer_word m.answer
+
+-- The same behind a space.
+abbrev pub mark_text : Mark → List ℕ
+mark_text m = codes " " ++ mark_word m
+
+-- What is shown of a receipt: stamp and bits are those before.
+abbrev pub mark_of : Receipt → Mark
+mark_of r = record {
+  entry = r.entry;
+  stamp = r.before.stamp;
+  bits = bits_digit r.before;
+  answer = r.answer;
+}
+
 abbrev pub receipt_text : Receipt → List ℕ
-receipt_text r =
-    codes " "
-    ++ hex r.entry
-    ++ codes "."
-    ++ decimal r.before.stamp
-    ++ codes "."
-    ++ decimal (bits_digit r.before)
-    ++ codes "."
-    ++ answer_word r.answer
+receipt_text r = mark_text (mark_of r)
 
 -- The receipts of a reply, behind a bar; nothing where there are none.
 abbrev pub receipts_text : List Receipt → List ℕ

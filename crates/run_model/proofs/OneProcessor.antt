@@ -27,10 +27,10 @@ use Rattle.run_model.specs.SerialRun.{serial_replies}
 use Rattle.run_model.specs.Histories.{lines_of_processor, receipts_by, closing_states, closing_from, Event, made, gone, InOrder, gone_events, events_by}
 use Rattle.entry_model.specs.Fronts.{pair_beyond}
 use Rattle.run_model.specs.Sections.{Section, receipts_made, section_end, cut, cut_before, sections_from, sections_of}
-use Rattle.run_model.specs.GoodRun.{IsGoodRun, AreLegal, AreInOrder, CallsAreReplied, IsAccessLine, AccessesAreReplied, QuietIsReplied}
+use Rattle.run_model.specs.GoodRun.{IsGoodRun, AreLegal, AreInOrder, CallsAreReplied, IsAccessLine, AccessesAreReplied, QuietIsReplied, IsGoodSection}
 use Rattle.run_model.specs.Laws.{HasOneProcessor}
 use Rattle.run_model.proofs.Undisturbed.{AreUndisturbed, Stands, state_behind}
-use Rattle.run_model.proofs.SectionGood.{IsGoodSection, closed_is, each_regrouped, AllCpus, quiet_size, processors_on_size}
+use Rattle.run_model.proofs.SectionGood.{closed_is, each_regrouped, AllCpus, quiet_size, processors_on_size}
 use Rattle.run_model.proofs.SerialGood.{cut_cpus, opening_processors}
 use Rattle.run_model.proofs.LinesByProcessor.{Cpus, InFileOrder, own_yes, processor_own, cpus_after, file_lines, file_listed}
 use Rattle.run_model.proofs.OneReply.{replies_are}

@@ -23,9 +23,9 @@ use Rattle.run_model.specs.LineReplies.{IsCallReply}
 use Rattle.run_model.specs.RunState.{RunState, context_of, states_of, opening_run, run_quiet_line}
 use Rattle.run_model.specs.Histories.{lines_of_processor, Event, made, InOrder, gone_events, events_by}
 use Rattle.run_model.specs.Sections.{receipts_made, section_end, cut, sections_from, section_end_on}
-use Rattle.run_model.specs.GoodRun.{IsGoodRun, EachLineOfProcessor, IsAccessLine}
+use Rattle.run_model.specs.GoodRun.{IsGoodRun, EachLineOfProcessor, IsAccessLine, IsGoodSection}
 use Rattle.run_model.specs.ParallelRun.{Works, AllWork, IsClosed, RunsParallel, IsParallel}
-use Rattle.run_model.proofs.SectionGood.{IsGoodSection, closing_is, stamp_pair}
+use Rattle.run_model.proofs.SectionGood.{closing_is, stamp_pair}
 use Rattle.run_model.proofs.SerialGood.{good_of}
 
 -- ---- fronts

@@ -29,7 +29,7 @@ use Rattle.hpt_resize.specs.TableMemory.{with_states}
 use Rattle.run_model.specs.Histories.{lines_of_processor, receipts_by, closing_from, closing_states, Event, made, InOrder, gone_events, events_by}
 use Rattle.entry_model.specs.Fronts.{pair_beyond}
 use Rattle.run_model.specs.Sections.{Section, receipts_made, section_end, processors_after_lines, sections_from}
-use Rattle.run_model.specs.GoodRun.{AreLegal, AreInOrder, EachLineOfProcessor, CallsAreReplied, IsAccessLine, AccessesAreReplied, QuietIsReplied}
+use Rattle.run_model.specs.GoodRun.{AreLegal, AreInOrder, EachLineOfProcessor, CallsAreReplied, IsAccessLine, AccessesAreReplied, QuietIsReplied, IsGoodSection}
 use Rattle.run_model.proofs.Undisturbed.{AreUndisturbed, Stands, state_behind, processors_on}
 use Rattle.run_model.proofs.LinesByProcessor.{Cpus, InFileOrder, own_yes, own_no, processor_own, processor_other, processors_size, cpus_after, own_lines, own_processors, file_listed}
 use Rattle.papr_codes.specs.declared.calls.Hcall.TheVariants as calls
@@ -149,9 +149,6 @@ replied_lines_reaches set processors a b [] h = tt
 replied_lines_reaches set processors a b (t ∷ ts) h = (record { reply = h.1.access; gone = gone_on a b (receipts_by (t ∷ ts)) (gone_line_of (processor_at processors t.line.cpu) t.line.act t.reply) (replied_lines_run set processors a b (t ∷ ts) h) h.1.gone }, replied_lines_reaches set (processors_after processors t) h.0 b ts h.2)
 
 -- ---- a section
-abbrev pub IsGoodSection : Section → Type 0
-IsGoodSection s = AreLegal s × AreInOrder s × CallsAreReplied s × AccessesAreReplied s × QuietIsReplied s
-
 pub section_legal : (w : RunState) (ts : List RepliedLine) (b : List State) → Cpus (length w.processors) ts → AreUndisturbed (context_of w) w.processors (states_of w) ts b → (e : ℕ) → IsLegal (state_at (states_of w) e) (history e (receipts_made w ts)) (state_at b e)
 section_legal w ts b within h e = history_regrouped e _ _ (receipts_by ts) (receipts_made w ts) (file_listed (length w.processors) ts within) (run_history e (states_of w) b (receipts_by ts) (replied_lines_run (context_of w) w.processors (states_of w) b ts h))
 

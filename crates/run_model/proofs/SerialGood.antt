@@ -23,12 +23,12 @@ use Rattle.run_model.specs.Processors.{processor_at}
 use Rattle.run_model.specs.RunState.{RunState, context_of, states_of, opening_run, run_resize, run_quiet_line}
 use Rattle.run_model.specs.SerialRun.{current_line, result_by_line, result_by_segment, line_result, run_line, replies_from, serial_replies}
 use Rattle.run_model.specs.Sections.{cut, cut_before, sections_of}
-use Rattle.run_model.specs.GoodRun.{AreLegal, AreInOrder, CallsAreReplied, AccessesAreReplied, QuietIsReplied, IsGoodRun}
+use Rattle.run_model.specs.GoodRun.{AreLegal, AreInOrder, CallsAreReplied, AccessesAreReplied, QuietIsReplied, IsGoodRun, IsGoodSection}
 use Rattle.run_model.proofs.Each.{each_map}
 use Rattle.run_model.proofs.Memories.{opening_stands}
 use Rattle.run_model.proofs.CachesHold.{ProcessorFresh, empty_fresh}
 use Rattle.run_model.proofs.SerialUndisturbed.{SoundRunState, serial_stands}
-use Rattle.run_model.proofs.SectionGood.{IsGoodSection, AllCpus, sections_good}
+use Rattle.run_model.proofs.SectionGood.{AllCpus, sections_good}
 use Rattle.papr_codes.specs.declared.calls.Hcall.TheVariants as calls
 use Rattle.trace_read.specs.declared.trace.Act.TheVariants as acts
 
@@ -62,7 +62,7 @@ resize_kind w calls.Protect number args spelt = tt
 resize_kind w calls.BulkRemove number args spelt = tt
 resize_kind w (calls.Other other) number args spelt = tt
 
-quiet_kind : (w : RunState) (act : Act) → is_quiet act ≡ true → IsOfKind act (run_quiet_line w act).0
+pub quiet_kind : (w : RunState) (act : Act) → is_quiet act ≡ true → IsOfKind act (run_quiet_line w act).0
 unfolding run_quiet_line is_quiet
 quiet_kind w (acts.Call number args spelt) q = resize_kind w (hcall_of number) number args spelt
 quiet_kind w acts.Dump q = tt

@@ -99,6 +99,11 @@ QuietIsReplied s =
     s.quiet
     (λ q. q.reply ≡ (run_quiet_line (section_end s.before s.replied_lines) q.line.act).0)
 
+-- A section of a good run.
+abbrev pub IsGoodSection : Section → Type 0
+IsGoodSection s =
+    AreLegal s × AreInOrder s × CallsAreReplied s × AccessesAreReplied s × QuietIsReplied s
+
 -- ---- a run
 -- The replies are of the lines' kinds, and each section is as above.
 pub record IsGoodRun (t : AcceptedTrace) (rs : List Reply) : Type 0 where

@@ -2,11 +2,14 @@
 //! run, the sections between quiet lines, the good runs, and what follows of a run from its being good.
 //!
 //! The calls are those of LoPAR on the page frame table, and the accesses those of the Power ISA
-//! (Book III, hashed page table translation). There is no code here: `laws` has the theorems.
+//! (Book III, hashed page table translation). `laws` has the theorems. The one call
+//! that runs is `make_call`, which picks the hypervisor call of a line by its number.
 #![tactic(auto)]
 
+mod calls;
 mod laws;
 
+pub use calls::make_call;
 pub use laws::{
     accesses_land_by_their_entries, cached_lines_are_current_or_gone, clearing_replies_show,
     no_entry_is_worn, no_store_is_lost, one_good_run, parallel_is_good,

@@ -63,7 +63,7 @@ pub fn by_walk<T: EntryStore>(
 }
 
 /// The line of the entry found, where the walk ended at a machine address.
-fn kept_line(page: &Page, outcome: Outcome, found: &Option<Receipt>) -> Option<Line>
+pub fn kept_line(page: &Page, outcome: Outcome, found: &Option<Receipt>) -> Option<Line>
     ensures { result ≡ cache.kept_line page.now outcome found.now }
 {
     match (outcome, found) {

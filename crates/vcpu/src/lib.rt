@@ -13,4 +13,8 @@ mod cpu;
 mod landing;
 mod passing;
 
+pub use asking::{key, operation};
+pub use by_walk::kept_line;
 pub use cpu::Cpu;
+pub use landing::{outcome, outcome_at};
+pub use passing::refill;

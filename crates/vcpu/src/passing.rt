@@ -60,8 +60,8 @@ pub fn in_segment<T: EntryStore>(
     end
 }
 
-/// Fills the line, if there is one.
-fn refill(tlb: &mut Tlb, kept: Option<Line>)
+/// Fills the line, if there is one, of a page that has none.
+pub fn refill(tlb: &mut Tlb, kept: Option<Line>)
     requires { IfSome kept (λ line. cached_line tlb.old line.page ≡ None) }
     ensures { tlb.new ≡ with_kept kept tlb.old }
 {

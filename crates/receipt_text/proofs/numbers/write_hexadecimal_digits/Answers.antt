@@ -26,7 +26,7 @@ loop-start-preserved c =
       places = l.invariant.places;
       low = omega arith;
       high = omega arith;
-      small = fewer l.rest (l.start - 1 - (c.args.end - 16)) (rw two at l.invariant.small);
+      small = fewer 16 l.rest (l.start - 1 - (c.args.end - 16)) (omega arith) (rw two at l.invariant.small);
       begun = λ h. omega (arith, c.if-rest-eq0.false);
       told = rw (drop-set l.text (l.start - 1) _ (omega arith), three, c.digit_of.ensures) (sym (digits_onto_step l.rest (drop l.start l.text) (l.start - 1 - (c.args.end - 16) + 48) c.if-rest-eq0.false) ∙ (rw one at l.invariant.told));
     }

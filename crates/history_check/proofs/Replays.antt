@@ -1,0 +1,146 @@
+-- Given each state before, calls have one trial, and a line has one reply.
+use Rattle.std.proofs.Common.{◌≡◌, ℕ, ◌+◌, List, [], ◌∷◌, Bool, true, false, ap, sym, ◌∙◌, refl, ◌⊎◌, inl, inr, map, MatchBool, Option, Some, None}
+use Rattle.std.specs.Prelude.{◌||◌, ◌==◌, drop, if◌then◌else◌, nat_lt, ◌-◌, ◌^◌, slice_index}
+use Rattle.std.specs.List.{AllByRecursion}
+use Rattle.std.proofs.lemmas.Bool.{cases_Bool, cond_both}
+use Rattle.papr_codes.specs.declared.calls.Hcall.{Hcall}
+use Rattle.papr_codes.specs.declared.calls.Hcall.TheVariants as calls
+use Rattle.papr_codes.specs.declared.codes.Rc.TheVariants as rc
+use Rattle.entry_model.specs.State.{State, empty_state}
+use Rattle.entry_model.specs.declared.operation.Op.{Op}
+use Rattle.entry_model.specs.declared.operation.Op.TheVariants as ops
+use Rattle.entry_model.specs.declared.operation.Answer.{Answer}
+use Rattle.entry_model.specs.declared.operation.Answer.TheVariants as answers
+use Rattle.entry_model.specs.declared.hreply.HReply.{HReply}
+use Rattle.entry_model.specs.declared.access_reply.AccessReply.{AccessReply}
+use Rattle.entry_model.specs.declared.receipt.Receipt.{Receipt}
+use Rattle.entry_model.specs.Receipt.{is_access, is_decided, is_no_match}
+use Rattle.entry_model.specs.Reply.{reply_of, change_to, change_where, entered_state, is_found}
+use Rattle.hpte_fields.specs.Fields.{protected_word, normal_words}
+use Rattle.entry_model.specs.Trial.{Call, call, IsTrial, Plan, IsReplyOf, plan_of_code}
+use Rattle.entry_model.proofs.Exact.{exact, same}
+use Rattle.frame_grants.specs.declared.grant.Grant.{Grant}
+use Rattle.h_enter.specs.Enter.{candidates, enter_plan}
+use Rattle.h_enter.specs.Checks.{suits_grants, words_plan, h_enter_plan}
+use Rattle.h_update.specs.Single.{single_plan, h_remove_plan, h_protect_plan, h_clear_ref_plan, h_clear_mod_plan, read_entries, h_read_plan}
+use Rattle.h_update.proofs.Tame.{h_bulk_remove_each}
+use Rattle.slb_model.specs.declared.segment.Segment.{Segment}
+use Rattle.hpt_walk.specs.Walk.{walk_calls}
+use Rattle.hpt_walk.specs.Access.{AccessContext, mode_for, IsWalk}
+use Rattle.hpt_walk.specs.declared.request.Request.{Request}
+use Rattle.run_model.specs.LineReplies.{hcall_plan}
+use Rattle.history_check.specs.Replay.{before_each, next_state, ReplayState, after_receipt, IsReplayed}
+
+-- ---- trials
+-- No call goes on behind an answer that used a translation.
+abbrev pub StopsAtDecided : (Answer → Bool) → List Call → Type 0
+StopsAtDecided goes cs = AllByRecursion (λ (c : Call). (s : State) → goes (reply_of s c.op).0 ≡ true → is_decided (reply_of s c.op).0 ≡ false) cs
+
+end_trial : (goes : Answer → Bool) (x y : Receipt) (cs : List Call) (xs ys : List Receipt) (P : Type 0) → x ≡ y → MatchBool (goes x.answer) (IsTrial goes cs xs) (xs ≡ []) → MatchBool (goes y.answer) (IsTrial goes cs ys) (ys ≡ []) → (goes x.answer ≡ true → IsTrial goes cs xs → IsTrial goes cs ys → P) → (xs ≡ [] → ys ≡ [] → P) → P
+end_trial goes x y cs xs ys P e h k on off = at (cases_Bool (goes x.answer)) where
+  at : (goes x.answer ≡ true) ⊎ (goes x.answer ≡ false) → P
+  at (inl q) = let q' : goes y.answer ≡ true = sym (ap (λ (r : Receipt). goes r.answer) e) ∙ q in on q (rw q at h) (rw q' at k)
+  at (inr q) = let q' : goes y.answer ≡ false = sym (ap (λ (r : Receipt). goes r.answer) e) ∙ q in off (rw q at h) (rw q' at k)
+
+neither : (a b : Bool) → a ≡ false → b ≡ false → (a || b) ≡ false
+neither a b h k = rw (h, k) refl
+
+-- xs was made on the states before of ys; then it is ys.
+pub replayed_trial : (goes : Answer → Bool) (cs : List Call) (a b : ReplayState) (xs ys : List Receipt) → StopsAtDecided goes cs → a.decided ≡ false → a.states ≡ before_each ys → IsReplayed a b xs → IsTrial goes cs xs → IsTrial goes cs ys → xs ≡ ys
+replayed_trial goes [] a b [] [] stops fresh given g h k = refl
+replayed_trial goes [] a b [] (y ∷ ys) stops fresh given g h k = absurd k
+replayed_trial goes [] a b (x ∷ xs) ys stops fresh given g h k = absurd h
+replayed_trial goes (c ∷ cs) a b [] ys stops fresh given g h k = absurd h
+replayed_trial goes (c ∷ cs) a b (x ∷ xs) [] stops fresh given g h k = absurd k
+replayed_trial goes (c ∷ cs) a b (x ∷ xs) (y ∷ ys) stops fresh given g h k =
+    let before : x.before ≡ y.before = g.0 fresh ∙ ap (λ l. next_state l x.op) given in
+    let head : x ≡ y = same x y.entry y.before y.op (h.0.entry ∙ sym k.0.entry) before (h.0.op ∙ sym k.0.op) ∙ sym (exact y) in
+    let told : x.answer ≡ (reply_of x.before c.op).0 = x.lawful ∙ ap (λ o. (reply_of x.before o).0) h.0.op in
+    let next : (after_receipt a x).states ≡ before_each ys = ap (λ (l : List State). drop 1 l) given in
+    let tail : xs ≡ ys = end_trial goes x y cs xs ys (xs ≡ ys) head h.1 k.1 (λ q h' k'. replayed_trial goes cs (after_receipt a x) b xs ys stops.1 (neither a.decided (is_decided x.answer) fresh (ap is_decided told ∙ stops.0 x.before (ap goes (sym told) ∙ q))) next g.2 h' k') (λ e f. e ∙ sym f) in
+    λ i. head i ∷ tail i
+
+-- ---- hypervisor calls
+either_P : (b : Bool) (p q : Answer × State) (P : Answer × State → Type 0) → P p → P q → P (if◌then◌else◌ {A = Answer × State} b p q)
+either_P true p q P h k = h
+either_P false p q P h k = k
+
+abbrev Undecided : Answer × State → Type 0
+Undecided x = is_decided x.0 ≡ false
+
+where_undecided : (found : Bool) (s : State) (answer : Answer) (next : State) → is_decided answer ≡ false → Undecided (change_where found s answer next)
+where_undecided found s answer next h = either_P found (change_to s answer next) (answers.NotFound, s) Undecided (either_P (s.stamp == 0xFFFFFFFF) (answers.Worn, s) (answer, record next { stamp = s.stamp + 1 }) Undecided refl h) refl
+
+-- Only accesses use a translation.
+others_undecided : (s : State) (op : Op) → is_access op ≡ false → is_decided (reply_of s op).0 ≡ false
+others_undecided s (ops.Enter a b) h = either_P s.valid (answers.Taken, s) (change_to s answers.Entered (entered_state a b)) Undecided refl (either_P (s.stamp == 0xFFFFFFFF) (answers.Worn, s) (answers.Entered, record (entered_state a b) { stamp = s.stamp + 1 }) Undecided refl refl)
+others_undecided s (ops.Remove test) h = where_undecided (is_found s test) s answers.Removed (empty_state 0) refl
+others_undecided s (ops.Protect test flags) h = where_undecided (is_found s test) s answers.Protected (record s { dword1 = protected_word s.dword1 flags }) refl
+others_undecided s ops.Read h = refl
+others_undecided s ops.ClearRef h = where_undecided s.valid s answers.Was (record s { referenced = false }) refl
+others_undecided s ops.ClearMod h = where_undecided s.valid s answers.Was (record s { changed = false }) refl
+others_undecided s (ops.Access t b k n w) h = cc
+
+-- The calls are no accesses.
+abbrev NoAccess : List Call → Type 0
+NoAccess cs = AllByRecursion (λ (c : Call). is_access c.op ≡ false) cs
+
+no_access_stops : (goes : Answer → Bool) (cs : List Call) → NoAccess cs → StopsAtDecided goes cs
+no_access_stops goes [] h = tt
+no_access_stops goes (c ∷ cs) h = ((λ s e. others_undecided s c.op h.0), no_access_stops goes cs h.1)
+
+each_call : (op : Op) (es : List ℕ) → is_access op ≡ false → NoAccess (map (call op) es)
+each_call op [] h = tt
+each_call op (e ∷ es) h = (h, each_call op es h)
+
+abbrev PlainPlan : Plan → Type 0
+PlainPlan p = NoAccess p.calls
+
+single_plain : (order ptex : ℕ) (op : Op) (words : Receipt → List ℕ) → is_access op ≡ false → PlainPlan (single_plan order ptex op words)
+single_plain order ptex op words h = cond_both (nat_lt ptex (2 ^ (order - 4))) _ (plan_of_code rc.Parameter) PlainPlan (λ _. (h, tt)) (λ _. tt)
+
+words_plain : (grants : List Grant) (flags ptex : ℕ) (w : Option (ℕ × ℕ)) → PlainPlan (words_plan grants flags ptex w)
+words_plain grants flags ptex None = tt
+words_plain grants flags ptex (Some w) = cond_both (suits_grants grants w.0 w.1) (enter_plan flags ptex w.0 w.1) (plan_of_code rc.Parameter) PlainPlan (λ _. each_call (ops.Enter w.0 w.1) (candidates flags ptex) refl) (λ _. tt)
+
+enter_plain : (order : ℕ) (grants : List Grant) (flags ptex pteh ptel : ℕ) → PlainPlan (h_enter_plan order grants flags ptex pteh ptel)
+unfolding h_enter_plan
+enter_plain order grants flags ptex pteh ptel = cond_both (nat_lt ptex (2 ^ (order - 4))) (words_plan grants flags ptex (normal_words pteh ptel)) (plan_of_code rc.Parameter) PlainPlan (λ _. words_plain grants flags ptex (normal_words pteh ptel)) (λ _. tt)
+
+read_plain : (order flags ptex : ℕ) → PlainPlan (h_read_plan order flags ptex)
+unfolding h_read_plan
+read_plain order flags ptex = cond_both (nat_lt ptex (2 ^ (order - 4))) _ (plan_of_code rc.Parameter) PlainPlan (λ _. each_call ops.Read (read_entries flags ptex) refl) (λ _. tt)
+
+hcall_plain : (set : AccessContext) (hcall : Hcall) (args : List ℕ) → PlainPlan (hcall_plan set hcall args)
+unfolding hcall_plan h_remove_plan h_protect_plan h_clear_ref_plan h_clear_mod_plan
+hcall_plain set calls.Enter args = enter_plain set.order set.grants (slice_index args 0) (slice_index args 1) (slice_index args 2) (slice_index args 3)
+hcall_plain set calls.Remove args = single_plain set.order (slice_index args 1) _ _ refl
+hcall_plain set calls.Protect args = single_plain set.order (slice_index args 1) _ _ refl
+hcall_plain set calls.Read args = read_plain set.order (slice_index args 0) (slice_index args 1)
+hcall_plain set calls.ClearRef args = single_plain set.order (slice_index args 1) _ _ refl
+hcall_plain set calls.ClearMod args = single_plain set.order (slice_index args 1) _ _ refl
+hcall_plain set calls.BulkRemove args = h_bulk_remove_each (λ op. is_access op ≡ false) set.order args (λ test. refl)
+hcall_plain set other args = tt
+
+-- A call that was made on the states before of a reply to it has that reply.
+pub call_replayed : (set : AccessContext) (hcall : Hcall) (args : List ℕ) (a b : ReplayState) (h k : HReply) → a.decided ≡ false → a.states ≡ before_each k.receipts → IsReplayed a b h.receipts → IsReplyOf (hcall_plan set hcall args) h → IsReplyOf (hcall_plan set hcall args) k → h ≡ k
+call_replayed set hcall args a b h k fresh given g x y =
+    let plan = hcall_plan set hcall args in
+    let e : h.receipts ≡ k.receipts = replayed_trial plan.goes_on plan.calls a b h.receipts k.receipts (no_access_stops plan.goes_on plan.calls (hcall_plain set hcall args)) fresh given g x.trial y.trial in
+    let t : (h.rc, h.words) ≡ (k.rc, k.words) = x.told ∙ ap plan.told e ∙ sym y.told in
+    λ i. record { rc = (t i).0; words = (t i).1; receipts = e i }
+
+-- ---- walks
+no_match_undecided : (a : Answer) → is_no_match a ≡ true → is_decided a ≡ false
+no_match_undecided answers.NoMatch h = refl
+no_match_undecided other h = cc
+
+pub walk_stops : (cs : List Call) → StopsAtDecided is_no_match cs
+walk_stops [] = tt
+walk_stops (c ∷ cs) = ((λ s e. no_match_undecided (reply_of s c.op).0 e), walk_stops cs)
+
+-- A walk that was made on the states before of a walk of the same page has its receipts.
+pub walk_replayed : (set : AccessContext) (seg : Segment) (reach : Request) (a b : ReplayState) (rs : List Receipt) (q : AccessReply) → a.decided ≡ false → a.states ≡ before_each q.receipts → IsReplayed a b rs → IsTrial is_no_match (walk_calls set.order seg.page (mode_for seg reach)) rs → IsWalk set seg reach q → rs ≡ q.receipts
+walk_replayed set seg reach a b rs q fresh given g x y =
+    let cs = walk_calls set.order seg.page (mode_for seg reach) in
+    replayed_trial is_no_match cs a b rs q.receipts (walk_stops cs) fresh given g x y.trial

@@ -1,0 +1,81 @@
+-- The marks of a section fix its states; and states that are so fixed make it legal.
+use Rattle.std.proofs.Common.{◌≡◌, ℕ, ◌<◌, ◌+◌, ◌*◌, List, [], ◌∷◌, Bool, true, false, ap, sym, ◌∙◌, refl, subst, ◌⊎◌, inl, inr, map, length, Option}
+use Rattle.std.specs.Prelude.{if◌then◌else◌, ◌==◌, ◌||◌, nat_le}
+use Rattle.std.specs.List.{AllByRecursion}
+use Rattle.std.proofs.lemmas.Bool.{cases_Bool}
+use Rattle.entry_model.specs.declared.operation.Answer.{Answer}
+use Rattle.entry_model.specs.declared.receipt.Receipt.{Receipt}
+use Rattle.entry_model.specs.Run.{state_at, IsRun}
+use Rattle.entry_model.proofs.Runs.{run-length}
+use Rattle.entry_model.specs.Trial.{Call, IsTrial}
+use Rattle.entry_model.specs.History.{IsLegal, history, place, pair_of, Regrouped}
+use Rattle.trace_reply.specs.Replies.{RepliedLine}
+use Rattle.run_model.specs.RunState.{RunState, states_of}
+use Rattle.run_model.specs.Histories.{closing_states}
+use Rattle.run_model.specs.Sections.{receipts_made, section_end}
+use Rattle.run_model.specs.GoodRun.{AreLegal}
+use Rattle.run_model.proofs.LowStamps.{closed_size}
+use Rattle.run_model.proofs.SectionGood.{closing_is, each_regrouped}
+use Rattle.receipt_text.specs.Receipts.{mark_of}
+use Rattle.history_check.specs.Replay.{before_each}
+use Rattle.history_check.specs.Steps.{ops_of, step_op, is_unchanged, place_by, step_of, steps_by, found_states, ending_states}
+use Rattle.history_check.proofs.Alike.{flag_of}
+use Rattle.history_check.proofs.Serialized.{Ascending, sorted_run, run_legal, run_fixes, fixed_run}
+
+-- ---- a section
+pub section_fixes : (w : RunState) (ts : List RepliedLine) (quiet : Option RepliedLine) (ms : List Receipt) → AreLegal (record { before = w; replied_lines = ts; quiet = quiet }) → Regrouped (receipts_made w ts) ms → Ascending ms → (before_each ms ≡ found_states (states_of w) (map step_of ms)) × (states_of (section_end w ts) ≡ ending_states (states_of w) (map step_of ms))
+section_fixes w ts quiet ms g same up =
+    run_fixes (states_of w) (states_of (section_end w ts)) ms (sorted_run (states_of w) (states_of (section_end w ts)) (receipts_made w ts) ms same up (closed_size w ts) g.in_table g.legal)
+
+closed_states : (w : RunState) (ts : List RepliedLine) → states_of (section_end w ts) ≡ closing_states (states_of w) (receipts_made w ts)
+unfolding section_end
+closed_states w ts = refl
+
+pub fixed_section : (w : RunState) (ts : List RepliedLine) (quiet : Option RepliedLine) (ms : List Receipt) → Regrouped ms (receipts_made w ts) → AllByRecursion (λ (r : Receipt). r.entry < length (states_of w)) ms → before_each ms ≡ found_states (states_of w) (map step_of ms) → AreLegal (record { before = w; replied_lines = ts; quiet = quiet }) × (states_of (section_end w ts) ≡ ending_states (states_of w) (map step_of ms))
+fixed_section w ts quiet ms same within found =
+    let a = states_of w in
+    let b = ending_states a (map step_of ms) in
+    let run : IsRun a ms b = fixed_run a ms within found in
+    let legal : (e : ℕ) → IsLegal (state_at a e) (history e (receipts_made w ts)) (state_at b e) = run_legal a b ms (receipts_made w ts) same run in
+    let close : states_of (section_end w ts) ≡ b = closed_states w ts ∙ closing_is a b (receipts_made w ts) (run-length a b ms run) (λ e k. legal e) in
+    (record { in_table = each_regrouped (λ (r : Receipt). r.entry < length a) same within; legal = λ e k. subst (λ s. IsLegal (state_at a e) (history e (receipts_made w ts)) (state_at s e)) (sym close) (legal e) }, close)
+
+-- ---- places by marks
+digit_first : (r c : Bool) → nat_le 2 ((if r then 2 else 0) + (if c then 1 else 0)) ≡ r
+digit_first true true = refl
+digit_first true false = refl
+digit_first false true = refl
+digit_first false false = refl
+
+abbrev odd : ℕ → Bool
+odd n = (n == 1) || (n == 3)
+
+digit_second : (r c : Bool) → odd ((if r then 2 else 0) + (if c then 1 else 0)) ≡ c
+digit_second true true = refl
+digit_second true false = refl
+digit_second false true = refl
+digit_second false false = refl
+
+pub place_is : (r : Receipt) → place r ≡ place_by (mark_of r) (step_op r.op)
+unfolding place pair_of place_by
+place_is r =
+    let s = r.before in
+    let one = digit_first s.referenced s.changed in
+    let two = digit_second s.referenced s.changed in
+    λ i. (s.stamp * 4 + ((if sym one i then 1 else 0) + (if sym two i then 1 else 0))) * 2 + (if (flag_of r ∙ (λ j. is_unchanged (step_op r.op) r.answer (sym one j) (sym two j))) i then 0 else 1)
+
+-- ---- steps by marks
+pub trial_steps : (goes : Answer → Bool) (cs : List Call) (rs : List Receipt) → IsTrial goes cs rs → map step_of rs ≡ steps_by (map mark_of rs) (ops_of cs)
+trial_steps goes [] [] h = refl
+trial_steps goes [] (r ∷ rs) h = absurd h
+trial_steps goes (c ∷ cs) [] h = refl
+trial_steps goes (c ∷ cs) (r ∷ rs) h =
+    let here : step_of r ≡ record { entry = r.entry; op = step_op c.op; answer = r.answer } = ap (λ o. record { entry = r.entry; op = step_op o; answer = r.answer }) h.0.op in
+    let rest : map step_of rs ≡ steps_by (map mark_of rs) (ops_of cs) = at (cases_Bool (goes r.answer)) (trial_steps goes cs rs) in
+    λ i. here i ∷ rest i where
+      none : rs ≡ [] → map step_of rs ≡ steps_by (map mark_of rs) (ops_of cs)
+      none e = subst (λ z. map step_of z ≡ steps_by (map mark_of z) (ops_of cs)) (sym e) refl
+
+      at : (goes r.answer ≡ true) ⊎ (goes r.answer ≡ false) → (IsTrial goes cs rs → map step_of rs ≡ steps_by (map mark_of rs) (ops_of cs)) → map step_of rs ≡ steps_by (map mark_of rs) (ops_of cs)
+      at (inl q) go = go (rw q at h.1)
+      at (inr q) go = none (rw q at h.1)

@@ -1,0 +1,11 @@
+pub mod ReplyMarks
+pub mod Verdict
+pub mod Laws
+pub mod Replay
+pub mod Ordered
+pub mod Steps
+pub mod Hits
+pub mod ReplayLaws
+pub mod FoundSection
+pub mod PlacedSteps
+pub mod OrderedSteps

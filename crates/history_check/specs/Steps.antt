@@ -1,0 +1,96 @@
+-- Receipts without their states before: what they make of states that nobody else changes.
+use Rattle.std.specs.Prelude.{ℕ, ◌+◌, ◌*◌, ◌==◌, ◌&&◌, ◌||◌, List, [], ◌∷◌, map, Bool, true, false, if◌then◌else◌, nat_le, slice_set}
+use Rattle.basics.specs.Words.{bool_eq}
+use Rattle.entry_model.specs.State.{State}
+use Rattle.entry_model.specs.declared.operation.Op.{Op}
+use Rattle.entry_model.specs.declared.operation.Op.TheVariants.{Access, Read}
+use Rattle.entry_model.specs.declared.operation.Answer.{Answer}
+use Rattle.entry_model.specs.declared.operation.Answer.TheVariants.{Entered, Removed, Protected, Was}
+use Rattle.entry_model.specs.declared.receipt.Receipt.{Receipt}
+use Rattle.entry_model.specs.Receipt.{is_at}
+use Rattle.entry_model.specs.Reply.{reply_of, touched_state, is_store}
+use Rattle.entry_model.specs.Run.{state_at}
+use Rattle.entry_model.specs.Trial.{Call}
+use Rattle.receipt_text.specs.declared.mark.Mark.{Mark}
+use Rattle.history_check.specs.declared.steps.Step.{Step}
+
+-- ---- operations of steps
+-- Of an access no more is kept than what it wants: by which segment and which entry it was made isn't known before the processor's lines are run.
+abbrev pub step_op : Op → Op
+step_op (Access tag base key no_execute want) = Access 0 0 false false want
+step_op other = other
+
+-- The state after, where this was the answer. An access that was allowed was on a valid state, and sets R, and a store C; any other changes nothing.
+unfoldable pub next_by : Op → Answer → State → State
+next_by (Access tag base key no_execute want) answer s =
+    if is_at answer && s.valid then touched_state s want else s
+next_by other answer s = (reply_of s other).1
+
+-- ---- steps
+-- A receipt without its state before.
+abbrev pub step_of : Receipt → Step
+step_of r = record { entry = r.entry; op = step_op r.op; answer = r.answer }
+
+-- The states after a step.
+abbrev pub after_step : List State → Step → List State
+after_step a x = slice_set a x.entry (next_by x.op x.answer (state_at a x.entry))
+
+-- The state that each step finds, in their order.
+abbrev pub found_states : List State → List Step → List State
+found_states a [] = []
+found_states a (x ∷ xs) = state_at a x.entry ∷ found_states (after_step a x) xs
+
+-- The states after all steps.
+abbrev pub ending_states : List State → List Step → List State
+ending_states a [] = a
+ending_states a (x ∷ xs) = ending_states (after_step a x) xs
+
+-- ---- places
+-- The answer says that the stamp was raised.
+abbrev pub raises_stamp : Answer → Bool
+raises_stamp Entered = true
+raises_stamp Removed = true
+raises_stamp Protected = true
+raises_stamp Was = true
+raises_stamp other = false
+
+-- The operation is a store of a processor.
+abbrev pub is_store_access : Op → Bool
+is_store_access (Access tag base key no_execute want) = is_store want
+is_store_access other = false
+
+-- Nothing was changed, as the answer and R and C before tell.
+abbrev pub is_unchanged : Op → Answer → Bool → Bool → Bool
+is_unchanged op answer r c =
+    if raises_stamp answer
+    then false
+    else
+    if is_at answer
+    then bool_eq true r && bool_eq (c || is_store_access op) c
+    else true
+
+-- How many of R and C the digit has.
+abbrev pub bit_count : ℕ → ℕ
+bit_count digit =
+    (if nat_le 2 digit then 1 else 0) + (if (digit == 1) || (digit == 3) then 1 else 0)
+
+-- The place of a receipt with this mark and this operation of a step.
+unfoldable pub place_by : Mark → Op → ℕ
+place_by m op =
+    (m.stamp * 4 + bit_count m.bits) * 2
+    + (if is_unchanged op m.answer (nat_le 2 m.bits) ((m.bits == 1) || (m.bits == 3))
+    then 0
+    else 1)
+
+-- ---- what a line's marks say of its receipts
+-- The operations of calls, in turn.
+abbrev pub ops_of : List Call → List Op
+ops_of cs = map (λ (c : Call). c.op) cs
+
+-- The steps that marks and the operations of the calls, in turn, make. Marks past the last call read their entry.
+abbrev pub steps_by : List Mark → List Op → List Step
+steps_by [] os = []
+steps_by (m ∷ ms) [] =
+    record { entry = m.entry; op = Read; answer = m.answer } ∷ steps_by ms []
+steps_by (m ∷ ms) (o ∷ os) =
+    record { entry = m.entry; op = step_op o; answer = m.answer } ∷ steps_by ms os

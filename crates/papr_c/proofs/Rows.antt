@@ -1,12 +1,12 @@
 -- Worked values of the definitions, which the checker computes.
-use Rattle.std.proofs.Common.{◌≡◌, ℕ, List, [], ◌∷◌, Bool, true, false, Some, None, refl, replicate, map}
+use Rattle.std.proofs.Common.{◌≡◌, ℕ, [], ◌∷◌, true, false, Some, None, refl, replicate}
 use Rattle.entry_model.specs.State.{State, empty_state}
 use Rattle.entry_model.specs.declared.operation.Op.TheVariants.{Remove}
 use Rattle.entry_model.specs.Receipt.{receipt_of}
 use Rattle.h_update.specs.Single.{h_remove_plan}
-use Rattle.frame_grants.specs.declared.error.GrantError.TheVariants.{Unaligned, Overlap}
+use Rattle.pool_range.specs.Ranges.{range_refusal}
+use Rattle.frame_grants.specs.Grants.{add_refusal, refusals, with_grant}
 use Rattle.frame_grants.specs.declared.grant.Kind.TheVariants.{Io}
-use Rattle.papr_c.specs.declared.receipts.PaprReceipt.{PaprReceipt}
 use Rattle.papr_c.specs.declared.grants.PaprGrant.{PaprGrant}
 use Rattle.papr_c.specs.Places.{filled, shown_receipt}
 use Rattle.papr_c.specs.Calls.{memory, refused_reply, outcome_of_call}
@@ -14,10 +14,10 @@ use Rattle.papr_c.specs.Grants.{making_of, making_told, range_told}
 use Rattle.papr_c.specs.Walks.{want_of}
 
 -- ---- places
-too_small : filled (1 ∷ 2 ∷ []) (7 ∷ 8 ∷ 9 ∷ []) ≡ 7 ∷ 8 ∷ []
+too_small : filled {X = ℕ} (1 ∷ 2 ∷ []) (7 ∷ 8 ∷ 9 ∷ []) ≡ 7 ∷ 8 ∷ []
 too_small = refl
 
-to_spare : filled (1 ∷ 2 ∷ 3 ∷ []) (7 ∷ []) ≡ 7 ∷ 2 ∷ 3 ∷ []
+to_spare : filled {X = ℕ} (1 ∷ 2 ∷ 3 ∷ []) (7 ∷ []) ≡ 7 ∷ 2 ∷ 3 ∷ []
 to_spare = refl
 
 -- ---- receipts
@@ -41,12 +41,12 @@ grant logical machine length = record { logical = logical; machine = machine; le
 
 -- The second of these isn't aligned.
 unaligned : making_told (making_of 0x1000000000 24 (grant 0 0x2000000000 0x1000 ∷ grant 0x1800 0x2000010000 0x1000 ∷ [])) ≡ record { index = 1; refusal = 2 }
-unfolding grant making_of
+unfolding grant making_of range_refusal add_refusal refusals with_grant
 unaligned = refl
 
 -- A pool of 2 ^ 17 bytes is none.
 small_pool : making_told (making_of 0x1000000000 17 []) ≡ record { index = 0; refusal = 7 }
-unfolding making_of
+unfolding making_of range_refusal
 small_pool = refl
 
 device : range_told (Some (0x20, Io)) ≡ record { machine = 0x20; granted = true; is_io = true }

@@ -1,4 +1,5 @@
--- What a hypervisor call of C leaves: its reply, the entries, and the places for words and receipts.
+-- What a hypervisor call of C leaves: its reply, the entries, and the places for words and
+-- receipts.
 use Rattle.std.specs.Prelude.{ℕ, ◌==◌, ◌&&◌, Bool, if◌then◌else◌, List, length, map, min}
 use Rattle.papr_codes.specs.ReturnCodes.{rc_code}
 use Rattle.papr_codes.specs.declared.codes.Rc.TheVariants.{Parameter}
@@ -34,16 +35,21 @@ reply_told reply words receipts = record {
 }
 
 -- ---- outcomes
--- The memory with these entries, and with the words and the receipts of the reply in the places, as far as they go.
+-- The memory with these entries, and with the words and the receipts of the reply in the places, as
+-- far as they go.
 abbrev pub memory_with : LentMemory → HReply → List State → LentMemory
 memory_with m reply entries =
-    memory entries (filled m.words reply.words) (filled m.receipts (map shown_receipt reply.receipts))
+    memory
+    entries
+    (filled m.words reply.words)
+    (filled m.receipts (map shown_receipt reply.receipts))
 
 -- By a reply and the entries after it.
 abbrev pub outcome_by : LentMemory → HReply × List State → PaprReply × LentMemory
 outcome_by m run = (reply_told run.0 m.words m.receipts, memory_with m run.0 run.1)
 
--- A call whose arguments are as they should be is the plan's run on the entries; otherwise it answers H_PARAMETER, and changes nothing.
+-- A call whose arguments are as they should be is the plan's run on the entries; otherwise it
+-- answers H_PARAMETER, and changes nothing.
 abbrev pub outcome_where : Bool → Plan → LentMemory → PaprReply × LentMemory
 outcome_where fits plan m =
     if fits then outcome_by m (plan_run plan m.entries) else (refused_reply, m)

@@ -36,7 +36,8 @@ no_fields = record { logical = 0; machine = 0; length = 0; is_io = false }
 abbrev pub fields_at : List PaprGrant → ℕ → PaprGrant
 fields_at grants index = slice_index_or grants index no_fields
 
--- The first `count` grants rise: each ends where the next begins, or before it, and its machine range ends at most at 2 ^ 60.
+-- The first `count` grants rise: each ends where the next begins, or before it, and its machine
+-- range ends at most at 2 ^ 60.
 pub record IsInOrder (grants : List PaprGrant) (count : ℕ) : Type 0 where
   pub rising :
       (j k : ℕ)
@@ -59,7 +60,8 @@ abbrev pub listed : List PaprGrant → ℕ → List Grant
 listed grants count = map grant_of (take count grants)
 
 -- ---- how a list is made
--- What becomes of it: the granted memory, or the index of the first grant that is refused, and why, or why there is no pool.
+-- What becomes of it: the granted memory, or the index of the first grant that is refused, and why,
+-- or why there is no pool.
 pub data Making : Type 0 where
   Made : GrantedMemory → Making
   Refused : ℕ → GrantError → Making

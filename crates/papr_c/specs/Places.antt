@@ -7,7 +7,8 @@ use Rattle.entry_model.specs.declared.operation.Answer.TheVariants.{Entered, Tak
 use Rattle.entry_model.specs.declared.receipt.Receipt.{Receipt}
 use Rattle.papr_c.specs.declared.receipts.PaprReceipt.{PaprReceipt}
 
--- The first places have the items, as many as there are places, and the places behind them are as they were.
+-- The first places have the items, as many as there are places, and the places behind them are as
+-- they were.
 abbrev pub filled : {X : Type 0} → List X → List X → List X
 filled places items = take (length places) items ++ drop (length items) places
 
@@ -30,7 +31,8 @@ answer_number Worn = 10
 abbrev pub bits_number : State → ℕ
 bits_number s = (if s.referenced then 2 else 0) + (if s.changed then 1 else 0)
 
--- The entry, what stood in it before, with R and C in doubleword 1 as H_READ shows them, and its answer.
+-- The entry, what stood in it before, with R and C in doubleword 1 as H_READ shows them, and its
+-- answer.
 abbrev pub shown_receipt : Receipt → PaprReceipt
 shown_receipt r = record {
   dword0 = (words_of r.before).0;

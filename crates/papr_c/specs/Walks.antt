@@ -43,7 +43,8 @@ page_of a = page_of_address a.one_tb a.vsid a.shift a.ea
 abbrev pub refused_walk : PaprWalk
 refused_walk = record { logical = 0; entry = 0; outcome = 3; receipts = 0 }
 
--- The end of a walk by the receipt that was found: allowed, at this logical address, or refused by the entry.
+-- The end of a walk by the receipt that was found: allowed, at this logical address, or refused by
+-- the entry.
 abbrev pub end_at : ℕ → Receipt → ℕ → PaprWalk
 end_at ea r receipts =
     if is_at r.answer

@@ -9,7 +9,8 @@ use entry_model::{EntryState, Receipts};
 use h_update::h_bulk_remove_into;
 
 /// H_BULK_REMOVE (LoPAR): takes four pairs of words, each a request to remove an entry and the word
-/// of its test. The words are all eight, with a response in place of each request that was taken up.
+/// of its test. The words are all eight, with a response in place of each request that was taken
+/// up.
 #[unsafe(no_mangle)]
 pub extern "C" fn papr_h_bulk_remove(
     entries: &mut [EntryState],

@@ -7,8 +7,8 @@ use frame_grants::{GrantError, Grants, Kind};
 use h_enter::GrantedMemory;
 use pool_range::{PoolRange, RangeError};
 
-/// Why a list of grants wasn't made: the number of the refusal, or 0, and the index of the grant that
-/// is refused.
+/// Why a list of grants wasn't made: the number of the refusal, or 0, and the index of the grant
+/// that is refused.
 #[repr(C)]
 #[derive(Clone, Copy)]
 pub struct PaprMaking {
@@ -51,8 +51,8 @@ fn pool_refusal_number(error: RangeError) -> u32
     }
 }
 
-/// Makes the list of these grants, beside the machine range of `2^pool_order` bytes from `pool_base`
-/// that is kept for page tables. Where one of them is refused the list stays as it was.
+/// Makes the list of these grants, beside the machine range of `2^pool_order` bytes from
+/// `pool_base` that is kept for page tables. Where one of them is refused the list stays as it was.
 #[unsafe(no_mangle)]
 pub extern "C" fn papr_make_grants(
     given: &[PaprGrant],
@@ -89,8 +89,8 @@ pub extern "C" fn papr_make_grants(
     }
 }
 
-/// The machine range of the `length` bytes from a logical address, where one grant of the list holds
-/// all of them.
+/// The machine range of the `length` bytes from a logical address, where one grant of the list
+/// holds all of them.
 #[unsafe(no_mangle)]
 pub extern "C" fn papr_machine_of(list: &PaprGrants, logical: u64, length: u64) -> PaprRange
     ensures { result

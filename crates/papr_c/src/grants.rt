@@ -69,8 +69,8 @@ impl PaprGrant {
     }
 }
 
-/// A list of at most 64 grants that was checked, in order of logical address. All zero is the list of
-/// none.
+/// A list of at most 64 grants that was checked, in order of logical address. All zero is the list
+/// of none.
 #[repr(C)]
 #[derive(Clone, Copy)]
 pub struct PaprGrants {
@@ -98,8 +98,8 @@ impl PaprGrants {
         }
     }
 
-    /// How many grants begin at or below the address. The list is halved, so this takes at most seven
-    /// looks.
+    /// How many grants begin at or below the address. The list is halved, so this takes at most
+    /// seven looks.
     fn count_below(&self, logical: u64) -> usize
         ensures bound { result ≤ self.now.count }
         ensures below { (k : ℕ)

@@ -3,8 +3,8 @@ ghost use Rattle.papr_c.specs.Places.{filled, answer_number, bits_number, shown_
 
 use entry_model::{Answer, EntryState, Receipt};
 
-/// One operation that was made on one entry, as C sees it. The two doublewords are those from before
-/// it, so that an emulator can drop from its own cache what it had of the entry.
+/// One operation that was made on one entry, as C sees it. The two doublewords are those from
+/// before it, so that an emulator can drop from its own cache what it had of the entry.
 #[repr(C)]
 #[derive(Clone, Copy)]
 pub struct PaprReceipt {

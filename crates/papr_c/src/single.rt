@@ -62,8 +62,8 @@ pub extern "C" fn papr_h_protect(
     hand_over(&registers, &made, words, receipts)
 }
 
-/// H_READ (LoPAR): the words are the two doublewords of the entry `ptex`, or under H_READ_4 those of
-/// the four entries that it lies among.
+/// H_READ (LoPAR): the words are the two doublewords of the entry `ptex`, or under H_READ_4 those
+/// of the four entries that it lies among.
 #[unsafe(no_mangle)]
 pub extern "C" fn papr_h_read(
     entries: &mut [EntryState],

@@ -110,8 +110,8 @@ impl PaprWalk {
     }
 }
 
-/// An access to `ea` by the entry of its page: the walk of the page's two groups, which records R and C
-/// in the entry.
+/// An access to `ea` by the entry of its page: the walk of the page's two groups, which records R
+/// and C in the entry.
 #[unsafe(no_mangle)]
 pub extern "C" fn papr_walk(
     entries: &mut [EntryState],

@@ -2,7 +2,9 @@
 #
 #   make                          build the program where it is missing or older than its sources
 #   make check                    run the examples and the tests of the tools
-#   make install PREFIX=/usr      install; DESTDIR is put in front of every path
+#   make install PREFIX=/usr      install; DESTDIR is put in front of every path. install-program leaves out the
+#                                 library for C, install-library installs it alone
+#   make library                  prove and build the library for C, over what earlier checks kept
 #   make uninstall PREFIX=/usr    take away what install put there
 #   make dist                     the committed sources as out/dist/papr-VERSION.tar.gz
 #   make deb                      a Debian package of the program, out/dist/papr_VERSION_ARCHITECTURE.deb
@@ -10,6 +12,7 @@
 PREFIX ?= /usr/local
 DESTDIR ?=
 PROGRAM ?= crates/papr_main/out/papr_main
+LIBRARY ?= crates/papr_c/out/libpapr_c.a
 INSTALL ?= install
 VERSION := $(shell cat VERSION)
 
@@ -22,6 +25,8 @@ exampledir = $(docdir)/examples
 bashdir = $(share)/bash-completion/completions
 zshdir = $(share)/zsh/site-functions
 fishdir = $(share)/fish/vendor_completions.d
+libdir = $(DESTDIR)$(PREFIX)/lib
+includedir = $(DESTDIR)$(PREFIX)/include
 dist = out/dist
 
 # A tool's name behind papr-, and its file in tools/.
@@ -33,11 +38,13 @@ commands = $(foreach tool,$(tools),papr-$(call tool_name,$(tool)))
 tool_files = $(foreach tool,$(tools),tools/$(call tool_file,$(tool)))
 modules = tools/common.py tools/grants.py tools/replies.py tools/svg.py
 pages = man/papr.1 $(commands:%=man/%.1)
-examples = $(wildcard examples/*)
+examples = $(filter-out examples/c examples/rust,$(wildcard examples/*))
+sources_c = $(wildcard examples/c/*)
+sources_rust = $(wildcard examples/rust/*)
 texts = README.md CHANGELOG.md CONTRIBUTING.md LICENSE-APACHE LICENSE-MIT
 documents = $(wildcard docs/*.md docs/*.svg)
 
-.PHONY: all check install uninstall dist deb
+.PHONY: all check install install-program install-library library uninstall dist deb
 
 all:
 	./papr run <examples/first.trace >/dev/null
@@ -49,7 +56,37 @@ check: all
 $(PROGRAM):
 	./papr run <examples/first.trace >/dev/null
 
-install: $(PROGRAM)
+# Proves the library and those below it, and builds it.
+library:
+	cd crates/papr_c && rt lib
+
+$(LIBRARY):
+	$(MAKE) library
+
+define pc_file
+prefix=$(PREFIX)
+libdir=$${prefix}/lib
+includedir=$${prefix}/include
+
+Name: papr_c
+Description: the hypervisor side of the hashed page table of a paravirtual Power guest, proved
+Version: $(VERSION)
+Libs: -L$${libdir} -lpapr_c
+Cflags: -I$${includedir}
+endef
+export pc_file
+
+install: install-program install-library
+
+install-library: $(LIBRARY)
+	$(INSTALL) -d $(libdir)/pkgconfig $(includedir) $(exampledir)/c $(exampledir)/rust
+	$(INSTALL) -m 644 $(LIBRARY) $(libdir)/libpapr_c.a
+	$(INSTALL) -m 644 include/papr.h $(includedir)/papr.h
+	printf '%s\n' "$$pc_file" >$(libdir)/pkgconfig/papr_c.pc
+	$(INSTALL) -m 644 $(sources_c) $(exampledir)/c
+	$(INSTALL) -m 644 $(sources_rust) $(exampledir)/rust
+
+install-program: $(PROGRAM)
 	$(INSTALL) -d $(bindir) $(tooldir) $(mandir) $(docdir)/docs $(exampledir) $(bashdir) $(zshdir) $(fishdir)
 	$(INSTALL) -m 755 $(PROGRAM) $(bindir)/papr
 	$(INSTALL) -m 755 $(tool_files) $(tooldir)
@@ -72,7 +109,9 @@ uninstall:
 	rm -f $(addprefix $(fishdir)/,papr.fish $(addsuffix .fish,$(commands)))
 	rm -f $(addprefix $(tooldir)/,$(notdir $(tool_files) $(modules))) $(tooldir)/__pycache__/*
 	rm -f $(addprefix $(docdir)/,$(texts) $(documents) $(examples))
-	rmdir $(exampledir) $(docdir)/docs $(docdir) $(tooldir)/__pycache__ $(tooldir) 2>/dev/null || true
+	rm -f $(libdir)/libpapr_c.a $(libdir)/pkgconfig/papr_c.pc $(includedir)/papr.h
+	rm -f $(addprefix $(docdir)/,$(sources_c) $(sources_rust))
+	rmdir $(exampledir)/c $(exampledir)/rust $(exampledir) $(docdir)/docs $(docdir) $(tooldir)/__pycache__ $(tooldir) 2>/dev/null || true
 
 dist:
 	mkdir -p $(dist)

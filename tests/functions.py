@@ -2,7 +2,7 @@
 import os
 import re
 
-FUNCTION = re.compile(r'^( {0,4})(pub )?(?:const )?fn (\w+)')
+FUNCTION = re.compile(r'^( {0,4})(pub )?(?:const )?(?:extern "C" )?fn (\w+)')
 OWNER = re.compile(r'^(?:pub )?(?:impl|trait)\b')
 CLAUSE = re.compile(r'^\s+(requires|ensures)(?: (\w+))? \{')
 EXPORT = re.compile(r'^pub use ([\w:]+)::(?:\{([^}]*)\}|(\w+));', re.M | re.S)

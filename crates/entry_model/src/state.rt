@@ -3,8 +3,11 @@ ghost use Rattle.std.specs.Prelude.{◌≡◌};
 use hpte_fields::{CHANGED, REFERENCED};
 use std::marker::Model;
 
-/// The state of one page table entry. It is written in one way: R and C stand apart from
-/// doubleword 1, and an entry that isn't valid has neither words nor bits.
+/// The state of one page table entry. It is written in one way: R and C stand apart from doubleword
+/// 1, and an entry that isn't valid has neither words nor bits. It lies in memory as C lays a
+/// struct of these fields, in 24 bytes, so that C can lend a table of them; all zero is an empty
+/// one.
+#[repr(C)]
 #[derive(Clone, Copy, PartialEq, Eq, Debug)]
 pub struct EntryState {
     // Fields lie in memory in this order: the wide ones first, so that no room is lost.

@@ -1,4 +1,4 @@
-ghost use Rattle.std.specs.Prelude.{◌≡◌, ◌+◌, ◌≤◌, ◌%◌, ◌^◌, true, Some, None, IfSome, find, count_by, MatchResult, OnOk, OnErr};
+ghost use Rattle.std.specs.Prelude.{◌≡◌, ◌+◌, ◌≤◌, ◌%◌, ◌^◌, true, Some, None, IfSome, find, count_by, length, MatchResult, OnOk, OnErr};
 ghost use Rattle.std.specs.List.{list_any};
 ghost use Rattle.pool_range.specs.Ranges.{IsPoolRange};
 ghost use Rattle.frame_grants.specs.Grants.{no_grants, overlaps, meets_pool, add_refusal, starts_below, with_grant, holds, machine_range, IsPlaced, AreApart, IsSound};
@@ -76,9 +76,10 @@ impl Grants {
         Some((grant.machine + (logical - grant.logical), grant.kind))
     }
 
-    /// The grants in order of logical address.
+    /// The grants in order of logical address, at most 64.
     pub fn list(&self) -> &[Grant]
         ensures items { result.now ≡ self.now.grants }
+        ensures few { length result.now ≤ 64 }
         ensures apart { AreApart self.now }
         ensures sound { IsSound self.now }
     {

@@ -3,6 +3,7 @@ ghost use Rattle.entry_model.specs.Replies.{reply_with};
 ghost use Rattle.entry_model.specs.Trial.{IsReplyOf};
 ghost use Rattle.h_enter.specs.Checks.{suits_kind, suits_grants, h_enter_plan};
 
+use crate::granted::GrantedMemory;
 use crate::words::enter_words_into;
 use entry_model::{EntryStore, HReply, Receipts, Registers};
 use frame_grants::{Grants, Kind};
@@ -31,8 +32,9 @@ fn suits_kind(wimg: u8, kind: Kind) -> bool
 
 /// Whether one grant holds the whole page that the words map, and its storage control bits suit it.
 #[tactic(auto, unfolding(crate::specs::Checks::suits_grants))]
-fn suits_grants(grants: &Grants, dword0: u64, dword1: u64) -> bool
-    ensures { result ≡ Rattle.h_enter.specs.Checks.suits_grants grants.now.grants dword0 dword1 }
+fn suits_grants<G: GrantedMemory>(grants: &G, dword0: u64, dword1: u64) -> bool
+    ensures { result
+        ≡ Rattle.h_enter.specs.Checks.suits_grants (G.grants grants.now) dword0 dword1 }
 {
     let Some(size) = decode(dword0, dword1) else {
         return false;
@@ -46,7 +48,6 @@ fn suits_grants(grants: &Grants, dword0: u64, dword1: u64) -> bool
 /// [`h_enter`] with its receipts put into `receipts`, in place of what was there.
 // Out of line: docs/PERFORMANCE.md says why.
 #[inline(never)]
-#[tactic(auto, unfolding(crate::specs::Checks::h_enter_plan))]
 pub fn h_enter_into<T: EntryStore>(
     store: &mut T,
     grants: &Grants,
@@ -59,6 +60,25 @@ pub fn h_enter_into<T: EntryStore>(
     ensures made { T.made store.old store.new receipts.new }
     ensures reply { IsReplyOf
         (h_enter_plan (T.table_order store.old) grants.now.grants flags ptex pteh ptel)
+        (reply_with result receipts.new) }
+{
+    h_enter_granted_into(store, grants, flags, ptex, pteh, ptel, receipts)
+}
+
+/// [`h_enter_into`] by grants that its caller keeps in a form of its own.
+#[tactic(auto, unfolding(crate::specs::Checks::h_enter_plan))]
+pub fn h_enter_granted_into<T: EntryStore, G: GrantedMemory>(
+    store: &mut T,
+    grants: &G,
+    flags: u64,
+    ptex: u64,
+    pteh: u64,
+    ptel: u64,
+    receipts: &mut Receipts,
+) -> Registers
+    ensures made { T.made store.old store.new receipts.new }
+    ensures reply { IsReplyOf
+        (h_enter_plan (T.table_order store.old) (G.grants grants.now) flags ptex pteh ptel)
         (reply_with result receipts.new) }
 {
     receipts.clear();

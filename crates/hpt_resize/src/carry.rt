@@ -50,9 +50,38 @@ pub fn rehash(
     ensures length { vec_len into.new ≡ vec_len into.old }
     ensures capacity { vec_capacity into.new ≡ vec_capacity into.old }
 {
+    rehash_into(order_from, order_to, states, into.as_mut_slice())
+}
+
+/// [`rehash`] into entries of the caller, all of them empty before.
+pub fn rehash_into(
+    order_from: u8,
+    order_to: u8,
+    states: &[EntryState],
+    into: &mut [EntryState],
+) -> Result<(), Collision>
+    requires from_low { 18 ≤ order_from }
+    requires from_high { order_from ≤ 22 }
+    requires to_low { 18 ≤ order_to }
+    requires to_high { order_to ≤ 22 }
+    requires whole { length states.now ≡ entry_count order_from }
+    requires empty { into.old ≡ replicate (entry_count order_to) (empty_state 0) }
+    ensures told { MatchResult
+        result
+        (λ _. collision_of order_from order_to states.now ≡ None)
+        (λ collision. collision_of order_from order_to states.now ≡ Some collision) }
+    ensures meet { IfErr result (IsCollision order_from order_to states.now) }
+    ensures placed { MatchResult
+        result
+        (λ _. IsPlacedBelow order_from order_to states.now into.new (length states.now))
+        (λ collision. IsPlacedBelow order_from order_to states.now into.new collision.second) }
+    ensures carried { OnOk result (into.new ≡ rehashed_states order_from order_to states.now) }
+    ensures never { order_from ≤ order_to → IsOk result }
+{
     for index in 0..states.len() {
         if let Some(target) = target_index(order_from, order_to, &states[index], index) {
-            if into[target].valid {
+            let standing = into[target];
+            if standing.valid {
                 return Err(Collision {
                     first: first(order_from, order_to, states, index, target) as u32,
                     second: index as u32,

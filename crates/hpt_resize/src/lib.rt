@@ -9,6 +9,6 @@ mod current;
 mod pending;
 mod prepared;
 
-pub use carry::{Collision, rehash};
+pub use carry::{Collision, rehash, rehash_into};
 pub use current::{CommitAnswer, Current};
 pub use prepared::Resize;

@@ -9,3 +9,4 @@ pub mod PageUses
 pub mod Unchanged
 mod Rows
 pub mod Finding
+pub mod Offsets

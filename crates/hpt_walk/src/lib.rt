@@ -6,6 +6,7 @@
 
 mod access;
 mod laws;
+mod logical;
 mod request;
 mod walking;
 
@@ -15,5 +16,6 @@ pub use laws::{
     lines_match_accesses, only_at_changes_entries, other_pages_dont_match, walk_finds_first,
     walks_give_lines, walks_use_their_page,
 };
+pub use logical::logical_of;
 pub use request::Request;
 pub use walking::{WalkAnswer, walk, walk_into};

@@ -1,6 +1,3 @@
-ghost use Rattle.std.specs.Prelude.{◌≡◌};
-ghost use Rattle.hpte_fields.specs.Fields.{valid_bit, secondary_bit, bolted_bit, tag_mask, referenced_bit, changed_bit};
-
 /// V, in doubleword 0: the entry is valid.
 pub const VALID: u64 = 0x01;
 
@@ -18,13 +15,3 @@ pub const REFERENCED: u64 = 0x100;
 
 /// C, in doubleword 1: the page was changed.
 pub const CHANGED: u64 = 0x80;
-
-/// Each constant is the bit, or the bits, of the definitions. It does nothing.
-pub fn bits_are_those_of_the_fields()
-    ensures valid { VALID ≡ valid_bit }
-    ensures secondary { SECONDARY ≡ secondary_bit }
-    ensures bolted { BOLTED ≡ bolted_bit }
-    ensures tag { TAG ≡ tag_mask }
-    ensures referenced { REFERENCED ≡ referenced_bit }
-    ensures changed { CHANGED ≡ changed_bit }
-{}

@@ -5,12 +5,14 @@
 
 mod bits;
 mod first;
+mod laws;
 mod second;
 mod stored;
 mod table_size;
 
-pub use bits::{BOLTED, CHANGED, REFERENCED, SECONDARY, TAG, VALID, bits_are_those_of_the_fields};
+pub use bits::{BOLTED, CHANGED, REFERENCED, SECONDARY, TAG, VALID};
 pub use first::{bolted, one_tb, secondary, tag_of};
+pub use laws::constants_are_as_defined;
 pub use second::{frame, key, no_execute, pp, protected, wimg};
 pub use stored::normal;
 pub use table_size::{GROUP_SIZE, entry_count};

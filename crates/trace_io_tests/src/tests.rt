@@ -27,6 +27,15 @@ fn reads_the_whole_in_pieces(rt: HostRuntime) -> Result<(), AllocError> {
     Ok(())
 }
 
+/// Three reads give the text, and the fourth its end; a fifth would fail.
+#[test]
+fn no_read_follows_the_end(rt: HostRuntime) -> Result<(), AllocError> {
+    let mut source = source(rt.alloc(), 10, &[5])?;
+    let read = read_all(rt.alloc(), &mut source, TEXT.len());
+    assert!(rt; read.is_ok_and(|all| all.as_slice() == TEXT));
+    Ok(())
+}
+
 #[test]
 fn reads_more_than_its_buffer_holds(rt: HostRuntime) -> Result<(), AllocError> {
     let mut bytes = Vec::new(rt.alloc());

@@ -3,10 +3,6 @@ pub mod Holding
 pub mod Resizing
 pub mod RunSteps
 pub mod Assured
-mod RunRows
-mod CallRows
-mod QuietRows
-mod WholeRows
 pub mod WorkSteps
 pub mod NewWorkers
 pub mod CountedReplies
@@ -14,6 +10,7 @@ pub mod CountedWorkers
 pub mod JoinedWorkers
 pub mod MergedReplies
 pub mod Numbered
+pub mod DealtLines
 pub mod WorkerGroups
 pub mod SectionWork
 pub mod SectionPromises

@@ -155,8 +155,8 @@ merging_all keeps has lines k count picks logs old new end m =
       };
     }
 
--- A line's own processor has it.
-pub each_line : (P : TraceLine → Type 0) (lines : List TraceLine) (i : ℕ) (d : TraceLine) → AllByRecursion P lines → i < length lines → P (get_or lines i d)
-each_line P [] i d h k = absurd (omega arith)
-each_line P (l ∷ ls) zero d h k = h.0
-each_line P (l ∷ ls) (suc i) d h k = each_line P ls i d h.1 (omega arith)
+-- What each of a list has, the one at an index has.
+pub each_at : {A : Type 0} (P : A → Type 0) (xs : List A) (i : ℕ) (d : A) → AllByRecursion P xs → i < length xs → P (get_or xs i d)
+each_at P [] i d h k = absurd (omega arith)
+each_at P (x ∷ xs) zero d h k = h.0
+each_at P (x ∷ xs) (suc i) d h k = each_at P xs i d h.1 (omega arith)

@@ -15,7 +15,7 @@ use Rattle.tlb_model.specs.Processor.{Processor}
 use Rattle.trace_read.specs.declared.trace.TraceLine.{TraceLine}
 use Rattle.trace_runner.specs.declared.worker.Worker.{Worker}
 use Rattle.trace_runner.specs.MachineState.{Holding}
-use Rattle.trace_runner.specs.Workers.{Keeping, lines_of_cpu, IsFresh, IsRest, IsSeenBy, HasRun, IsReady}
+use Rattle.trace_runner.specs.Workers.{Keeping, lines_of_cpu, IsFresh, IsRest, IsSeenBy, HasRun, AreOwn, IsReady}
 use Rattle.trace_runner.proofs.SectionWork.{below_or}
 
 pub holds_inside : (a : List State) (line : Line) → Holding a line → line.entry < length a
@@ -33,9 +33,9 @@ nil_of (x ∷ xs) e = absurd (omega (arith, e))
 
 pub worker_starts : {L : Type 0} (keeps : Keeping L) (room_in : L → ℕ) (set : AccessContext) (table : LockTable) (n : ℕ) (lines : List TraceLine) (w : Worker L) (pass : Pass) (cpu : Processor)
     → length table.opening.items ≡ 2 ^ (table.order - 4) → AllCached (Holding table.opening.items) cpu.cache → IsFresh table 1 pass
-    → (w.cpu ≡ cpu) × (w.before.value ≡ cpu) → w.pass ≡ Some pass → keeps w.log [] [] → 0 < length (lines_of_cpu n lines) → length (lines_of_cpu n lines) ≤ room_in w.log
+    → (w.cpu ≡ cpu) × (w.before.value ≡ cpu) → w.pass ≡ Some pass → AreOwn lines n w.own.items → keeps w.log [] [] → 0 < length (lines_of_cpu n lines) → length (lines_of_cpu n lines) ≤ room_in w.log
     → IsReady keeps room_in set table n lines w
-worker_starts keeps room_in set table n lines w pass cpu size holds first processors is none some room = inr (record {
+worker_starts keeps room_in set table n lines w pass cpu size holds first processors is own none some room = inr (record {
   some = λ e. absurd (let zero_count = ap length e in omega (arith, some, zero_count));
   fresh = subst (λ (o : Option Pass). IsSomeAnd o (HasRun set table n [] [] w)) (sym is) (record {
     of = first.of;
@@ -47,6 +47,7 @@ worker_starts keeps room_in set table n lines w pass cpu size holds first proces
     processor = processors.0 ∙ sym processors.1;
     seen = subst (λ (s : Processor). AllCached (IsSeenBy table pass) s.cache) (sym processors.0) (all_cached_weaker (Holding table.opening.items) (IsSeenBy table pass) (λ line h. record { inside = subst (λ m. line.entry < m) size (holds_inside table.opening.items line h); seen = inr h }) cpu.cache holds);
   });
+  own = own;
   none = none;
   room = room;
 })

@@ -1,5 +1,5 @@
 -- Facts of each of a list by its number.
-use Rattle.std.proofs.Common.{◌≡◌, ℕ, suc, ◌+◌, ◌<◌, ◌≤◌, List, [], ◌∷◌, ◌++◌, length, map, cond, eqb, refl, subst, arith}
+use Rattle.std.proofs.Common.{◌≡◌, ◌≢◌, ℕ, zero, suc, ◌+◌, ◌<◌, ◌≤◌, List, [], ◌∷◌, ◌++◌, length, map, get_or, set, cond, eqb, refl, sym, ◌∙◌, subst, arith}
 use Rattle.std.proofs.lemmas.Bool.{eq-eqb}
 use Rattle.std.specs.List.{AllByRecursion}
 use Rattle.trace_runner.specs.Workers.{AllNumbered}
@@ -44,6 +44,19 @@ all_of P n (x ∷ xs) f = (f n (omega arith), all_of P (suc n) xs (λ k low. f k
 all_later : {A : Type 0} (P Q : ℕ → A → Type 0) (n m : ℕ) (xs : List A) → ((k : ℕ) (x : A) → n ≤ k → P k x → Q k x) → n ≤ m → AllNumbered P m xs → AllNumbered Q m xs
 all_later P Q n m [] f low h = tt
 all_later P Q n m (x ∷ xs) f low h = (f m x low h.0, all_later P Q n (suc m) xs f (omega (arith, low)) h.1)
+
+-- One of them is changed.
+pub all_set : {A : Type 0} (P Q : ℕ → A → Type 0) (n m i : ℕ) (xs : List A) (x y : A) → m ≡ n + i → i < length xs → x ≡ get_or xs i x → ((k : ℕ) (z : A) → k ≢ m → P k z → Q k z) → (P m x → Q m y) → AllNumbered P n xs → AllNumbered Q n (set xs i y)
+all_set P Q n m i [] x y e low is other here h = absurd (omega (arith, low))
+all_set P Q n m zero (z ∷ zs) x y e low is other here h =
+    let same : m ≡ n = omega (arith, e) in (
+      subst (λ k. Q k y) same (here (subst (λ k. P k x) (sym same) (subst (P n) (sym is) h.0))),
+      all_later P Q (suc n) (suc n) zs (λ k a low p. other k a (λ at. absurd (omega (arith, low, at, same))) p) (omega arith) h.1,
+    )
+all_set P Q n m (suc i) (z ∷ zs) x y e low is other here h = (
+  other n z (λ at. absurd (omega (arith, at, e))) h.0,
+  all_set P Q (suc n) m i zs x y (omega (arith, e)) (omega (arith, low)) is other here h.1,
+)
 
 -- ---- what each has
 -- By its number one thing is picked for each, of which it has the fact.

@@ -1,5 +1,5 @@
 -- A processor of a section, one line on.
-use Rattle.std.proofs.Common.{◌≡◌, ◌≢◌, ℕ, zero, suc, ◌+◌, ◌-◌, ◌^◌, ◌<◌, ◌≤◌, List, [], ◌∷◌, ◌++◌, length, take, get_or, if◌then◌else◌, true, false, ap, sym, ◌∙◌, refl, subst, ◌⊎◌, inl, inr, eqb, arith, append-nil, append_assoc, All}
+use Rattle.std.proofs.Common.{◌≡◌, ◌≢◌, ℕ, zero, suc, ◌+◌, ◌-◌, ◌^◌, ◌<◌, ◌≤◌, List, [], ◌∷◌, ◌++◌, length, take, get_or, if◌then◌else◌, true, false, ap, sym, ◌∙◌, refl, subst, ◌⊎◌, inl, inr, eqb, arith, append-nil, append_assoc, All, Option, Some, None}
 use Rattle.std.proofs.lemmas.List.Elements.{All-head, All-tail}
 use Rattle.std.specs.Prelude.{IfSome}
 use Rattle.std.specs.List.{AllByRecursion}
@@ -28,7 +28,7 @@ use Rattle.run_model.specs.Sections.{processor_after_lines}
 use Rattle.run_model.specs.Histories.{receipts_by}
 use Rattle.run_model.specs.ParallelRun.{WorksLine, Works}
 use Rattle.trace_runner.specs.declared.worker.Worker.{Worker}
-use Rattle.trace_runner.specs.Workers.{replied_line, lines_of_cpu, replied_lines_of_cpu, IsSeenBy, HasRun}
+use Rattle.trace_runner.specs.Workers.{Keeping, replied_line, lines_of_cpu, replied_lines_of_cpu, IsSeenBy, HasRun, HasStart, IsReady}
 
 -- ---- lists of replied_lines
 pub replied_lines_more : (ls ms : List TraceLine) (rs ss : List Reply) → AreReplies ls rs → lines_with_replies (ls ++ ms) (rs ++ ss) ≡ lines_with_replies ls rs ++ lines_with_replies ms ss
@@ -74,29 +74,6 @@ own_more cpu lines k d within own = filter_more (λ (l : TraceLine). eqb l.cpu c
 pub own_same : (cpu : ℕ) (lines : List TraceLine) (k : ℕ) (d : TraceLine) → k < length lines → eqb (get_or lines k d).cpu cpu ≡ false → lines_of_cpu cpu (take (k + 1) lines) ≡ lines_of_cpu cpu (take k lines)
 own_same cpu lines k d within other = filter_more (λ (l : TraceLine). eqb l.cpu cpu) lines k d within ∙ ap (λ b. lines_of_cpu cpu (take k lines) ++ (if b then get_or lines k d ∷ [] else [])) other ∙ append-nil (lines_of_cpu cpu (take k lines))
 
-pub own_room : (cpu : ℕ) (lines : List TraceLine) (k : ℕ) (d : TraceLine) → k < length lines → eqb (get_or lines k d).cpu cpu ≡ true → length (lines_of_cpu cpu (take k lines)) < length (lines_of_cpu cpu lines)
-own_room cpu [] k d h e = absurd (omega arith)
-own_room cpu (l ∷ ls) zero d h e = rw e (omega arith)
-own_room cpu (l ∷ ls) (suc k) d h e = at (cases_Bool (eqb l.cpu cpu)) (own_room cpu ls k d (omega arith) e) where
-  at : (eqb l.cpu cpu ≡ true) ⊎ (eqb l.cpu cpu ≡ false) → length (lines_of_cpu cpu (take k ls)) < length (lines_of_cpu cpu ls) → length (lines_of_cpu cpu (take (suc k) (l ∷ ls))) < length (lines_of_cpu cpu (l ∷ ls))
-  at (inl own) rest = rw own (omega (arith, rest))
-  at (inr other) rest = rw other rest
-
-pub own_few : (cpu : ℕ) (lines : List TraceLine) → length (lines_of_cpu cpu lines) ≤ length lines
-own_few cpu [] = omega arith
-own_few cpu (l ∷ ls) = at (cases_Bool (eqb l.cpu cpu)) (own_few cpu ls) where
-  at : (eqb l.cpu cpu ≡ true) ⊎ (eqb l.cpu cpu ≡ false) → length (lines_of_cpu cpu ls) ≤ length ls → length (lines_of_cpu cpu (l ∷ ls)) ≤ length (l ∷ ls)
-  at (inl own) rest = rw own (omega (arith, rest))
-  at (inr other) rest = rw other (omega (arith, rest))
-
-pub own_few_front : (cpu : ℕ) (lines : List TraceLine) (k : ℕ) → length (lines_of_cpu cpu (take k lines)) ≤ length lines
-own_few_front cpu lines zero = omega arith
-own_few_front cpu [] (suc k) = omega arith
-own_few_front cpu (l ∷ ls) (suc k) = at (cases_Bool (eqb l.cpu cpu)) (own_few_front cpu ls k) where
-  at : (eqb l.cpu cpu ≡ true) ⊎ (eqb l.cpu cpu ≡ false) → length (lines_of_cpu cpu (take k ls)) ≤ length ls → length (lines_of_cpu cpu (l ∷ take k ls)) ≤ length (l ∷ ls)
-  at (inl own) rest = rw own (omega (arith, rest))
-  at (inr other) rest = rw other (omega (arith, rest))
-
 -- ---- receipts
 pub all_in : (order n : ℕ) (rs : List Receipt) → n ≡ entry_count order → All (IsInTable order) rs → AllByRecursion (λ (r : Receipt). r.entry < n) rs
 all_in order n [] e h = tt
@@ -106,21 +83,26 @@ pub kept_size : (f g : List ℕ) (rs : List Receipt) (n : ℕ) → KeepsFronts f
 kept_size f g rs n keeps size = (keeps_below f g rs keeps).size ∙ size
 
 -- ---- one line on
--- A line of another processor.
-pub other_run : {L : Type 0} (set : AccessContext) (table : LockTable) (cpu : ℕ) (lines : List TraceLine) (k : ℕ) (d : TraceLine) (rs : List Reply) (w : Worker L) (pass : Pass) → k < length lines → eqb (get_or lines k d).cpu cpu ≡ false → HasRun set table cpu (take k lines) rs w pass → HasRun set table cpu (take (k + 1) lines) rs w pass
-other_run set table cpu lines k d rs w pass within other h =
-    let e = sym (own_same cpu lines k d within other) in
-    record {
-      of = h.of;
-      share = h.share;
-      made = subst (λ ls. (view_of pass).actor.receipts ≡ receipts_by (lines_with_replies ls rs)) e h.made;
-      kinds = subst (λ ls. AreReplies ls rs) e h.kinds;
-      works = subst (λ ls. Works set (opening_fronts table.opening.items) w.before.value (lines_with_replies ls rs) (view_of pass).fronts) e h.works;
-      size = h.size;
-      processor = subst (λ ls. w.cpu ≡ processor_after_lines w.before.value (lines_with_replies ls rs)) e h.processor;
-      seen = h.seen;
-    }
+-- What it has run of its own lines it has run of any among which it has just these.
+pub same_run : {L : Type 0} (set : AccessContext) (table : LockTable) (cpu : ℕ) (one other : List TraceLine) (rs : List Reply) (w v : Worker L) (pass : Pass) → lines_of_cpu cpu one ≡ lines_of_cpu cpu other → v.cpu ≡ w.cpu → v.before.value ≡ w.before.value → HasRun set table cpu one rs w pass → HasRun set table cpu other rs v pass
+same_run set table cpu one other rs w v pass e same before h = record {
+  of = h.of;
+  share = h.share;
+  made = subst (λ ls. (view_of pass).actor.receipts ≡ receipts_by (lines_with_replies ls rs)) e h.made;
+  kinds = subst (λ ls. AreReplies ls rs) e h.kinds;
+  works = rw before (subst (λ ls. Works set (opening_fronts table.opening.items) w.before.value (lines_with_replies ls rs) (view_of pass).fronts) e h.works);
+  size = h.size;
+  processor = rw (before, same) (subst (λ ls. w.cpu ≡ processor_after_lines w.before.value (lines_with_replies ls rs)) e h.processor);
+  seen = rw same h.seen;
+}
 
+-- ---- ready and done
+-- A worker that is ready and has a pass has lines to run.
+pub has_start : {L : Type 0} (keeps : Keeping L) (room_in : L → ℕ) (set : AccessContext) (table : LockTable) (cpu : ℕ) (lines : List TraceLine) (w : Worker L) (pass : Pass) → w.pass ≡ Some pass → IsReady keeps room_in set table cpu lines w → HasStart keeps room_in set table cpu lines w
+has_start keeps room_in set table cpu lines w pass has (inl idle) = absurd (let clash : None ≡ Some pass = sym idle.no_pass ∙ has in cc)
+has_start keeps room_in set table cpu lines w pass has (inr start) = start
+
+-- ---- one line
 -- What the line of this processor leaves.
 pub record Ran (set : AccessContext) (table : LockTable) (l : TraceLine) (processor later : Processor) (pass behind : Pass) (r : Reply) : Type 0 where
   pub of : IsOf table behind

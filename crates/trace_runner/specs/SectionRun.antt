@@ -1,6 +1,6 @@
 -- A section: its processors, what they made together, and what it leaves.
 use Rattle.std.specs.Prelude.{IsSomeAnd, IfSome, is_some, if◌then◌else◌}
-use Rattle.std.specs.Prelude.{◌≡◌, ◌⊎◌, ℕ, ◌+◌, ◌<◌, List, [], ◌∷◌, ◌++◌, length, map, slice_index_or, Option, Some, None}
+use Rattle.std.specs.Prelude.{◌≡◌, ◌⊎◌, ℕ, ◌+◌, ◌<◌, ◌≤◌, List, [], ◌∷◌, ◌++◌, length, map, slice_index_or, Option, Some, None}
 use Rattle.entry_model.specs.State.{State}
 use Rattle.entry_model.specs.declared.line.Line.{Line}
 use Rattle.entry_model.specs.declared.receipt.Receipt.{Receipt}
@@ -18,6 +18,7 @@ use Rattle.trace_reply.specs.Replies.{RepliedLine, AreReplies, lines_with_replie
 use Rattle.run_model.specs.Histories.{lines_of_processor}
 use Rattle.run_model.specs.Sections.{cut, section_end_on}
 use Rattle.run_model.specs.RunState.{RunState}
+use Rattle.run_model.specs.SerialRun.{run_line}
 use Rattle.run_model.specs.ParallelRun.{AllWork, IsClosed, RunsParallel}
 use Rattle.trace_runner.specs.declared.worker.Worker.{Worker}
 use Rattle.trace_runner.specs.Workers.{Keeping, lines_of_cpu, replied_lines_of_cpu, processors_before, AreDone}
@@ -203,6 +204,27 @@ pub record RunsSection
     pub news : List Reply
     pub grown : HasGrown has lines news old new
     pub sectioned : Sectioned w lines news later
+
+-- A section ran, and behind it the quiet line that ends it; their replies were put behind those of
+-- an output.
+pub record RunsToQuiet
+    {O : Type 0}
+    (has : Keeping O)
+    (w : RunState)
+    (lines : List TraceLine)
+    (quiet : TraceLine)
+    (old new : O)
+    (later : RunState)
+    : Type 0
+  where
+    pub next : RunState
+    pub between : O
+    pub section : RunsSection has w lines old between next
+    pub reply : Reply
+    pub ran : (reply, later) ≡ run_line next quiet
+    pub put : HasGrown has (quiet ∷ []) (reply ∷ []) between new
+    pub number : later.memory.table.number ≤ next.memory.table.number + 1
+    pub processors : length later.processors ≡ length next.processors
 
 -- An output has the replies to these lines, in a run in which each processor works on its own.
 pub record HasRunFrom

@@ -1,6 +1,6 @@
 -- The workers of a section: a processor each, with a pass of its own.
 use Rattle.std.specs.Prelude.{IsSomeAnd}
-use Rattle.std.specs.Prelude.{◌≡◌, ◌≢◌, ℕ, zero, suc, ◌+◌, ◌<◌, ◌≤◌, ◌==◌, ◌⊎◌, List, [], ◌∷◌, length, slice_index, filter, map, min, Option, None, false}
+use Rattle.std.specs.Prelude.{◌≡◌, ◌≢◌, ℕ, zero, suc, ◌+◌, ◌<◌, ◌≤◌, ◌==◌, ◌⊎◌, List, [], ◌∷◌, length, slice_index_or, filter, map, min, Option, None, false}
 use Rattle.std.specs.List.{AllByRecursion}
 use Rattle.hpte_fields.specs.TableSize.{entry_count}
 use Rattle.entry_model.specs.declared.line.Line.{Line}
@@ -34,6 +34,15 @@ NoneQuiet lines = AllByRecursion (λ (l : TraceLine). is_quiet l.act ≡ false) 
 -- They are in file order.
 abbrev pub lines_of_cpu : ℕ → List TraceLine → List TraceLine
 lines_of_cpu cpu lines = filter (λ (l : TraceLine). l.cpu == cpu) lines
+
+-- Read at these indices, the lines are just these, in this order.
+pub record IsReadAt (lines : List TraceLine) (indices : List ℕ) (own : List TraceLine) : Type 0 where
+  pub inside : AllByRecursion (λ i. i < length lines) indices
+  pub read : (d : TraceLine) → map (λ i. slice_index_or lines i d) indices ≡ own
+
+-- They are the indices of the processor's own lines among these.
+abbrev pub AreOwn : List TraceLine → ℕ → List ℕ → Type 0
+AreOwn lines cpu indices = IsReadAt lines indices (lines_of_cpu cpu lines)
 
 -- Each with its reply.
 abbrev pub replied_lines_of_cpu : ℕ → List TraceLine → List Reply → List RepliedLine
@@ -95,7 +104,7 @@ pub record IsIdle
     pub processor : w.cpu ≡ w.before.value
     pub hold : AllCached (Holding table.opening.items) w.cpu.cache
 
--- It has a line, a pass, no reply, and room for the replies to its lines.
+-- It has a line, a pass, no reply, the indices of its lines, and room for the replies to them.
 pub record HasStart
     {L : Type 0}
     (keeps : Keeping L)
@@ -109,6 +118,7 @@ pub record HasStart
   where
     pub some : lines_of_cpu cpu lines ≢ []
     pub fresh : IsSomeAnd w.pass (HasRun context table cpu [] [] w)
+    pub own : AreOwn lines cpu w.own.items
     pub none : keeps w.log [] []
     pub room : length (lines_of_cpu cpu lines) ≤ room_in w.log
 
@@ -174,13 +184,6 @@ abbrev pub count_with_lines : ℕ → ℕ → List TraceLine → ℕ
 count_with_lines zero cpu lines = 0
 count_with_lines (suc n) cpu lines =
     min 1 (length (lines_of_cpu cpu lines)) + count_with_lines n (suc cpu) lines
-
--- Of each processor that there is a number for, it is that of its lines.
-abbrev pub AreCounts : List TraceLine → List ℕ → Type 0
-AreCounts lines counts =
-    (cpu : ℕ)
-    → cpu < length counts
-    → slice_index counts cpu ≡ length (lines_of_cpu cpu lines)
 
 -- A pass with so many shares that has made no step.
 pub record IsFresh (table : LockTable) (shares : ℕ) (pass : Pass) : Type 0 where

@@ -1,61 +1,25 @@
 //! The workers of a section: those with lines share the table's passes.
-ghost use Rattle.std.specs.Prelude.{◌≡◌, ℕ, ◌+◌, ◌<◌, ◌≤◌, min, List, [], true, false, length, vec_capacity, IfOk, IsSomeAnd};
+ghost use Rattle.std.specs.Prelude.{◌≡◌, ◌≢◌, ℕ, ◌+◌, ◌<◌, ◌≤◌, min, List, [], length, vec_len, vec_capacity, IfOk, IsSomeAnd};
 ghost use Rattle.std.specs.List.{AllByRecursion};
+ghost use Rattle.hpte_fields.specs.TableSize.{entry_count};
 ghost use Rattle.trace_read.specs.declared.trace.TraceLine.{TraceLine as LineOf};
 ghost use Rattle.entry_model.specs.Fronts.{opening_fronts};
 ghost use Rattle.tlb_model.specs.Cache.{AllCached};
 ghost use Rattle.entry_lock.specs.PassOfTable.{IsOf, view_of};
 ghost use Rattle.hpt_walk.specs.Access.{AccessContext};
 ghost use Rattle.trace_runner.specs.MachineState.{AllHold, Holding};
-ghost use Rattle.trace_runner.specs.Workers.{count_with_lines, lines_of_cpu, processors_before, AreCounts, AreReady, IsFresh, IsReady, IsRest};
+ghost use Rattle.trace_runner.specs.DealtLines.{AreDealt, count_with_own};
+ghost use Rattle.trace_runner.specs.Workers.{count_with_lines, processors_before, AreOwn, AreReady, IsFresh, IsReady, IsRest};
 
+use crate::dealing::{count_workers, deal_lines};
 use crate::log::RunLog;
 use crate::worker::Worker;
 use entry_lock::{LockTable, Pass};
+use entry_model::EntryState;
 use std::alloc::{AllocError, Global};
 use std::snapshot::Snapshot;
 use trace_read::TraceLine;
 use vcpu::Cpu;
-
-/// How many of the lines each of so many processors has.
-fn count_by_cpu(alloc: Global, cpus: usize, lines: &[TraceLine]) -> Result<Vec<usize>, AllocError>
-    requires on_cpus { AllByRecursion (λ (l : LineOf). l.cpu < cpus) lines.now }
-    ensures size { IfOk result (λ counts. length counts.items ≡ cpus) }
-    ensures counts { IfOk result (λ counts. AreCounts lines.now counts.items) }
-{
-    let mut counts = vec![in alloc; 0usize; cpus]?;
-    for line in lines {
-        counts[line.cpu as usize] += 1;
-    }
-    Ok(counts)
-}
-
-/// Whether one of the lines is this processor's.
-fn has_line(number: u32, lines: &[TraceLine]) -> bool
-    ensures yes { result ≡ true → 0 < length (lines_of_cpu number lines.now) }
-    ensures no { result ≡ false → length (lines_of_cpu number lines.now) ≡ 0 }
-{
-    for line in lines {
-        if line.cpu == number {
-            return true;
-        }
-    }
-    false
-}
-
-/// How many of so many processors have a line among these.
-pub fn count_workers(cpus: usize, lines: &[TraceLine]) -> u32
-    requires few { cpus ≤ 64 }
-    ensures count { result ≡ count_with_lines cpus 0 lines.now }
-{
-    let mut count = 0;
-    for number in 0..cpus {
-        if has_line(number as u32, lines) {
-            count += 1;
-        }
-    }
-    count
-}
 
 /// A pass with one share of what is left.
 fn take_share(table: &LockTable, rest: &mut Option<Pass>) -> Pass
@@ -74,28 +38,29 @@ fn take_share(table: &LockTable, rest: &mut Option<Pass>) -> Pass
     share
 }
 
-/// The worker of a processor with so many lines: with a pass, and room for the replies to them, if it
-/// has any, and with neither else.
+/// The worker of a processor with these lines of its own, by their indices: with a pass, and room for
+/// the replies to them, if there are any, and with neither else.
 fn next_worker<L: RunLog>(
     alloc: Global,
     table: &LockTable,
     cpu: Cpu,
+    own: Vec<usize>,
     rest: &mut Option<Pass>,
-    count: usize,
 ) -> Result<Worker<L>, AllocError>
     requires hold { AllCached (Holding table.now.opening.items) cpu.cache }
-    requires rest { (n : ℕ) × IsRest table.now (min 1 count + n) rest.old }
+    requires rest { (n : ℕ) × IsRest table.now (min 1 (length own.items) + n) rest.old }
     ensures ready { IfOk result
         (λ w. (context : AccessContext) (number : ℕ) (lines : List LineOf)
-        → count ≡ length (lines_of_cpu number lines)
+        → AreOwn lines number own.items
         → IsReady L.keeps L.room context table.now number lines w) }
     ensures before { IfOk result (λ w. w.before.value ≡ cpu) }
     ensures rest { IfOk result
         (λ w. (n : ℕ)
-        → IsRest table.now (min 1 count + n) rest.old
+        → IsRest table.now (min 1 (length own.items) + n) rest.old
         → IsRest table.now n rest.new) }
 {
     let before = Snapshot::of(&cpu);
+    let count = own.len();
     let log = L::with_room(alloc, count)?;
     let pass = if count > 0 {
         Some(take_share(table, rest))
@@ -106,45 +71,86 @@ fn next_worker<L: RunLog>(
         cpu,
         before,
         pass,
+        own,
         log,
     })
 }
 
-/// A worker for each processor. Those that have lines share the pass, and have room for the replies
-/// to them. The room of the list of processors stays.
-pub fn make_workers<L: RunLog>(
+/// A table of these states, and a worker for each processor. Those that have lines share the table's
+/// passes. The room of the list of processors stays.
+pub fn open_section<L: RunLog>(
+    alloc: Global,
+    states: Vec<EntryState>,
+    order: u8,
+    cpus: &mut Vec<Cpu>,
+    lines: &[TraceLine],
+) -> Result<(LockTable, Vec<Worker<L>>), AllocError>
+    requires low { 18 ≤ order }
+    requires high { order ≤ 22 }
+    requires whole { vec_len states ≡ entry_count order }
+    requires some { lines.now ≢ [] }
+    requires few { length cpus.old.items ≤ 64 }
+    requires on_cpus { AllByRecursion
+        (λ (l : LineOf). l.cpu < length cpus.old.items)
+        lines.now }
+    requires hold { AllHold states.items cpus.old.items }
+    ensures opening { IfOk result (λ r. r.0.opening.items ≡ states.items) }
+    ensures order { IfOk result (λ r. r.0.order ≡ order) }
+    ensures some { IfOk result (λ r. 0 < r.0.passes) }
+    ensures passes { IfOk result
+        (λ r. r.0.passes ≡ count_with_lines (length r.1.items) 0 lines.now) }
+    ensures ready { IfOk result
+        (λ r. (context : AccessContext)
+        → AreReady L.keeps L.room context r.0 lines.now r.1.items) }
+    ensures before { IfOk result (λ r. processors_before r.1.items ≡ cpus.old.items) }
+    ensures none { IfOk result (λ r. cpus.new.items ≡ []) }
+    ensures room { IfOk result (λ r. length r.1.items ≤ vec_capacity cpus.new) }
+{
+    let dealt = deal_lines(alloc, cpus.len(), lines)?;
+    let passes = count_workers(dealt.as_slice());
+    let Ok((table, pass)) = LockTable::open(alloc, states, order, passes) else {
+        return Err(AllocError);
+    };
+    let workers = make_workers(alloc, &table, pass, cpus, dealt)?;
+    Ok((table, workers))
+}
+
+/// A worker for each processor, with the lines that were dealt to it. Those that have lines share the
+/// pass, and have room for the replies to them. The room of the list of processors stays.
+fn make_workers<L: RunLog>(
     alloc: Global,
     table: &LockTable,
     pass: Pass,
     cpus: &mut Vec<Cpu>,
-    lines: &[TraceLine],
+    dealt: Vec<Vec<usize>>,
 ) -> Result<Vec<Worker<L>>, AllocError>
     requires of { IsOf table.now pass }
-    requires shares { pass.shares ≡ count_with_lines (length cpus.old.items) 0 lines.now }
+    requires size { length dealt.items ≡ length cpus.old.items }
+    requires shares { pass.shares ≡ count_with_own dealt.items }
     requires some { 0 < pass.shares }
     requires few { length cpus.old.items ≤ 64 }
     requires receipts { (view_of pass).actor.receipts ≡ [] }
     requires fronts { (view_of pass).fronts ≡ opening_fronts table.now.opening.items }
     requires hold { AllHold table.now.opening.items cpus.old.items }
-    requires on_cpus { AllByRecursion
-        (λ (l : LineOf). l.cpu < length cpus.old.items)
-        lines.now }
     ensures ready { IfOk result
-        (λ ws. (context : AccessContext)
-        → AreReady L.keeps L.room context table.now lines.now ws.items) }
+        (λ ws. (context : AccessContext) (lines : List LineOf)
+        → AreDealt lines dealt.items
+        → AreReady L.keeps L.room context table.now lines ws.items) }
     ensures before { IfOk result (λ ws. processors_before ws.items ≡ cpus.old.items) }
     ensures none { IfOk result (λ ws. cpus.new.items ≡ []) }
     ensures room { IfOk result (λ ws. length ws.items ≤ vec_capacity cpus.new) }
 {
     let count = cpus.len();
-    let counts = count_by_cpu(alloc, count, lines)?;
+    let mut left = dealt;
     let mut rest = Some(pass);
     let mut workers = Vec::with_capacity(alloc, count)?;
-    // The last one is taken without moving the others.
+    // The last ones are taken without moving the others.
     cpus.reverse();
-    for i in 0..count {
+    left.reverse();
+    for _ in 0..count {
         let cpu = cpus.pop().unwrap();
-        let worker = next_worker(alloc, table, cpu, &mut rest, counts[i])?;
+        let own = left.pop().unwrap();
+        let worker = next_worker(alloc, table, cpu, own, &mut rest)?;
         workers.push(worker)?;
     }
     Ok(workers)

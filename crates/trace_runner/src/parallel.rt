@@ -1,5 +1,5 @@
 //! The parallel run: between two quiet lines, a thread for each processor that has lines there.
-ghost use Rattle.std.specs.Prelude.{◌≡◌, ℕ, ◌<◌, ◌≤◌, ◌^◌, length, IfOk, string_bytes};
+ghost use Rattle.std.specs.Prelude.{◌≡◌, ℕ, ◌<◌, ◌≤◌, ◌-◌, ◌^◌, length, IfOk, string_bytes};
 ghost use Rattle.std.specs.List.{AllByRecursion};
 ghost use Rattle.trace_read.specs.declared.trace.TraceLine.{TraceLine as LineOf};
 ghost use Rattle.trace_reply.specs.Replies.{AreReplies};
@@ -8,27 +8,26 @@ ghost use Rattle.run_model.specs.GoodRun.{IsGoodRun};
 ghost use Rattle.run_model.specs.Assurances.{Assures};
 ghost use Rattle.run_model.specs.Laws.{HasOneProcessor};
 ghost use Rattle.trace_runner.specs.Workers.{NoneQuiet};
-ghost use Rattle.trace_runner.specs.SectionRun.{HasRunFrom, RunsSection};
+ghost use Rattle.trace_runner.specs.SectionRun.{HasRunFrom, RunsSection, RunsToQuiet};
 ghost use Rattle.trace_runner.specs.ParallelRun.{IsOutputOfRun, IsTextOfRun};
 
 use crate::gate::Gate;
 use crate::log::RunLog;
 use crate::machine::Machine;
-use crate::new_workers::{count_workers, make_workers};
+use crate::new_workers::open_section;
 use crate::opening::open_machine;
 use crate::queue_log::ReplyQueue;
 use crate::section::merge_replies;
 use crate::text_log::ReplyText;
 use crate::together::run_together;
-use entry_lock::LockTable;
 use std::alloc::{AllocError, Global};
 use std::sync::Wait;
 use std::thread::Threads;
 use trace_read::{Trace, TraceLine};
 use trace_reply::{Replies, ReplyPlace};
 
-/// Runs the lines of a section, each processor in a thread of its own, and puts the replies behind
-/// those of the output.
+/// Runs the lines of a section, in a thread for each processor that has some, and puts the replies
+/// behind those of the output.
 fn section<R: Threads + Wait + Sync, G: Gate + Sync, L: RunLog>(
     rt: &R,
     alloc: Global,
@@ -53,11 +52,8 @@ fn section<R: Threads + Wait + Sync, G: Gate + Sync, L: RunLog>(
     } = machine;
     let order = partition.order();
     let mut logs: Vec<L> = Vec::with_capacity(alloc, cpus.len())?;
-    let passes = count_workers(cpus.len(), lines);
-    let Ok((table, pass)) = LockTable::open(alloc, partition.take_states(), order, passes) else {
-        return Err(AllocError);
-    };
-    let workers = make_workers(alloc, &table, pass, &mut cpus, lines)?;
+    let states = partition.take_states();
+    let (table, workers) = open_section::<L>(alloc, states, order, &mut cpus, lines)?;
     let closing = run_together(
         rt,
         table,
@@ -71,6 +67,32 @@ fn section<R: Threads + Wait + Sync, G: Gate + Sync, L: RunLog>(
     partition.put_states(closing);
     merge_replies(lines, &mut logs, output)?;
     Ok(Machine { partition, cpus })
+}
+
+/// Runs a section and the quiet line that ends it, and puts the replies behind those of the output.
+fn section_to_quiet<R: Threads + Wait + Sync, G: Gate + Sync, L: RunLog>(
+    rt: &R,
+    alloc: Global,
+    machine: Machine,
+    gate: &G,
+    lines: &[TraceLine],
+    quiet: &TraceLine,
+    output: &mut L::Output,
+) -> Result<Machine, AllocError>
+    requires none_quiet { NoneQuiet lines.now }
+    requires cpus { AllByRecursion (λ (l : LineOf). l.cpu < length machine.processors) lines.now }
+    requires some { 0 < length machine.processors }
+    requires few { length machine.processors ≤ 64 }
+    requires cpu { quiet.now.cpu < length machine.processors }
+    requires number { machine.memory.table.number < 2 ^ 32 - 1 }
+    ensures { IfOk result
+        (λ later. RunsToQuiet L.has machine lines.now quiet.now output.old output.new later) }
+{
+    let mut later = section::<R, G, L>(rt, alloc, machine, gate, lines, output)?;
+    let mut place = ReplyPlace::new();
+    later.line(alloc, quiet, &mut place)?;
+    L::put(output, quiet, &mut place)?;
+    Ok(later)
 }
 
 /// Runs lines: sections, one after the other, and the quiet lines between them.
@@ -91,13 +113,17 @@ fn run_sections<R: Threads + Wait + Sync, G: Gate + Sync, L: RunLog>(
     let mut machine = opened;
     let mut output = L::output(alloc, lines.len())?;
     let mut start = 0;
-    // One place for the replies to all quiet lines.
-    let mut place = ReplyPlace::new();
     for i in 0..lines.len() {
         if lines[i].act.is_quiet() {
-            machine = section::<R, G, L>(rt, alloc, machine, gate, &lines[start..i], &mut output)?;
-            machine.line(alloc, &lines[i], &mut place)?;
-            L::put(&mut output, &lines[i], &mut place)?;
+            machine = section_to_quiet::<R, G, L>(
+                rt,
+                alloc,
+                machine,
+                gate,
+                &lines[start..i],
+                &lines[i],
+                &mut output,
+            )?;
             start = i + 1;
         }
     }
@@ -119,8 +145,8 @@ fn run_logged<R: Threads + Wait + Sync, G: Gate + Sync, L: RunLog>(
     run_sections::<R, G, L>(rt, alloc, machine, gate, trace.lines.as_slice())
 }
 
-/// The replies of a parallel run of a trace: between two quiet lines each processor runs its lines in
-/// a thread of its own. They are a good run.
+/// The replies of a parallel run of a trace: between two quiet lines each processor that has lines
+/// there runs them in a thread of its own. They are a good run.
 pub fn run_parallel<R: Threads + Wait + Sync, G: Gate + Sync>(
     rt: &R,
     alloc: Global,

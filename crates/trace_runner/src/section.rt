@@ -56,6 +56,7 @@ pub fn join_workers<L: RunLog>(
             cpu,
             before: _,
             pass,
+            own: _,
             log,
         } = rest.pop().unwrap();
         cpus.push_reserved(cpu);

@@ -24,12 +24,13 @@ use trace_reply::ReplyPlace;
 use vcpu::Cpu;
 
 /// A processor in a section: what it keeps from line to line, what it was before the section's first
-/// line, its pass, and the log of the replies to its lines.
+/// line, its pass, the indices of its own lines among the section's, and the log of their replies.
 #[derive(Drop)]
 pub struct Worker<L> {
     pub cpu: Cpu,
     pub before: Snapshot<Cpu>,
     pub pass: Option<Pass>,
+    pub own: Vec<usize>,
     pub log: L,
 }
 
@@ -37,7 +38,7 @@ pub struct Worker<L> {
 fn answer<R: Wait, G: Gate>(
     rt: &R,
     table: &LockTable,
-    gate: &G,
+    at: &AtLine<G>,
     grants: &Grants,
     line: &TraceLine,
     cpu: &mut Cpu,
@@ -63,15 +64,9 @@ fn answer<R: Wait, G: Gate>(
     ensures processor { cpu.new ≡ processor_after cpu.old line.now.act (reply_in place.new) }
     ensures seen { AllCached (IsSeenBy table.now result) cpu.new.cache }
 {
-    let at = AtLine {
-        gate,
-        cpu: line.cpu,
-        line: line.number,
-    };
-    gate.before(line.cpu, line.number);
     let mut store = Stepping {
-        store: Waiting::new(rt, table, pass, &at),
-        at: &at,
+        store: Waiting::new(rt, table, pass, at),
+        at,
         started: false,
     };
     run_act(&mut store, cpu, grants, &line.act, place);
@@ -80,13 +75,11 @@ fn answer<R: Wait, G: Gate>(
         at: _,
         started: _,
     } = store;
-    let pass = waiting.into_pass();
-    gate.after(line.cpu, line.number);
-    pass
+    waiting.into_pass()
 }
 
-/// Runs the worker's lines among these, in file order. It takes no memory: the log has room for their
-/// replies, which have one place after the other.
+/// Runs the worker's own lines among these, in file order, and looks at no other. It takes no memory:
+/// the log has room for their replies, which have one place after the other.
 pub fn work<R: Wait, G: Gate, L: ReplyLog>(
     rt: &R,
     table: &LockTable,
@@ -118,20 +111,27 @@ pub fn work<R: Wait, G: Gate, L: ReplyLog>(
         return;
     };
     let mut place = ReplyPlace::new();
-    for line in lines {
-        if line.cpu == number {
-            pass = answer(
-                rt,
-                table,
-                gate,
-                grants,
-                line,
-                &mut worker.cpu,
-                pass,
-                &mut place,
-            );
-            worker.log.keep(line, &mut place);
-        }
+    for i in 0..worker.own.len() {
+        let index = worker.own[i];
+        let line = &lines[index];
+        gate.before(number, line.number);
+        let at = AtLine {
+            gate,
+            cpu: number,
+            line: line.number,
+        };
+        pass = answer(
+            rt,
+            table,
+            &at,
+            grants,
+            line,
+            &mut worker.cpu,
+            pass,
+            &mut place,
+        );
+        gate.after(number, line.number);
+        worker.log.keep(line, &mut place);
     }
     worker.pass = Some(pass);
 }

@@ -1,0 +1,4 @@
+mod RunRows
+mod CallRows
+mod QuietRows
+mod WholeRows

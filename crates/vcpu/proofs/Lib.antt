@@ -1,4 +1,3 @@
 pub mod Hits
 pub mod Refills
-pub mod Offsets
 mod Rows

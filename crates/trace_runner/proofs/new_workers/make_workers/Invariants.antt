@@ -1,16 +1,22 @@
-use Rattle.std.proofs.Common.{◌≡◌, ◌+◌, ◌-◌, ◌++◌, length, reverse, vec_capacity}
+use Rattle.std.proofs.Common.{◌≡◌, ◌+◌, ◌++◌, List, length, reverse, vec_capacity}
 use Rattle.hpt_walk.specs.Access.{AccessContext}
+use Rattle.trace_read.specs.declared.trace.TraceLine.{TraceLine}
 use Rattle.trace_runner.specs.MachineState.{AllHold}
-use Rattle.trace_runner.specs.Workers.{count_with_lines, processors_before, IsReady, IsRest, AllNumbered}
+use Rattle.trace_runner.specs.Workers.{processors_before, AreOwn, IsReady, IsRest, AllNumbered}
+use Rattle.trace_runner.specs.DealtLines.{AreDealt, count_with_own}
 use Rattle.trace_runner.proofs.new_workers.make_workers.Given as goal
 
-abbrev pub invariant-loop-i : goal.invariant-loop-i
-invariant-loop-i g l = record {
-  rest : IsRest l.table (count_with_lines (l.count - l.i) l.i l.lines) l.rest;
+abbrev pub invariant-loop : goal.invariant-loop
+invariant-loop g l = record {
+  rest : IsRest l.table (count_with_own (reverse l.left.items)) l.rest;
   hold : AllHold l.table.opening.items (reverse l.cpus.items);
-  count : length l.cpus.items + l.i ≡ l.count;
+  count : length l.cpus.items + l.counter ≡ l.count;
+  left : length l.left.items + l.counter ≡ l.count;
   room : vec_capacity l.cpus ≡ vec_capacity l.fn.cpus;
-  size : length l.workers.items ≡ l.i;
+  size : length l.workers.items ≡ l.counter;
   before : processors_before l.workers.items ++ reverse l.cpus.items ≡ l.fn.cpus.items;
-  ready : (set : AccessContext) → AllNumbered (λ j w. IsReady g.L.ReplyLog.keeps g.L.ReplyLog.room set l.table j l.lines w) 0 l.workers.items;
+  ready : (set : AccessContext) (lines : List TraceLine)
+      → AreDealt lines l.fn.dealt.items
+      → AllNumbered (λ cpu own. AreOwn lines cpu own.items) l.counter (reverse l.left.items)
+      × AllNumbered (λ j w. IsReady g.L.ReplyLog.keeps g.L.ReplyLog.room set l.table j lines w) 0 l.workers.items;
 }

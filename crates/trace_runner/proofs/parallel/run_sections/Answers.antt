@@ -3,11 +3,10 @@ use Rattle.std.specs.List.{AllByRecursion}
 use Rattle.trace_read.specs.declared.trace.TraceLine.{TraceLine}
 use Rattle.trace_read.specs.declared.trace.Act.TheVariants.{Call}
 use Rattle.trace_runner.specs.Workers.{NoneQuiet}
-use Rattle.trace_runner.proofs.MergedReplies.{each_line}
+use Rattle.trace_runner.proofs.MergedReplies.{each_at}
 use Rattle.trace_runner.proofs.SectionsRun.{part, done_none, done_more, put_more, run_ended, no_quiet_more, no_quiet_yet, part_each, section_processors, section_number}
-use Rattle.trace_reply.specs.Places.{reply_in}
 use Rattle.trace_runner.proofs.parallel.run_sections.Goals as goal
-use Rattle.trace_runner.proofs.parallel.run_sections.Goals.{then-is_quiet+in_ok-machine+in_ok-line+in_ok-put, else-is_quiet}
+use Rattle.trace_runner.proofs.parallel.run_sections.Goals.{then-is_quiet+in_ok-machine, else-is_quiet}
 
 -- what a read past the end would give
 abbrev d : TraceLine
@@ -24,40 +23,36 @@ loop-i-init g c = record {
   done = done_none c.args.opened c.args.lines.now;
 }
 
-pub section-requires-clause-cpus : goal.section-requires-clause-cpus
-section-requires-clause-cpus g c κs within = part_each (λ (l : TraceLine). l.cpu < length c.loop-i.machine.processors) c.args.lines.now c.loop-i.start c.loop-i.i (subst (λ n. AllByRecursion (λ (l : TraceLine). l.cpu < n) c.args.lines.now) (sym c.loop-i.invariant.processors) c.requires.cpus)
+pub section_to_quiet-requires-clause-cpus : goal.section_to_quiet-requires-clause-cpus
+section_to_quiet-requires-clause-cpus g c κs within = part_each (λ (l : TraceLine). l.cpu < length c.loop-i.machine.processors) c.args.lines.now c.loop-i.start c.loop-i.i (subst (λ n. AllByRecursion (λ (l : TraceLine). l.cpu < n) c.args.lines.now) (sym c.loop-i.invariant.processors) c.requires.cpus)
 
-pub section-requires-clause-some : goal.section-requires-clause-some
-section-requires-clause-some g c κs within = subst (λ n. 0 < n) (sym c.loop-i.invariant.processors) c.requires.some
+pub section_to_quiet-requires-clause-some : goal.section_to_quiet-requires-clause-some
+section_to_quiet-requires-clause-some g c κs within = subst (λ n. 0 < n) (sym c.loop-i.invariant.processors) c.requires.some
 
-pub section-requires-clause-few : goal.section-requires-clause-few
-section-requires-clause-few g c κs within = subst (λ n. n ≤ 64) (sym c.loop-i.invariant.processors) c.requires.few_cpus
+pub section_to_quiet-requires-clause-few : goal.section_to_quiet-requires-clause-few
+section_to_quiet-requires-clause-few g c κs within = subst (λ n. n ≤ 64) (sym c.loop-i.invariant.processors) c.requires.few_cpus
 
-pub line-requires-clause-cpu : goal.line-requires-clause-cpu
-line-requires-clause-cpu g c =
-    let size : length c.in_ok-machine.machine.processors ≡ length c.args.opened.processors = section_processors c.loop-i.machine c.in_ok-machine.machine _ _ c.in_ok-machine.ensures.sectioned ∙ c.loop-i.invariant.processors in
-    subst (λ n. (get_or c.args.lines.now c.loop-i.i d).cpu < n) (sym size) (each_line (λ (l : TraceLine). l.cpu < length c.args.opened.processors) c.args.lines.now c.loop-i.i d c.requires.cpus c.loop-i-test.true)
+pub section_to_quiet-requires-clause-cpu : goal.section_to_quiet-requires-clause-cpu
+section_to_quiet-requires-clause-cpu g c κs within = subst (λ n. (get_or c.args.lines.now c.loop-i.i d).cpu < n) (sym c.loop-i.invariant.processors) (each_at (λ (l : TraceLine). l.cpu < length c.args.opened.processors) c.args.lines.now c.loop-i.i d c.requires.cpus c.loop-i-test.true)
 
-pub line-requires-clause-number : goal.line-requires-clause-number
-line-requires-clause-number g c =
-    let same = section_number c.loop-i.machine c.in_ok-machine.machine _ _ c.in_ok-machine.ensures.sectioned in
-    omega (arith, same, c.loop-i.invariant.number, c.loop-i-test.true, c.requires.few)
+pub section_to_quiet-requires-clause-number : goal.section_to_quiet-requires-clause-number
+section_to_quiet-requires-clause-number g c κs within = omega (arith, c.loop-i.invariant.number, c.loop-i-test.true, c.requires.few)
 
 pub loop-i-preserved : goal.loop-i-preserved
 loop-i-preserved g c =
     let i = c.loop-i.invariant in
     elim c.if-is_quiet.branch [
-      | then-is_quiet+in_ok-machine+in_ok-line+in_ok-put w ↦
-          let e = w.in_ok-machine.ensures in
-          let k = w.in_ok-line.ensures in
+      | then-is_quiet+in_ok-machine w ↦
+          let q = w.in_ok-machine.ensures in
+          let e = q.section in
           rw (w.machine-is, w.output-is, w.start-is) (record {
             low = omega arith;
             none_quiet = no_quiet_yet c.args.lines.now (c.loop-i.i + 1);
-            processors = k.cpus ∙ section_processors c.loop-i.machine w.in_ok-machine.machine _ _ e.sectioned ∙ i.processors;
-            number = omega (arith, k.number, section_number c.loop-i.machine w.in_ok-machine.machine _ _ e.sectioned, i.number);
-            replies = (i.replies ++ e.news) ++ reply_in w.line.new.place ∷ [];
-            put = put_more g.L.RunLog.has c.args.lines.now c.loop-i.start c.loop-i.i d i.replies e.news (reply_in w.line.new.place) c.loop-i.output w.section.new.output w.put.new.output i.low c.loop-i-test.true i.put e.grown w.in_ok-put.ensures;
-            done = done_more c.args.opened c.loop-i.machine w.in_ok-machine.machine w.line.new.self c.args.lines.now c.loop-i.start c.loop-i.i d i.replies e.news (reply_in w.line.new.place) i.low c.loop-i-test.true i.done i.none_quiet e.sectioned (sym c.is_quiet.ensures ∙ w.if-is_quiet.true) k.reply;
+            processors = q.processors ∙ section_processors c.loop-i.machine q.next _ _ e.sectioned ∙ i.processors;
+            number = omega (arith, q.number, section_number c.loop-i.machine q.next _ _ e.sectioned, i.number);
+            replies = (i.replies ++ e.news) ++ q.reply ∷ [];
+            put = put_more g.L.RunLog.has c.args.lines.now c.loop-i.start c.loop-i.i d i.replies e.news q.reply c.loop-i.output q.between w.section_to_quiet.new.output i.low c.loop-i-test.true i.put e.grown q.put;
+            done = done_more c.args.opened c.loop-i.machine q.next w.in_ok-machine.machine c.args.lines.now c.loop-i.start c.loop-i.i d i.replies e.news q.reply i.low c.loop-i-test.true i.done i.none_quiet e.sectioned (sym c.is_quiet.ensures ∙ w.if-is_quiet.true) q.ran;
           })
       | else-is_quiet w ↦
           rw (w.machine-is, w.output-is, w.start-is) (record {
@@ -71,22 +66,22 @@ loop-i-preserved g c =
           })
     ]
 
-pub section-requires-2-clause-none_quiet : goal.section-requires-2-clause-none_quiet
-section-requires-2-clause-none_quiet g c κs within =
+pub section-requires-clause-none_quiet : goal.section-requires-clause-none_quiet
+section-requires-clause-none_quiet g c κs within =
     let last : c.loop-i.i ≡ length c.args.lines.now = omega (arith, c.loop-i-test.false, c.loop-i.auto.i-end) in
     subst (λ n. NoneQuiet (part c.loop-i.start n c.args.lines.now)) last c.loop-i.invariant.none_quiet
 
-pub section-requires-2-clause-cpus : goal.section-requires-2-clause-cpus
-section-requires-2-clause-cpus g c κs within = part_each (λ (l : TraceLine). l.cpu < length c.loop-i.machine.processors) c.args.lines.now c.loop-i.start (length c.args.lines.now) (subst (λ n. AllByRecursion (λ (l : TraceLine). l.cpu < n) c.args.lines.now) (sym c.loop-i.invariant.processors) c.requires.cpus)
+pub section-requires-clause-cpus : goal.section-requires-clause-cpus
+section-requires-clause-cpus g c κs within = part_each (λ (l : TraceLine). l.cpu < length c.loop-i.machine.processors) c.args.lines.now c.loop-i.start (length c.args.lines.now) (subst (λ n. AllByRecursion (λ (l : TraceLine). l.cpu < n) c.args.lines.now) (sym c.loop-i.invariant.processors) c.requires.cpus)
 
-pub section-requires-2-clause-some : goal.section-requires-2-clause-some
-section-requires-2-clause-some g c κs within = subst (λ n. 0 < n) (sym c.loop-i.invariant.processors) c.requires.some
+pub section-requires-clause-some : goal.section-requires-clause-some
+section-requires-clause-some g c κs within = subst (λ n. 0 < n) (sym c.loop-i.invariant.processors) c.requires.some
 
-pub section-requires-2-clause-few : goal.section-requires-2-clause-few
-section-requires-2-clause-few g c κs within = subst (λ n. n ≤ 64) (sym c.loop-i.invariant.processors) c.requires.few_cpus
+pub section-requires-clause-few : goal.section-requires-clause-few
+section-requires-clause-few g c κs within = subst (λ n. n ≤ 64) (sym c.loop-i.invariant.processors) c.requires.few_cpus
 
 pub returns : goal.returns
 returns g c =
     let last : c.loop-i.i ≡ length c.args.lines.now = omega (arith, c.loop-i-test.false, c.loop-i.auto.i-end) in
     let i = c.loop-i.invariant in
-    run_ended g.L.RunLog.has c.args.opened c.loop-i.machine c.in_ok-section.field-0 c.args.lines.now c.loop-i.start c.loop-i.i i.replies c.loop-i.output c.section-2.new.output i.low last i.done i.none_quiet i.put c.in_ok-section.ensures
+    run_ended g.L.RunLog.has c.args.opened c.loop-i.machine c.in_ok-section.field-0 c.args.lines.now c.loop-i.start c.loop-i.i i.replies c.loop-i.output c.section.new.output i.low last i.done i.none_quiet i.put c.in_ok-section.ensures

@@ -3,7 +3,7 @@ use Rattle.std.proofs.lemmas.List.{length-set}
 use Rattle.trace_read.specs.declared.trace.TraceLine.{TraceLine}
 use Rattle.trace_read.specs.declared.trace.Act.TheVariants.{Call}
 use Rattle.trace_runner.specs.Workers.{lines_of_cpu}
-use Rattle.trace_runner.proofs.MergedReplies.{merging_none, merging_first, merging_more, merging_all, each_line}
+use Rattle.trace_runner.proofs.MergedReplies.{merging_none, merging_first, merging_more, merging_all, each_at}
 use Rattle.trace_runner.proofs.section.merge_replies.Goals as goal
 
 -- what a read past the end would give
@@ -22,7 +22,7 @@ move_first-requires g c =
     let lines = c.args.lines.now in
     let k = c.loop-line.line-index in
     let l = get_or lines k d in
-    let here = each_line (λ (l : TraceLine). l.cpu < length c.args.logs.now.items) lines k d c.requires.cpus c.loop-line-test.true in
+    let here = each_at (λ (l : TraceLine). l.cpu < length c.args.logs.now.items) lines k d c.requires.cpus c.loop-line-test.true in
     let first = merging_first g.L.ReplyLog.keeps g.L.RunLog.has lines k (length c.args.logs.now.items) d c.requires.kept.0 c.loop-line.logs.items c.index_mut.result.now c.args.output.now c.loop-line.output c.loop-line-test.true here (sym c.index_mut.ensures.value) (i.merging c.requires.kept.0 c.requires.kept.1) in
     record { some = (l, first.x, lines_of_cpu l.cpu (drop (k + 1) lines), first.ss, first.kept) }
 
@@ -32,7 +32,7 @@ loop-line-preserved g c =
     let lines = c.args.lines.now in
     let k = c.loop-line.line-index in
     let l = get_or lines k d in
-    let here = each_line (λ (l : TraceLine). l.cpu < length c.args.logs.now.items) lines k d c.requires.cpus c.loop-line-test.true in
+    let here = each_at (λ (l : TraceLine). l.cpu < length c.args.logs.now.items) lines k d c.requires.cpus c.loop-line-test.true in
     let inside : l.cpu < length c.loop-line.logs.items = subst (λ n. l.cpu < n) (sym i.size) here in
     record {
       size = length-set c.loop-line.logs.items l.cpu c.move_first.new.self ∙ i.size;

@@ -1,51 +1,89 @@
-use Rattle.std.proofs.Common.{◌++◌, [], ◌∷◌, sym, refl, subst, ap, take, get_or, false, arith, length}
-use Rattle.std.proofs.lemmas.Bool.{eq-eqb}
-use Rattle.std.proofs.lemmas.List.{length-append}
+use Rattle.std.specs.Prelude.{IsSomeAnd}
+use Rattle.std.proofs.Common.{◌≡◌, ◌∙◌, ◌++◌, ◌<◌, ℕ, List, [], ◌∷◌, sym, refl, subst, ap, take, get_or, eqb, true, arith, length, inr, Option, Some}
+use Rattle.std.proofs.lemmas.List.{take_more, take_all, get_or_read}
+use Rattle.entry_lock.specs.declared.table.Pass.{Pass}
 use Rattle.hpt_walk.specs.Access.{access_context}
 use Rattle.trace_read.specs.declared.trace.TraceLine.{TraceLine}
-use Rattle.trace_read.specs.declared.trace.Act.TheVariants.{Call}
 use Rattle.trace_reply.specs.Places.{reply_in}
-use Rattle.trace_runner.specs.Workers.{lines_of_cpu}
-use Rattle.trace_runner.proofs.WorkSteps.{own_more, own_same, own_room, own_run, other_run, not_eqb}
+use Rattle.trace_runner.specs.Workers.{HasRun, lines_of_cpu}
+use Rattle.trace_runner.proofs.MergedReplies.{each_at}
+use Rattle.trace_runner.proofs.DealtLines.{past, line_at, as_many, all_own, own_of_own}
+use Rattle.trace_runner.proofs.WorkSteps.{Ran, own_run, same_run, has_start}
 use Rattle.trace_runner.proofs.worker.work.Goals as goal
-use Rattle.trace_runner.proofs.worker.work.Goals.{then-line-number, else-line-number}
 
--- what a read past the end would give
-abbrev d : TraceLine
-d = record { number = 0; cpu = 0; act = Call 0 [] false }
+pub loop-i-init : goal.loop-i-init
+loop-i-init g c =
+    let n = c.args.number in
+    let set = access_context c.args.table.now.order c.args.grants.now.grants in
+    let w = c.args.worker.now in
+    let has : w.pass ≡ Some c.in-Some.pass = sym c.take.ensures.value ∙ c.in-Some.is in
+    let start = has_start g.L.ReplyLog.keeps g.L.ReplyLog.room set c.args.table.now n c.args.lines.now w c.in-Some.pass has c.requires.ready in
+    record {
+      own = start.own;
+      count = refl;
+      replies = [];
+      kept = start.none;
+      run = same_run set c.args.table.now n [] [] [] w _ c.in-Some.pass refl refl refl (subst (λ (o : Option Pass). IsSomeAnd o (HasRun set c.args.table.now n [] [] w)) has start.fresh);
+      room = omega (arith, start.room);
+      before = refl;
+    }
+
+pub bounds-lines-index : goal.bounds-lines-index
+bounds-lines-index g c =
+    let i = c.loop-i.invariant in
+    let own = c.loop-i.worker.own.items in
+    let within : c.loop-i.i < length own = omega (arith, c.loop-i-test.true, i.count) in
+    subst (λ m. m < length c.args.lines.now) (sym (get_or_read own c.loop-i.i _ within c.index-index.ensures 0)) (each_at (λ m. m < length c.args.lines.now) own c.loop-i.i 0 i.own.inside within)
 
 pub keep-requires-clause-room : goal.keep-requires-clause-room
 keep-requires-clause-room g c =
-    omega (arith, own_room c.args.number c.args.lines.now c.loop-line.line-index d c.loop-line-test.true (eq-eqb _ _ c.if-line-number.true), c.loop-line.invariant.room)
+    let i = c.loop-i.invariant in
+    let count = as_many c.args.lines.now c.loop-i.worker.own.items (lines_of_cpu c.args.number c.args.lines.now) i.own in
+    omega (arith, c.loop-i-test.true, count, i.count, i.room)
 
-pub loop-line-preserved : goal.loop-line-preserved
-loop-line-preserved g c =
-    let i = c.loop-line.invariant in
+pub loop-i-preserved : goal.loop-i-preserved
+loop-i-preserved g c =
+    let i = c.loop-i.invariant in
     let n = c.args.number in
     let lines = c.args.lines.now in
-    let k = c.loop-line.line-index in
+    let mine = lines_of_cpu n lines in
+    let own = c.loop-i.worker.own.items in
+    let k = c.loop-i.i in
     let keeps = g.L.ReplyLog.keeps in
     let set = access_context c.args.table.now.order c.args.grants.now.grants in
-    elim c.if-line-number.branch [
-      | then-line-number w ↦
-          let e = w.answer-pass.ensures in
-          let r = reply_in w.answer-pass.new.place in
-          let more = own_more n lines k d c.loop-line-test.true (eq-eqb _ _ w.if-line-number.true) in
-          rw (w.worker-is, w.pass-is) (record {
-            replies = i.replies ++ r ∷ [];
-            kept = subst (λ ls. keeps w.keep.new.self ls (i.replies ++ r ∷ [])) (sym more) (w.keep.ensures.kept (lines_of_cpu n (take k lines)) i.replies i.kept);
-            run = own_run set c.args.table.now n lines k d i.replies (i.replies ++ r ∷ []) c.loop-line.worker _ c.loop-line.pass w.answer-pass.result r c.loop-line-test.true (eq-eqb _ _ w.if-line-number.true) i.run refl refl
-                (record { of = e.of; share = e.share; made = e.made; line = e.line; size = e.size; kind = e.kind; place = e.processor; seen = e.seen });
-            room = omega (arith, i.room, w.keep.ensures.room, ap length more, length-append (lines_of_cpu n (take k lines)) (get_or lines k d ∷ []));
-            before = i.before;
-          })
-      | else-line-number w ↦
-          let same = own_same n lines k d c.loop-line-test.true (not_eqb _ _ w.if-line-number.false) in
-          rw (w.worker-is, w.pass-is) (record {
-            replies = i.replies;
-            kept = subst (λ ls. keeps c.loop-line.worker.log ls i.replies) (sym same) i.kept;
-            run = other_run set c.args.table.now n lines k d i.replies c.loop-line.worker c.loop-line.pass c.loop-line-test.true (not_eqb _ _ w.if-line-number.false) i.run;
-            room = omega (arith, i.room, ap length same);
-            before = i.before;
-          })
-    ]
+    let inside : k < length own = omega (arith, c.loop-i-test.true, i.count) in
+    let within : k < length mine = omega (arith, inside, as_many lines own mine i.own) in
+    let is : get_or mine k past ≡ get_or lines c.index-index.result.now past = line_at lines own mine k past inside i.own ∙ ap (λ m. get_or lines m past) (sym (get_or_read own k _ inside c.index-index.ensures 0)) in
+    let of_cpu : eqb (get_or mine k past).cpu n ≡ true = each_at (λ (l : TraceLine). eqb l.cpu n ≡ true) mine k past (all_own n lines) within in
+    let e = c.answer-pass.ensures in
+    let r = reply_in c.answer-pass.new.place in
+    let ran : Ran set c.args.table.now (get_or lines c.index-index.result.now past) c.loop-i.worker.cpu c.answer-pass.new.cpu c.loop-i.pass c.answer-pass.result r = record { of = e.of; share = e.share; made = e.made; line = e.line; size = e.size; kind = e.kind; place = e.processor; seen = e.seen } in
+    record {
+      own = i.own;
+      count = i.count;
+      replies = i.replies ++ r ∷ [];
+      kept = subst (λ ls. keeps c.keep.new.self ls (i.replies ++ r ∷ [])) (sym (take_more mine k past within)) (subst (λ l. keeps c.keep.new.self (take k mine ++ l ∷ []) (i.replies ++ r ∷ [])) (sym is) (c.keep.ensures.kept (take k mine) i.replies i.kept));
+      run = own_run set c.args.table.now n mine k past i.replies (i.replies ++ r ∷ []) c.loop-i.worker _ c.loop-i.pass c.answer-pass.result r within of_cpu i.run refl refl
+          (subst (λ l. Ran set c.args.table.now l c.loop-i.worker.cpu c.answer-pass.new.cpu c.loop-i.pass c.answer-pass.result r) (sym is) ran);
+      room = omega (arith, i.room, c.keep.ensures.room);
+      before = i.before;
+    }
+
+pub returns-clause-done : goal.returns-clause-done
+returns-clause-done g c =
+    let i = c.loop-i.invariant in
+    let n = c.args.number in
+    let lines = c.args.lines.now in
+    let mine = lines_of_cpu n lines in
+    let set = access_context c.args.table.now.order c.args.grants.now.grants in
+    let w = c.args.worker.now in
+    let has : w.pass ≡ Some c.in-Some.pass = sym c.take.ensures.value ∙ c.in-Some.is in
+    let start = has_start g.L.ReplyLog.keeps g.L.ReplyLog.room set c.args.table.now n lines w c.in-Some.pass has c.requires.ready in
+    let count = as_many lines c.loop-i.worker.own.items mine i.own in
+    let all : take c.loop-i.i mine ≡ mine = take_all c.loop-i.i mine (omega (arith, c.loop-i-test.false, count, i.count)) in
+    inr (record {
+      some = start.some;
+      replies = i.replies;
+      kept = subst (λ ls. g.L.ReplyLog.keeps c.loop-i.worker.log ls i.replies) all i.kept;
+      run = same_run set c.args.table.now n mine lines i.replies c.loop-i.worker _ c.loop-i.pass (own_of_own n lines) refl refl (subst (λ ls. HasRun set c.args.table.now n ls i.replies c.loop-i.worker c.loop-i.pass) all i.run);
+    })

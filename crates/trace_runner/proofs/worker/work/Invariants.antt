@@ -1,14 +1,16 @@
 use Rattle.std.proofs.Common.{◌≡◌, ◌+◌, ◌≤◌, List, take, length}
 use Rattle.hpt_walk.specs.Access.{access_context}
 use Rattle.trace_reply.specs.declared.reply.Reply.{Reply}
-use Rattle.trace_runner.specs.Workers.{HasRun, lines_of_cpu}
+use Rattle.trace_runner.specs.Workers.{HasRun, AreOwn, lines_of_cpu}
 use Rattle.trace_runner.proofs.worker.work.Given as goal
 
-abbrev pub invariant-loop-line : goal.invariant-loop-line
-invariant-loop-line g l = record {
+abbrev pub invariant-loop-i : goal.invariant-loop-i
+invariant-loop-i g l = record {
+  own : AreOwn l.lines l.number l.worker.own.items;
+  count : length l.worker.own.items ≡ length l.fn.worker.own.items;
   replies : List Reply;
-  kept : g.L.ReplyLog.keeps l.worker.log (lines_of_cpu l.number (take l.line-index l.lines)) replies;
-  run : HasRun (access_context l.table.order l.grants.grants) l.table l.number (take l.line-index l.lines) replies l.worker l.pass;
-  room : length (lines_of_cpu l.number l.lines) ≤ length (lines_of_cpu l.number (take l.line-index l.lines)) + g.L.ReplyLog.room l.worker.log;
+  kept : g.L.ReplyLog.keeps l.worker.log (take l.i (lines_of_cpu l.number l.lines)) replies;
+  run : HasRun (access_context l.table.order l.grants.grants) l.table l.number (take l.i (lines_of_cpu l.number l.lines)) replies l.worker l.pass;
+  room : length (lines_of_cpu l.number l.lines) ≤ l.i + g.L.ReplyLog.room l.worker.log;
   before : l.worker.before.value ≡ l.fn.worker.before.value;
 }

@@ -1,5 +1,0 @@
-use Rattle.hpt_resize.specs.Rehash.{IsPlacedBelow}
-use Rattle.hpt_resize.proofs.carry.rehash.Given as goal
-
-abbrev pub invariant-loop-index : goal.invariant-loop-index
-invariant-loop-index l = IsPlacedBelow l.order_from l.order_to l.states l.into.items l.index

@@ -1,0 +1,33 @@
+-- Places that are filled one after the other from the first on.
+use Rattle.std.proofs.Common.{◌≡◌, ℕ, zero, suc, ◌+◌, ◌<◌, ◌≤◌, List, [], ◌∷◌, ◌++◌, length, take, drop, set, get_or, min, refl, ap, ◌⊎◌, inl, inr, arith}
+use Rattle.std.proofs.lemmas.List.{take_all, drop_all}
+use Rattle.std.proofs.Math.Numerals.{add-one}
+use Rattle.std.proofs.lemmas.Bool.{cases_lt}
+use Rattle.papr_c.specs.Places.{filled}
+
+-- One more place: the next item.
+fill_next : {X : Type 0} (items old : List X) (i : ℕ) (d : X) → i < length items → i < length old → set (take i items ++ drop i old) i (get_or items i d) ≡ take (suc i) items ++ drop (suc i) old
+fill_next [] old i d below inside = absurd (omega (arith, below))
+fill_next (x ∷ items) [] i d below inside = absurd (omega (arith, inside))
+fill_next (x ∷ items) (o ∷ old) zero d below inside = refl
+fill_next (x ∷ items) (o ∷ old) (suc i) d below inside =
+    ap (λ rest. x ∷ rest) (fill_next items old i d (omega (arith, below)) (omega (arith, inside)))
+
+pub fill_more : {X : Type 0} (items old now : List X) (i : ℕ) (d x : X) → i < length items → i < length old → now ≡ take i items ++ drop i old → x ≡ get_or items i d → set now i x ≡ take (i + 1) items ++ drop (i + 1) old
+fill_more items old now i d x below inside is read =
+    rw (is, read, add-one) (fill_next items old i d below inside)
+
+-- All that go.
+pub fill_whole : {X : Type 0} (items old : List X) (i : ℕ) → i ≡ min (length items) (length old) → take i items ++ drop i old ≡ filled old items
+fill_whole items old i all = at (cases_lt (length items) (length old)) where
+  at : (length items < length old) ⊎ (length old ≤ length items) → take i items ++ drop i old ≡ filled old items
+  at (inl fits) =
+      let i_is : i ≡ length items = omega (arith, all) in
+      let whole : take (length old) items ≡ items = take_all (length old) items (omega arith) in
+      let same : take (length items) items ≡ items = take_all (length items) items (omega arith) in
+      rw (i_is, whole, same) refl
+  at (inr short) =
+      let i_is : i ≡ length old = omega (arith, all) in
+      let none : drop (length items) old ≡ [] = drop_all (length items) old short in
+      let gone : drop (length old) old ≡ [] = drop_all (length old) old (omega arith) in
+      rw (i_is, none, gone) refl

@@ -1,0 +1,43 @@
+-- What a call leaves, by its reply and the receipts that it made.
+use Rattle.std.proofs.Common.{◌≡◌, ℕ, min, List, Bool, true, length, map, Option, Some, refl, ap, ◌∙◌}
+use Rattle.entry_model.specs.State.{State}
+use Rattle.entry_model.specs.Run.{IsRun}
+use Rattle.entry_model.specs.Replies.{reply_with}
+use Rattle.storage_prot.specs.declared.want.Want.{Want}
+use Rattle.power_addr.specs.Pages.{VirtualPage}
+use Rattle.entry_model.specs.Receipt.{is_no_match, found_of}
+use Rattle.entry_model.specs.Reply.{access_mode}
+use Rattle.entry_model.specs.Trial.{Plan, IsReplyOf, IsTrial, plan_run, trial_run}
+use Rattle.entry_model.specs.declared.hreply.Registers.{Registers}
+use Rattle.entry_model.specs.declared.receipt.Receipt.{Receipt}
+use Rattle.entry_model.proofs.Plans.{plan_is}
+use Rattle.entry_model.proofs.Trials.{trial_is}
+use Rattle.hpt_walk.specs.Walk.{walk_calls}
+use Rattle.papr_c.specs.declared.receipts.PaprReceipt.{PaprReceipt}
+use Rattle.papr_c.specs.declared.reply.PaprReply.{PaprReply}
+use Rattle.papr_c.specs.Places.{filled, shown_receipt}
+use Rattle.papr_c.specs.declared.walking.PaprAccess.{PaprAccess}
+use Rattle.papr_c.specs.declared.walking.PaprWalk.{PaprWalk}
+use Rattle.papr_c.specs.Lent.{is_table}
+use Rattle.papr_c.specs.Calls.{LentMemory, memory, reply_told, outcome_by, outcome_where}
+use Rattle.papr_c.specs.Walks.{WalkMemory, walk_memory, page_of, want_of, walk_end, walked_by, outcome_of_walk}
+
+-- What was handed over, and the entries that the receipts led to.
+pub record IsHandedOver (registers : Registers) (rs : List Receipt) (m : LentMemory) (told : PaprReply) (words : List ℕ) (receipts : List PaprReceipt) : Type 0 where
+  pub reply : told ≡ reply_told (reply_with registers rs) m.words m.receipts
+  pub in_words : words ≡ filled m.words registers.words
+  pub in_receipts : receipts ≡ filled m.receipts (map shown_receipt rs)
+
+-- A call whose arguments fit leaves what its plan does on the entries that were lent.
+pub call_is : (fits : Bool) (plan : Plan) (m : LentMemory) (registers : Registers) (rs : List Receipt) (reply : PaprReply) (words : List ℕ) (receipts : List PaprReceipt) (lent now after : List State) → fits ≡ true → IsReplyOf plan (reply_with registers rs) → IsRun lent rs now → lent ≡ m.entries → IsHandedOver registers rs m reply words receipts → after ≡ now → (reply, memory after words receipts) ≡ outcome_where fits plan m
+call_is fits plan m registers rs reply words receipts lent now after fit is run same handed kept =
+    let made : (reply_with registers rs, now) ≡ plan_run plan m.entries = plan_is plan m.entries now (reply_with registers rs) is (rw same at run) in
+    let told : (reply, memory after words receipts) ≡ outcome_by m (reply_with registers rs, now) = rw (handed.reply, handed.in_words, handed.in_receipts, kept) refl in
+    rw fit (told ∙ ap (outcome_by m) made)
+
+-- A walk whose arguments fit leaves what its calls do on the entries that were lent.
+pub walk_is : (order : ℕ) (a : PaprAccess) (page : VirtualPage) (want : Want) (m : WalkMemory) (rs : List Receipt) (found : Option Receipt) (count : ℕ) (told : PaprWalk) (places : List PaprReceipt) (lent now after : List State) → is_table order m.entries ≡ true → page_of a ≡ Some page → want_of a.want ≡ Some want → IsTrial is_no_match (walk_calls order page (access_mode a.key a.no_execute want)) rs → IsRun lent rs now → lent ≡ m.entries → found ≡ found_of rs → count ≡ min (length m.receipts) (length rs) → told ≡ walk_end a.ea found count → places ≡ filled m.receipts (map shown_receipt rs) → after ≡ now → (told, walk_memory after places) ≡ outcome_of_walk order a m
+walk_is order a page want m rs found count told places lent now after fit at_page wants trial run same is counted ended put kept =
+    let made : (rs, now) ≡ trial_run is_no_match m.entries (walk_calls order page (access_mode a.key a.no_execute want)) = trial_is is_no_match m.entries now (walk_calls order page (access_mode a.key a.no_execute want)) rs trial (rw same at run) in
+    let here : (told, walk_memory after places) ≡ walked_by a.ea m (rs, now) = rw (ended, is, counted, put, kept) refl in
+    rw (fit, at_page, wants) (here ∙ ap (walked_by a.ea m) made)

@@ -1,0 +1,130 @@
+-- Grants as C has them: a list that is checked once, sorted, and searched by halving.
+use Rattle.std.specs.Prelude.{◌≡◌, ◌<◌, ◌≤◌, ◌+◌, ◌^◌, ℕ, Bool, true, false, if◌then◌else◌, List, [], ◌∷◌, map, take, slice_index_or, All, AllPairs, Option, Some, None}
+use Rattle.pool_range.specs.Ranges.{range_refusal}
+use Rattle.pool_range.specs.declared.range.RangeError.{RangeError}
+use Rattle.pool_range.specs.declared.range.RangeError.TheVariants as pool
+use Rattle.frame_grants.specs.declared.grant.Grant.{Grant}
+use Rattle.frame_grants.specs.declared.grant.Kind.{Kind}
+use Rattle.frame_grants.specs.declared.grant.Kind.TheVariants.{Ram, Io}
+use Rattle.frame_grants.specs.declared.error.GrantError.{GrantError}
+use Rattle.frame_grants.specs.declared.error.GrantError.TheVariants as grant
+use Rattle.frame_grants.specs.Grants.{GrantedMemory, IsPlaced, meets_logical, no_grants, add_refusal, with_grant}
+use Rattle.papr_c.specs.declared.grants.PaprGrant.{PaprGrant}
+use Rattle.papr_c.specs.declared.granting.PaprMaking.{PaprMaking}
+use Rattle.papr_c.specs.declared.granting.PaprRange.{PaprRange}
+
+-- ---- one grant
+-- What lies behind it.
+abbrev pub kind_of : Bool → Kind
+kind_of is_io = if is_io then Io else Ram
+
+-- The grant with these fields.
+abbrev pub grant_of : PaprGrant → Grant
+grant_of g = record {
+  logical = g.logical;
+  machine = g.machine;
+  length = g.length;
+  kind = kind_of g.is_io;
+}
+
+-- No byte, at address 0: what stands past the last grant of a list.
+abbrev pub no_fields : PaprGrant
+no_fields = record { logical = 0; machine = 0; length = 0; is_io = false }
+
+-- ---- a list that was checked
+-- The grant at an index.
+abbrev pub fields_at : List PaprGrant → ℕ → PaprGrant
+fields_at grants index = slice_index_or grants index no_fields
+
+-- The first `count` grants rise: each ends where the next begins, or before it, and its machine
+-- range ends at most at 2 ^ 60.
+pub record IsInOrder (grants : List PaprGrant) (count : ℕ) : Type 0 where
+  pub rising :
+      (j k : ℕ)
+      → j < k
+      → k < count
+      → (fields_at grants j).logical + (fields_at grants j).length ≤ (fields_at grants k).logical
+  pub low :
+      (k : ℕ)
+      → k < count
+      → (fields_at grants k).machine + (fields_at grants k).length ≤ 2 ^ 60
+
+-- Grants that make such a list: each is placed, they rise, and none meets another.
+pub record AreListed (grants : List Grant) : Type 0 where
+  pub placed : All IsPlaced grants
+  pub rising : AllPairs (λ (lower higher : Grant). lower.logical < higher.logical) grants
+  pub apart : AllPairs (λ (lower higher : Grant). meets_logical lower higher ≡ false) grants
+
+-- The grants of a list, which are its first `count`.
+abbrev pub listed : List PaprGrant → ℕ → List Grant
+listed grants count = map grant_of (take count grants)
+
+-- ---- how a list is made
+-- What becomes of it: the granted memory, or the index of the first grant that is refused, and why,
+-- or why there is no pool.
+pub data Making : Type 0 where
+  Made : GrantedMemory → Making
+  Refused : ℕ → GrantError → Making
+  NoPool : RangeError → Making
+
+-- One grant that was tried, with what becomes of the list if it isn't refused.
+abbrev pub making_by : Option GrantError → ℕ → Making → Making
+making_by None index rest = rest
+making_by (Some e) index rest = Refused index e
+
+-- The grants are added one after the other to those that there are.
+abbrev pub making_from : GrantedMemory → ℕ → List PaprGrant → Making
+making_from granted index [] = Made granted
+making_from granted index (g ∷ gs) =
+    making_by
+    (add_refusal granted (grant_of g))
+    index
+    (making_from (with_grant granted (grant_of g)) (index + 1) gs)
+
+-- Beside the pool of page tables, where its two numbers are one.
+abbrev pub making_beside : Option RangeError → ℕ → ℕ → List PaprGrant → Making
+making_beside None base order given = making_from (no_grants base order) 0 given
+making_beside (Some e) base order given = NoPool e
+
+-- All of it.
+unfoldable pub making_of : ℕ → ℕ → List PaprGrant → Making
+making_of base order given = making_beside (range_refusal base order) base order given
+
+-- ---- what C is told
+-- The number of a grant's refusal.
+abbrev pub grant_refusal_number : GrantError → ℕ
+grant_refusal_number grant.Empty = 1
+grant_refusal_number grant.Unaligned = 2
+grant_refusal_number grant.Past = 3
+grant_refusal_number grant.TooMany = 4
+grant_refusal_number grant.Overlap = 5
+grant_refusal_number grant.PoolOverlap = 6
+
+-- The number of a pool's refusal.
+abbrev pub pool_refusal_number : RangeError → ℕ
+pool_refusal_number pool.Order = 7
+pool_refusal_number pool.Unaligned = 8
+pool_refusal_number pool.Past = 9
+
+-- The refusal, 0 for none, and the index of the grant that is refused.
+abbrev pub making_told : Making → PaprMaking
+making_told (Made granted) = record { index = 0; refusal = 0 }
+making_told (Refused index e) = record { index = index; refusal = grant_refusal_number e }
+making_told (NoPool e) = record { index = 0; refusal = pool_refusal_number e }
+
+-- The list after it: what is refused leaves it as it was.
+abbrev pub list_after : Making → List Grant → List Grant
+list_after (Made granted) old = granted.grants
+list_after (Refused index e) old = old
+list_after (NoPool e) old = old
+
+-- ---- a look-up
+-- A device lies there.
+abbrev pub is_io : Kind → Bool
+is_io Ram = false
+is_io Io = true
+
+-- The machine address, and what lies there; 0 where there is none.
+abbrev pub range_told : Option (ℕ × Kind) → PaprRange
+range_told None = record { machine = 0; granted = false; is_io = false }
+range_told (Some x) = record { machine = x.0; granted = true; is_io = is_io x.1 }

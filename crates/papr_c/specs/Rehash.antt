@@ -1,0 +1,42 @@
+-- What a rehash of C leaves: its answer, and the entries of the new table.
+use Rattle.std.specs.Prelude.{ℕ, ◌&&◌, if◌then◌else◌, List, replicate, Option, Some, None}
+use Rattle.hpte_fields.specs.TableSize.{entry_count}
+use Rattle.papr_codes.specs.ReturnCodes.{rc_code}
+use Rattle.papr_codes.specs.declared.codes.Rc.{Rc}
+use Rattle.papr_codes.specs.declared.codes.Rc.TheVariants.{Success, Parameter, PtegFull}
+use Rattle.entry_model.specs.State.{State, empty_state}
+use Rattle.hpt_resize.specs.declared.carry.Collision.{Collision}
+use Rattle.hpt_resize.specs.Rehash.{collision_of, rehashed_states}
+use Rattle.papr_c.specs.declared.rehashing.PaprRehash.{PaprRehash}
+use Rattle.papr_c.specs.Lent.{is_table}
+
+-- ---- answers
+-- A code, and no collision.
+abbrev pub without_collision : Rc → PaprRehash
+without_collision rc = record { rc = rc_code rc; first = 0; second = 0; target = 0 }
+
+-- H_SUCCESS, or H_PTEG_FULL and the two entries that would meet.
+abbrev pub rehash_told : Option Collision → PaprRehash
+rehash_told None = without_collision Success
+rehash_told (Some c) = record {
+  rc = rc_code PtegFull;
+  first = c.first;
+  second = c.second;
+  target = c.target;
+}
+
+-- ---- outcomes
+-- The new table: with each entry that is carried, or empty where two would meet.
+abbrev pub table_after : Option Collision → ℕ → ℕ → List State → List State
+table_after None from to entries = rehashed_states from to entries
+table_after (Some c) from to entries = replicate (entry_count to) (empty_state 0)
+
+-- Both are tables; otherwise the answer is H_PARAMETER, and nothing changes.
+abbrev pub outcome_of_rehash : ℕ → List State → ℕ → List State → PaprRehash × List State
+outcome_of_rehash from entries to into =
+    if is_table from entries && is_table to into
+    then (
+      rehash_told (collision_of from to entries),
+      table_after (collision_of from to entries) from to entries,
+    )
+    else (without_collision Parameter, into)

@@ -1,0 +1,39 @@
+ghost use Rattle.std.specs.Prelude.{◌≡◌};
+ghost use Rattle.h_update.specs.Bulk.{h_bulk_remove_plan};
+ghost use Rattle.papr_c.specs.Calls.{memory, outcome_of_bulk};
+
+use crate::lent::{LentTable, is_table};
+use crate::receipts::PaprReceipt;
+use crate::reply::{PaprReply, hand_over};
+use entry_model::{EntryState, Receipts};
+use h_update::h_bulk_remove_into;
+
+/// H_BULK_REMOVE (LoPAR): takes four pairs of words, each a request to remove an entry and the word
+/// of its test. The words are all eight, with a response in place of each request that was taken
+/// up.
+#[unsafe(no_mangle)]
+pub extern "C" fn papr_h_bulk_remove(
+    entries: &mut [EntryState],
+    order: u8,
+    pairs: &[u64],
+    words: &mut [u64],
+    receipts: &mut [PaprReceipt],
+) -> PaprReply
+    ensures { (result, memory entries.new words.new receipts.new)
+        ≡ outcome_of_bulk
+        order
+        pairs.now
+        (h_bulk_remove_plan order pairs.now)
+        (memory entries.old words.old receipts.old) }
+{
+    if !is_table(entries, order) {
+        return PaprReply::refused();
+    }
+    let Some(pairs) = pairs.as_array() else {
+        return PaprReply::refused();
+    };
+    let mut made = Receipts::new();
+    let mut table = LentTable::lend(entries, order);
+    let registers = h_bulk_remove_into(&mut table, pairs, &mut made);
+    hand_over(&registers, &made, words, receipts)
+}

@@ -1,0 +1,41 @@
+ghost use Rattle.std.specs.Prelude.{◌≡◌};
+ghost use Rattle.h_enter.specs.Checks.{h_enter_plan};
+ghost use Rattle.papr_c.specs.Calls.{memory, outcome_of_call};
+ghost use Rattle.papr_c.specs.Grants.{listed};
+
+use crate::grants::PaprGrants;
+use crate::lent::{LentTable, is_table};
+use crate::receipts::PaprReceipt;
+use crate::reply::{PaprReply, hand_over};
+use entry_model::{EntryState, Receipts};
+use h_enter::h_enter_granted_into;
+
+/// H_ENTER (LoPAR): puts the translation of a page into the table. `ptex` names the group, or under
+/// H_EXACT the entry, `pteh` and `ptel` are the two doublewords, and `grants` is a list that
+/// `papr_make_grants` made. The word is the entry's index.
+#[unsafe(no_mangle)]
+pub extern "C" fn papr_h_enter(
+    entries: &mut [EntryState],
+    order: u8,
+    grants: &PaprGrants,
+    flags: u64,
+    ptex: u64,
+    pteh: u64,
+    ptel: u64,
+    words: &mut [u64],
+    receipts: &mut [PaprReceipt],
+) -> PaprReply
+    ensures { (result, memory entries.new words.new receipts.new)
+        ≡ outcome_of_call
+        order
+        (h_enter_plan order (listed grants.now.grants grants.now.count) flags ptex pteh ptel)
+        (memory entries.old words.old receipts.old) }
+{
+    if !is_table(entries, order) {
+        return PaprReply::refused();
+    }
+    let mut made = Receipts::new();
+    let mut table = LentTable::lend(entries, order);
+    let registers = h_enter_granted_into(&mut table, grants, flags, ptex, pteh, ptel, &mut made);
+    hand_over(&registers, &made, words, receipts)
+}

@@ -1,0 +1,17 @@
+//! papr for C and for Rust: the hypervisor calls on page table entries, the walk and the rehash,
+//! over a table in the caller's memory. `include/papr.h` is the same in C.
+//!
+//! The caller owns the entries and lends them for the length of one call. Nothing is allocated, and
+//! no pointer is kept. What the caller owes is in `docs/LIBRARY.md`.
+#![tactic(auto)]
+
+mod bulk;
+mod enter;
+mod granting;
+mod grants;
+mod lent;
+mod receipts;
+mod rehashing;
+mod reply;
+mod single;
+mod walking;

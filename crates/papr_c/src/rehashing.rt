@@ -1,0 +1,74 @@
+ghost use Rattle.std.specs.Prelude.{◌≡◌, length, replicate};
+ghost use Rattle.entry_model.specs.State.{empty_state};
+ghost use Rattle.papr_c.specs.Rehash.{without_collision, outcome_of_rehash};
+
+use crate::lent::is_table;
+use entry_model::EntryState;
+use hpt_resize::rehash_into;
+use papr_codes::Rc;
+
+/// What a rehash answers, and for H_PTEG_FULL the two entries that would meet, and where.
+#[repr(C)]
+#[derive(Clone, Copy)]
+pub struct PaprRehash {
+    pub rc: i64,
+    /// The lower index in the old table.
+    pub first: u32,
+    /// The higher index in the old table.
+    pub second: u32,
+    /// The index in the new table.
+    pub target: u32,
+}
+
+impl PaprRehash {
+    /// An answer with no collision.
+    fn of(rc: Rc) -> PaprRehash
+        ensures { result ≡ without_collision rc }
+    {
+        PaprRehash {
+            rc: rc.code(),
+            first: 0,
+            second: 0,
+            target: 0,
+        }
+    }
+}
+
+/// Empties each entry.
+fn clear(entries: &mut [EntryState])
+    ensures { entries.new ≡ replicate (length entries.old) (empty_state 0) }
+{
+    for i in 0..entries.len() {
+        entries[i] = EntryState::empty(0);
+    }
+}
+
+/// Carries the bolted entries of a table over to another one, as a committed resize does: each that
+/// is the entry of a page to that page's group there, at its old slot and at stamp 0. What stood in
+/// `into` is dropped. Where two entries would meet it answers H_PTEG_FULL, and `into` is empty.
+#[unsafe(no_mangle)]
+pub extern "C" fn papr_rehash(
+    entries: &[EntryState],
+    order: u8,
+    into: &mut [EntryState],
+    into_order: u8,
+) -> PaprRehash
+    ensures { (result, into.new) ≡ outcome_of_rehash order entries.now into_order into.old }
+{
+    if !is_table(entries, order) || !is_table(into, into_order) {
+        return PaprRehash::of(Rc::Parameter);
+    }
+    clear(into);
+    match rehash_into(order, into_order, entries, into) {
+        Ok(()) => PaprRehash::of(Rc::Success),
+        Err(collision) => {
+            clear(into);
+            PaprRehash {
+                rc: Rc::PtegFull.code(),
+                first: collision.first,
+                second: collision.second,
+                target: collision.target,
+            }
+        }
+    }
+}

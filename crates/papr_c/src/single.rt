@@ -1,0 +1,141 @@
+ghost use Rattle.std.specs.Prelude.{◌≡◌};
+ghost use Rattle.h_update.specs.Single.{h_remove_plan, h_protect_plan, h_read_plan, h_clear_ref_plan, h_clear_mod_plan};
+ghost use Rattle.papr_c.specs.Calls.{memory, outcome_of_call};
+
+use crate::lent::{LentTable, is_table};
+use crate::receipts::PaprReceipt;
+use crate::reply::{PaprReply, hand_over};
+use entry_model::{EntryState, Receipts};
+use h_update::{h_clear_mod_into, h_clear_ref_into, h_protect_into, h_read_into, h_remove_into};
+
+/// H_REMOVE (LoPAR): empties the entry `ptex` where it passes the test that `flags` ask for, by
+/// `avpn`. The words are its two doublewords before.
+#[unsafe(no_mangle)]
+pub extern "C" fn papr_h_remove(
+    entries: &mut [EntryState],
+    order: u8,
+    flags: u64,
+    ptex: u64,
+    avpn: u64,
+    words: &mut [u64],
+    receipts: &mut [PaprReceipt],
+) -> PaprReply
+    ensures { (result, memory entries.new words.new receipts.new)
+        ≡ outcome_of_call
+        order
+        (h_remove_plan order flags ptex avpn)
+        (memory entries.old words.old receipts.old) }
+{
+    if !is_table(entries, order) {
+        return PaprReply::refused();
+    }
+    let mut made = Receipts::new();
+    let mut table = LentTable::lend(entries, order);
+    let registers = h_remove_into(&mut table, flags, ptex, avpn, &mut made);
+    hand_over(&registers, &made, words, receipts)
+}
+
+/// H_PROTECT (LoPAR): gives the entry `ptex` the protection in `flags`, where it passes the test by
+/// `avpn` that they ask for. There are no words.
+#[unsafe(no_mangle)]
+pub extern "C" fn papr_h_protect(
+    entries: &mut [EntryState],
+    order: u8,
+    flags: u64,
+    ptex: u64,
+    avpn: u64,
+    words: &mut [u64],
+    receipts: &mut [PaprReceipt],
+) -> PaprReply
+    ensures { (result, memory entries.new words.new receipts.new)
+        ≡ outcome_of_call
+        order
+        (h_protect_plan order flags ptex avpn)
+        (memory entries.old words.old receipts.old) }
+{
+    if !is_table(entries, order) {
+        return PaprReply::refused();
+    }
+    let mut made = Receipts::new();
+    let mut table = LentTable::lend(entries, order);
+    let registers = h_protect_into(&mut table, flags, ptex, avpn, &mut made);
+    hand_over(&registers, &made, words, receipts)
+}
+
+/// H_READ (LoPAR): the words are the two doublewords of the entry `ptex`, or under H_READ_4 those
+/// of the four entries that it lies among.
+#[unsafe(no_mangle)]
+pub extern "C" fn papr_h_read(
+    entries: &mut [EntryState],
+    order: u8,
+    flags: u64,
+    ptex: u64,
+    words: &mut [u64],
+    receipts: &mut [PaprReceipt],
+) -> PaprReply
+    ensures { (result, memory entries.new words.new receipts.new)
+        ≡ outcome_of_call
+        order
+        (h_read_plan order flags ptex)
+        (memory entries.old words.old receipts.old) }
+{
+    if !is_table(entries, order) {
+        return PaprReply::refused();
+    }
+    let mut made = Receipts::new();
+    let mut table = LentTable::lend(entries, order);
+    let registers = h_read_into(&mut table, flags, ptex, &mut made);
+    hand_over(&registers, &made, words, receipts)
+}
+
+/// H_CLEAR_REF (LoPAR): clears R of the entry `ptex`. The word is its doubleword 1 before. `flags`
+/// are ignored.
+#[unsafe(no_mangle)]
+pub extern "C" fn papr_h_clear_ref(
+    entries: &mut [EntryState],
+    order: u8,
+    flags: u64,
+    ptex: u64,
+    words: &mut [u64],
+    receipts: &mut [PaprReceipt],
+) -> PaprReply
+    ensures { (result, memory entries.new words.new receipts.new)
+        ≡ outcome_of_call
+        order
+        (h_clear_ref_plan order ptex)
+        (memory entries.old words.old receipts.old) }
+{
+    if !is_table(entries, order) {
+        return PaprReply::refused();
+    }
+    let mut made = Receipts::new();
+    let mut table = LentTable::lend(entries, order);
+    let registers = h_clear_ref_into(&mut table, flags, ptex, &mut made);
+    hand_over(&registers, &made, words, receipts)
+}
+
+/// H_CLEAR_MOD (LoPAR): clears C of the entry `ptex`. The word is its doubleword 1 before. `flags`
+/// are ignored.
+#[unsafe(no_mangle)]
+pub extern "C" fn papr_h_clear_mod(
+    entries: &mut [EntryState],
+    order: u8,
+    flags: u64,
+    ptex: u64,
+    words: &mut [u64],
+    receipts: &mut [PaprReceipt],
+) -> PaprReply
+    ensures { (result, memory entries.new words.new receipts.new)
+        ≡ outcome_of_call
+        order
+        (h_clear_mod_plan order ptex)
+        (memory entries.old words.old receipts.old) }
+{
+    if !is_table(entries, order) {
+        return PaprReply::refused();
+    }
+    let mut made = Receipts::new();
+    let mut table = LentTable::lend(entries, order);
+    let registers = h_clear_mod_into(&mut table, flags, ptex, &mut made);
+    hand_over(&registers, &made, words, receipts)
+}

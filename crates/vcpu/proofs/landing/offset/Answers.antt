@@ -1,8 +1,0 @@
-use Rattle.vcpu.proofs.Offsets.{masked, masked_small}
-use Rattle.vcpu.proofs.landing.offset.Goals as goal
-
-pub returns-clause-value : goal.returns-clause-value
-returns-clause-value c = masked c.args.ea c.args.actual c.requires
-
-pub returns-clause-small : goal.returns-clause-small
-returns-clause-small c = masked_small c.args.ea c.args.actual c.requires

@@ -1,0 +1,261 @@
+/*
+ * Replays a trace through papr_c, and writes the replies that `papr run` writes.
+ *
+ *   replay <TRACE
+ *
+ * The library has the calls on entries, the walk and the rehash. What an emulator keeps itself is kept
+ * here: the segments of each processor (segments.c), and the tables between two resize calls
+ * (resizing.c). Nothing is cached: each access is a walk, so where papr writes `hit` this writes `walk`,
+ * with the receipts of the whole walk; the answer is the same.
+ *
+ * A trace is taken to be one that papr accepts: but for its numbers nothing is checked.
+ */
+#include "replay.h"
+
+#include <inttypes.h>
+#include <stdio.h>
+#include <stdlib.h>
+#include <string.h>
+
+static const char *const answers[] = {"entered", "taken", "removed", "protected", "was", "read",
+                                      "notfound", "nomatch", "denied", "at", "worn"};
+
+/* What a run carries from line to line. */
+static struct guest guest = {.current = {.order = 18}, .limit = 22, .pool_base = UINT64_C(1) << 36,
+                             .pool_order = 24};
+
+struct line {
+    char *text;         /* the words lie in it */
+    char *word[12];
+    int words;
+    uint64_t value[12]; /* of the words that are numbers */
+};
+
+/* ---- reading */
+
+static char *read_all(void)
+{
+    size_t room = 1 << 20, length = 0, got;
+    char *text = malloc(room + 1);
+    while (text && (got = fread(text + length, 1, room - length, stdin)) > 0) {
+        length += got;
+        if (length == room)
+            text = realloc(text, (room *= 2) + 1);
+    }
+    if (text)
+        text[length] = 0;
+    return text;
+}
+
+/* A word is a number where it begins with a digit; then all of it has to be one. */
+static bool split(struct line *line)
+{
+    char *rest = line->text;
+    for (char *word; line->words < 12 && (word = strtok_r(rest, " \t\r", &rest));) {
+        char *end = word;
+        if (word[0] >= '0' && word[0] <= '9')
+            line->value[line->words] = strtoull(word, &end, 0);
+        line->word[line->words++] = word;
+        if (word[0] >= '0' && word[0] <= '9' && (*end || end[-1] == 'x'))
+            return false;
+    }
+    return true;
+}
+
+/* ---- writing */
+
+static void put_receipts(const struct papr_receipt *made, uint32_t count)
+{
+    if (count)
+        printf(" |");
+    for (uint32_t i = 0; i < count; i++)
+        printf(" 0x%" PRIx32 ".%" PRIu32 ".%u.%s", made[i].entry, made[i].stamp, made[i].bits,
+               answers[made[i].answer]);
+    putchar('\n');
+}
+
+static void put_dump(void)
+{
+    const struct table *t = &guest.current;
+    uint64_t valid = 0, words[8];
+    struct papr_receipt made[16];
+    for (size_t i = 0; i < t->count; i++)
+        valid += t->entries[i].valid;
+    printf("dump table %" PRIu32 " order %u place 0x%" PRIx64 " entries %" PRIu64 "\n", guest.number,
+           t->order, t->place, valid);
+    for (size_t i = 0; i < t->count; i++)
+        if (t->entries[i].valid) {
+            papr_h_read(t->entries, t->count, t->order, 0, i, words, 8, made, 16);
+            printf(" 0x%zx 0x%" PRIx64 " 0x%" PRIx64 " %" PRIu32 "\n", i, words[0], words[1],
+                   made[0].stamp);
+        }
+}
+
+/* ---- the lines */
+
+static void access_line(uint64_t cpu, const char *want, uint64_t ea, bool problem)
+{
+    struct papr_receipt made[16];
+    struct papr_access access;
+    if (!segment_access(&guest.slb[cpu], ea, problem, &access)) {
+        puts("nosegment");
+        return;
+    }
+    access.want = want[0] == 'l' ? 0 : want[0] == 's' ? 1 : 2;
+    struct table *t = &guest.current;
+    struct papr_walk w = papr_walk(t->entries, t->count, t->order, &access, made, 16);
+    struct papr_range at = papr_machine_of(&guest.grants, w.logical, 1);
+    if (w.outcome == PAPR_WALK_AT && at.granted)
+        printf("at 0x%" PRIx64 " walk", at.machine);
+    else if (w.outcome == PAPR_WALK_AT)
+        printf("ungranted 0x%" PRIx64 " walk", w.logical);
+    else
+        printf("%s walk", w.outcome == PAPR_WALK_DENIED ? "denied" : "nopage");
+    put_receipts(made, w.receipts);
+}
+
+/* A call on entries by its number; false where the number is none of them. */
+static bool call_entries(uint64_t number, const uint64_t *a, struct papr_reply *r, uint64_t *words,
+                         struct papr_receipt *made)
+{
+    struct table *t = &guest.current;
+    struct papr_entry *e = t->entries;
+    switch (number) {
+    case H_REMOVE:
+        *r = papr_h_remove(e, t->count, t->order, a[0], a[1], a[2], words, 8, made, 16);
+        return true;
+    case H_ENTER:
+        *r = papr_h_enter(e, t->count, t->order, &guest.grants, a[0], a[1], a[2], a[3], words, 8,
+                          made, 16);
+        return true;
+    case H_READ:
+        *r = papr_h_read(e, t->count, t->order, a[0], a[1], words, 8, made, 16);
+        return true;
+    case H_CLEAR_MOD:
+        *r = papr_h_clear_mod(e, t->count, t->order, a[0], a[1], words, 8, made, 16);
+        return true;
+    case H_CLEAR_REF:
+        *r = papr_h_clear_ref(e, t->count, t->order, a[0], a[1], words, 8, made, 16);
+        return true;
+    case H_PROTECT:
+        *r = papr_h_protect(e, t->count, t->order, a[0], a[1], a[2], words, 8, made, 16);
+        return true;
+    case H_BULK_REMOVE:
+        *r = papr_h_bulk_remove(e, t->count, t->order, a, 8, words, 8, made, 16);
+        return true;
+    default:
+        return false;
+    }
+}
+
+static void call_line(uint64_t number, const uint64_t *a)
+{
+    struct papr_reply r = {.rc = -2};
+    struct papr_receipt made[16];
+    uint64_t words[8];
+    if (!call_entries(number, a, &r, words, made)) {
+        if (number == H_RESIZE_HPT_PREPARE)
+            r.rc = prepare(&guest, a[0], a[1]);
+        else if (number == H_RESIZE_HPT_COMMIT)
+            r.rc = commit(&guest, a[0], a[1]);
+    }
+    printf("%" PRId64, r.rc);
+    for (uint32_t i = 0; i < r.words; i++)
+        printf(" 0x%" PRIx64, words[i]);
+    put_receipts(made, r.receipts);
+}
+
+static uint64_t number_of(const char *name)
+{
+    static const struct { const char *name; uint64_t number; } calls[] = {
+        {"H_REMOVE", H_REMOVE}, {"H_ENTER", H_ENTER}, {"H_READ", H_READ},
+        {"H_CLEAR_MOD", H_CLEAR_MOD}, {"H_CLEAR_REF", H_CLEAR_REF}, {"H_PROTECT", H_PROTECT},
+        {"H_BULK_REMOVE", H_BULK_REMOVE}, {"H_RESIZE_HPT_PREPARE", H_RESIZE_HPT_PREPARE},
+        {"H_RESIZE_HPT_COMMIT", H_RESIZE_HPT_COMMIT}};
+    for (size_t i = 0; i < sizeof calls / sizeof *calls; i++)
+        if (!strcmp(name, calls[i].name))
+            return calls[i].number;
+    return UINT64_MAX;
+}
+
+static void run_line(unsigned long n, const struct line *l)
+{
+    printf("%lu ", n);
+    if (!strcmp(l->word[0], "dump")) {
+        put_dump();
+        return;
+    }
+    const char *name = l->word[1];
+    uint64_t cpu = l->value[0];
+    printf("%" PRIu64 " %s ", cpu, name);
+    if (!strcmp(name, "slbmte"))
+        puts(slbmte(&guest.slb[cpu], l->value[2], l->value[3]) ? "ok" : "refused");
+    else if (!strcmp(name, "slbclear"))
+        memset(&guest.slb[cpu], 0, sizeof guest.slb[cpu]), puts("ok");
+    else if (!strcmp(name, "load") || !strcmp(name, "store") || !strcmp(name, "fetch"))
+        access_line(cpu, name, l->value[2], !strcmp(l->word[3], "user"));
+    else if (!strcmp(name, "hcall"))
+        call_line(l->value[2], l->value + 3);
+    else
+        call_line(number_of(name), l->value + 2);
+}
+
+/* The lines before `begin`, and it; false where the library or the memory refuses. */
+static bool set_line(const struct line *l)
+{
+    const char *name = l->word[0];
+    const uint64_t *v = l->value + 1;
+    if (!strcmp(name, "order"))
+        guest.current.order = (uint8_t)v[0];
+    else if (!strcmp(name, "limit"))
+        guest.limit = v[0];
+    else if (!strcmp(name, "pool"))
+        guest.pool_base = v[0], guest.pool_order = (uint8_t)v[1];
+    else if (!strcmp(name, "ram") || !strcmp(name, "io"))
+        guest.given[guest.given_count++] = (struct papr_grant){v[0], v[1], v[2], name[0] == 'i'};
+    else if (!strcmp(name, "begin"))
+        return papr_make_grants(guest.given, guest.given_count, guest.pool_base, guest.pool_order,
+                                &guest.grants).refusal == PAPR_GRANTED &&
+               open_table(&guest, &guest.current, guest.current.order);
+    return true;
+}
+
+/* The text's lines, with a pass over all of them before the first is run. */
+static int replay(char *text)
+{
+    unsigned long count = 1, begin = 0;
+    for (const char *at = text; *at; at++)
+        count += *at == '\n';
+    struct line *lines = calloc(count, sizeof *lines);
+    if (!lines)
+        return 5;
+    for (unsigned long n = 0; n < count; n++) {
+        lines[n].text = strsep(&text, "\n");
+        if (lines[n].text[0] != '#' && !split(&lines[n])) {
+            printf("papr: line %lu: number\n", n + 1);
+            free(lines);
+            return 2;
+        }
+    }
+    int status = 0;
+    for (unsigned long n = 0; n < count && !status; n++) {
+        if (!lines[n].words)
+            continue;
+        if (begin)
+            run_line(n + 1, &lines[n]);
+        else if (!set_line(&lines[n]))
+            status = 5;
+        begin = begin || !strcmp(lines[n].word[0], "begin");
+    }
+    free(lines);
+    return status;
+}
+
+int main(void)
+{
+    char *text = read_all();
+    int status = text ? replay(text) : 5;
+    close_tables(&guest);
+    free(text);
+    return status;
+}

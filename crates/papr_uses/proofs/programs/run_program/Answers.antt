@@ -1,24 +1,28 @@
-use Rattle.std.proofs.Common.{◌≡◌, [], ◌∷◌, Some, refl, subst, ap}
+use Rattle.std.proofs.Common.{◌≡◌, ◌⊎◌, inl, inr, [], ◌∷◌, Some, refl, subst, ap}
 use Rattle.trace_io.specs.Memory.{SourceState, told}
 use Rattle.papr_top.specs.declared.command.Command.TheVariants as commands
 use Rattle.papr_top.specs.Commands.{command_of}
-use Rattle.papr_top.specs.Top.{Run, EndsReading, IsSerialText}
-use Rattle.papr_uses.proofs.WholeRuns.{run_word, never_rose, answered}
+use Rattle.papr_top.specs.declared.status.Status.{Status}
+use Rattle.papr_top.specs.declared.status.Status.TheVariants.{Done, Memory}
+use Rattle.papr_top.specs.Inputs.{trace_input}
+use Rattle.papr_top.specs.Top.{Run, EndsReading, WithDone, IsAnswered, IsSerialText}
+use Rattle.papr_uses.proofs.WholeRuns.{run_word, never_rose, answered, run_done, trace_accepted, trace_refused}
 use Rattle.papr_uses.proofs.programs.run_program.Goals as goal
 
 pub returns-clause-complete : goal.returns-clause-complete
 returns-clause-complete c = λ accepted.
     let word : command_of (c.in-Ok.word ∷ []) ≡ Some commands.Run = run_word c.in-Ok.word c.in-Ok.ensures.ok in
-    c.papr_serial.ensures.complete (rw (word, c.new-source.ensures) accepted) never_rose never_rose
+    let done : IsAnswered (Some commands.Run) c.papr_serial.result ⊎ (c.papr_serial.result ≡ Memory) = rw word at c.papr_serial.ensures.complete (rw (word, c.new-source.ensures) (trace_accepted c.args.input.items accepted)) never_rose never_rose in
+    elim done [ inl is ↦ inl (run_done c.papr_serial.result is) | inr memory ↦ inr memory ]
 
 pub returns-clause-refuses : goal.returns-clause-refuses
 returns-clause-refuses c = λ refused.
     let word : command_of (c.in-Ok.word ∷ []) ≡ Some commands.Run = run_word c.in-Ok.word c.in-Ok.ensures.ok in
-    c.papr_serial.ensures.refuses (rw (word, c.new-source.ensures) refused) never_rose never_rose
+    c.papr_serial.ensures.refuses (rw (word, c.new-source.ensures) (trace_refused c.args.input.items refused)) never_rose never_rose
 
 pub returns-clause-text : goal.returns-clause-text
 returns-clause-text c = λ done.
     let word : command_of (c.in-Ok.word ∷ []) ≡ Some commands.Run = run_word c.in-Ok.word c.in-Ok.ensures.ok in
     let ran : Run = record { left = Some c.new-source.result.left; left_after = Some c.papr_serial.new.source.left; taken = told c.args.sink.now; taken_after = told c.papr_serial.new.sink } in
-    let ends : EndsReading IsSerialText ran c.papr_serial.result = rw word at c.papr_serial.ensures.outcome in
-    answered c.args.input.items c.papr_serial.new.source.left ran (ap (λ (s : SourceState). Some s.left) c.new-source.ensures) refl (subst (EndsReading IsSerialText ran) done ends)
+    let ends : EndsReading trace_input (WithDone IsSerialText) ran c.papr_serial.result = rw word at c.papr_serial.ensures.outcome in
+    answered c.args.input.items c.papr_serial.new.source.left ran (ap (λ (s : SourceState). Some s.left) c.new-source.ensures) refl (subst (EndsReading trace_input (WithDone IsSerialText) ran) done ends)

@@ -206,7 +206,7 @@ states_are_found a b xs order listed is told ends =
     let index = λ (f : Found). f.index in
     let number = λ (n : Numbered). n.index in
     let numbers : IsPermutation (range_with_len 0 (length xs)) (map index told.sorted) =
-            subst (λ l. IsPermutation l (map index told.sorted)) (numbered_indices 0 xs) (IsPermutation-trans (map number (numbered 0 xs)) (map number order) (map index told.sorted) (IsPermutation-map number (numbered 0 xs) order is.each_once) (subst (λ l. IsPermutation l (map index told.sorted)) (found_indices a order) (IsPermutation-map index found told.sorted told.each_once))) in
+    subst (λ l. IsPermutation l (map index told.sorted)) (numbered_indices 0 xs) (IsPermutation-trans (map number (numbered 0 xs)) (map number order) (map index told.sorted) (IsPermutation-map number (numbered 0 xs) order is.each_once) (subst (λ l. IsPermutation l (map index told.sorted)) (found_indices a order) (IsPermutation-map index found told.sorted told.each_once))) in
     let in_turn : map index told.sorted ≡ range_with_len 0 (length xs) = sorted_numbers (length xs) (map index told.sorted) numbers (keys_rise index told.sorted told.ascending) in
     let own : (j : ℕ) → j < length xs → get_or xs (0 + j) no_step ≡ get_or xs j no_step = λ j q. ap (λ z. get_or xs z no_step) (let e : 0 + j ≡ j = omega arith in e) in
     let each : AllByRecursion (HasNumber xs) order = recursion_from_All (HasNumber xs) order (All-permutation (HasNumber xs) (numbered 0 xs) order is.each_once (All-from_recursion (HasNumber xs) (numbered 0 xs) (each_numbered xs 0 xs own))) in

@@ -9,3 +9,4 @@ pub mod ReplayLaws
 pub mod FoundSection
 pub mod PlacedSteps
 pub mod OrderedSteps
+pub mod JudgedRun

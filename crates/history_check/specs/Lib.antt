@@ -10,3 +10,4 @@ pub mod FoundSection
 pub mod PlacedSteps
 pub mod OrderedSteps
 pub mod JudgedRun
+pub mod SectionMarks

@@ -10,3 +10,5 @@ pub mod ReplayLaws
 pub mod FoundSection
 pub mod PlacedSteps
 pub mod OrderedSteps
+pub mod LineReply
+pub mod FrontKeeping

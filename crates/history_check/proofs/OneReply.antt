@@ -13,13 +13,13 @@ use Rattle.trace_read.specs.Trace.{is_quiet}
 use Rattle.trace_reply.specs.declared.reply.Reply.{Reply}
 use Rattle.trace_reply.specs.Replies.{receipts_in}
 use Rattle.reply_text.specs.Text.{reply_text}
-use Rattle.run_model.specs.Processors.{gone_line_of}
+use Rattle.run_model.specs.Processors.{gone_line_of, processor_after}
 use Rattle.run_model.specs.Histories.{Event, made, gone_events, InOrder, events_in}
 use Rattle.history_check.specs.Marks.{IsMark}
 use Rattle.history_check.specs.ReplyMarks.{mark_of, marks_in}
 use Rattle.history_check.specs.Replay.{before_each}
-use Rattle.history_check.specs.LineReply.{IsReplyTo, FitsText, StandsOn}
-use Rattle.history_check.specs.FrontKeeping.{LeadsNowhere}
+use Rattle.history_check.specs.LineReply.{IsReplyTo, FitsText, StandsOn, HasReply}
+use Rattle.history_check.specs.FrontKeeping.{LeadsTo, LeadsNowhere}
 use Rattle.history_check.proofs.Alike.{AllBefore}
 use Rattle.history_check.proofs.AtMostOne.{zip, line_same}
 use Rattle.history_check.proofs.TextMarks.{AreShort, line_shows}
@@ -54,3 +54,17 @@ kept_not context closing p l found given r n g rs f quiet told is all none q res
     let one = one_reply context p l r q given (drop n given) rest quiet told.0 h.reply (told.1.before ∙ sym h.before) told.1.marks h.marks told.1.text same in
     let events : gone_events g ++ map (λ (x : Receipt). made x) rs ≡ events_in p (record { line = l; reply = q }) = (λ i. gone_events (is i) ++ map (λ (x : Receipt). made x) (all i)) ∙ ap (λ z. events_in p (record { line = l; reply = z })) one.0 in
     none later (λ e. subst (λ z. InOrder e (f e) (z ++ later)) (sym events) (order e))
+
+-- ---- where it does
+pub line_told : (context : AccessContext) (closing : List State) (p q : Processor) (l : TraceLine) (found : List State) (given : List ℕ) (r : Reply) (n : ℕ) (g : Option Line) (rs : List Receipt) (f h : ℕ → ℕ) → IsReplyTo context p l.act r × FitsText l found given r n → g ≡ gone_line_of p l.act r → IfSome g (λ line. line.stamp < (state_at closing line.entry).stamp) → rs ≡ receipts_in r → LeadsTo f (gone_events g ++ map (λ (x : Receipt). made x) rs) h → q ≡ processor_after p l.act r → (k : HasReply context closing p l found given n) × (q ≡ processor_after p l.act k.reply) × LeadsTo f (events_in p (record { line = l; reply = k.reply })) h
+line_told context closing p q l found given r n g rs f h told is left all leads after =
+    let events : gone_events g ++ map (λ (x : Receipt). made x) rs ≡ events_in p (record { line = l; reply = r }) = λ i. gone_events (is i) ++ map (λ (x : Receipt). made x) (all i) in (
+      record {
+        reply = r;
+        stands = record { reply = told.0; before = told.1.before; marks = told.1.marks; gone = subst (λ z. IfSome z (λ line. line.stamp < (state_at closing line.entry).stamp)) is left };
+        within = told.1.within;
+        text = told.1.text;
+      },
+      after,
+      subst (λ z. LeadsTo f z h) events leads,
+    )

@@ -12,3 +12,4 @@ pub mod PlacedSteps
 pub mod OrderedSteps
 pub mod LineReply
 pub mod FrontKeeping
+pub mod JudgedLines

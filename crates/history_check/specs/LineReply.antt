@@ -1,5 +1,5 @@
 -- The reply to one line, by the states that its operations found.
-use Rattle.std.specs.Prelude.{◌≡◌, ◌<◌, ℕ, List, ◌++◌, drop, IfSome}
+use Rattle.std.specs.Prelude.{◌≡◌, ◌<◌, ◌≤◌, ℕ, List, length, ◌++◌, drop, IfSome}
 use Rattle.std.specs.List.{AllByRecursion}
 use Rattle.entry_model.specs.State.{State}
 use Rattle.entry_model.specs.declared.access_reply.AccessReply.{AccessReply}
@@ -55,6 +55,7 @@ pub record FitsText
   where
     pub before : before_each (receipts_in r) ≡ found
     pub marks : AllByRecursion IsMark (marks_in r)
+    pub within : n ≤ length given
     pub text : given ≡ reply_text l r ++ drop n given
 
 -- The text begins with that of no such reply.
@@ -83,3 +84,19 @@ pub record StandsOn
         IfSome
         (gone_line_of p l.act r)
         (λ line. line.stamp < (state_at closing line.entry).stamp)
+
+-- A reply stands whose text, of n bytes, is what the text begins with.
+pub record HasReply
+    (context : AccessContext)
+    (closing : List State)
+    (p : Processor)
+    (l : TraceLine)
+    (found : List State)
+    (given : List ℕ)
+    (n : ℕ)
+    : Type 0
+  where
+    pub reply : Reply
+    pub stands : StandsOn context closing p l found reply
+    pub within : n ≤ length given
+    pub text : given ≡ reply_text l reply ++ drop n given

@@ -1,4 +1,4 @@
-ghost use Rattle.std.specs.Prelude.{◌≡◌, ◌++◌, true, false, drop, map, List, ℕ, IfOk, IfSome, IfNone};
+ghost use Rattle.std.specs.Prelude.{◌≡◌, ◌≤◌, ◌++◌, true, false, drop, length, map, List, ℕ, IfOk, IfSome, IfNone};
 ghost use Rattle.std.specs.List.{AllByRecursion};
 ghost use Rattle.entry_model.specs.History.{state_eq};
 ghost use Rattle.trace_reply.specs.Replies.{receipts_in};
@@ -69,6 +69,7 @@ pub fn receipts_of(reply: &Reply) -> &[Receipt]
 /// How many bytes a text has, if the given one begins with it.
 fn begins_with(given: &[u8], text: &[u8]) -> Option<usize>
     ensures some { IfSome result (λ n. given.now ≡ text.now ++ drop n given.now) }
+    ensures within { IfSome result (λ n. n ≤ length given.now) }
     ensures none { IfNone result ((rest : List ℕ) → given.now ≡ text.now ++ rest → ⊥) }
 {
     if given.starts_with(text) {

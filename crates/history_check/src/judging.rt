@@ -1,4 +1,4 @@
-ghost use Rattle.std.specs.Prelude.{◌≡◌, ◌<◌, ◌++◌, true, false, drop, ℕ, List, IfOk, IfSome, IfNone};
+ghost use Rattle.std.specs.Prelude.{◌≡◌, ◌<◌, ◌++◌, true, false, ℕ, List, IfOk, IfSome, IfNone};
 ghost use Rattle.entry_model.specs.Run.{state_at};
 ghost use Rattle.trace_read.specs.Trace.{is_quiet};
 ghost use Rattle.trace_reply.specs.declared.reply.Reply.{Reply};
@@ -6,7 +6,7 @@ ghost use Rattle.reply_text.specs.Text.{reply_text};
 ghost use Rattle.run_model.specs.Processors.{processor_after};
 ghost use Rattle.run_model.specs.Histories.{Event, InOrder, events_in};
 ghost use Rattle.history_check.specs.FrontKeeping.{front_of, LeadsTo};
-ghost use Rattle.history_check.specs.LineReply.{StandsOn};
+ghost use Rattle.history_check.specs.LineReply.{StandsOn, HasReply};
 
 use crate::context::Context;
 use crate::fitting::receipts_of;
@@ -57,13 +57,18 @@ pub fn judge_line(
         IfSome
         o
         (λ n.
-        (r : Reply)
-        × StandsOn context.now closing.now processor.old line.now found.now r
-        × (given.now ≡ reply_text line.now r ++ drop n given.now)
-        × (processor.new ≡ processor_after processor.old line.now.act r)
+        (h : HasReply
+        context.now
+        closing.now
+        processor.old
+        line.now
+        found.now
+        given.now
+        n)
+        × (processor.new ≡ processor_after processor.old line.now.act h.reply)
         × LeadsTo
         (front_of fronts.old opening.now)
-        (events_in processor.old (record { line = line.now; reply = r }))
+        (events_in processor.old (record { line = line.now; reply = h.reply }))
         (front_of fronts.new opening.now))) }
     ensures none { IfOk
         result

@@ -9,6 +9,7 @@ mod context;
 mod fitting;
 mod fronts;
 mod judging;
+mod judging_lines;
 mod laws;
 mod line_reply;
 mod mark;

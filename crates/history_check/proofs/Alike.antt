@@ -16,7 +16,7 @@ use Rattle.entry_model.specs.Reply.{reply_of, change_to, change_where, entered_s
 use Rattle.entry_model.specs.History.{IsLegal, history, by_place, put_in, precedes, place, pair_of, state_eq}
 use Rattle.basics.specs.Words.{bool_eq}
 use Rattle.entry_model.proofs.Sorted.{state_self}
-use Rattle.history_check.specs.ReplyMarks.{mark_of}
+use Rattle.receipt_text.specs.Receipts.{mark_of}
 use Rattle.history_check.specs.Steps.{step_op, raises_stamp, is_unchanged}
 
 pub record Alike (x y : Receipt) : Type 0 where

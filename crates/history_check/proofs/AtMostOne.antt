@@ -31,7 +31,8 @@ use Rattle.trace_reply.specs.declared.reply.Reply.TheVariants as replies
 use Rattle.trace_reply.specs.Replies.{receipts_in}
 use Rattle.run_model.specs.Processors.{processor_after, slots_or}
 use Rattle.run_model.specs.LineReplies.{hcall_plan, IsCallReply, IsReplyToAccess}
-use Rattle.history_check.specs.ReplyMarks.{mark_of, SameWay, ShowsSame}
+use Rattle.receipt_text.specs.Receipts.{mark_of}
+use Rattle.history_check.specs.ReplyMarks.{SameWay, ShowsSame}
 use Rattle.history_check.specs.Steps.{step_op}
 use Rattle.history_check.proofs.Alike.{Pair, firsts, seconds, AllAlike, AllBefore}
 

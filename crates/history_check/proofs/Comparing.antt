@@ -10,8 +10,8 @@ use Rattle.entry_model.specs.State.{State}
 use Rattle.entry_model.specs.declared.receipt.Receipt.{Receipt}
 use Rattle.entry_model.specs.History.{state_eq}
 use Rattle.entry_model.proofs.Sorted.{state_same, state_self}
-use Rattle.history_check.specs.Marks.{IsMark}
-use Rattle.history_check.specs.ReplyMarks.{mark_of}
+use Rattle.receipt_text.specs.Marks.{IsMark}
+use Rattle.receipt_text.specs.Receipts.{mark_of}
 use Rattle.history_check.specs.Replay.{before_each}
 use Rattle.history_check.proofs.ListedStates.{past_end}
 

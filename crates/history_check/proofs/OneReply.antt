@@ -15,8 +15,9 @@ use Rattle.trace_reply.specs.Replies.{receipts_in}
 use Rattle.reply_text.specs.Text.{reply_text}
 use Rattle.run_model.specs.Processors.{gone_line_of, processor_after}
 use Rattle.run_model.specs.Histories.{Event, made, gone_events, InOrder, events_in}
-use Rattle.history_check.specs.Marks.{IsMark}
-use Rattle.history_check.specs.ReplyMarks.{mark_of, marks_in}
+use Rattle.receipt_text.specs.Marks.{IsMark}
+use Rattle.history_check.specs.ReplyMarks.{marks_in}
+use Rattle.receipt_text.specs.Receipts.{mark_of}
 use Rattle.history_check.specs.Replay.{before_each}
 use Rattle.history_check.specs.LineReply.{IsReplyTo, FitsText, StandsOn, HasReply}
 use Rattle.history_check.specs.FrontKeeping.{LeadsTo, LeadsNowhere}

@@ -16,7 +16,7 @@ use Rattle.run_model.specs.Sections.{receipts_made, section_end}
 use Rattle.run_model.specs.GoodRun.{AreLegal}
 use Rattle.run_model.proofs.LowStamps.{closed_size}
 use Rattle.run_model.proofs.SectionGood.{closing_is, each_regrouped}
-use Rattle.history_check.specs.ReplyMarks.{mark_of}
+use Rattle.receipt_text.specs.Receipts.{mark_of}
 use Rattle.history_check.specs.Replay.{before_each}
 use Rattle.history_check.specs.Steps.{ops_of, step_op, is_unchanged, place_by, step_of, steps_by, found_states, ending_states}
 use Rattle.history_check.proofs.Alike.{flag_of}

@@ -23,66 +23,13 @@ use Rattle.trace_read.specs.Trace.{is_quiet}
 use Rattle.trace_reply.specs.declared.reply.Reply.{Reply}
 use Rattle.trace_reply.specs.declared.reply.Reply.TheVariants as replies
 use Rattle.trace_reply.specs.Replies.{receipts_in, IsOfKind}
-use Rattle.reply_text.specs.Text.{hex, answer_word, bits_digit, receipt_text, receipts_text, word_text, code_text, hcall_text, outcome_text, way_text, access_text, verdict_text, head_text, name_of, reply_text}
-use Rattle.history_check.specs.ReplyMarks.{mark_of, SameWay, ShowsSame}
-use Rattle.history_check.proofs.Bytes.{lacks, lacks_append, lacks_back, cut_at, IsNoDigit, lacks_hex, lacks_decimal, last_of, last_append}
-
--- ---- numbers and words
-pub hex_same : (m n : ℕ) → m < 2 ^ 64 → n < 2 ^ 64 → hex m ≡ hex n → m ≡ n
-hex_same m n p q e =
-    let d : digits 16 false m ≡ digits 16 false n = ap (drop 2) e in
-    sym (digits_is_IsNumeral 16 false (omega arith) (omega arith) m (omega arith)).1 ∙ ap (digits_value 16) d ∙ (digits_is_IsNumeral 16 false (omega arith) (omega arith) n (omega arith)).1
-
--- the first byte and the length
-abbrev key_of : List ℕ → ℕ
-key_of [] = 0
-key_of (x ∷ xs) = x * 16 + length xs
-
-abbrev answer_by : ℕ → Answer
-answer_by k =
-    if k == 101 * 16 + 6 then answers.Entered
-    else if k == 116 * 16 + 4 then answers.Taken
-    else if k == 114 * 16 + 6 then answers.Removed
-    else if k == 112 * 16 + 8 then answers.Protected
-    else if k == 119 * 16 + 2 then answers.Was
-    else if k == 114 * 16 + 3 then answers.Words
-    else if k == 110 * 16 + 7 then answers.NotFound
-    else if k == 110 * 16 + 6 then answers.NoMatch
-    else if k == 100 * 16 + 5 then answers.Denied
-    else if k == 97 * 16 + 1 then answers.At
-    else answers.Worn
-
-answer_back : (a : Answer) → answer_by (key_of (answer_word a)) ≡ a
-answer_back answers.Entered = refl
-answer_back answers.Taken = refl
-answer_back answers.Removed = refl
-answer_back answers.Protected = refl
-answer_back answers.Was = refl
-answer_back answers.Words = refl
-answer_back answers.NotFound = refl
-answer_back answers.NoMatch = refl
-answer_back answers.Denied = refl
-answer_back answers.At = refl
-answer_back answers.Worn = refl
-
-pub answer_same : (a b : Answer) → answer_word a ≡ answer_word b → a ≡ b
-answer_same a b e = sym (answer_back a) ∙ ap (λ w. answer_by (key_of w)) e ∙ answer_back b
-
-pub answer_lacks : (a : Answer) → (lacks 10 (answer_word a) ≡ true) × (lacks 32 (answer_word a) ≡ true)
-answer_lacks answers.Entered = (refl, refl)
-answer_lacks answers.Taken = (refl, refl)
-answer_lacks answers.Removed = (refl, refl)
-answer_lacks answers.Protected = (refl, refl)
-answer_lacks answers.Was = (refl, refl)
-answer_lacks answers.Words = (refl, refl)
-answer_lacks answers.NotFound = (refl, refl)
-answer_lacks answers.NoMatch = (refl, refl)
-answer_lacks answers.Denied = (refl, refl)
-answer_lacks answers.At = (refl, refl)
-answer_lacks answers.Worn = (refl, refl)
-
-low : (c : ℕ) → c < 48 → IsNoDigit c
-low c h = inl h
+use Rattle.reply_text.specs.Text.{word_text, code_text, hcall_text, outcome_text, way_text, access_text, verdict_text, head_text, name_of, reply_text}
+use Rattle.receipt_text.specs.Receipts.{mark_of, receipt_text, receipts_text}
+use Rattle.history_check.specs.ReplyMarks.{SameWay, ShowsSame}
+use Rattle.receipt_text.specs.Cuts.{lacks}
+use Rattle.receipt_text.specs.Marks.{IsMark}
+use Rattle.receipt_text.proofs.ReadBack.{listed_marks, receipts_lack}
+use Rattle.receipt_text.proofs.Bytes.{lacks_append, lacks_back, cut_at, IsNoDigit, lacks_hex, lacks_decimal, last_of, last_append}
 
 -- ---- one receipt
 -- Entry and stamp are numbers that a text tells.
@@ -93,75 +40,17 @@ pub record IsShort (r : Receipt) : Type 0 where
 abbrev pub AreShort : List Receipt → Type 0
 AreShort rs = AllByRecursion IsShort rs
 
-abbrev body : Receipt → List ℕ
-body r = hex r.entry ++ 46 ∷ (decimal r.before.stamp ++ 46 ∷ (decimal (bits_digit r.before) ++ 46 ∷ answer_word r.answer))
+digit_low : (r c : Bool) → (if r then 2 else 0) + (if c then 1 else 0) < 4
+digit_low true true = omega arith
+digit_low true false = omega arith
+digit_low false true = omega arith
+digit_low false false = omega arith
 
-pub right_first : (h d x y w : List ℕ) → (((((h ++ d) ++ x) ++ d) ++ y) ++ d) ++ w ≡ h ++ (d ++ (x ++ (d ++ (y ++ (d ++ w)))))
-right_first h d x y w =
-    append_assoc ((((h ++ d) ++ x) ++ d) ++ y) d w ∙ append_assoc (((h ++ d) ++ x) ++ d) y (d ++ w) ∙ append_assoc ((h ++ d) ++ x) d (y ++ (d ++ w)) ∙ append_assoc (h ++ d) x (d ++ (y ++ (d ++ w))) ∙ append_assoc h d (x ++ (d ++ (y ++ (d ++ w))))
-
-receipt_is : (r : Receipt) → receipt_text r ≡ 32 ∷ body r
-receipt_is r = right_first (codes " " ++ hex r.entry) (codes ".") (decimal r.before.stamp) (decimal (bits_digit r.before)) (answer_word r.answer)
-
-body_10 : (r : Receipt) → lacks 10 (body r) ≡ true
-body_10 r = lacks_append 10 (digits 16 false r.entry) _ (lacks_hex 10 r.entry (inl (omega arith))) (lacks_append 10 (decimal r.before.stamp) _ (lacks_decimal 10 r.before.stamp (inl (omega arith))) (lacks_append 10 (decimal (bits_digit r.before)) _ (lacks_decimal 10 (bits_digit r.before) (inl (omega arith))) (answer_lacks r.answer).0))
-
-body_32 : (r : Receipt) → lacks 32 (body r) ≡ true
-body_32 r = lacks_append 32 (digits 16 false r.entry) _ (lacks_hex 32 r.entry (inl (omega arith))) (lacks_append 32 (decimal r.before.stamp) _ (lacks_decimal 32 r.before.stamp (inl (omega arith))) (lacks_append 32 (decimal (bits_digit r.before)) _ (lacks_decimal 32 (bits_digit r.before) (inl (omega arith))) (answer_lacks r.answer).1))
-
-bits_short : (r c : Bool) → (if r then 2 else 0) + (if c then 1 else 0) < 2 ^ 64
-bits_short true true = omega arith
-bits_short true false = omega arith
-bits_short false true = omega arith
-bits_short false false = omega arith
-
-mark_same : (r q : Receipt) → IsShort r → IsShort q → body r ≡ body q → mark_of r ≡ mark_of q
-mark_same r q s t e =
-    let a = cut_at 46 (hex r.entry) (hex q.entry) _ _ (lacks_hex 46 r.entry (inl (omega arith))) (lacks_hex 46 q.entry (inl (omega arith))) e in
-    let b = cut_at 46 (decimal r.before.stamp) (decimal q.before.stamp) _ _ (lacks_decimal 46 r.before.stamp (inl (omega arith))) (lacks_decimal 46 q.before.stamp (inl (omega arith))) a.1 in
-    let c = cut_at 46 (decimal (bits_digit r.before)) (decimal (bits_digit q.before)) _ _ (lacks_decimal 46 (bits_digit r.before) (inl (omega arith))) (lacks_decimal 46 (bits_digit q.before) (inl (omega arith))) b.1 in
-    let low : r.entry < 2 ^ 32 = s.entry in
-    let low' : q.entry < 2 ^ 32 = t.entry in
-    let few : r.before.stamp < 2 ^ 32 = s.stamp in
-    let few' : q.before.stamp < 2 ^ 32 = t.stamp in
-    let entry : r.entry ≡ q.entry = hex_same r.entry q.entry (omega arith) (omega arith) a.0 in
-    let stamp : r.before.stamp ≡ q.before.stamp = decimal_injective r.before.stamp q.before.stamp (omega arith) (omega arith) b.0 in
-    let bits : bits_digit r.before ≡ bits_digit q.before = decimal_injective (bits_digit r.before) (bits_digit q.before) (bits_short r.before.referenced r.before.changed) (bits_short q.before.referenced q.before.changed) c.0 in
-    let answer : r.answer ≡ q.answer = answer_same r.answer q.answer c.1 in
-    λ i. record { entry = entry i; stamp = stamp i; bits = bits i; answer = answer i }
-
--- ---- all receipts of a line
--- With the spaces behind them.
-abbrev spaced : List Receipt → List ℕ
-spaced [] = []
-spaced (r ∷ rs) = body r ++ 32 ∷ spaced rs
-
-moved_spaces : (rs : List Receipt) → flat_map receipt_text rs ++ 32 ∷ [] ≡ 32 ∷ spaced rs
-moved_spaces [] = refl
-moved_spaces (r ∷ rs) = append_assoc (receipt_text r) (flat_map receipt_text rs) (32 ∷ []) ∙ ap (λ z. receipt_text r ++ z) (moved_spaces rs) ∙ ap (λ z. z ++ 32 ∷ spaced rs) (receipt_is r)
-
-spaced_marks : (rs qs : List Receipt) → AreShort rs → AreShort qs → spaced rs ≡ spaced qs → map mark_of rs ≡ map mark_of qs
-spaced_marks [] [] h k e = refl
-spaced_marks [] (q ∷ qs) h k e = cc
-spaced_marks (r ∷ rs) [] h k e = cc
-spaced_marks (r ∷ rs) (q ∷ qs) h k e =
-    let c = cut_at 32 (body r) (body q) (spaced rs) (spaced qs) (body_32 r) (body_32 q) e in
-    let here : mark_of r ≡ mark_of q = mark_same r q h.0 k.0 c.0 in
-    let rest : map mark_of rs ≡ map mark_of qs = spaced_marks rs qs h.1 k.1 c.1 in
-    λ i. here i ∷ rest i
-
-listed_marks : (rs qs : List Receipt) → AreShort rs → AreShort qs → flat_map receipt_text rs ≡ flat_map receipt_text qs → map mark_of rs ≡ map mark_of qs
-listed_marks rs qs h k e = spaced_marks rs qs h k (ap (drop 1) (sym (moved_spaces rs) ∙ ap (λ z. z ++ 32 ∷ []) e ∙ moved_spaces qs))
+pub short_marks : (rs : List Receipt) → AreShort rs → AllByRecursion IsMark (map mark_of rs)
+short_marks [] h = tt
+short_marks (r ∷ rs) h = (record { entry = h.0.entry; stamp = h.0.stamp; bits = digit_low r.before.referenced r.before.changed }, short_marks rs h.1)
 
 -- ---- a line
-each_lacks : (rs : List Receipt) → lacks 10 (flat_map receipt_text rs) ≡ true
-each_lacks [] = refl
-each_lacks (r ∷ rs) = lacks_append 10 (receipt_text r) (flat_map receipt_text rs) (subst (λ z. lacks 10 z ≡ true) (sym (receipt_is r)) (body_10 r)) (each_lacks rs)
-
-receipts_lack : (rs : List Receipt) → lacks 10 (receipts_text rs) ≡ true
-receipts_lack [] = refl
-receipts_lack (r ∷ rs) = each_lacks (r ∷ rs)
-
 -- What stands before the receipts of a line.
 record IsFront (a : List ℕ) : Type 0 where
   pub no_end : lacks 10 a ≡ true
@@ -197,7 +86,7 @@ fronts_and_marks a b [] (q ∷ qs) f g h k e = absurd (bar_stands a b (flat_map 
 fronts_and_marks a b (r ∷ rs) [] f g h k e = absurd (bar_stands b a (flat_map receipt_text (r ∷ rs)) g.no_bar (sym e))
 fronts_and_marks a b (r ∷ rs) (q ∷ qs) f g h k e =
     let c = cut_at 124 (a ++ 32 ∷ []) (b ++ 32 ∷ []) (flat_map receipt_text (r ∷ rs)) (flat_map receipt_text (q ∷ qs)) (lacks_append 124 a (32 ∷ []) f.no_bar refl) (lacks_append 124 b (32 ∷ []) g.no_bar refl) (sym (to_bar a (flat_map receipt_text (r ∷ rs))) ∙ e ∙ to_bar b (flat_map receipt_text (q ∷ qs))) in
-    (unspaced a b c.0, listed_marks (r ∷ rs) (q ∷ qs) h k c.1)
+    (unspaced a b c.0, listed_marks (r ∷ rs) (q ∷ qs) (short_marks (r ∷ rs) h) (short_marks (q ∷ qs) k) c.1)
 
 line_parts : (a b : List ℕ) (rs qs : List Receipt) (x y : List ℕ) → IsFront a → IsFront b → AreShort rs → AreShort qs → a ++ (receipts_text rs ++ 10 ∷ x) ≡ b ++ (receipts_text qs ++ 10 ∷ y) → (a ≡ b) × (map mark_of rs ≡ map mark_of qs) × (x ≡ y)
 line_parts a b rs qs x y f g h k e =

@@ -1,4 +1,3 @@
-pub mod Marks
 pub mod ReplyMarks
 pub mod Verdict
 pub mod Laws

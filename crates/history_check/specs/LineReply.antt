@@ -16,7 +16,7 @@ use Rattle.trace_reply.specs.Replies.{IsOfKind, receipts_in}
 use Rattle.reply_text.specs.Text.{reply_text}
 use Rattle.run_model.specs.Processors.{gone_line_of}
 use Rattle.run_model.specs.LineReplies.{IsCallReply, IsReplyToAccess}
-use Rattle.history_check.specs.Marks.{IsMark}
+use Rattle.receipt_text.specs.Marks.{IsMark}
 use Rattle.history_check.specs.ReplyMarks.{marks_in}
 use Rattle.history_check.specs.Replay.{before_each}
 

@@ -1,21 +1,11 @@
 -- The marks and the way of a reply, by its receipts.
 use Rattle.std.specs.Prelude.{◌≡◌, List, [], ◌∷◌, map, Option, Some, None}
-use Rattle.entry_model.specs.declared.receipt.Receipt.{Receipt}
 use Rattle.entry_model.specs.declared.access_reply.By.{By}
-use Rattle.reply_text.specs.Text.{bits_digit}
 use Rattle.trace_reply.specs.Replies.{receipts_in}
 use Rattle.trace_reply.specs.declared.reply.Reply.{Reply}
 use Rattle.trace_reply.specs.declared.reply.Reply.TheVariants as replies
-use Rattle.history_check.specs.declared.mark.Mark.{Mark}
-
--- The mark of a receipt: stamp and bits are those before.
-abbrev pub mark_of : Receipt → Mark
-mark_of r = record {
-  entry = r.entry;
-  stamp = r.before.stamp;
-  bits = bits_digit r.before;
-  answer = r.answer;
-}
+use Rattle.receipt_text.specs.declared.mark.Mark.{Mark}
+use Rattle.receipt_text.specs.Receipts.{mark_of}
 
 -- The marks of a reply, in the order of its receipts.
 abbrev pub marks_in : Reply → List Mark

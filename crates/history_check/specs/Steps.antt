@@ -11,7 +11,7 @@ use Rattle.entry_model.specs.Receipt.{is_at}
 use Rattle.entry_model.specs.Reply.{reply_of, touched_state, is_store}
 use Rattle.entry_model.specs.Run.{state_at}
 use Rattle.entry_model.specs.Trial.{Call}
-use Rattle.history_check.specs.declared.mark.Mark.{Mark}
+use Rattle.receipt_text.specs.declared.mark.Mark.{Mark}
 use Rattle.history_check.specs.declared.steps.Step.{Step}
 
 -- ---- operations of steps

@@ -3,8 +3,8 @@ ghost use Rattle.std.specs.List.{AllByRecursion};
 ghost use Rattle.entry_model.specs.History.{state_eq};
 ghost use Rattle.trace_reply.specs.Replies.{receipts_in};
 ghost use Rattle.reply_text.specs.Text.{reply_text};
-ghost use Rattle.history_check.specs.Marks.{IsMark};
-ghost use Rattle.history_check.specs.ReplyMarks.{mark_of};
+ghost use Rattle.receipt_text.specs.Marks.{IsMark};
+ghost use Rattle.receipt_text.specs.Receipts.{mark_of};
 ghost use Rattle.history_check.specs.Replay.{before_each};
 ghost use Rattle.history_check.specs.LineReply.{FitsText};
 

@@ -3,7 +3,6 @@
 #![tactic(auto)]
 
 mod accesses;
-mod bars;
 mod calls;
 mod context;
 mod fitting;
@@ -12,7 +11,6 @@ mod judging;
 mod judging_lines;
 mod laws;
 mod line_reply;
-mod mark;
 mod ordering;
 mod placed;
 mod processor;
@@ -21,11 +19,9 @@ mod steps;
 mod verdict;
 
 pub use accesses::{hit_on, hit_reply, walk_on, walk_reply};
-pub use bars::{answer_of, behind_bar};
 pub use calls::{all_calls, call_on};
 pub use context::Context;
 pub use laws::{at_most_one, earlier_sections_stand, good_runs_are_good, one_verdict};
-pub use mark::Mark;
 pub use processor::Processor;
 pub use replay::Replay;
 pub use placed::{PlacedStep, find_states};

@@ -9,7 +9,6 @@ use Rattle.storage_prot.specs.declared.want.Want.TheVariants.{Load, Store, Fetch
 use Rattle.storage_prot.specs.Protection.{permission, rows}
 use Rattle.entry_model.specs.State.{State, empty_state}
 use Rattle.entry_model.specs.declared.operation.Op.{Op}
-use Rattle.entry_model.specs.declared.operation.Test.{Test}
 use Rattle.entry_model.specs.declared.access_reply.By.TheVariants.{Hit, Walk}
 use Rattle.entry_model.specs.declared.access_reply.Outcome.TheVariants.{At, Denied, NoPage, NoSegment, Ungranted}
 use Rattle.entry_model.specs.Receipt.{receipt_of}
@@ -18,7 +17,7 @@ use Rattle.trace_read.specs.declared.trace.TraceLine.{TraceLine}
 use Rattle.trace_read.specs.declared.trace.Act.TheVariants.{Call, Access, SlbMte, SlbClear, Dump}
 use Rattle.trace_reply.specs.declared.reply.Reply.{Reply}
 use Rattle.reply_text.specs.Summary.{summary_text, counts_text, row_text, entries_text}
-use Rattle.reply_text.specs.Text.{text_from, receipts_text, head_text, code_text, entry_text, dump_head, table_text}
+use Rattle.reply_text.specs.Text.{text_from, head_text, code_text, entry_text, dump_head, table_text}
 use Rattle.papr_codes.specs.declared.codes.Rc.TheVariants as rc
 use Rattle.entry_model.specs.declared.operation.Op.TheVariants as ops
 use Rattle.trace_reply.specs.declared.reply.Reply.TheVariants as replies
@@ -31,17 +30,8 @@ used = record { valid = true; dword0 = 0x1001; dword1 = 0x3013; referenced = fal
 worn : State
 worn = record used { referenced = true; stamp = 0xFFFFFFFF }
 
--- ---- receipts
-any : Test
-any = record { avpn = None; andcond = None }
-
 reached : ℕ → Op
 reached tag = ops.Access tag 12 false false Store
-
--- Each answer, with the entry in hexadecimal digits, the stamp in decimal ones, and R as 2 and C as 1.
-each_answer : receipts_text (receipt_of 0 (empty_state 7) (ops.Enter 0x1001 0x3013) ∷ receipt_of 9 used (ops.Enter 0x1001 0x3013) ∷ receipt_of 10 used (ops.Remove any) ∷ receipt_of 16 used (ops.Protect any 0) ∷ receipt_of 0x3FFF worn ops.ClearRef ∷ receipt_of 255 (record worn { changed = false }) ops.Read ∷ receipt_of 1 (empty_state 0) ops.ClearMod ∷ receipt_of 2 used (reached 0x2001) ∷ receipt_of 3 used (reached 0x1001) ∷ receipt_of 4 (record used { dword1 = 0x3012 }) (reached 0x1001) ∷ receipt_of 5 worn (ops.Remove any) ∷ []) ≡ codes " | 0x0.7.0.entered 0x9.31.1.taken 0xa.31.1.removed 0x10.31.1.protected 0x3fff.4294967295.3.worn 0xff.4294967295.2.read 0x1.0.0.notfound 0x2.31.1.nomatch 0x3.31.1.denied 0x4.31.1.at 0x5.4294967295.3.worn"
-unfolding digits used worn any reached has_base permission rows
-each_answer = refl
 
 -- ---- codes
 each_code : flat_map code_text (map rc_code (rc.Success ∷ rc.Busy ∷ rc.Closed ∷ rc.LongBusy ∷ rc.Hardware ∷ rc.Function ∷ rc.Parameter ∷ rc.PtegFull ∷ rc.NotFound ∷ rc.NoMem ∷ rc.Resource ∷ [])) ≡ codes " 0 1 2 9900 -1 -2 -4 -6 -7 -9 -16"

@@ -1,19 +1,18 @@
 -- The text of replies: one line for each, but a dump's, which has a further line for each entry.
-use Rattle.std.specs.Prelude.{ℕ, ℤ, ◌+◌, Bool, false, List, [], ◌∷◌, ◌++◌, length, Option, Some, None, if◌then◌else◌, codes}
+use Rattle.std.specs.Prelude.{ℕ, ℤ, Bool, List, [], ◌∷◌, ◌++◌, length, Option, Some, None, if◌then◌else◌, codes}
 use Rattle.std.specs.List.{flat_map}
-use Rattle.std.specs.Fmt.{decimal, digits, signed_decimal}
+use Rattle.std.specs.Fmt.{decimal, signed_decimal}
 use Rattle.papr_codes.specs.Hcalls.{hcall_of, hcall_name}
 use Rattle.papr_codes.specs.ReturnCodes.{rc_code}
 use Rattle.storage_prot.specs.declared.want.Want.{Want}
 use Rattle.entry_model.specs.State.{State}
-use Rattle.entry_model.specs.declared.operation.Answer.{Answer}
-use Rattle.entry_model.specs.declared.operation.Answer.TheVariants.{Entered, Taken, Removed, Protected, Was, Words, NotFound, NoMatch, Denied, At, Worn}
 use Rattle.entry_model.specs.declared.access_reply.AccessReply.{AccessReply}
 use Rattle.entry_model.specs.declared.access_reply.Outcome.{Outcome}
 use Rattle.entry_model.specs.declared.access_reply.By.{By}
-use Rattle.entry_model.specs.declared.receipt.Receipt.{Receipt}
 use Rattle.entry_model.specs.declared.hreply.HReply.{HReply}
 use Rattle.entry_model.specs.Reply.{words_of}
+use Rattle.receipt_text.specs.Numbers.{hex}
+use Rattle.receipt_text.specs.Receipts.{receipts_text}
 use Rattle.trace_read.specs.declared.trace.TraceLine.{TraceLine}
 use Rattle.trace_read.specs.declared.trace.Act.{Act}
 use Rattle.trace_read.specs.Trace.{AcceptedTrace}
@@ -24,46 +23,6 @@ use Rattle.entry_model.specs.declared.access_reply.Outcome.TheVariants as outcom
 use Rattle.entry_model.specs.declared.access_reply.By.TheVariants as ways
 use Rattle.trace_read.specs.declared.trace.Act.TheVariants as acts
 use Rattle.trace_reply.specs.declared.reply.Reply.TheVariants as replies
-
--- `0x` and lower-case hexadecimal digits without leading zeros.
-abbrev pub hex : ℕ → List ℕ
-hex n = codes "0x" ++ digits 16 false n
-
--- ---- receipts
--- The word of an answer.
-abbrev pub answer_word : Answer → List ℕ
-answer_word Entered = codes "entered"
-answer_word Taken = codes "taken"
-answer_word Removed = codes "removed"
-answer_word Protected = codes "protected"
-answer_word Was = codes "was"
-answer_word Words = codes "read"
-answer_word NotFound = codes "notfound"
-answer_word NoMatch = codes "nomatch"
-answer_word Denied = codes "denied"
-answer_word At = codes "at"
-answer_word Worn = codes "worn"
-
--- 2 for R plus 1 for C.
-abbrev pub bits_digit : State → ℕ
-bits_digit s = (if s.referenced then 2 else 0) + (if s.changed then 1 else 0)
-
--- ENTRY.STAMP.BITS.ANSWER behind a space; stamp and bits are those before.
-abbrev pub receipt_text : Receipt → List ℕ
-receipt_text r =
-    codes " "
-    ++ hex r.entry
-    ++ codes "."
-    ++ decimal r.before.stamp
-    ++ codes "."
-    ++ decimal (bits_digit r.before)
-    ++ codes "."
-    ++ answer_word r.answer
-
--- The receipts of a reply, behind a bar; nothing where there are none.
-abbrev pub receipts_text : List Receipt → List ℕ
-receipts_text [] = []
-receipts_text (r ∷ rs) = codes " |" ++ flat_map receipt_text (r ∷ rs)
 
 -- ---- lines
 -- The word of an access.

@@ -5,8 +5,6 @@
 mod counted;
 mod counts;
 mod kind;
-mod numbers;
-mod receipts;
 mod summary;
 mod text;
 

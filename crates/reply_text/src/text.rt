@@ -4,13 +4,12 @@ ghost use Rattle.std.specs.Io.{StartsWith};
 ghost use Rattle.papr_codes.specs.ReturnCodes.{rc_code};
 ghost use Rattle.trace_reply.specs.Places.{reply_in};
 ghost use Rattle.trace_reply.specs.Replies.{is_dump};
-ghost use Rattle.reply_text.specs.Room.{TakesAtMost};
-ghost use Rattle.reply_text.specs.Text.{want_word, name_of, head_text, word_text, code_text, hcall_text, outcome_text, way_text, access_text, verdict_text, entry_text, dump_head, table_text, dump_text, reply_text, text_from, receipts_text};
+ghost use Rattle.receipt_text.specs.Room.{TakesAtMost};
+ghost use Rattle.reply_text.specs.Text.{want_word, name_of, head_text, word_text, code_text, hcall_text, outcome_text, way_text, access_text, verdict_text, entry_text, dump_head, table_text, dump_text, reply_text, text_from};
 
-use crate::numbers::{put_decimal, put_hexadecimal, put_signed};
-use crate::receipts::put_receipts;
 use entry_model::{By, EntryState, Outcome, Receipts, ReplyWords};
 use papr_codes::{Hcall, Rc};
+use receipt_text::{put_decimal, put_hexadecimal, put_receipts, put_signed};
 use std::alloc::{AllocError, Global};
 use storage_prot::Want;
 use trace_read::{Act, Trace, TraceLine};
@@ -56,7 +55,7 @@ fn name(act: &Act) -> &'static str
 }
 
 /// The line's number, its processor, and its name.
-#[tactic(auto, using(crate::proofs::Lengths::decimal_short), unfolding(crate::specs::Text::head_text))]
+#[tactic(auto, using(receipt_text::proofs::Lengths::decimal_short), unfolding(crate::specs::Text::head_text))]
 fn put_head(out: &mut String, line: &TraceLine) -> Result<(), AllocError>
     ensures text { OnOk
         result
@@ -74,7 +73,7 @@ fn put_head(out: &mut String, line: &TraceLine) -> Result<(), AllocError>
 }
 
 /// The words of a reply, each behind a space.
-#[tactic(auto, using(crate::proofs::Prefixes::starts_before))]
+#[tactic(auto, using(receipt_text::proofs::Prefixes::starts_before))]
 fn put_words(out: &mut String, words: &[u64]) -> Result<(), AllocError>
     ensures text { OnOk
         result
@@ -151,7 +150,7 @@ fn way(by: Option<By>) -> &'static str
 }
 
 /// Where an access ended, by what, and its receipts.
-#[tactic(auto, using(crate::proofs::Prefixes::starts_before))]
+#[tactic(auto, using(receipt_text::proofs::Prefixes::starts_before))]
 fn put_access(
     out: &mut String,
     outcome: Outcome,

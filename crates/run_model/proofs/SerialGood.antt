@@ -62,7 +62,7 @@ resize_kind w calls.Protect number args spelt = tt
 resize_kind w calls.BulkRemove number args spelt = tt
 resize_kind w (calls.Other other) number args spelt = tt
 
-quiet_kind : (w : RunState) (act : Act) → is_quiet act ≡ true → IsOfKind act (run_quiet_line w act).0
+pub quiet_kind : (w : RunState) (act : Act) → is_quiet act ≡ true → IsOfKind act (run_quiet_line w act).0
 unfolding run_quiet_line is_quiet
 quiet_kind w (acts.Call number args spelt) q = resize_kind w (hcall_of number) number args spelt
 quiet_kind w acts.Dump q = tt

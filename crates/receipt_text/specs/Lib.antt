@@ -1,0 +1,6 @@
+pub mod Room
+pub mod Numbers
+pub mod Receipts
+pub mod Cuts
+pub mod Marks
+pub mod Laws

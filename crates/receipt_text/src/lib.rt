@@ -1,0 +1,17 @@
+//! The texts of numbers and of receipts, byte for byte, and what the text of receipts shows of
+//! them.
+#![tactic(auto)]
+
+mod cuts;
+mod digits;
+mod laws;
+mod mark;
+mod marks;
+mod numbers;
+mod receipts;
+
+pub use laws::receipts_are_read_back;
+pub use mark::{Mark, Marks};
+pub use marks::marks_of;
+pub use numbers::{put_decimal, put_hexadecimal, put_signed};
+pub use receipts::put_receipts;

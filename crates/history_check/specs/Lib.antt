@@ -12,3 +12,4 @@ pub mod OrderedSteps
 pub mod LineReply
 pub mod FrontKeeping
 pub mod JudgedLines
+pub mod SectionMarks

@@ -1,4 +1,4 @@
-ghost use Rattle.std.specs.Prelude.{◌≡◌, ◌++◌, true, false, map, List, [], ◌∷◌, IfOk, OnOk};
+ghost use Rattle.std.specs.Prelude.{◌≡◌, ◌<◌, ◌^◌, ◌++◌, true, false, map, List, [], ◌∷◌, IfOk, OnOk};
 ghost use Rattle.entry_model.specs.declared.receipt.Receipt.{Receipt};
 ghost use Rattle.entry_model.specs.History as history;
 ghost use Rattle.entry_model.specs.Fronts as entry_fronts;
@@ -16,7 +16,8 @@ pub type Fronts = HashMap<u32, u64>;
 /// Stamp and number of bits, as one number that compares as the two do from the left.
 #[tactic(auto, unfolding(entry_model::specs::History::pair_of))]
 pub fn pair_of(state: &EntryState) -> u64
-    ensures { result ≡ history.pair_of state.now }
+    ensures pair { result ≡ history.pair_of state.now }
+    ensures low { state.now.stamp < 2 ^ 32 }
 {
     let EntryState {
         stamp,

@@ -1,4 +1,4 @@
-ghost use Rattle.std.specs.Prelude.{◌≡◌, drop, length, ℕ, List, IfOk, IfSome, IfNone};
+ghost use Rattle.std.specs.Prelude.{◌≡◌, ◌≤◌, drop, length, ℕ, List, IfOk, IfSome, IfNone};
 ghost use Rattle.tlb_model.specs.Processor.{Processor};
 ghost use Rattle.trace_reply.specs.declared.reply.Reply.{Reply};
 ghost use Rattle.entry_model.specs.Fronts.{front_at};
@@ -70,6 +70,7 @@ pub fn judge_lines(
         rs
         (drop n given.now)
         processors.new.items)) }
+    ensures within { IfOk result (λ o. IfSome o (λ n. n ≤ length given.now)) }
     ensures none { IfOk
         result
         (λ o.
@@ -91,6 +92,7 @@ pub fn judge_lines(
         rest
         later
         → ⊥)) }
+    ensures processors { length processors.new.items ≡ length processors.old.items }
 {
     let mut fronts = opening_fronts(alloc, processors.len())?;
     let mut out = String::new(alloc);

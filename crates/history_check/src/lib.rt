@@ -15,6 +15,7 @@ mod ordering;
 mod placed;
 mod processor;
 mod replay;
+mod section;
 mod steps;
 mod verdict;
 

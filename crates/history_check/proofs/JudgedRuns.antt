@@ -1,6 +1,7 @@
 -- A section that is found from what it needs of a run is found of the run.
-use Rattle.std.proofs.Common.{◌≡◌, ℕ, ◌∙◌, sym, ap, subst, refl, List, drop, Option, Some, None, Result, Ok, Err}
+use Rattle.std.proofs.Common.{◌≡◌, ℕ, ◌-◌, ◌^◌, ◌≤◌, ◌∙◌, sym, arith, List, drop, Option, Some, None, Result, Ok, Err}
 use Rattle.std.specs.Prelude.{IfOk, IfSome, IfNone}
+use Rattle.std.proofs.Math.Pow.{pow_mono}
 use Rattle.entry_model.specs.State.{State}
 use Rattle.tlb_model.specs.Processor.{Processor}
 use Rattle.trace_read.specs.declared.trace.TraceLine.{TraceLine}
@@ -9,6 +10,12 @@ use Rattle.trace_reply.specs.Replies.{lines_with_replies}
 use Rattle.run_model.specs.RunState.{RunState}
 use Rattle.run_model.specs.Sections.{section_end}
 use Rattle.history_check.specs.FoundSection.{Opening, opening_of, run_with, IsFound, HasSection, HasNoSection}
+
+-- A table has at most 2 ^ 18 entries.
+pub entries_few : (n order : ℕ) → n ≡ 2 ^ (order - 4) → order ≤ 22 → n ≤ 262144
+entries_few n order size high =
+    let most : 2 ^ (order - 4) ≤ 2 ^ 18 = pow_mono {i = order - 4} {j = 18} (omega arith) in
+    omega (arith, size)
 
 -- What the clause on a section says of its result.
 abbrev pub HasReplies : RunState → RunState → List TraceLine → List ℕ → ℕ → Type 0

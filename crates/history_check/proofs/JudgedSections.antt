@@ -18,7 +18,7 @@ use Rattle.run_model.proofs.SerialGood.{good_of, quiet_kind, opening_processors}
 use Rattle.history_check.specs.declared.verdict.Verdict.TheVariants as verdicts
 use Rattle.history_check.specs.Verdict.{lines_to, trace_to, section_count, BeginsGood, IsGoodText, SectionStands, IsVerdict}
 use Rattle.history_check.specs.FoundSection.{ArePlain, AreOnProcessors, lines_text, IsFound}
-use Rattle.history_check.proofs.Fronts.{fronts_stand}
+use Rattle.history_check.proofs.EarlierSections.{fronts_stand}
 use Rattle.history_check.proofs.Short.{IsPlain, opening_plain, quiet_plain}
 use Rattle.history_check.proofs.AtMostOneRun.{closed_size}
 use Rattle.history_check.proofs.BySection.{Explains, Reaches, next_run, good_explained, begins_explained, explained_begins, found_once, reaches_first, reaches_next, none_found, reached_stands, lines_all, last_in, last_out}

@@ -113,7 +113,7 @@ numbered_more order xs i d more low told push =
     let one : List Numbered = record { index = i; placed = get_or xs i d } ∷ [] in
     ap (λ z. z ++ numbered (i + 1) (drop (i + 1) xs)) push ∙ append_assoc order one (numbered (i + 1) (drop (i + 1) xs)) ∙ ap (λ z. order ++ numbered i z) (sym (drop_more xs i d low)) ∙ told
 
-past_end : {X : Type 0} (xs : List X) (i : ℕ) → length xs ≤ i → drop i xs ≡ []
+pub past_end : {X : Type 0} (xs : List X) (i : ℕ) → length xs ≤ i → drop i xs ≡ []
 past_end xs zero h = none_left xs h where
   none_left : {X : Type 0} (xs : List X) → length xs ≤ 0 → xs ≡ []
   none_left [] h = refl
@@ -121,7 +121,7 @@ past_end xs zero h = none_left xs h where
 past_end [] (suc i) h = refl
 past_end (x ∷ xs) (suc i) h = past_end xs i (omega arith)
 
-to_end : {X : Type 0} (xs : List X) (i : ℕ) → length xs ≤ i → take i xs ≡ xs
+pub to_end : {X : Type 0} (xs : List X) (i : ℕ) → length xs ≤ i → take i xs ≡ xs
 to_end [] i h = none i where
   none : {X : Type 0} (i : ℕ) → take {A = X} i [] ≡ []
   none zero = refl

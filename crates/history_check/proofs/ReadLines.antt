@@ -83,9 +83,9 @@ next_of context l more rest (r ∷ rs) end plain h =
       behind = behind;
       all = refl;
       no_end = lacks_append 10 is.front (receipts_text (receipts_in r)) is.is_front.no_end (receipts_lack (receipts_in r));
-      cut = h.begins ∙ append_assoc (reply_text l r) (lines_text (lines_with_replies more rs)) end ∙ ap (λ z. z ++ behind) is.text ∙ append_assoc line (10 ∷ []) behind;
+      cut = h.text ∙ append_assoc (reply_text l r) (lines_text (lines_with_replies more rs)) end ∙ ap (λ z. z ++ behind) is.text ∙ append_assoc line (10 ∷ []) behind;
       marks = λ short. line_has_marks is.front (receipts_in r) is.is_front.no_bar (omega (arith, few_marks _ _ h.marks.0.few short, length-map (receipts_in r) mark_of)) h.marks.0.marks;
-      show = record { kinds = h.kinds.1; marks = h.marks.1; begins = refl };
+      show = record { kinds = h.kinds.1; marks = h.marks.1; text = refl };
     }
 
 abbrev Next : AccessContext → List TraceLine → ℕ → TraceLine → List ℕ → List Reply → List ℕ → Type 0

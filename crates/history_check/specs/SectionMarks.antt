@@ -30,14 +30,14 @@ pub record HasItsMarks (context : AccessContext) (t : RepliedLine) : Type 0 wher
 pub record ShowMarks
     (context : AccessContext)
     (ls : List TraceLine)
-    (text : List ℕ)
+    (given : List ℕ)
     (rs : List Reply)
     (rest : List ℕ)
     : Type 0
   where
     pub kinds : AreReplies ls rs
     pub marks : AllByRecursion (HasItsMarks context) (lines_with_replies ls rs)
-    pub begins : text ≡ lines_text (lines_with_replies ls rs) ++ rest
+    pub text : given ≡ lines_text (lines_with_replies ls rs) ++ rest
 
 -- The marks of each reply are of entries of a table of this size.
 abbrev pub MarkEntries : ℕ → List Reply → Type 0
@@ -49,19 +49,19 @@ pub record ReadMarks
     (context : AccessContext)
     (size : ℕ)
     (ls : List TraceLine)
-    (text : List ℕ)
-    (read : List PlacedStep)
-    (sizes : List ℕ)
+    (given : List ℕ)
+    (placed : List PlacedStep)
+    (counted : List ℕ)
     : Type 0
   where
     pub marks : List (List Mark)
     pub each : length marks ≡ length ls
-    pub steps : read ≡ section_steps context ls marks
-    pub counts : sizes ≡ map length marks
-    pub in_table : AreInTable size read
+    pub steps : placed ≡ section_steps context ls marks
+    pub counts : counted ≡ map length marks
+    pub in_table : AreInTable size placed
     pub only :
         (rs : List Reply) (rest : List ℕ)
-        → ShowMarks context ls text rs rest
+        → ShowMarks context ls given rs rest
         → map marks_in rs ≡ marks
 
 -- The text begins with no replies to the lines that show marks of entries of a table of this size.

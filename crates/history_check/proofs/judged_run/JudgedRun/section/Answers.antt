@@ -1,4 +1,4 @@
-use Rattle.std.proofs.Common.{◌≡◌, ◌∙◌, sym, ap, List}
+use Rattle.std.proofs.Common.{◌≡◌, ◌∙◌, sym, ap, length, List}
 use Rattle.frame_grants.specs.declared.grant.Grant.{Grant}
 use Rattle.entry_model.specs.State.{State}
 use Rattle.hpt_resize.specs.TableMemory.{with_states}
@@ -7,8 +7,11 @@ use Rattle.tlb_model.specs.Processor.{Processor}
 use Rattle.partition.specs.PartitionState.{PartitionState, with_memory}
 use Rattle.history_check.specs.FoundSection.{Opening, opening_of, run_with}
 use Rattle.history_check.specs.JudgedRun.{run_state_of}
-use Rattle.history_check.proofs.JudgedRuns.{found_in_run, not_in_run}
+use Rattle.history_check.proofs.JudgedRuns.{found_in_run, not_in_run, entries_few}
 use Rattle.history_check.proofs.judged_run.JudgedRun.section.Goals as goal
+
+pub section_found-found-requires-clause-few : goal.section_found-found-requires-clause-few
+section_found-found-requires-clause-few c = entries_few _ _ (ap length c.take_states-states.ensures.states ∙ c.self.invariant) c.order-order.ensures.sound.order_high
 
 pub returns-clause-some : goal.returns-clause-some
 returns-clause-some c =

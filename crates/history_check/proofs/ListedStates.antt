@@ -113,7 +113,7 @@ numbered_more order xs i d more low told push =
     let one : List Numbered = record { index = i; placed = get_or xs i d } ∷ [] in
     ap (λ z. z ++ numbered (i + 1) (drop (i + 1) xs)) push ∙ append_assoc order one (numbered (i + 1) (drop (i + 1) xs)) ∙ ap (λ z. order ++ numbered i z) (sym (drop_more xs i d low)) ∙ told
 
-past_end : {X : Type 0} (xs : List X) (i : ℕ) → length xs ≤ i → drop i xs ≡ []
+pub past_end : {X : Type 0} (xs : List X) (i : ℕ) → length xs ≤ i → drop i xs ≡ []
 past_end xs zero h = none_left xs h where
   none_left : {X : Type 0} (xs : List X) → length xs ≤ 0 → xs ≡ []
   none_left [] h = refl
@@ -121,7 +121,7 @@ past_end xs zero h = none_left xs h where
 past_end [] (suc i) h = refl
 past_end (x ∷ xs) (suc i) h = past_end xs i (omega arith)
 
-to_end : {X : Type 0} (xs : List X) (i : ℕ) → length xs ≤ i → take i xs ≡ xs
+pub to_end : {X : Type 0} (xs : List X) (i : ℕ) → length xs ≤ i → take i xs ≡ xs
 to_end [] i h = none i where
   none : {X : Type 0} (i : ℕ) → take {A = X} i [] ≡ []
   none zero = refl
@@ -206,7 +206,7 @@ states_are_found a b xs order listed is told ends =
     let index = λ (f : Found). f.index in
     let number = λ (n : Numbered). n.index in
     let numbers : IsPermutation (range_with_len 0 (length xs)) (map index told.sorted) =
-            subst (λ l. IsPermutation l (map index told.sorted)) (numbered_indices 0 xs) (IsPermutation-trans (map number (numbered 0 xs)) (map number order) (map index told.sorted) (IsPermutation-map number (numbered 0 xs) order is.each_once) (subst (λ l. IsPermutation l (map index told.sorted)) (found_indices a order) (IsPermutation-map index found told.sorted told.each_once))) in
+    subst (λ l. IsPermutation l (map index told.sorted)) (numbered_indices 0 xs) (IsPermutation-trans (map number (numbered 0 xs)) (map number order) (map index told.sorted) (IsPermutation-map number (numbered 0 xs) order is.each_once) (subst (λ l. IsPermutation l (map index told.sorted)) (found_indices a order) (IsPermutation-map index found told.sorted told.each_once))) in
     let in_turn : map index told.sorted ≡ range_with_len 0 (length xs) = sorted_numbers (length xs) (map index told.sorted) numbers (keys_rise index told.sorted told.ascending) in
     let own : (j : ℕ) → j < length xs → get_or xs (0 + j) no_step ≡ get_or xs j no_step = λ j q. ap (λ z. get_or xs z no_step) (let e : 0 + j ≡ j = omega arith in e) in
     let each : AllByRecursion (HasNumber xs) order = recursion_from_All (HasNumber xs) order (All-permutation (HasNumber xs) (numbered 0 xs) order is.each_once (All-from_recursion (HasNumber xs) (numbered 0 xs) (each_numbered xs 0 xs own))) in

@@ -37,10 +37,10 @@ use Rattle.run_model.proofs.SectionGood.{each_regrouped}
 use Rattle.entry_model.proofs.Regroup.{regrouped_back}
 use Rattle.history_check.proofs.TextMarks.{IsShort, AreShort}
 
-abbrev IsLow : State → Type 0
+abbrev pub IsLow : State → Type 0
 IsLow s = s.stamp < 2 ^ 32
 
-abbrev LowStates : List State → Type 0
+abbrev pub LowStates : List State → Type 0
 LowStates states = AllByRecursion IsLow states
 
 pub record IsPlain (w : RunState) : Type 0 where
@@ -67,12 +67,11 @@ small_table w h =
     let less : w.memory.table.order - 4 ≤ 18 = omega arith in
     subst (λ n. n ≤ 2 ^ 18) (sym size) (pow_mono less)
 
-section_low : (w : RunState) (ts : List RepliedLine) (quiet : Option RepliedLine) → IsPlain w → AreLegal (record { before = w; replied_lines = ts; quiet = quiet }) → AreShort (receipts_made w ts) × LowStates (states_of (section_end w ts))
-section_low w ts quiet h g =
+section_low : (w : RunState) (ts : List RepliedLine) (quiet : Option RepliedLine) → length (states_of w) ≤ 2 ^ 18 → LowStates (states_of w) → AreLegal (record { before = w; replied_lines = ts; quiet = quiet }) → AreShort (receipts_made w ts) × LowStates (states_of (section_end w ts))
+section_low w ts quiet few low g =
     let n = length (states_of w) in
-    let along : (e : ℕ) → e < n → AllByRecursion (λ (r : Receipt). IsLow r.before) (history e (receipts_made w ts)) × IsLow (state_at (states_of (section_end w ts)) e) = λ e k. legal_low (state_at (states_of w) e) (state_at (states_of (section_end w ts)) e) (history e (receipts_made w ts)) (g.legal e k) (each_at IsLow (states_of w) e (empty_state 0) (omega arith) h.low) in
+    let along : (e : ℕ) → e < n → AllByRecursion (λ (r : Receipt). IsLow r.before) (history e (receipts_made w ts)) × IsLow (state_at (states_of (section_end w ts)) e) = λ e k. legal_low (state_at (states_of w) e) (state_at (states_of (section_end w ts)) e) (history e (receipts_made w ts)) (g.legal e k) (each_at IsLow (states_of w) e (empty_state 0) (omega arith) low) in
     let stamps = each_from_histories (λ (r : Receipt). IsLow r.before) n (receipts_made w ts) g.in_table (λ e k. (along e k).0) in
-    let few : n ≤ 2 ^ 18 = small_table w h in
     let both = each_both (λ (r : Receipt). r.entry < n) (λ (r : Receipt). IsLow r.before) (receipts_made w ts) g.in_table stamps in (
       each_map (λ (r : Receipt). (r.entry < n) × IsLow r.before) IsShort (receipts_made w ts) (λ r x. record { entry = omega (arith, x.0); stamp = omega (arith, x.1) }) both,
       each_state IsLow (states_of (section_end w ts)) (λ e k. (along e (subst (λ l. e < l) (closed_size w ts) k)).1),
@@ -95,8 +94,12 @@ closed_plain w ts h low = closed_by w ts h (closed_size w ts) low
 
 pub section_short : (w : RunState) (ts : List RepliedLine) (quiet : Option RepliedLine) → Cpus (length w.processors) ts → IsPlain w → AreLegal (record { before = w; replied_lines = ts; quiet = quiet }) → ShortLines ts × IsPlain (section_end w ts)
 section_short w ts quiet within h g =
-    let all = section_low w ts quiet h g in
+    let all = section_low w ts quiet (small_table w h) h.low g in
     (short_lines ts (each_regrouped IsShort (regrouped_back (file_listed (length w.processors) ts within)) all.0), closed_plain w ts h all.1)
+
+-- The receipts of a good section on a small table with low stamps have marks.
+pub lines_short : (w : RunState) (ts : List RepliedLine) (quiet : Option RepliedLine) → Cpus (length w.processors) ts → length (states_of w) ≤ 2 ^ 18 → LowStates (states_of w) → AreLegal (record { before = w; replied_lines = ts; quiet = quiet }) → ShortLines ts
+lines_short w ts quiet within few low g = short_lines ts (each_regrouped IsShort (regrouped_back (file_listed (length w.processors) ts within)) (section_low w ts quiet few low g).0)
 
 -- ---- quiet lines
 abbrev CommitsLow : CommitOutcome → Type 0

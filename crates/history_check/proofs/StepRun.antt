@@ -17,6 +17,7 @@ pub record OneStep (a : List State) (found : List Found) (ns rest : List Numbere
   pub told : more ++ found_in_order next rest ≡ found ++ found_in_order a ns
   pub end : ending_in_order next rest ≡ ending_in_order a ns
   pub within : Within (length next) rest
+  pub size : length next ≡ length a
 
 one_step : (a : List State) (found : List Found) (n : Numbered) (rest : List Numbered) (s t : State) (next : List State) (more : List Found) → s ≡ state_at a n.placed.step.entry → t ≡ next_by n.placed.step.op n.placed.step.answer s → next ≡ slice_set a n.placed.step.entry t → more ≡ found ++ record { index = n.index; state = s } ∷ [] → Within (length a) (n ∷ rest) → OneStep a found (n ∷ rest) rest next more
 one_step a found n rest s t next more before after set push within =
@@ -27,6 +28,7 @@ one_step a found n rest s t next more before after set push within =
       told = (λ i. push i ++ found_in_order (e i) rest) ∙ append_assoc found (one s ∷ []) (found_in_order (after_step a x) rest) ∙ ap (λ z. found ++ one z ∷ found_in_order (after_step a x) rest) before;
       end = ap (λ z. ending_in_order z rest) e;
       within = subst (λ n. Within n rest) (sym (ap length e ∙ length-set a x.entry _)) within.1;
+      size = ap length e ∙ length-set a x.entry _;
     }
 
 pub step_at : (a : List State) (found : List Found) (ns : List Numbered) (i : ℕ) (d : Numbered) (s t : State) (next : List State) (more : List Found) → i < length ns → s ≡ get_or a (get_or ns i d).placed.step.entry s → t ≡ next_by (get_or ns i d).placed.step.op (get_or ns i d).placed.step.answer s → next ≡ slice_set a (get_or ns i d).placed.step.entry t → more ≡ found ++ record { index = (get_or ns i d).index; state = s } ∷ [] → Within (length a) (drop i ns) → OneStep a found (drop i ns) (drop (i + 1) ns) next more

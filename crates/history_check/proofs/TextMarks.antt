@@ -52,7 +52,7 @@ short_marks (r ∷ rs) h = (record { entry = h.0.entry; stamp = h.0.stamp; bits 
 
 -- ---- a line
 -- What stands before the receipts of a line.
-record IsFront (a : List ℕ) : Type 0 where
+pub record IsFront (a : List ℕ) : Type 0 where
   pub no_end : lacks 10 a ≡ true
   pub no_bar : lacks 124 a ≡ true
 
@@ -102,17 +102,17 @@ signed_lacks : (c : ℕ) (z : ℤ) → IsNoDigit c → (45 == c) ≡ false → l
 signed_lacks c (pos n) h k = lacks_decimal c n h
 signed_lacks c (negsuc n) h k = rw k (lacks_decimal c (suc n) h)
 
-code_front : (z : ℤ) → IsFront (code_text z)
+pub code_front : (z : ℤ) → IsFront (code_text z)
 unfolding code_text
 code_front z = record { no_end = signed_lacks 10 z (inl (omega arith)) refl; no_bar = signed_lacks 124 z (inr (omega arith)) refl }
 
-words_front : (ws : List ℕ) → IsFront (flat_map word_text ws)
+pub words_front : (ws : List ℕ) → IsFront (flat_map word_text ws)
 words_front [] = record { no_end = refl; no_bar = refl }
 words_front (w ∷ ws) =
     let rest = words_front ws in
     record { no_end = lacks_append 10 (digits 16 false w) (flat_map word_text ws) (lacks_hex 10 w (inl (omega arith))) rest.no_end; no_bar = lacks_append 124 (digits 16 false w) (flat_map word_text ws) (lacks_hex 124 w (inr (omega arith))) rest.no_bar }
 
-both_front : (a b : List ℕ) → IsFront a → IsFront b → IsFront (a ++ b)
+pub both_front : (a b : List ℕ) → IsFront a → IsFront b → IsFront (a ++ b)
 both_front a b f g = record { no_end = lacks_append 10 a b f.no_end g.no_end; no_bar = lacks_append 124 a b f.no_bar g.no_bar }
 
 hcall_shows : (h k : HReply) (x y : List ℕ) → AreShort h.receipts → AreShort k.receipts → hcall_text h ++ x ≡ hcall_text k ++ y → (map mark_of h.receipts ≡ map mark_of k.receipts) × (x ≡ y)
@@ -121,14 +121,14 @@ hcall_shows h k x y s t e =
     (m.1, m.2)
 
 -- ---- accesses
-outcome_front : (o : Outcome) → IsFront (outcome_text o)
+pub outcome_front : (o : Outcome) → IsFront (outcome_text o)
 outcome_front (outcomes.At address) = record { no_end = lacks_hex 10 address (inl (omega arith)); no_bar = lacks_hex 124 address (inr (omega arith)) }
 outcome_front outcomes.Denied = record { no_end = refl; no_bar = refl }
 outcome_front outcomes.NoPage = record { no_end = refl; no_bar = refl }
 outcome_front outcomes.NoSegment = record { no_end = refl; no_bar = refl }
 outcome_front (outcomes.Ungranted address) = record { no_end = lacks_hex 10 address (inl (omega arith)); no_bar = lacks_hex 124 address (inr (omega arith)) }
 
-way_front : (w : Option By) → IsFront (way_text w)
+pub way_front : (w : Option By) → IsFront (way_text w)
 way_front None = record { no_end = refl; no_bar = refl }
 way_front (Some Hit) = record { no_end = refl; no_bar = refl }
 way_front (Some Walk) = record { no_end = refl; no_bar = refl }

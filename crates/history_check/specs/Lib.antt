@@ -9,3 +9,8 @@ pub mod ReplayLaws
 pub mod FoundSection
 pub mod PlacedSteps
 pub mod OrderedSteps
+pub mod LineReply
+pub mod FrontKeeping
+pub mod JudgedLines
+pub mod SectionMarks
+pub mod JudgedRun

@@ -1,13 +1,100 @@
-ghost use Rattle.std.specs.Prelude.{IfOk};
-ghost use Rattle.history_check.specs.Verdict.{IsVerdict};
+ghost use Rattle.std.specs.Prelude.{◌≡◌, ◌<◌, ◌++◌, true, false, ℕ, List, IfOk, IfSome, IfNone};
+ghost use Rattle.entry_model.specs.Run.{state_at};
+ghost use Rattle.trace_read.specs.Trace.{is_quiet};
+ghost use Rattle.trace_reply.specs.declared.reply.Reply.{Reply};
+ghost use Rattle.reply_text.specs.Text.{reply_text};
+ghost use Rattle.run_model.specs.Processors.{processor_after};
+ghost use Rattle.run_model.specs.Histories.{Event, InOrder, events_in};
+ghost use Rattle.history_check.specs.FrontKeeping.{front_of, LeadsTo};
+ghost use Rattle.history_check.specs.LineReply.{StandsOn, HasReply};
 
-use crate::verdict::Verdict;
-use std::alloc::{AllocError, Global};
-use trace_read::Trace;
+use crate::context::Context;
+use crate::fitting::receipts_of;
+use crate::fronts::{Fronts, keep_fronts};
+use crate::line_reply::line_reply;
+use crate::processor::Processor;
+use entry_model::{EntryState, Line};
+use std::alloc::AllocError;
+use trace_read::TraceLine;
 
-/// The verdict on a text of replies to a trace.
-pub fn check_replies(_: Global, _trace: &Trace, _text: &[u8]) -> Result<Verdict, AllocError>
-    ensures { IfOk result (λ v. IsVerdict _trace.now _text.now v) }
+/// Whether the entry of a cached line that was gone, if there was one, has left the line's stamp in
+/// these states.
+fn has_left(closing: &[EntryState], gone: &Option<Line>) -> bool
+    ensures yes { result ≡ true
+        → IfSome gone.now (λ line. line.stamp < (state_at closing.now line.entry).stamp) }
+    ensures no { result ≡ false
+        → IfSome gone.now (λ line. line.stamp < (state_at closing.now line.entry).stamp)
+        → ⊥ }
 {
-    Err(AllocError)
+    match gone {
+        None => true,
+        Some(line) => match closing.get(line.entry as usize) {
+            None => false,
+            Some(state) => line.stamp < state.stamp,
+        },
+    }
+}
+
+/// Judges a line that isn't quiet by the states that its operations found, on a section that opened
+/// on states with these pairs and closes on these states. Gives how many bytes of the given text its
+/// reply has, and leaves its processor and the processor's fronts as they are behind it. `None` where
+/// no reply stands. `out` is room to write in.
+pub fn judge_line(
+    context: &Context,
+    opening: &[u64],
+    closing: &[EntryState],
+    processor: &mut Processor,
+    fronts: &mut Fronts,
+    line: &TraceLine,
+    found: &[EntryState],
+    given: &[u8],
+    out: &mut String,
+) -> Result<Option<usize>, AllocError>
+    requires { is_quiet line.now.act ≡ false }
+    ensures some { IfOk
+        result
+        (λ o.
+        IfSome
+        o
+        (λ n.
+        (h : HasReply
+        context.now
+        closing.now
+        processor.old
+        line.now
+        found.now
+        given.now
+        n)
+        × (processor.new ≡ processor_after processor.old line.now.act h.reply)
+        × LeadsTo
+        (front_of fronts.old opening.now)
+        (events_in processor.old (record { line = line.now; reply = h.reply }))
+        (front_of fronts.new opening.now))) }
+    ensures none { IfOk
+        result
+        (λ o.
+        IfNone
+        o
+        ((r : Reply) (rest : List ℕ) (later : List Event)
+        → StandsOn context.now closing.now processor.old line.now found.now r
+        → given.now ≡ reply_text line.now r ++ rest
+        → ((e : ℕ)
+        → InOrder
+        e
+        (front_of fronts.old opening.now e)
+        (events_in processor.old (record { line = line.now; reply = r }) ++ later))
+        → ⊥)) }
+{
+    let Some((reply, count)) = line_reply(context, processor, line, found, given, out)? else {
+        return Ok(None);
+    };
+    let gone = processor.gone_line(&line.act, &reply);
+    if !has_left(closing, &gone) {
+        return Ok(None);
+    }
+    if !keep_fronts(fronts, opening, &gone, receipts_of(&reply))? {
+        return Ok(None);
+    }
+    processor.after(&line.act, &reply);
+    Ok(Some(count))
 }

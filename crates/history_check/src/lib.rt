@@ -4,23 +4,26 @@
 
 mod accesses;
 mod calls;
+mod checking;
 mod context;
+mod fitting;
+mod fronts;
+mod judged_run;
 mod judging;
+mod judging_lines;
 mod laws;
+mod line_reply;
+mod mark_steps;
 mod ordering;
 mod placed;
 mod processor;
+mod reading;
 mod replay;
+mod section;
+mod shown;
 mod steps;
 mod verdict;
 
-pub use accesses::{hit_on, walk_on};
-pub use calls::{all_calls, call_on};
-pub use context::Context;
-pub use judging::check_replies;
+pub use checking::check_replies;
 pub use laws::{at_most_one, earlier_sections_stand, good_runs_are_good, one_verdict};
-pub use processor::Processor;
-pub use replay::Replay;
-pub use placed::{PlacedStep, find_states};
-pub use steps::Step;
 pub use verdict::Verdict;

@@ -52,6 +52,7 @@ pub fn make_steps(
     ensures ending { OnOk
         result
         (states.new.items ≡ ending_in_order states.old.items order.now) }
+    ensures size { length states.new.items ≡ length states.old.items }
 {
     let mut found = Vec::with_capacity(alloc, order.len())?;
     for numbered in order {

@@ -22,9 +22,10 @@ pub fn find_states(
     steps: &[PlacedStep],
 ) -> Result<Vec<EntryState>, AllocError>
     requires { AreInTable (length states.old.items) steps.now }
-    ensures { IfOk
+    ensures found { IfOk
         result
         (λ found. FindStates states.old.items steps.now found.items states.new.items) }
+    ensures size { length states.new.items ≡ length states.old.items }
 {
     let order = in_order(alloc, steps)?;
     let found = make_steps(alloc, states, order.as_slice())?;

@@ -3,8 +3,8 @@ ghost use Rattle.entry_model.specs.Receipt as receipts;
 ghost use Rattle.entry_model.specs.declared.access_reply.By.TheVariants.{Walk};
 ghost use Rattle.slb_model.specs.Buffer.{no_slots, segment_of};
 ghost use Rattle.tlb_model.specs.Cache.{cached_line, empty_cache};
-ghost use Rattle.tlb_model.specs.CacheAfter.{cache_after};
-ghost use Rattle.run_model.specs.Processors.{processor_after};
+ghost use Rattle.tlb_model.specs.CacheAfter.{cache_after, gone_line};
+ghost use Rattle.run_model.specs.Processors.{processor_after, gone_line_of};
 
 use entry_model::{AccessReply, Answer, By, Line, Receipt};
 use power_addr::Page;
@@ -100,6 +100,26 @@ impl Processor {
     {
         if let (Some(segment), Some(By::Walk)) = (self.segment(ea), reply.by) {
             self.walked(&segment, reply);
+        }
+    }
+
+    // The cached line of the page that an access walked.
+    fn passed(&self, ea: u64, reply: &AccessReply) -> Option<Line>
+        ensures { result ≡ gone_line self.now.cache (segment_of self.now.slots ea) reply.now }
+    {
+        match (self.segment(ea), reply.by) {
+            (Some(segment), Some(By::Walk)) => self.cached(&segment.page),
+            _ => None,
+        }
+    }
+
+    /// The cached line that is gone, if this is the reply to a line: that of the page that it walked.
+    pub fn gone_line(&self, act: &Act, reply: &Reply) -> Option<Line>
+        ensures { result ≡ gone_line_of self.now act.now reply.now }
+    {
+        match (*act, reply) {
+            (Act::Access { ea, .. }, Reply::Access(reply)) => self.passed(ea, reply),
+            _ => None,
         }
     }
 

@@ -10,6 +10,7 @@ mod marks;
 mod numbers;
 mod receipts;
 
+pub use cuts::split_at;
 pub use laws::receipts_are_read_back;
 pub use mark::{Mark, Marks};
 pub use marks::marks_of;

@@ -32,3 +32,4 @@ mod HistoryRows
 mod SectionRows
 mod ParallelRows
 mod RefusedRows
+pub mod ProcessorLists

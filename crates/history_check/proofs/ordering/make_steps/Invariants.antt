@@ -8,5 +8,6 @@ abbrev pub invariant-loop-numbered : goal.invariant-loop-numbered
 invariant-loop-numbered l = record {
   told : l.found.items ++ found_in_order l.states.items (drop l.numbered-index l.order) ≡ found_in_order l.fn.states.items l.order;
   end : ending_in_order l.states.items (drop l.numbered-index l.order) ≡ ending_in_order l.fn.states.items l.order;
+  size : length l.states.items ≡ length l.fn.states.items;
   within : Within (length l.states.items) (drop l.numbered-index l.order);
 }

@@ -8,8 +8,8 @@ use Rattle.history_check.proofs.placed.find_states.Goals as goal
 pub make_steps-requires : goal.make_steps-requires
 make_steps-requires c = rw c.as_slice.ensures.value (order_within (length c.args.states.now.items) c.args.steps.now c.in_ok-order.order.items c.requires c.in_ok-order.ensures)
 
-pub returns : goal.returns
-returns c =
+pub returns-clause-found : goal.returns-clause-found
+returns-clause-found c =
     let order = c.in_ok-order.order.items in
     let a = c.args.states.now.items in
     let found = subst (λ l. AreListed l c.in_ok-listed.listed.items) (c.in_ok-found.ensures.found ∙ ap (found_in_order a) c.as_slice.ensures.value) c.in_ok-listed.ensures in

@@ -1,0 +1,81 @@
+-- What a section's function owes, by what its parts tell.
+use Rattle.std.specs.Prelude.{IfSome, IfNone}
+use Rattle.std.specs.List.{AllByRecursion}
+use Rattle.std.proofs.Common.{◌≡◌, ℕ, ◌+◌, ◌<◌, ◌≤◌, ◌^◌, List, [], ◌∷◌, ◌++◌, ap, sym, ◌∙◌, refl, subst, map, take, drop, get_or, length, arith, Option, Some, None}
+use Rattle.std.proofs.lemmas.List.{take_more}
+use Rattle.entry_model.specs.State.{State}
+use Rattle.entry_model.specs.History.{pair_of}
+use Rattle.entry_model.specs.Fronts.{front_at, opening_fronts}
+use Rattle.hpt_walk.specs.Access.{AccessContext}
+use Rattle.tlb_model.specs.Processor.{Processor}
+use Rattle.trace_read.specs.declared.trace.TraceLine.{TraceLine}
+use Rattle.trace_reply.specs.declared.reply.Reply.{Reply}
+use Rattle.history_check.specs.declared.placed.PlacedStep.{PlacedStep}
+use Rattle.history_check.specs.PlacedSteps.{FindStates}
+use Rattle.history_check.specs.FoundSection.{ArePlain, AreOnProcessors, Opening, opening_of, HasSection, HasNoSection}
+use Rattle.history_check.specs.JudgedLines.{AreReplied}
+use Rattle.history_check.specs.SectionMarks.{ReadMarks, NoMarks}
+use Rattle.history_check.proofs.Short.{LowStates}
+use Rattle.history_check.proofs.SectionSteps.{judged}
+use Rattle.history_check.proofs.WholeSection.{Told, told_section, no_marks, no_replies}
+
+-- ---- what the parts tell of one opening
+-- What is asked of the opening.
+pub record IsOpening (o : Opening) (ls : List TraceLine) : Type 0 where
+  pub plain : ArePlain ls
+  pub cpus : AreOnProcessors (length o.processors) ls
+  pub few : length o.states ≤ 2 ^ 18
+  pub low : LowStates o.states
+
+-- The marks that were read, and the states that their steps find.
+pub record HasSteps (o : Opening) (ls : List TraceLine) (given : List ℕ) (steps : List PlacedStep) (counts : List ℕ) (listed closing : List State) : Type 0 where
+  pub read : ReadMarks o.context (length o.states) ls given steps counts
+  pub find : FindStates o.states steps listed closing
+
+abbrev Replied : Opening → List TraceLine → List ℕ → List ℕ → List State → List State → List Reply → List ℕ → List Processor → Type 0
+Replied o ls given counts listed closing rs rest later = AreReplied (judged o.context closing ls counts listed) o.processors (λ cpu e. front_at (opening_fronts o.states) e) given rs rest later
+
+section_has : (o : Opening) (ls : List TraceLine) (given : List ℕ) (steps : List PlacedStep) (counts : List ℕ) (listed closing : List State) (n : ℕ) (later : List Processor) → IsOpening o ls → HasSteps o ls given steps counts listed closing → (rs : List Reply) × Replied o ls given counts listed closing rs (drop n given) later → HasSection o ls given n closing later
+section_has o ls given steps counts listed closing n later is has told w e =
+    let all : Told o ls given n closing later = record { steps = steps; counts = counts; listed = listed; read = has.read; find = has.find; replies = told.0; replied = told.1 } in
+    let here : Told (opening_of w) ls given n closing later = subst (λ z. Told z ls given n closing later) (sym e) all in
+    let k = told_section w ls given n closing later is.plain (subst (λ z. AreOnProcessors (length z.processors) ls) (sym e) is.cpus) here in
+    (here.replies, k.0, k.1)
+
+section_has_not : (o : Opening) (ls : List TraceLine) (given : List ℕ) (steps : List PlacedStep) (counts : List ℕ) (listed closing : List State) → IsOpening o ls → HasSteps o ls given steps counts listed closing → ((rs : List Reply) (rest : List ℕ) (later : List Processor) → Replied o ls given counts listed closing rs rest later → ⊥) → HasNoSection o ls given
+section_has_not o ls given steps counts listed closing is has none w e rs rest h =
+    let is' : IsOpening (opening_of w) ls = subst (λ z. IsOpening z ls) (sym e) is in
+    let has' : HasSteps (opening_of w) ls given steps counts listed closing = subst (λ z. HasSteps z ls given steps counts listed closing) (sym e) has in
+    no_replies w ls given steps counts listed closing is'.plain is'.cpus is'.few is'.low has'.read has'.find (λ rs rest later k. none rs rest later (subst (λ z. Replied z ls given counts listed closing rs rest later) e k)) rs rest h
+
+pub marks_has_not : (o : Opening) (ls : List TraceLine) (given : List ℕ) → IsOpening o ls → NoMarks o.context (length o.states) ls given → HasNoSection o ls given
+marks_has_not o ls given is none w e rs rest h =
+    let is' : IsOpening (opening_of w) ls = subst (λ z. IsOpening z ls) (sym e) is in
+    no_marks w ls given is'.plain is'.cpus is'.few is'.low (subst (λ z. NoMarks z.context (length z.states) ls given) (sym e) none) rs rest h
+
+-- ---- as `judge_lines` tells it
+-- with the opening's pairs, the closing states and the states found as the code has them
+abbrev Judges : Opening → List TraceLine → List ℕ → List ℕ → List ℕ → List State → List State → List Reply → List ℕ → List Processor → Type 0
+Judges o ls given counts opening found closed rs rest later = AreReplied (judged o.context closed ls counts found) o.processors (λ cpu e. front_at opening e) given rs rest later
+
+pub some_told : (o : Opening) (ls : List TraceLine) (given : List ℕ) (steps : List PlacedStep) (counts opening : List ℕ) (listed found closing closed : List State) (later : List Processor) (j : Option ℕ) → IsOpening o ls → HasSteps o ls given steps counts listed closing → opening ≡ opening_fronts o.states → found ≡ listed → closed ≡ closing → IfSome j (λ n. (rs : List Reply) × Judges o ls given counts opening found closed rs (drop n given) later) → IfSome j (λ n. HasSection o ls given n closing later)
+some_told o ls given steps counts opening listed found closing closed later None is has pairs f c h = tt
+some_told o ls given steps counts opening listed found closing closed later (Some n) is has pairs f c h = section_has o ls given steps counts listed closing n later is has (h.0, subst (λ (z : List ℕ × List State × List State). Judges o ls given counts z.0 z.1 z.2 h.0 (drop n given) later) (λ i. (pairs i, f i, c i)) h.1)
+
+pub none_told : (o : Opening) (ls : List TraceLine) (given : List ℕ) (steps : List PlacedStep) (counts opening : List ℕ) (listed found closing closed : List State) (j : Option ℕ) → IsOpening o ls → HasSteps o ls given steps counts listed closing → opening ≡ opening_fronts o.states → found ≡ listed → closed ≡ closing → IfNone j ((rs : List Reply) (rest : List ℕ) (later : List Processor) → Judges o ls given counts opening found closed rs rest later → ⊥) → IfNone j (HasNoSection o ls given)
+none_told o ls given steps counts opening listed found closing closed None is has pairs f c h = section_has_not o ls given steps counts listed closing is has (λ rs rest later k. h rs rest later (subst (λ (z : List ℕ × List State × List State). Judges o ls given counts z.0 z.1 z.2 rs rest later) (λ i. (sym pairs i, sym f i, sym c i)) k))
+none_told o ls given steps counts opening listed found closing closed (Some n) is has pairs f c h = tt
+
+-- ---- the pairs of the opening states
+pub pairs_more : (pairs more : List ℕ) (ss : List State) (i : ℕ) (s : State) → i < length ss → s ≡ get_or ss i s → pairs ≡ opening_fronts (take i ss) → more ≡ pairs ++ pair_of s ∷ [] → more ≡ opening_fronts (take (i + 1) ss)
+pairs_more pairs more ss i s low at told push =
+    push ∙ ap (λ z. z ++ pair_of s ∷ []) told ∙ sym (ap opening_fronts (take_more ss i s low ∙ ap (λ z. take i ss ++ z ∷ []) (sym at)) ∙ map_append (take i ss) (s ∷ [])) where
+  map_append : (xs ys : List State) → opening_fronts (xs ++ ys) ≡ opening_fronts xs ++ opening_fronts ys
+  map_append [] ys = refl
+  map_append (x ∷ xs) ys = ap (λ l. pair_of x ∷ l) (map_append xs ys)
+
+pub low_more : (ss : List State) (i : ℕ) (s : State) → i < length ss → s ≡ get_or ss i s → LowStates (take i ss) → s.stamp < 2 ^ 32 → LowStates (take (i + 1) ss)
+low_more ss i s low at told here = subst LowStates (sym (take_more ss i s low ∙ ap (λ z. take i ss ++ z ∷ []) (sym at))) (both (take i ss) told) where
+  both : (xs : List State) → LowStates xs → LowStates (xs ++ s ∷ [])
+  both [] h = (here, tt)
+  both (x ∷ xs) h = (h.0, both xs h.1)

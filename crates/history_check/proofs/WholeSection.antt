@@ -1,0 +1,265 @@
+-- A section, from what its parts tell of it.
+use Rattle.std.specs.List.{AllByRecursion}
+use Rattle.std.proofs.Common.{◌≡◌, ℕ, zero, suc, ◌+◌, ◌*◌, ◌<◌, ◌≤◌, ◌^◌, List, [], ◌∷◌, ◌++◌, false, ap, sym, ◌∙◌, refl, subst, map, take, drop, length, arith, append_assoc, Option, None}
+use Rattle.std.proofs.lemmas.List.{length-map, length-append, take-append-drop}
+use Rattle.std.proofs.Math.Seq.{take-append_seam, drop-append_seam}
+use Rattle.entry_model.specs.State.{State, empty_state}
+use Rattle.entry_model.specs.declared.receipt.Receipt.{Receipt}
+use Rattle.entry_model.specs.History.{pair_of}
+use Rattle.entry_model.specs.Run.{state_at}
+use Rattle.entry_model.specs.Fronts.{front_at, opening_fronts}
+use Rattle.hpt_walk.specs.Access.{AccessContext}
+use Rattle.hpt_resize.specs.TableMemory.{with_states}
+use Rattle.tlb_model.specs.Processor.{Processor}
+use Rattle.trace_read.specs.declared.trace.TraceLine.{TraceLine}
+use Rattle.trace_read.specs.Trace.{is_quiet}
+use Rattle.trace_reply.specs.declared.reply.Reply.{Reply}
+use Rattle.trace_reply.specs.Replies.{RepliedLine, AreReplies, receipts_in, lines_with_replies}
+use Rattle.run_model.specs.Processors.{processor_at, processors_after}
+use Rattle.run_model.specs.LineReplies.{IsCallReply, IsReplyToAccess}
+use Rattle.run_model.specs.RunState.{RunState, context_of, states_of}
+use Rattle.run_model.specs.Histories.{InOrder, receipts_by, lines_of_processor, events_by, closing_states}
+use Rattle.run_model.specs.Sections.{section_end, receipts_made, processors_after_lines}
+use Rattle.run_model.specs.GoodRun.{AreLegal, AreInOrder, EachLineOfProcessor, IsAccessLine, IsGoodSection}
+use Rattle.run_model.proofs.Undisturbed.{processors_on}
+use Rattle.entry_model.proofs.Regroup.{regrouped_back}
+use Rattle.run_model.proofs.Each.{each_front, each_back}
+use Rattle.run_model.proofs.SectionGood.{each_regrouped}
+use Rattle.run_model.proofs.LinesByProcessor.{Cpus, InFileOrder, own_lines, file_lines, file_listed, own_processors}
+use Rattle.receipt_text.specs.declared.mark.Mark.{Mark}
+use Rattle.receipt_text.specs.Marks.{IsMark}
+use Rattle.receipt_text.specs.Receipts.{mark_of}
+use Rattle.history_check.specs.declared.placed.PlacedStep.{PlacedStep}
+use Rattle.history_check.specs.ReplyMarks.{marks_in}
+use Rattle.history_check.specs.Replay.{before_each}
+use Rattle.history_check.specs.PlacedSteps.{placed_step, placed_line, FindStates, AreInTable}
+use Rattle.history_check.specs.FoundSection.{ArePlain, AreOnProcessors, lines_text, IsFound, Opening, opening_of, run_with, HasSection, HasNoSection}
+use Rattle.history_check.specs.LineReply.{StandsOn}
+use Rattle.history_check.specs.JudgedLines.{processors_behind, AllStand, AllInOrder, AreReplied}
+use Rattle.history_check.specs.SectionMarks.{section_steps, HasItsMarks, ShowMarks, MarkEntries, ReadMarks, NoMarks}
+use Rattle.history_check.proofs.TextMarks.{AreShort, short_marks}
+use Rattle.history_check.proofs.Short.{LowStates, ShortLines, lines_short}
+use Rattle.history_check.proofs.LineSteps as shown
+use Rattle.history_check.proofs.FoundStates.{section_finds, found_section}
+use Rattle.history_check.proofs.SectionSteps.{judged}
+
+-- ---- fronts
+front_is : (a : List State) (e : ℕ) → front_at (opening_fronts a) e ≡ pair_of (state_at a e)
+unfolding pair_of
+front_is [] e = refl
+front_is (s ∷ a) zero = refl
+front_is (s ∷ a) (suc e) = front_is a e
+
+behind_is : (ps : List Processor) (ts : List RepliedLine) → processors_behind ps ts ≡ processors_on ps ts
+behind_is ps [] = refl
+behind_is ps (t ∷ ts) = behind_is (processors_after ps t) ts
+
+cpus_of : (n : ℕ) (ls : List TraceLine) (rs : List Reply) → AreOnProcessors n ls → Cpus n (lines_with_replies ls rs)
+cpus_of n [] rs h = tt
+cpus_of n (l ∷ ls) [] h = tt
+cpus_of n (l ∷ ls) (r ∷ rs) h = (h.0, cpus_of n ls rs h.1)
+
+before_append : (xs ys : List Receipt) → before_each (xs ++ ys) ≡ before_each xs ++ before_each ys
+before_append [] ys = refl
+before_append (x ∷ xs) ys = ap (λ l. x.before ∷ l) (before_append xs ys)
+
+placed_append : (xs ys : List Receipt) → map placed_step (xs ++ ys) ≡ map placed_step xs ++ map placed_step ys
+placed_append [] ys = refl
+placed_append (x ∷ xs) ys = ap (λ l. placed_step x ∷ l) (placed_append xs ys)
+
+-- ---- from the lines that stand
+stand_kinds : (context : AccessContext) (closing : List State) (ps : List Processor) (ls : List TraceLine) (ns : List ℕ) (found : List State) (rs : List Reply) → AllStand context closing ps ls ns found rs → AreReplies ls rs
+stand_kinds context closing ps [] [] found [] h = tt
+stand_kinds context closing ps [] [] found (r ∷ rs) h = absurd h
+stand_kinds context closing ps [] (n ∷ ns) found rs h = absurd h
+stand_kinds context closing ps (l ∷ ls) [] found rs h = absurd h
+stand_kinds context closing ps (l ∷ ls) (n ∷ ns) found [] h = absurd h
+stand_kinds context closing ps (l ∷ ls) (n ∷ ns) found (r ∷ rs) h = (h.1.reply.kind, stand_kinds context closing (processors_after ps (record { line = l; reply = r })) ls ns (drop n found) rs h.2)
+
+stand_before : (context : AccessContext) (closing : List State) (ps : List Processor) (ls : List TraceLine) (ns : List ℕ) (found : List State) (rs : List Reply) → AllStand context closing ps ls ns found rs → before_each (receipts_by (lines_with_replies ls rs)) ≡ found
+stand_before context closing ps [] [] found [] h = sym h
+stand_before context closing ps [] [] found (r ∷ rs) h = absurd h
+stand_before context closing ps [] (n ∷ ns) found rs h = absurd h
+stand_before context closing ps (l ∷ ls) [] found rs h = absurd h
+stand_before context closing ps (l ∷ ls) (n ∷ ns) found [] h = absurd h
+stand_before context closing ps (l ∷ ls) (n ∷ ns) found (r ∷ rs) h =
+    before_append (receipts_in r) (receipts_by (lines_with_replies ls rs)) ∙ (λ i. h.1.before i ++ stand_before context closing (processors_after ps (record { line = l; reply = r })) ls ns (drop n found) rs h.2 i) ∙ take-append-drop n found
+
+stand_calls : (context : AccessContext) (closing : List State) (ps : List Processor) (ls : List TraceLine) (ns : List ℕ) (found : List State) (rs : List Reply) → AllStand context closing ps ls ns found rs → InFileOrder (λ p t. IsCallReply context t.line.act t.reply) ps (lines_with_replies ls rs)
+stand_calls context closing ps [] ns found rs h = tt
+stand_calls context closing ps (l ∷ ls) [] found rs h = absurd h
+stand_calls context closing ps (l ∷ ls) (n ∷ ns) found [] h = absurd h
+stand_calls context closing ps (l ∷ ls) (n ∷ ns) found (r ∷ rs) h = (h.1.reply.call, stand_calls context closing (processors_after ps (record { line = l; reply = r })) ls ns (drop n found) rs h.2)
+
+stand_accesses : (context : AccessContext) (closing : List State) (ps : List Processor) (ls : List TraceLine) (ns : List ℕ) (found : List State) (rs : List Reply) → AllStand context closing ps ls ns found rs → InFileOrder (IsAccessLine context closing) ps (lines_with_replies ls rs)
+stand_accesses context closing ps [] ns found rs h = tt
+stand_accesses context closing ps (l ∷ ls) [] found rs h = absurd h
+stand_accesses context closing ps (l ∷ ls) (n ∷ ns) found [] h = absurd h
+stand_accesses context closing ps (l ∷ ls) (n ∷ ns) found (r ∷ rs) h = (record { reply = h.1.reply.access; gone = h.1.gone }, stand_accesses context closing (processors_after ps (record { line = l; reply = r })) ls ns (drop n found) rs h.2)
+
+stand_marks : (context : AccessContext) (closing : List State) (ps : List Processor) (ls : List TraceLine) (ns : List ℕ) (found : List State) (rs : List Reply) → ArePlain ls → AllStand context closing ps ls ns found rs → AllByRecursion (HasItsMarks context) (lines_with_replies ls rs)
+stand_marks context closing ps [] ns found rs plain h = tt
+stand_marks context closing ps (l ∷ ls) [] found rs plain h = absurd h
+stand_marks context closing ps (l ∷ ls) (n ∷ ns) found [] plain h = absurd h
+stand_marks context closing ps (l ∷ ls) (n ∷ ns) found (r ∷ rs) plain h =
+    (record { marks = h.1.marks; few = (shown.line_shows context (processor_at ps l.cpu) l.act r plain.0 h.1.reply.call h.1.reply.access).few }, stand_marks context closing (processors_after ps (record { line = l; reply = r })) ls ns (drop n found) rs plain.1 h.2)
+
+-- ---- steps by marks
+steps_by_marks : (context : AccessContext) (ps : List Processor) (ls : List TraceLine) (rs : List Reply) → ArePlain ls → AreReplies ls rs → InFileOrder (λ p t. IsCallReply context t.line.act t.reply) ps (lines_with_replies ls rs) → InFileOrder (λ p t. IsReplyToAccess context p t.line.act t.reply) ps (lines_with_replies ls rs) → section_steps context ls (map marks_in rs) ≡ map placed_step (receipts_by (lines_with_replies ls rs))
+steps_by_marks context ps [] [] plain kinds call access = refl
+steps_by_marks context ps [] (r ∷ rs) plain kinds call access = absurd kinds
+steps_by_marks context ps (l ∷ ls) [] plain kinds call access = absurd kinds
+steps_by_marks context ps (l ∷ ls) (r ∷ rs) plain kinds call access =
+    let t : RepliedLine = record { line = l; reply = r } in
+    let ts = lines_with_replies ls rs in
+    let here : placed_line context l.act (marks_in r) ≡ map placed_step (receipts_in r) = sym (shown.line_shows context (processor_at ps l.cpu) l.act r plain.0 call.0 access.0).steps in
+    (λ i. here i ++ steps_by_marks context (processors_after ps t) ls rs plain.1 kinds.1 call.1 access.1 i) ∙ sym (placed_append (receipts_in r) (receipts_by ts))
+
+just_access : (context : AccessContext) (closing : List State) (ps : List Processor) (ts : List RepliedLine) → InFileOrder (IsAccessLine context closing) ps ts → InFileOrder (λ p t. IsReplyToAccess context p t.line.act t.reply) ps ts
+just_access context closing ps [] h = tt
+just_access context closing ps (t ∷ ts) h = (h.0.reply, just_access context closing (processors_after ps t) ts h.1)
+
+-- ---- what the parts tell
+-- The steps that were read, the states that they find, and the replies that stand on these.
+pub record Told (o : Opening) (ls : List TraceLine) (given : List ℕ) (n : ℕ) (closing : List State) (later : List Processor) : Type 0 where
+  pub steps : List PlacedStep
+  pub counts : List ℕ
+  pub listed : List State
+  pub read : ReadMarks o.context (length o.states) ls given steps counts
+  pub find : FindStates o.states steps listed closing
+  pub replies : List Reply
+  pub replied : AreReplied (judged o.context closing ls counts listed) o.processors (λ cpu e. front_at (opening_fronts o.states) e) given replies (drop n given) later
+
+-- ---- a section that is found
+found_order : (a : List State) (ps : List Processor) (ts : List RepliedLine) → AllInOrder (λ cpu e. front_at (opening_fronts a) e) ps ts → (cpu e : ℕ) → InOrder e (pair_of (state_at a e)) (events_by (processor_at ps cpu) (lines_of_processor cpu ts))
+found_order a ps ts h cpu e = subst (λ p. InOrder e p (events_by (processor_at ps cpu) (lines_of_processor cpu ts))) (front_is a e) (h cpu e)
+
+closed_as : (w : RunState) (ts : List RepliedLine) (closing : List State) (later : List Processor) → Cpus (length w.processors) ts → states_of (section_end w ts) ≡ closing → later ≡ processors_behind w.processors ts → section_end w ts ≡ run_with w closing later
+unfolding section_end
+closed_as w ts closing later cpus states behind =
+    let processors : processors_after_lines 0 w.processors ts ≡ later = own_processors w.processors ts cpus ∙ sym (behind_is w.processors ts) ∙ sym behind in
+    λ i. run_with w (states i) (processors i)
+
+pub told_section : (w : RunState) (ls : List TraceLine) (given : List ℕ) (n : ℕ) (closing : List State) (later : List Processor) → ArePlain ls → AreOnProcessors (length w.processors) ls → (h : Told (opening_of w) ls given n closing later) → IsFound w ls None given h.replies (drop n given) × (section_end w (lines_with_replies ls h.replies) ≡ run_with w closing later)
+told_section w ls given n closing later plain on h =
+    let context = context_of w in
+    let ps = w.processors in
+    let rs = h.replies in
+    let ts = lines_with_replies ls rs in
+    let cpus : Cpus (length ps) ts = cpus_of (length ps) ls rs on in
+    let stand = h.replied.stand in
+    let kinds : AreReplies ls rs = stand_kinds context closing ps ls h.counts h.listed rs stand in
+    let calls = stand_calls context closing ps ls h.counts h.listed rs stand in
+    let accesses = stand_accesses context closing ps ls h.counts h.listed rs stand in
+    let shows : ShowMarks context ls given rs (drop n given) = record { kinds = kinds; marks = stand_marks context closing ps ls h.counts h.listed rs plain stand; text = h.replied.text } in
+    let steps : h.steps ≡ map placed_step (receipts_by ts) = h.read.steps ∙ ap (section_steps context ls) (sym (h.read.only rs (drop n given) shows)) ∙ steps_by_marks context ps ls rs plain kinds calls (just_access context closing ps ts accesses) in
+    let found = found_section w ts None h.listed closing cpus (subst (AreInTable (length (states_of w))) steps h.read.in_table) (subst (λ z. FindStates (states_of w) z h.listed closing) steps h.find) (stand_before context closing ps ls h.counts h.listed rs stand) in (
+      record {
+        kinds = kinds;
+        good = (
+          found.0,
+          found_order (states_of w) ps ts h.replied.in_order,
+          λ cpu. own_lines (λ p t. IsCallReply context t.line.act t.reply) ps ts cpu cpus calls,
+          λ cpu. subst (λ z. EachLineOfProcessor (IsAccessLine context z) (processor_at ps cpu) (lines_of_processor cpu ts)) (sym found.1) (own_lines (IsAccessLine context closing) ps ts cpu cpus accesses),
+          tt,
+        );
+        text = h.replied.text;
+      },
+      closed_as w ts closing later cpus found.1 h.replied.behind,
+    )
+
+-- ---- a section that isn't
+-- the lines of a good section stand on the states before its receipts
+good_stand : (context : AccessContext) (closing : List State) (ps : List Processor) (ls : List TraceLine) (rs : List Reply) → AreReplies ls rs → ShortLines (lines_with_replies ls rs) → InFileOrder (λ p t. IsCallReply context t.line.act t.reply) ps (lines_with_replies ls rs) → InFileOrder (IsAccessLine context closing) ps (lines_with_replies ls rs) → AllStand context closing ps ls (map (λ (r : Reply). length (marks_in r)) rs) (before_each (receipts_by (lines_with_replies ls rs))) rs
+good_stand context closing ps [] [] kinds short calls accesses = refl
+good_stand context closing ps [] (r ∷ rs) kinds short calls accesses = absurd kinds
+good_stand context closing ps (l ∷ ls) [] kinds short calls accesses = absurd kinds
+good_stand context closing ps (l ∷ ls) (r ∷ rs) kinds short calls accesses =
+    let mine = before_each (receipts_in r) in
+    let others = before_each (receipts_by (lines_with_replies ls rs)) in
+    let n = length (marks_in r) in
+    let size : n ≡ length mine = length-map (receipts_in r) mark_of ∙ sym (length-map (receipts_in r) (λ (x : Receipt). x.before)) in
+    let all : before_each (receipts_in r ++ receipts_by (lines_with_replies ls rs)) ≡ mine ++ others = before_append (receipts_in r) (receipts_by (lines_with_replies ls rs)) in
+    let few : n ≤ length (mine ++ others) = let e : length (mine ++ others) ≡ length mine + length others = length-append mine others in omega arith in
+    let cut : take n (mine ++ others) ≡ mine = ap (λ k. take k (mine ++ others)) size ∙ take-append_seam mine others in
+    let left : drop n (mine ++ others) ≡ others = ap (λ k. drop k (mine ++ others)) size ∙ drop-append_seam mine others in
+    let here : StandsOn context closing (processor_at ps l.cpu) l (take n (mine ++ others)) r = record {
+      reply = record { kind = kinds.0; call = calls.0; access = accesses.0.reply };
+      before = sym cut;
+      marks = short_marks (receipts_in r) short.0;
+      gone = accesses.0.gone;
+    } in
+    let behind = good_stand context closing (processors_after ps (record { line = l; reply = r })) ls rs kinds.1 short.1 calls.1 accesses.1 in
+    subst (λ z. AllStand context closing ps (l ∷ ls) (n ∷ map (λ (r : Reply). length (marks_in r)) rs) z (r ∷ rs)) (sym all) (few, here, subst (λ z. AllStand context closing (processors_after ps (record { line = l; reply = r })) ls (map (λ (r : Reply). length (marks_in r)) rs) z rs) (sym left) behind)
+
+short_shows : (context : AccessContext) (ps : List Processor) (ls : List TraceLine) (rs : List Reply) → ArePlain ls → AreReplies ls rs → ShortLines (lines_with_replies ls rs) → InFileOrder (λ p t. IsCallReply context t.line.act t.reply) ps (lines_with_replies ls rs) → InFileOrder (λ p t. IsReplyToAccess context p t.line.act t.reply) ps (lines_with_replies ls rs) → AllByRecursion (HasItsMarks context) (lines_with_replies ls rs)
+short_shows context ps [] rs plain kinds short calls accesses = tt
+short_shows context ps (l ∷ ls) [] plain kinds short calls accesses = tt
+short_shows context ps (l ∷ ls) (r ∷ rs) plain kinds short calls accesses =
+    (record { marks = short_marks (receipts_in r) short.0; few = (shown.line_shows context (processor_at ps l.cpu) l.act r plain.0 calls.0 accesses.0).few }, short_shows context (processors_after ps (record { line = l; reply = r })) ls rs plain.1 kinds.1 short.1 calls.1 accesses.1)
+
+-- What holds of each good section of a run, whatever the parts tell.
+record Good (w : RunState) (ls : List TraceLine) (given : List ℕ) (rs : List Reply) (rest : List ℕ) : Type 0 where
+  pub cpus : Cpus (length w.processors) (lines_with_replies ls rs)
+  pub short : ShortLines (lines_with_replies ls rs)
+  pub calls : InFileOrder (λ p t. IsCallReply (context_of w) t.line.act t.reply) w.processors (lines_with_replies ls rs)
+  pub accesses : InFileOrder (IsAccessLine (context_of w) (states_of (section_end w (lines_with_replies ls rs)))) w.processors (lines_with_replies ls rs)
+  pub shows : ShowMarks (context_of w) ls given rs rest
+  pub steps : section_steps (context_of w) ls (map marks_in rs) ≡ map placed_step (receipts_by (lines_with_replies ls rs))
+
+good_facts : (w : RunState) (ls : List TraceLine) (given : List ℕ) (rs : List Reply) (rest : List ℕ) → ArePlain ls → AreOnProcessors (length w.processors) ls → length (states_of w) ≤ 2 ^ 18 → LowStates (states_of w) → IsFound w ls None given rs rest → Good w ls given rs rest
+good_facts w ls given rs rest plain on few low h =
+    let ts = lines_with_replies ls rs in
+    let cpus : Cpus (length w.processors) ts = cpus_of (length w.processors) ls rs on in
+    let short = lines_short w ts None cpus few low h.good.0 in
+    let calls = file_lines (λ p t. IsCallReply (context_of w) t.line.act t.reply) w.processors ts cpus h.good.2 in
+    let accesses = file_lines (IsAccessLine (context_of w) (states_of (section_end w ts))) w.processors ts cpus h.good.3 in
+    let plainly = just_access (context_of w) (states_of (section_end w ts)) w.processors ts accesses in
+    record {
+      cpus = cpus;
+      short = short;
+      calls = calls;
+      accesses = accesses;
+      shows = record { kinds = h.kinds; marks = short_shows (context_of w) w.processors ls rs plain h.kinds short calls plainly; text = h.text };
+      steps = steps_by_marks (context_of w) w.processors ls rs plain h.kinds calls plainly;
+    }
+
+-- the receipts are of entries of the table, and so are the marks
+entries_in : (size : ℕ) (rs : List Receipt) → AllByRecursion (λ (r : Receipt). r.entry < size) rs → AllByRecursion (λ (m : Mark). m.entry < size) (map mark_of rs)
+entries_in size [] h = tt
+entries_in size (r ∷ rs) h = (h.0, entries_in size rs h.1)
+
+mark_entries : (size : ℕ) (ls : List TraceLine) (rs : List Reply) → AreReplies ls rs → AllByRecursion (λ (r : Receipt). r.entry < size) (receipts_by (lines_with_replies ls rs)) → MarkEntries size rs
+mark_entries size [] [] kinds h = tt
+mark_entries size [] (r ∷ rs) kinds h = absurd kinds
+mark_entries size (l ∷ ls) [] kinds h = tt
+mark_entries size (l ∷ ls) (r ∷ rs) kinds h = (entries_in size (receipts_in r) (each_front (λ (r : Receipt). r.entry < size) (receipts_in r) (receipts_by (lines_with_replies ls rs)) h), mark_entries size ls rs kinds.1 (each_back (λ (r : Receipt). r.entry < size) (receipts_in r) (receipts_by (lines_with_replies ls rs)) h))
+
+-- no marks were read
+pub no_marks : (w : RunState) (ls : List TraceLine) (given : List ℕ) → ArePlain ls → AreOnProcessors (length w.processors) ls → length (states_of w) ≤ 2 ^ 18 → LowStates (states_of w) → NoMarks (context_of w) (length (states_of w)) ls given → (rs : List Reply) (rest : List ℕ) → IsFound w ls None given rs rest → ⊥
+no_marks w ls given plain on few low none rs rest h =
+    let g = good_facts w ls given rs rest plain on few low h in
+    let ts = lines_with_replies ls rs in
+    none rs rest g.shows (mark_entries (length (states_of w)) ls rs h.kinds (each_regrouped (λ (r : Receipt). r.entry < length (states_of w)) (regrouped_back (file_listed (length w.processors) ts g.cpus)) h.good.0.in_table))
+
+map_length : (rs : List Reply) → map (λ (ms : List Mark). length ms) (map marks_in rs) ≡ map (λ (r : Reply). length (marks_in r)) rs
+map_length [] = refl
+map_length (r ∷ rs) = ap (λ l. length (marks_in r) ∷ l) (map_length rs)
+
+-- no replies stand
+pub no_replies : (w : RunState) (ls : List TraceLine) (given : List ℕ) (steps : List PlacedStep) (counts : List ℕ) (listed closing : List State) → ArePlain ls → AreOnProcessors (length w.processors) ls → length (states_of w) ≤ 2 ^ 18 → LowStates (states_of w) → ReadMarks (context_of w) (length (states_of w)) ls given steps counts → FindStates (states_of w) steps listed closing → ((rs : List Reply) (rest : List ℕ) (later : List Processor) → AreReplied (judged (context_of w) closing ls counts listed) w.processors (λ cpu e. front_at (opening_fronts (states_of w)) e) given rs rest later → ⊥) → (rs : List Reply) (rest : List ℕ) → IsFound w ls None given rs rest → ⊥
+no_replies w ls given steps counts listed closing plain on few low read find none rs rest h =
+    let g = good_facts w ls given rs rest plain on few low h in
+    let ts = lines_with_replies ls rs in
+    let context = context_of w in
+    let marks : map marks_in rs ≡ read.marks = read.only rs rest g.shows in
+    let placed : steps ≡ map placed_step (receipts_by ts) = read.steps ∙ ap (section_steps context ls) (sym marks) ∙ g.steps in
+    let counted : counts ≡ map (λ (r : Reply). length (marks_in r)) rs = read.counts ∙ ap (map (λ (ms : List Mark). length ms)) (sym marks) ∙ map_length rs in
+    let found = section_finds w ts None listed closing g.cpus h.good.0 (subst (λ z. FindStates (states_of w) z listed closing) placed find) in
+    let stand : AllStand context (states_of (section_end w ts)) w.processors ls (map (λ (r : Reply). length (marks_in r)) rs) (before_each (receipts_by ts)) rs = good_stand context (states_of (section_end w ts)) w.processors ls rs h.kinds g.short g.calls g.accesses in
+    none rs rest (processors_behind w.processors ts) (record {
+      stand = subst (λ (z : List State). AllStand context z w.processors ls counts listed rs) found.1 (subst (λ z. AllStand context (states_of (section_end w ts)) w.processors ls z listed rs) (sym counted) (subst (λ z. AllStand context (states_of (section_end w ts)) w.processors ls (map (λ (r : Reply). length (marks_in r)) rs) z rs) found.0 stand));
+      in_order = λ cpu e. subst (λ p. InOrder e p (events_by (processor_at w.processors cpu) (lines_of_processor cpu ts))) (sym (front_is (states_of w) e)) (h.good.1 cpu e);
+      text = h.text;
+      behind = refl;
+    })

@@ -1,0 +1,83 @@
+ghost use Rattle.std.specs.Prelude.{◌≡◌, ◌++◌, ◌∷◌, ℕ, List, true, IfOk, IfSome, IfNone};
+ghost use Rattle.trace_read.specs.Trace.{is_quiet};
+ghost use Rattle.reply_text.specs.Text.{reply_text};
+ghost use Rattle.history_check.specs.FoundSection.{ArePlain};
+ghost use Rattle.history_check.specs.Verdict.{IsVerdict};
+
+use crate::judged_run::JudgedRun;
+use crate::verdict::Verdict;
+use reply_text::put_reply;
+use std::alloc::{AllocError, Global};
+use trace_read::{Trace, TraceLine};
+use trace_reply::Reply;
+
+/// The lines before the first quiet one, this one, and those behind it. `None` where none is quiet.
+fn first_section(lines: &[TraceLine]) -> Option<(&[TraceLine], &TraceLine, &[TraceLine])>
+    ensures parts { IfSome
+        result
+        (λ parts. lines.now ≡ parts.0.now ++ parts.1.now ∷ parts.2.now) }
+    ensures plain { IfSome result (λ parts. ArePlain parts.0.now) }
+    ensures quiet { IfSome result (λ parts. is_quiet parts.1.now.act ≡ true) }
+    ensures none { IfNone result (ArePlain lines.now) }
+{
+    for (i, line) in lines.iter().enumerate() {
+        if line.act.is_quiet() {
+            return Some((&lines[..i], line, &lines[i + 1..]));
+        }
+    }
+    None
+}
+
+/// What follows the text of a reply, if that stands first in the given text.
+fn behind_reply<'a>(
+    alloc: Global,
+    line: &TraceLine,
+    reply: &Reply,
+    text: &'a [u8],
+) -> Result<Option<&'a [u8]>, AllocError>
+    ensures some { IfOk
+        result
+        (λ behind.
+        IfSome behind (λ rest. text.now ≡ reply_text line.now reply.now ++ rest.now)) }
+    ensures none { IfOk
+        result
+        (λ behind.
+        IfNone
+        behind
+        ((rest : List ℕ) → text.now ≡ reply_text line.now reply.now ++ rest → ⊥)) }
+{
+    let mut told = String::new(alloc);
+    put_reply(&mut told, line, reply)?;
+    Ok(text.strip_prefix(told.as_bytes()))
+}
+
+/// The verdict on a text of replies to a trace: `Good` where it is the text of a good run of the
+/// trace, else `Bad` with the first section that no good run explains. Sections are counted from 1,
+/// and a quiet line ends each but the last; where all are explained and something follows them, it is
+/// one more than there are.
+pub fn check_replies(alloc: Global, trace: &Trace, text: &[u8]) -> Result<Verdict, AllocError>
+    ensures { IfOk result (λ verdict. IsVerdict trace.now text.now verdict) }
+{
+    trace.keeps_limits();
+    let mut run = JudgedRun::open(alloc, &trace.config)?;
+    let mut lines = trace.lines.as_slice();
+    let mut rest = text;
+    let mut standing = 0;
+    while let Some((plain, quiet, others)) = first_section(lines) {
+        let Some(count) = run.section(alloc, plain, rest)? else {
+            return Ok(Verdict::Bad(standing + 1));
+        };
+        let reply = run.quiet(alloc, &quiet.act)?;
+        let Some(behind) = behind_reply(alloc, quiet, &reply, &rest[count..])? else {
+            return Ok(Verdict::Bad(standing + 1));
+        };
+        rest = behind;
+        lines = others;
+        standing += 1;
+    }
+    match run.section(alloc, lines, rest)? {
+        Some(count) if count == rest.len() => Ok(Verdict::Good),
+        Some(_) => Ok(Verdict::Bad(standing + 2)),
+        None => Ok(Verdict::Bad(standing + 1)),
+    }
+}

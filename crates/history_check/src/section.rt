@@ -1,0 +1,170 @@
+ghost use Rattle.std.specs.Prelude.{◌≡◌, ◌≤◌, ◌<◌, ◌^◌, length, IfOk, IfSome, IfNone};
+ghost use Rattle.std.specs.List.{AllByRecursion};
+ghost use Rattle.entry_model.specs.State.{State};
+ghost use Rattle.entry_model.specs.Fronts.{opening_fronts};
+ghost use Rattle.history_check.specs.FoundSection.{ArePlain, AreOnProcessors, HasSection, HasNoSection};
+ghost use Rattle.history_check.specs.SectionMarks.{ReadMarks};
+
+use crate::context::Context;
+use crate::fronts::pair_of;
+use crate::judging_lines::judge_lines;
+use crate::placed::{PlacedStep, find_states};
+use crate::processor::Processor;
+use crate::reading::read_section;
+use entry_model::EntryState;
+use std::alloc::{AllocError, Global};
+use trace_read::TraceLine;
+
+/// The pairs of stamp and number of bits of states.
+fn pairs_of(alloc: Global, states: &[EntryState]) -> Result<Vec<u64>, AllocError>
+    ensures pairs { IfOk result (λ pairs. pairs.items ≡ opening_fronts states.now) }
+    ensures low { IfOk
+        result
+        (λ pairs. AllByRecursion (λ (s : State). s.stamp < 2 ^ 32) states.now) }
+{
+    let mut pairs = Vec::with_capacity(alloc, states.len())?;
+    for state in states {
+        pairs.push(pair_of(state))?;
+    }
+    Ok(pairs)
+}
+
+/// Finds a section whose marks were read: their steps, and how many each line has. `opening` has the
+/// pairs of the states on which it opens. Gives how many bytes stand first that are the text of good
+/// replies to the lines, and leaves the states on which the section closes, and its processors.
+fn section_by_steps(
+    alloc: Global,
+    context: &Context,
+    opening: &[u64],
+    states: &mut Vec<EntryState>,
+    processors: &mut Vec<Processor>,
+    lines: &[TraceLine],
+    steps: &[PlacedStep],
+    counts: &[usize],
+    text: &[u8],
+) -> Result<Option<usize>, AllocError>
+    requires plain { ArePlain lines.now }
+    requires cpus { AreOnProcessors (length processors.old.items) lines.now }
+    requires few { length states.old.items ≤ 2 ^ 18 }
+    requires low { AllByRecursion (λ (s : State). s.stamp < 2 ^ 32) states.old.items }
+    requires opening { opening.now ≡ opening_fronts states.old.items }
+    requires read { ReadMarks
+        context.now
+        (length states.old.items)
+        lines.now
+        text.now
+        steps.now
+        counts.now }
+    ensures some { IfOk
+        result
+        (λ o.
+        IfSome
+        o
+        (λ n.
+        HasSection
+        (record {
+          context = context.now;
+          states = states.old.items;
+          processors = processors.old.items;
+        })
+        lines.now
+        text.now
+        n
+        states.new.items
+        processors.new.items)) }
+    ensures within { IfOk result (λ o. IfSome o (λ n. n ≤ length text.now)) }
+    ensures none { IfOk
+        result
+        (λ o.
+        IfNone
+        o
+        (HasNoSection
+        (record {
+          context = context.now;
+          states = states.old.items;
+          processors = processors.old.items;
+        })
+        lines.now
+        text.now)) }
+    ensures states { length states.new.items ≡ length states.old.items }
+    ensures processors { length processors.new.items ≡ length processors.old.items }
+{
+    let found = find_states(alloc, states, steps)?;
+    let judged = judge_lines(
+        alloc,
+        context,
+        opening,
+        states.as_slice(),
+        processors,
+        lines,
+        counts,
+        found.as_slice(),
+        text,
+    )?;
+    Ok(judged)
+}
+
+/// Finds a section that opens on these states, with these processors: how many bytes stand first that
+/// are the text of good replies to its lines. Leaves the states on which it closes, and its
+/// processors. `None` where the text begins with no such replies; then nothing is told of the states.
+pub fn section_found(
+    alloc: Global,
+    context: &Context,
+    states: &mut Vec<EntryState>,
+    processors: &mut Vec<Processor>,
+    lines: &[TraceLine],
+    text: &[u8],
+) -> Result<Option<usize>, AllocError>
+    requires plain { ArePlain lines.now }
+    requires cpus { AreOnProcessors (length processors.old.items) lines.now }
+    requires few { length states.old.items ≤ 2 ^ 18 }
+    ensures some { IfOk
+        result
+        (λ found.
+        IfSome
+        found
+        (λ count.
+        HasSection
+        (record {
+          context = context.now;
+          states = states.old.items;
+          processors = processors.old.items;
+        })
+        lines.now
+        text.now
+        count
+        states.new.items
+        processors.new.items)) }
+    ensures within { IfOk result (λ found. IfSome found (λ count. count ≤ length text.now)) }
+    ensures none { IfOk
+        result
+        (λ found.
+        IfNone
+        found
+        (HasNoSection
+        (record {
+          context = context.now;
+          states = states.old.items;
+          processors = processors.old.items;
+        })
+        lines.now
+        text.now)) }
+    ensures states { length states.new.items ≡ length states.old.items }
+    ensures processors { length processors.new.items ≡ length processors.old.items }
+{
+    let opening = pairs_of(alloc, states)?;
+    let Some(read) = read_section(alloc, context, states.len(), lines, text)? else {
+        return Ok(None);
+    };
+    section_by_steps(
+        alloc,
+        context,
+        opening.as_slice(),
+        states,
+        processors,
+        lines,
+        read.steps.as_slice(),
+        read.counts.as_slice(),
+        text,
+    )
+}

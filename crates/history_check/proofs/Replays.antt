@@ -138,9 +138,3 @@ no_match_undecided other h = cc
 pub walk_stops : (cs : List Call) → StopsAtDecided is_no_match cs
 walk_stops [] = tt
 walk_stops (c ∷ cs) = ((λ s e. no_match_undecided (reply_of s c.op).0 e), walk_stops cs)
-
--- A walk that was made on the states before of a walk of the same page has its receipts.
-pub walk_replayed : (set : AccessContext) (seg : Segment) (reach : Request) (a b : ReplayState) (rs : List Receipt) (q : AccessReply) → a.decided ≡ false → a.states ≡ before_each q.receipts → IsReplayed a b rs → IsTrial is_no_match (walk_calls set.order seg.page (mode_for seg reach)) rs → IsWalk set seg reach q → rs ≡ q.receipts
-walk_replayed set seg reach a b rs q fresh given g x y =
-    let cs = walk_calls set.order seg.page (mode_for seg reach) in
-    replayed_trial is_no_match cs a b rs q.receipts (walk_stops cs) fresh given g x y.trial

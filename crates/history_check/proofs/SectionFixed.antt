@@ -1,13 +1,10 @@
 -- The marks of a section fix its states; and states that are so fixed make it legal.
-use Rattle.std.proofs.Common.{◌≡◌, ℕ, ◌<◌, ◌+◌, ◌*◌, List, [], ◌∷◌, Bool, true, false, ap, sym, ◌∙◌, refl, subst, ◌⊎◌, inl, inr, map, length, Option}
+use Rattle.std.proofs.Common.{◌≡◌, ℕ, ◌<◌, ◌+◌, ◌*◌, List, Bool, true, false, sym, ◌∙◌, refl, subst, map, length, Option, ap}
 use Rattle.std.specs.Prelude.{if◌then◌else◌, ◌==◌, ◌||◌, nat_le}
 use Rattle.std.specs.List.{AllByRecursion}
-use Rattle.std.proofs.lemmas.Bool.{cases_Bool}
-use Rattle.entry_model.specs.declared.operation.Answer.{Answer}
 use Rattle.entry_model.specs.declared.receipt.Receipt.{Receipt}
 use Rattle.entry_model.specs.Run.{state_at, IsRun}
 use Rattle.entry_model.proofs.Runs.{run-length}
-use Rattle.entry_model.specs.Trial.{Call, IsTrial}
 use Rattle.entry_model.specs.History.{IsLegal, history, place, pair_of, Regrouped}
 use Rattle.trace_reply.specs.Replies.{RepliedLine}
 use Rattle.run_model.specs.RunState.{RunState, states_of}
@@ -18,7 +15,7 @@ use Rattle.run_model.proofs.LowStamps.{closed_size}
 use Rattle.run_model.proofs.SectionGood.{closing_is, each_regrouped}
 use Rattle.receipt_text.specs.Receipts.{mark_of}
 use Rattle.history_check.specs.Replay.{before_each}
-use Rattle.history_check.specs.Steps.{ops_of, step_op, is_unchanged, place_by, step_of, steps_by, found_states, ending_states}
+use Rattle.history_check.specs.Steps.{step_op, is_unchanged, place_by, step_of, found_states, ending_states}
 use Rattle.history_check.proofs.Alike.{flag_of}
 use Rattle.history_check.proofs.Serialized.{Ascending, sorted_run, run_legal, run_fixes, fixed_run}
 
@@ -63,19 +60,3 @@ place_is r =
     let one = digit_first s.referenced s.changed in
     let two = digit_second s.referenced s.changed in
     λ i. (s.stamp * 4 + ((if sym one i then 1 else 0) + (if sym two i then 1 else 0))) * 2 + (if (flag_of r ∙ (λ j. is_unchanged (step_op r.op) r.answer (sym one j) (sym two j))) i then 0 else 1)
-
--- ---- steps by marks
-pub trial_steps : (goes : Answer → Bool) (cs : List Call) (rs : List Receipt) → IsTrial goes cs rs → map step_of rs ≡ steps_by (map mark_of rs) (ops_of cs)
-trial_steps goes [] [] h = refl
-trial_steps goes [] (r ∷ rs) h = absurd h
-trial_steps goes (c ∷ cs) [] h = refl
-trial_steps goes (c ∷ cs) (r ∷ rs) h =
-    let here : step_of r ≡ record { entry = r.entry; op = step_op c.op; answer = r.answer } = ap (λ o. record { entry = r.entry; op = step_op o; answer = r.answer }) h.0.op in
-    let rest : map step_of rs ≡ steps_by (map mark_of rs) (ops_of cs) = at (cases_Bool (goes r.answer)) (trial_steps goes cs rs) in
-    λ i. here i ∷ rest i where
-      none : rs ≡ [] → map step_of rs ≡ steps_by (map mark_of rs) (ops_of cs)
-      none e = subst (λ z. map step_of z ≡ steps_by (map mark_of z) (ops_of cs)) (sym e) refl
-
-      at : (goes r.answer ≡ true) ⊎ (goes r.answer ≡ false) → (IsTrial goes cs rs → map step_of rs ≡ steps_by (map mark_of rs) (ops_of cs)) → map step_of rs ≡ steps_by (map mark_of rs) (ops_of cs)
-      at (inl q) go = go (rw q at h.1)
-      at (inr q) go = none (rw q at h.1)

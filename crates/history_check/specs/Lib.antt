@@ -2,7 +2,6 @@ pub mod ReplyMarks
 pub mod Verdict
 pub mod Laws
 pub mod Replay
-pub mod Ordered
 pub mod Steps
 pub mod Hits
 pub mod ReplayLaws

@@ -82,15 +82,7 @@ place_by m op =
     then 0
     else 1)
 
--- ---- what a line's marks say of its receipts
+-- ---- calls
 -- The operations of calls, in turn.
 abbrev pub ops_of : List Call → List Op
 ops_of cs = map (λ (c : Call). c.op) cs
-
--- The steps that marks and the operations of the calls, in turn, make. Marks past the last call read their entry.
-abbrev pub steps_by : List Mark → List Op → List Step
-steps_by [] os = []
-steps_by (m ∷ ms) [] =
-    record { entry = m.entry; op = Read; answer = m.answer } ∷ steps_by ms []
-steps_by (m ∷ ms) (o ∷ os) =
-    record { entry = m.entry; op = step_op o; answer = m.answer } ∷ steps_by ms os

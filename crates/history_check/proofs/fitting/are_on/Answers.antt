@@ -1,4 +1,4 @@
-use Rattle.std.proofs.Common.{◌≡◌, ◌∙◌, sym, arith}
+use Rattle.std.proofs.Common.{◌∙◌, sym, arith}
 use Rattle.history_check.proofs.Comparing.{one_left, other_left}
 use Rattle.history_check.proofs.fitting.are_on.Goals as goal
 

@@ -1,4 +1,4 @@
-use Rattle.std.proofs.Common.{◌≡◌, sym, ◌∙◌}
+use Rattle.std.proofs.Common.{sym, ◌∙◌}
 use Rattle.history_check.proofs.Comparing.{begins, begins_not}
 use Rattle.history_check.proofs.fitting.begins_with.Goals as goal
 

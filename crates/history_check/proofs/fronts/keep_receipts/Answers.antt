@@ -1,4 +1,4 @@
-use Rattle.std.proofs.Common.{◌≡◌, ap, subst}
+use Rattle.std.proofs.Common.{subst}
 use Rattle.history_check.specs.FrontKeeping.{front_of, LeadsTo}
 use Rattle.history_check.proofs.FrontSteps.{all_made, none_kept}
 use Rattle.history_check.proofs.ListedStates.{to_end}

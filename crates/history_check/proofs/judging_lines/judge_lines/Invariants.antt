@@ -1,5 +1,4 @@
 use Rattle.std.proofs.Common.{◌≡◌, ◌≤◌, ◌-◌, length, drop}
-use Rattle.hpt_walk.specs.Access.{access_context}
 use Rattle.history_check.proofs.SectionLoop.{Left}
 use Rattle.history_check.proofs.judging_lines.judge_lines.Given as goal
 

@@ -1,8 +1,7 @@
 use Rattle.std.specs.Prelude.{nat_eq}
 use Rattle.std.specs.HashMap.{get}
-use Rattle.std.proofs.Common.{◌≡◌, ℕ, None, arith, ap, ◌∙◌, rules}
+use Rattle.std.proofs.Common.{◌≡◌, ℕ, None, arith, ap, ◌∙◌}
 use Rattle.std.proofs.lemmas.Grind.{common_steps}
-use Rattle.entry_model.specs.Fronts.{front_at}
 use Rattle.history_check.specs.FrontKeeping.{fronts_of}
 use Rattle.history_check.proofs.ProcessorFronts.{more_fronts}
 use Rattle.history_check.proofs.judging_lines.opening_fronts.Goals as goal

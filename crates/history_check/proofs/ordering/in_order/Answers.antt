@@ -1,8 +1,8 @@
-use Rattle.std.proofs.Common.{◌≡◌, ap, ◌∙◌, rules, subst}
+use Rattle.std.proofs.Common.{rules, subst}
 use Rattle.std.specs.Prelude.{IsPermutation}
 use Rattle.std.proofs.lemmas.List.Sorted.{IsNonDecreasingBy-from_sort_by_key}
 use Rattle.history_check.specs.declared.ordering.Numbered.{Numbered}
-use Rattle.history_check.proofs.ListedStates.{numbered_more, numbered_done}
+use Rattle.history_check.proofs.ListedStates.{numbered_done}
 use Rattle.history_check.proofs.ordering.in_order.Goals as goal
 
 pub returns : goal.returns

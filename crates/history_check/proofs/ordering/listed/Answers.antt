@@ -1,4 +1,4 @@
-use Rattle.std.proofs.Common.{◌≡◌, rules, map, take, ◌∙◌, ap, length}
+use Rattle.std.proofs.Common.{rules}
 use Rattle.std.proofs.lemmas.List.Sorted.{IsNonDecreasingBy-from_sort_by_key}
 use Rattle.history_check.specs.declared.ordering.Found.{Found}
 use Rattle.history_check.proofs.ListedStates.{states_done}

@@ -1,6 +1,4 @@
-use Rattle.std.proofs.Common.{◌≡◌, ◌∙◌, ap, subst, length}
-use Rattle.std.specs.List.{AllByRecursion}
-use Rattle.history_check.specs.declared.ordering.Numbered.{Numbered}
+use Rattle.std.proofs.Common.{◌∙◌, ap, subst, length}
 use Rattle.history_check.specs.OrderedSteps.{AreListed, found_in_order, ending_in_order}
 use Rattle.history_check.proofs.ListedStates.{order_within, states_are_found}
 use Rattle.history_check.proofs.placed.find_states.Goals as goal

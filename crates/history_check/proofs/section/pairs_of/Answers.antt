@@ -1,4 +1,4 @@
-use Rattle.std.proofs.Common.{◌≡◌, ◌∙◌, ◌++◌, [], ◌∷◌, ap, subst}
+use Rattle.std.proofs.Common.{◌∙◌, ◌++◌, [], ◌∷◌, ap, subst}
 use Rattle.entry_model.specs.Fronts.{opening_fronts}
 use Rattle.history_check.proofs.Short.{LowStates}
 use Rattle.history_check.proofs.ListedStates.{to_end}

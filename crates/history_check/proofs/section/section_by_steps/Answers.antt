@@ -1,4 +1,3 @@
-use Rattle.std.proofs.Common.{◌≡◌}
 use Rattle.history_check.specs.FoundSection.{Opening}
 use Rattle.history_check.proofs.SectionTold.{IsOpening, HasSteps, some_told, none_told}
 use Rattle.history_check.proofs.section.section_by_steps.Goals as goal

@@ -3,7 +3,7 @@ use Rattle.trace_read.specs.Trace.{AcceptedTrace}
 use Rattle.run_model.specs.SerialRun.{serial_replies}
 use Rattle.history_check.specs.declared.verdict.Verdict.TheVariants.{Good}
 use Rattle.history_check.specs.Verdict.{IsVerdict}
-use Rattle.history_check.proofs.Fronts.{good_verdict}
+use Rattle.history_check.proofs.EarlierSections.{good_verdict}
 use Rattle.papr_top.specs.Top.{IsSerialText, IsParallelText}
 use Rattle.papr_top.proofs.laws.written_texts_are_good.Goals as goal
 

@@ -1,5 +1,5 @@
 -- Section by section: what explains a text begins with what explains its first section, which is one only.
-use Rattle.std.proofs.Common.{◌≡◌, ℕ, suc, ◌<◌, ◌+◌, arith, List, [], ◌∷◌, ◌++◌, true, false, ap, sym, ◌∙◌, refl, subst, length, Option, Some, None, append_assoc}
+use Rattle.std.proofs.Common.{◌≡◌, ℕ, suc, ◌+◌, arith, List, [], ◌∷◌, ◌++◌, true, ap, sym, ◌∙◌, refl, subst, length, Option, Some, None, append_assoc}
 use Rattle.std.specs.List.{AllByRecursion}
 use Rattle.trace_read.specs.declared.trace.TraceLine.{TraceLine}
 use Rattle.trace_read.specs.Trace.{AcceptedTrace, is_quiet}

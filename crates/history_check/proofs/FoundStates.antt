@@ -1,8 +1,8 @@
 -- The states that the steps of a section's receipts find are those before its receipts.
-use Rattle.std.specs.Prelude.{IsPermutation, slice_set}
-use Rattle.std.specs.List.{All, AllByRecursion, swap}
+use Rattle.std.specs.Prelude.{IsPermutation}
+use Rattle.std.specs.List.{AllByRecursion, swap}
 use Rattle.std.specs.List.Sorted.{apply_swaps, SwapsInRange, IsNonDecreasing, IsNonDecreasingBy}
-use Rattle.std.proofs.Common.{◌≡◌, ℕ, zero, suc, ◌+◌, ◌<◌, ◌≤◌, List, [], ◌∷◌, refl, ap, sym, ◌∙◌, subst, arith, length, map, get_or, set, Option}
+use Rattle.std.proofs.Common.{◌≡◌, ℕ, ◌<◌, List, [], ◌∷◌, refl, ap, sym, ◌∙◌, subst, arith, length, map, get_or, set, Option}
 use Rattle.std.proofs.lemmas.List.{map-set, length-map}
 use Rattle.std.proofs.lemmas.Simd.{map-map}
 use Rattle.std.proofs.Math.ListN.{get_or-map}
@@ -19,7 +19,6 @@ use Rattle.run_model.specs.Sections.{receipts_made, section_end}
 use Rattle.run_model.specs.GoodRun.{AreLegal}
 use Rattle.run_model.proofs.LinesByProcessor.{Cpus, file_listed}
 use Rattle.run_model.proofs.SectionGood.{each_regrouped}
-use Rattle.history_check.specs.declared.placed.PlacedStep.{PlacedStep}
 use Rattle.history_check.specs.Replay.{before_each}
 use Rattle.history_check.specs.Steps.{step_of, found_states, ending_states}
 use Rattle.history_check.specs.PlacedSteps.{placed_step, FoundStep, with_states_found, FindStates, AreInTable}

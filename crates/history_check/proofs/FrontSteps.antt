@@ -1,6 +1,6 @@
 -- One event after the other, from fronts to fronts.
 use Rattle.std.specs.Prelude.{◌==◌, if◌then◌else◌, max}
-use Rattle.std.proofs.Common.{◌≡◌, ℕ, ◌<◌, ◌≤◌, ◌+◌, List, [], ◌∷◌, ◌++◌, true, false, ap, sym, ◌∙◌, refl, subst, ◌⊎◌, inl, inr, map, take, drop, get_or, length, append_assoc, arith, eqb, Option, Some, None}
+use Rattle.std.proofs.Common.{◌≡◌, ℕ, ◌<◌, ◌≤◌, ◌+◌, List, [], ◌∷◌, ◌++◌, true, false, ap, sym, ◌∙◌, refl, subst, ◌⊎◌, inl, inr, map, take, drop, get_or, length, append_assoc, arith, eqb}
 use Rattle.std.proofs.lemmas.Bool.{cases_Bool, eqb-true, eq-eqb}
 use Rattle.std.proofs.lemmas.List.{drop_more, take_more, take-append-drop}
 use Rattle.entry_model.specs.declared.line.Line.{Line}
@@ -8,7 +8,7 @@ use Rattle.entry_model.specs.declared.receipt.Receipt.{Receipt}
 use Rattle.entry_model.specs.Receipt.{after_of}
 use Rattle.entry_model.specs.History.{pair_of}
 use Rattle.entry_model.specs.Fronts.{pair_beyond}
-use Rattle.run_model.specs.Histories.{Event, made, gone, gone_events, InOrder}
+use Rattle.run_model.specs.Histories.{Event, made, gone, InOrder}
 use Rattle.history_check.specs.FrontKeeping.{LeadsTo, LeadsNowhere}
 
 abbrev Fronts : Type 0

@@ -1,6 +1,6 @@
 -- The reply to an access by a cached line, on the state that its one operation found.
-use Rattle.std.specs.Prelude.{not, find, MatchBool, if◌then◌else◌}
-use Rattle.std.proofs.Common.{◌≡◌, ℕ, List, [], ◌∷◌, Bool, true, false, ap, sym, ◌∙◌, refl, subst, Option, Some, length, get_or, arith}
+use Rattle.std.specs.Prelude.{not, MatchBool}
+use Rattle.std.proofs.Common.{◌≡◌, List, [], ◌∷◌, Bool, true, false, ap, sym, ◌∙◌, refl, subst, Some, length, get_or, arith}
 use Rattle.entry_model.specs.State.{State}
 use Rattle.entry_model.specs.declared.line.Line.{Line}
 use Rattle.entry_model.specs.declared.operation.Op.{Op}
@@ -10,7 +10,7 @@ use Rattle.entry_model.specs.declared.receipt.Receipt.{Receipt}
 use Rattle.entry_model.specs.declared.access_reply.AccessReply.{AccessReply}
 use Rattle.entry_model.specs.declared.access_reply.Outcome.{Outcome}
 use Rattle.entry_model.specs.declared.access_reply.By.TheVariants.{Hit}
-use Rattle.entry_model.specs.Receipt.{IsReceiptOf, is_decided, is_no_match, found_of}
+use Rattle.entry_model.specs.Receipt.{is_decided, is_no_match, found_of}
 use Rattle.entry_model.proofs.Exact.{exact, same}
 use Rattle.hpte_fields.specs.Fields.{is_secondary}
 use Rattle.slb_model.specs.declared.segment.Segment.{Segment}

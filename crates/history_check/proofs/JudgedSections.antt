@@ -1,7 +1,6 @@
 -- The judge's loop: where it stands between two sections, and what each of its ends says of the whole text.
 use Rattle.std.proofs.Common.{◌≡◌, ℕ, zero, suc, ◌+◌, ◌<◌, ◌≤◌, List, [], ◌∷◌, ◌++◌, true, false, ap, sym, ◌∙◌, refl, subst, length, arith, append-nil, zero-add, Option, Some, None, ◌⊎◌, inl, inr}
 use Rattle.std.specs.Prelude.{count_by, if◌then◌else◌, nat_le}
-use Rattle.std.specs.List.{AllByRecursion}
 use Rattle.std.proofs.lemmas.List.Sums.{sum_by-cons}
 use Rattle.std.proofs.lemmas.Bool.{cases_Bool, le-leb, leb-true, lt-leb}
 use Rattle.trace_read.specs.declared.trace.TraceLine.{TraceLine}

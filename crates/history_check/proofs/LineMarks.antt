@@ -1,7 +1,7 @@
 -- The text of a reply is one line, which has the marks of its receipts.
-use Rattle.std.proofs.Common.{◌≡◌, ℕ, ℤ, ◌<◌, ◌≤◌, List, [], ◌∷◌, ◌++◌, Bool, true, false, ap, sym, ◌∙◌, refl, subst, map, length, arith, append_assoc, append-nil, inl, inr}
-use Rattle.std.specs.Prelude.{if◌then◌else◌, codes}
-use Rattle.std.specs.List.{AllByRecursion, flat_map}
+use Rattle.std.proofs.Common.{◌≡◌, ℕ, List, [], ◌∷◌, ◌++◌, Bool, true, false, ap, sym, ◌∙◌, refl, arith, append_assoc, append-nil, inl, inr}
+use Rattle.std.specs.Prelude.{codes}
+use Rattle.std.specs.List.{flat_map}
 use Rattle.std.specs.Fmt.{decimal}
 use Rattle.std.proofs.lemmas.Bool.{cond_both}
 use Rattle.papr_codes.specs.Hcalls.{hcall_of, hcall_name}
@@ -10,7 +10,6 @@ use Rattle.papr_codes.specs.declared.calls.Hcall.{Hcall}
 use Rattle.papr_codes.specs.declared.calls.Hcall.TheVariants.{Remove, Enter, Read, ClearMod, ClearRef, Protect, BulkRemove, Prepare, Commit, Other}
 use Rattle.storage_prot.specs.declared.want.Want.{Want}
 use Rattle.storage_prot.specs.declared.want.Want.TheVariants as wants
-use Rattle.entry_model.specs.declared.receipt.Receipt.{Receipt}
 use Rattle.trace_read.specs.declared.trace.TraceLine.{TraceLine}
 use Rattle.trace_read.specs.declared.trace.Act.{Act}
 use Rattle.trace_read.specs.declared.trace.Act.TheVariants as acts
@@ -19,12 +18,10 @@ use Rattle.trace_reply.specs.declared.shown.Shown.{Shown}
 use Rattle.trace_reply.specs.declared.reply.Reply.{Reply}
 use Rattle.trace_reply.specs.declared.reply.Reply.TheVariants as replies
 use Rattle.trace_reply.specs.Replies.{IsOfKind, receipts_in}
-use Rattle.reply_text.specs.Text.{head_text, name_of, want_word, code_text, word_text, hcall_text, outcome_text, way_text, access_text, verdict_text, reply_text}
-use Rattle.receipt_text.specs.Receipts.{mark_of, receipts_text}
+use Rattle.reply_text.specs.Text.{head_text, name_of, want_word, code_text, word_text, outcome_text, way_text, reply_text}
+use Rattle.receipt_text.specs.Receipts.{receipts_text}
 use Rattle.receipt_text.specs.Cuts.{lacks}
-use Rattle.receipt_text.specs.Marks.{IsMark, HasMarks}
-use Rattle.receipt_text.proofs.Bytes.{lacks_append, IsNoDigit, lacks_decimal}
-use Rattle.receipt_text.proofs.ReadBack.{line_has_marks, receipts_lack}
+use Rattle.receipt_text.proofs.Bytes.{lacks_decimal}
 use Rattle.history_check.proofs.TextMarks.{IsFront, both_front, code_front, words_front, outcome_front, way_front}
 
 -- ---- heads

@@ -1,10 +1,8 @@
 -- The steps of a line, by the marks of its reply.
-use Rattle.std.specs.Prelude.{MatchBool}
 use Rattle.std.specs.List.{AllByRecursion, range_with_len}
-use Rattle.std.proofs.Common.{◌≡◌, ℕ, zero, suc, ◌+◌, ◌*◌, ◌≤◌, ◌<◌, List, [], ◌∷◌, ◌++◌, Bool, true, false, ap, sym, ◌∙◌, refl, subst, ◌⊎◌, inl, inr, map, length, arith, Option, Some, None}
+use Rattle.std.proofs.Common.{◌≡◌, ℕ, ◌*◌, ◌≤◌, List, [], ◌∷◌, ◌++◌, Bool, true, false, ap, sym, ◌∙◌, refl, subst, ◌⊎◌, inl, inr, map, length, arith, Option, Some, None}
 use Rattle.std.proofs.lemmas.Bool.{cases_Bool}
-use Rattle.std.proofs.lemmas.List.{length-map, length-append}
-use Rattle.std.proofs.lemmas.List.FromFn.{length-range_with_len}
+use Rattle.std.proofs.lemmas.List.{length-map}
 use Rattle.papr_codes.specs.Hcalls.{hcall_of}
 use Rattle.entry_model.specs.declared.operation.Answer.{Answer}
 use Rattle.entry_model.specs.declared.operation.Op.{Op}

@@ -1,5 +1,5 @@
 -- Steps sorted by place and sorted back: each finds the state that is listed for it.
-use Rattle.std.specs.Prelude.{slice_index, IsPermutation, ◌≢◌}
+use Rattle.std.specs.Prelude.{slice_index, IsPermutation}
 use Rattle.std.specs.List.{All, AllByRecursion, IsDistinct, range_with_len}
 use Rattle.std.specs.List.Sorted.{IsNonDecreasing, IsNonDecreasingBy, IsStrictlyIncreasing}
 use Rattle.std.proofs.Common.{◌≡◌, ℕ, zero, suc, ◌+◌, ◌<◌, ◌≤◌, List, [], ◌∷◌, true, false, refl, ap, sym, ◌∙◌, subst, arith, length, map, get_or, eqb, drop, take, ◌++◌, append_assoc, ◌⊎◌, inl, inr}
@@ -14,7 +14,6 @@ use Rattle.entry_model.specs.Run.{state_at}
 use Rattle.entry_model.specs.declared.operation.Op.TheVariants.{Read}
 use Rattle.entry_model.specs.declared.operation.Answer.TheVariants.{Words}
 use Rattle.history_check.specs.declared.placed.PlacedStep.{PlacedStep}
-use Rattle.history_check.specs.declared.steps.Step.{Step}
 use Rattle.history_check.specs.declared.ordering.Numbered.{Numbered}
 use Rattle.history_check.specs.declared.ordering.Found.{Found}
 use Rattle.history_check.specs.Steps.{after_step, found_states, ending_states}

@@ -1,7 +1,7 @@
 -- The fronts of all processors, where those of one are kept.
-use Rattle.std.specs.Prelude.{◌==◌, nat_eq}
+use Rattle.std.specs.Prelude.{nat_eq}
 use Rattle.std.specs.HashMap.{get, HashMap}
-use Rattle.std.proofs.Common.{◌≡◌, ℕ, zero, suc, ◌<◌, List, [], ◌∷◌, ◌++◌, false, ap, sym, ◌∙◌, refl, subst, arith, length, get_or, set, Option, None, eqb}
+use Rattle.std.proofs.Common.{◌≡◌, ℕ, zero, suc, ◌<◌, List, [], ◌∷◌, ◌++◌, ap, sym, ◌∙◌, refl, subst, arith, length, get_or, set, None}
 use Rattle.std.proofs.lemmas.Bool.{eqb-false}
 use Rattle.entry_model.specs.Fronts.{front_at}
 use Rattle.run_model.specs.Histories.{Event, InOrder}

@@ -9,13 +9,13 @@ use Rattle.trace_read.specs.declared.trace.TraceLine.{TraceLine}
 use Rattle.trace_read.specs.declared.trace.Act.TheVariants as acts
 use Rattle.trace_read.specs.Trace.{is_quiet}
 use Rattle.trace_reply.specs.declared.reply.Reply.{Reply}
-use Rattle.trace_reply.specs.Replies.{RepliedLine, AreReplies, lines_with_replies, receipts_in}
+use Rattle.trace_reply.specs.Replies.{lines_with_replies, receipts_in}
 use Rattle.reply_text.specs.Text.{reply_text}
-use Rattle.run_model.proofs.Each.{each_append, each_back, each_front}
+use Rattle.run_model.proofs.Each.{each_append, each_back}
 use Rattle.receipt_text.specs.declared.mark.Mark.{Mark}
 use Rattle.receipt_text.specs.Receipts.{mark_of, receipts_text}
 use Rattle.receipt_text.specs.Cuts.{lacks}
-use Rattle.receipt_text.specs.Marks.{IsMark, HasMarks}
+use Rattle.receipt_text.specs.Marks.{HasMarks}
 use Rattle.receipt_text.proofs.Bytes.{lacks_append, lacks_back, lacks_head, cut_at}
 use Rattle.receipt_text.proofs.MarkTexts.{marks_once}
 use Rattle.receipt_text.proofs.ReadBack.{line_has_marks, receipts_lack}
@@ -23,7 +23,7 @@ use Rattle.history_check.specs.declared.placed.PlacedStep.{PlacedStep}
 use Rattle.history_check.specs.FoundSection.{lines_text, ArePlain}
 use Rattle.history_check.specs.PlacedSteps.{AreInTable, named_ops, placed_marks, placed_line}
 use Rattle.history_check.specs.ReplyMarks.{marks_in}
-use Rattle.history_check.specs.SectionMarks.{section_steps, HasItsMarks, ShowMarks, MarkEntries, ReadMarks, NoMarks}
+use Rattle.history_check.specs.SectionMarks.{section_steps, ShowMarks, MarkEntries, ReadMarks, NoMarks}
 use Rattle.history_check.proofs.LineMarks.{IsLine, line_of}
 
 -- ---- what was read

@@ -12,7 +12,6 @@ use Rattle.entry_model.specs.declared.operation.Op.TheVariants as ops
 use Rattle.entry_model.specs.declared.operation.Answer.{Answer}
 use Rattle.entry_model.specs.declared.operation.Answer.TheVariants as answers
 use Rattle.entry_model.specs.declared.hreply.HReply.{HReply}
-use Rattle.entry_model.specs.declared.access_reply.AccessReply.{AccessReply}
 use Rattle.entry_model.specs.declared.receipt.Receipt.{Receipt}
 use Rattle.entry_model.specs.Receipt.{is_access, is_decided, is_no_match}
 use Rattle.entry_model.specs.Reply.{reply_of, change_to, change_where, entered_state, is_found}
@@ -24,10 +23,7 @@ use Rattle.h_enter.specs.Enter.{candidates, enter_plan}
 use Rattle.h_enter.specs.Checks.{suits_grants, words_plan, h_enter_plan}
 use Rattle.h_update.specs.Single.{single_plan, h_remove_plan, h_protect_plan, h_clear_ref_plan, h_clear_mod_plan, read_entries, h_read_plan}
 use Rattle.h_update.proofs.Tame.{h_bulk_remove_each}
-use Rattle.slb_model.specs.declared.segment.Segment.{Segment}
-use Rattle.hpt_walk.specs.Walk.{walk_calls}
-use Rattle.hpt_walk.specs.Access.{AccessContext, mode_for, IsWalk}
-use Rattle.hpt_walk.specs.declared.request.Request.{Request}
+use Rattle.hpt_walk.specs.Access.{AccessContext}
 use Rattle.run_model.specs.LineReplies.{hcall_plan}
 use Rattle.history_check.specs.Replay.{before_each, next_state, ReplayState, after_receipt, IsReplayed}
 

@@ -1,5 +1,5 @@
 -- The marks of a section fix its states; and states that are so fixed make it legal.
-use Rattle.std.proofs.Common.{◌≡◌, ℕ, ◌<◌, ◌+◌, ◌*◌, List, Bool, true, false, sym, ◌∙◌, refl, subst, map, length, Option, ap}
+use Rattle.std.proofs.Common.{◌≡◌, ℕ, ◌<◌, ◌+◌, ◌*◌, List, Bool, true, false, sym, ◌∙◌, refl, subst, map, length, Option}
 use Rattle.std.specs.Prelude.{if◌then◌else◌, ◌==◌, ◌||◌, nat_le}
 use Rattle.std.specs.List.{AllByRecursion}
 use Rattle.entry_model.specs.declared.receipt.Receipt.{Receipt}

@@ -1,6 +1,5 @@
 -- The loop over the lines of a section.
-use Rattle.std.specs.Prelude.{nat_eq}
-use Rattle.std.specs.HashMap.{get, HashMap}
+use Rattle.std.specs.HashMap.{HashMap}
 use Rattle.std.specs.List.{AllByRecursion}
 use Rattle.std.proofs.Common.{◌≡◌, ℕ, zero, suc, ◌+◌, ◌-◌, ◌<◌, ◌≤◌, List, [], ◌∷◌, ◌++◌, false, ap, sym, ◌∙◌, refl, subst, append_assoc, arith, length, take, drop, get_or, set}
 use Rattle.std.proofs.lemmas.List.{drop_more, drop-drop, get_or_default, length-drop}
@@ -48,8 +47,8 @@ left_more : (context : AccessContext) (closing : List State) (ls ms : List Trace
 left_more context closing ls ms ns ks found states ps qs us F G H given text l k b h plain low few next leads left = record {
   on = λ rs rest later z. left.on (h.reply ∷ rs) rest later (more_on context closing l ms k ks states qs us G H text b h low few next leads rs rest later z);
   back = λ rs rest later z.
-    let here = left.back rs rest later z in
-    more_back context closing l ms k ks states qs us G H text b h plain low next leads here.0 rest later here.1;
+      let here = left.back rs rest later z in
+      more_back context closing l ms k ks states qs us G H text b h plain low next leads here.0 rest later here.1;
 }
 
 -- a line with no reply that stands

@@ -1,7 +1,5 @@
 -- Judging one line more of a section.
-use Rattle.std.specs.Prelude.{◌==◌}
-use Rattle.std.specs.List.{AllByRecursion}
-use Rattle.std.proofs.Common.{◌≡◌, ℕ, zero, suc, ◌+◌, ◌<◌, ◌≤◌, List, [], ◌∷◌, ◌++◌, true, false, ap, sym, ◌∙◌, refl, subst, ◌⊎◌, inl, inr, append_assoc, arith, length, take, drop, get_or, set, eqb}
+use Rattle.std.proofs.Common.{◌≡◌, ℕ, ◌<◌, ◌≤◌, List, [], ◌∷◌, ◌++◌, true, false, ap, sym, ◌∙◌, refl, subst, ◌⊎◌, inl, inr, append_assoc, length, take, drop, eqb}
 use Rattle.std.proofs.lemmas.Bool.{cases_Bool, eqb-true}
 use Rattle.entry_model.specs.State.{State}
 use Rattle.hpt_walk.specs.Access.{AccessContext}
@@ -12,11 +10,11 @@ use Rattle.trace_reply.specs.declared.reply.Reply.{Reply}
 use Rattle.trace_reply.specs.Replies.{RepliedLine, lines_with_replies}
 use Rattle.reply_text.specs.Text.{reply_text}
 use Rattle.run_model.specs.Processors.{processor_at, processor_after, processors_after}
-use Rattle.run_model.specs.Histories.{Event, InOrder, lines_of_processor, events_in, events_by}
+use Rattle.run_model.specs.Histories.{InOrder, lines_of_processor, events_in, events_by}
 use Rattle.run_model.proofs.LinesByProcessor.{own_yes, own_no, processor_own, processor_other}
 use Rattle.history_check.specs.FoundSection.{lines_text}
-use Rattle.history_check.specs.FrontKeeping.{LeadsTo, AllLeadTo}
-use Rattle.history_check.specs.LineReply.{StandsOn, HasReply}
+use Rattle.history_check.specs.FrontKeeping.{AllLeadTo}
+use Rattle.history_check.specs.LineReply.{HasReply}
 use Rattle.history_check.specs.JudgedLines.{processors_behind, AllStand, AllInOrder, Judged, AreReplied}
 use Rattle.history_check.proofs.OneReply.{one_reply}
 
@@ -89,10 +87,12 @@ more_back context closing l ls n ns states ps qs F G text b h plain low next lea
     let there : text ≡ reply_text l r ++ (lines_text ts ++ rest) = k.text ∙ append_assoc (reply_text l r) (lines_text ts) rest in
     let one = one_reply context p l h.reply r text (drop b text) (lines_text ts ++ rest) plain h.stands.reply k.stand.1.reply (h.stands.before ∙ sym k.stand.1.before) h.stands.marks k.stand.1.marks h.text there in
     let t : RepliedLine = record { line = l; reply = h.reply } in
-    let next' : processors_after ps (record { line = l; reply = r }) ≡ qs = ap (λ z. processors_after ps (record { line = l; reply = z })) (sym one.0) ∙ sym next in
-    (rs, record {
-      stand = subst (λ z. AllStand context closing z ls ns (drop n states) rs) next' k.stand.2;
-      in_order = subst (λ z. AllInOrder G z ts) (sym next) (order_back F G ps t ts low leads (subst (λ z. AllInOrder F ps (record { line = l; reply = z } ∷ ts)) (sym one.0) k.in_order));
-      text = one.1;
-      behind = k.behind ∙ ap (λ z. processors_behind z ts) next';
-    })
+    let next' : processors_after ps (record { line = l; reply = r }) ≡ qs = ap (λ z. processors_after ps (record { line = l; reply = z })) (sym one.0) ∙ sym next in (
+      rs,
+      record {
+        stand = subst (λ z. AllStand context closing z ls ns (drop n states) rs) next' k.stand.2;
+        in_order = subst (λ z. AllInOrder G z ts) (sym next) (order_back F G ps t ts low leads (subst (λ z. AllInOrder F ps (record { line = l; reply = z } ∷ ts)) (sym one.0) k.in_order));
+        text = one.1;
+        behind = k.behind ∙ ap (λ z. processors_behind z ts) next';
+      },
+    )

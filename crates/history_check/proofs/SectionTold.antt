@@ -1,12 +1,10 @@
 -- What a section's function owes, by what its parts tell.
 use Rattle.std.specs.Prelude.{IfSome, IfNone}
-use Rattle.std.specs.List.{AllByRecursion}
-use Rattle.std.proofs.Common.{◌≡◌, ℕ, ◌+◌, ◌<◌, ◌≤◌, ◌^◌, List, [], ◌∷◌, ◌++◌, ap, sym, ◌∙◌, refl, subst, map, take, drop, get_or, length, arith, Option, Some, None}
+use Rattle.std.proofs.Common.{◌≡◌, ℕ, ◌+◌, ◌<◌, ◌≤◌, ◌^◌, List, [], ◌∷◌, ◌++◌, ap, sym, ◌∙◌, refl, subst, take, drop, get_or, length, Option, Some, None}
 use Rattle.std.proofs.lemmas.List.{take_more}
 use Rattle.entry_model.specs.State.{State}
 use Rattle.entry_model.specs.History.{pair_of}
 use Rattle.entry_model.specs.Fronts.{front_at, opening_fronts}
-use Rattle.hpt_walk.specs.Access.{AccessContext}
 use Rattle.tlb_model.specs.Processor.{Processor}
 use Rattle.trace_read.specs.declared.trace.TraceLine.{TraceLine}
 use Rattle.trace_reply.specs.declared.reply.Reply.{Reply}
@@ -70,9 +68,9 @@ none_told o ls given steps counts opening listed found closing closed (Some n) i
 pub pairs_more : (pairs more : List ℕ) (ss : List State) (i : ℕ) (s : State) → i < length ss → s ≡ get_or ss i s → pairs ≡ opening_fronts (take i ss) → more ≡ pairs ++ pair_of s ∷ [] → more ≡ opening_fronts (take (i + 1) ss)
 pairs_more pairs more ss i s low at told push =
     push ∙ ap (λ z. z ++ pair_of s ∷ []) told ∙ sym (ap opening_fronts (take_more ss i s low ∙ ap (λ z. take i ss ++ z ∷ []) (sym at)) ∙ map_append (take i ss) (s ∷ [])) where
-  map_append : (xs ys : List State) → opening_fronts (xs ++ ys) ≡ opening_fronts xs ++ opening_fronts ys
-  map_append [] ys = refl
-  map_append (x ∷ xs) ys = ap (λ l. pair_of x ∷ l) (map_append xs ys)
+      map_append : (xs ys : List State) → opening_fronts (xs ++ ys) ≡ opening_fronts xs ++ opening_fronts ys
+      map_append [] ys = refl
+      map_append (x ∷ xs) ys = ap (λ l. pair_of x ∷ l) (map_append xs ys)
 
 pub low_more : (ss : List State) (i : ℕ) (s : State) → i < length ss → s ≡ get_or ss i s → LowStates (take i ss) → s.stamp < 2 ^ 32 → LowStates (take (i + 1) ss)
 low_more ss i s low at told here = subst LowStates (sym (take_more ss i s low ∙ ap (λ z. take i ss ++ z ∷ []) (sym at))) (both (take i ss) told) where

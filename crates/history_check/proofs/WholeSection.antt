@@ -1,43 +1,40 @@
 -- A section, from what its parts tell of it.
 use Rattle.std.specs.List.{AllByRecursion}
-use Rattle.std.proofs.Common.{◌≡◌, ℕ, zero, suc, ◌+◌, ◌*◌, ◌<◌, ◌≤◌, ◌^◌, List, [], ◌∷◌, ◌++◌, false, ap, sym, ◌∙◌, refl, subst, map, take, drop, length, arith, append_assoc, Option, None}
+use Rattle.std.proofs.Common.{◌≡◌, ℕ, zero, suc, ◌+◌, ◌<◌, ◌≤◌, ◌^◌, List, [], ◌∷◌, ◌++◌, ap, sym, ◌∙◌, refl, subst, map, take, drop, length, arith, None}
 use Rattle.std.proofs.lemmas.List.{length-map, length-append, take-append-drop}
 use Rattle.std.proofs.Math.Seq.{take-append_seam, drop-append_seam}
-use Rattle.entry_model.specs.State.{State, empty_state}
+use Rattle.entry_model.specs.State.{State}
 use Rattle.entry_model.specs.declared.receipt.Receipt.{Receipt}
 use Rattle.entry_model.specs.History.{pair_of}
 use Rattle.entry_model.specs.Run.{state_at}
 use Rattle.entry_model.specs.Fronts.{front_at, opening_fronts}
 use Rattle.hpt_walk.specs.Access.{AccessContext}
-use Rattle.hpt_resize.specs.TableMemory.{with_states}
 use Rattle.tlb_model.specs.Processor.{Processor}
 use Rattle.trace_read.specs.declared.trace.TraceLine.{TraceLine}
-use Rattle.trace_read.specs.Trace.{is_quiet}
 use Rattle.trace_reply.specs.declared.reply.Reply.{Reply}
 use Rattle.trace_reply.specs.Replies.{RepliedLine, AreReplies, receipts_in, lines_with_replies}
 use Rattle.run_model.specs.Processors.{processor_at, processors_after}
 use Rattle.run_model.specs.LineReplies.{IsCallReply, IsReplyToAccess}
 use Rattle.run_model.specs.RunState.{RunState, context_of, states_of}
-use Rattle.run_model.specs.Histories.{InOrder, receipts_by, lines_of_processor, events_by, closing_states}
-use Rattle.run_model.specs.Sections.{section_end, receipts_made, processors_after_lines}
-use Rattle.run_model.specs.GoodRun.{AreLegal, AreInOrder, EachLineOfProcessor, IsAccessLine, IsGoodSection}
+use Rattle.run_model.specs.Histories.{InOrder, receipts_by, lines_of_processor, events_by}
+use Rattle.run_model.specs.Sections.{section_end, processors_after_lines}
+use Rattle.run_model.specs.GoodRun.{EachLineOfProcessor, IsAccessLine}
 use Rattle.run_model.proofs.Undisturbed.{processors_on}
 use Rattle.entry_model.proofs.Regroup.{regrouped_back}
 use Rattle.run_model.proofs.Each.{each_front, each_back}
 use Rattle.run_model.proofs.SectionGood.{each_regrouped}
 use Rattle.run_model.proofs.LinesByProcessor.{Cpus, InFileOrder, own_lines, file_lines, file_listed, own_processors}
 use Rattle.receipt_text.specs.declared.mark.Mark.{Mark}
-use Rattle.receipt_text.specs.Marks.{IsMark}
 use Rattle.receipt_text.specs.Receipts.{mark_of}
 use Rattle.history_check.specs.declared.placed.PlacedStep.{PlacedStep}
 use Rattle.history_check.specs.ReplyMarks.{marks_in}
 use Rattle.history_check.specs.Replay.{before_each}
 use Rattle.history_check.specs.PlacedSteps.{placed_step, placed_line, FindStates, AreInTable}
-use Rattle.history_check.specs.FoundSection.{ArePlain, AreOnProcessors, lines_text, IsFound, Opening, opening_of, run_with, HasSection, HasNoSection}
+use Rattle.history_check.specs.FoundSection.{ArePlain, AreOnProcessors, IsFound, Opening, opening_of, run_with}
 use Rattle.history_check.specs.LineReply.{StandsOn}
 use Rattle.history_check.specs.JudgedLines.{processors_behind, AllStand, AllInOrder, AreReplied}
 use Rattle.history_check.specs.SectionMarks.{section_steps, HasItsMarks, ShowMarks, MarkEntries, ReadMarks, NoMarks}
-use Rattle.history_check.proofs.TextMarks.{AreShort, short_marks}
+use Rattle.history_check.proofs.TextMarks.{short_marks}
 use Rattle.history_check.proofs.Short.{LowStates, ShortLines, lines_short}
 use Rattle.history_check.proofs.LineSteps as shown
 use Rattle.history_check.proofs.FoundStates.{section_finds, found_section}

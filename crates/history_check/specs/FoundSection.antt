@@ -1,5 +1,5 @@
 -- One section of a run, found where a text begins.
-use Rattle.std.specs.Prelude.{◌≡◌, ℕ, ◌<◌, List, [], ◌∷◌, ◌++◌, drop, length, Option, None, false}
+use Rattle.std.specs.Prelude.{◌≡◌, ℕ, ◌<◌, List, [], ◌∷◌, ◌++◌, drop, Option, None, false}
 use Rattle.std.specs.List.{AllByRecursion}
 use Rattle.entry_model.specs.State.{State}
 use Rattle.hpt_resize.specs.TableMemory.{with_states}

@@ -25,9 +25,13 @@ module _ {S : Type 0} where
 -- Events lead from fronts to fronts: what comes behind them is in order from the second where, with the events before it, it is from the first.
 pub record LeadsTo (first : ℕ → ℕ) (events : List Event) (second : ℕ → ℕ) : Type 0 where
   pub with_events :
-      (e : ℕ) (later : List Event) → InOrder e (second e) later → InOrder e (first e) (events ++ later)
+      (e : ℕ) (later : List Event)
+      → InOrder e (second e) later
+      → InOrder e (first e) (events ++ later)
   pub without :
-      (e : ℕ) (later : List Event) → InOrder e (first e) (events ++ later) → InOrder e (second e) later
+      (e : ℕ) (later : List Event)
+      → InOrder e (first e) (events ++ later)
+      → InOrder e (second e) later
 
 -- From these fronts the events are not in order on each entry, whatever comes behind them.
 abbrev pub LeadsNowhere : (ℕ → ℕ) → List Event → Type 0

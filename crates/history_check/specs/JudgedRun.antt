@@ -1,7 +1,7 @@
 -- What the judge carries between two sections.
-use Rattle.std.specs.Prelude.{◌≡◌, List, length}
+use Rattle.std.specs.Prelude.{List}
 use Rattle.tlb_model.specs.Processor.{Processor}
-use Rattle.partition.specs.PartitionState.{PartitionState, HasStates}
+use Rattle.partition.specs.PartitionState.{PartitionState}
 use Rattle.run_model.specs.RunState.{RunState}
 
 -- The run state of a partition and its processors.

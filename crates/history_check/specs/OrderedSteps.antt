@@ -1,6 +1,5 @@
 -- Steps with their numbers, sorted by place, and sorted back.
-use Rattle.std.specs.Prelude.{◌≡◌, ℕ, zero, ◌+◌, List, [], ◌∷◌, map, IsPermutation}
-use Rattle.std.specs.List.{AllByRecursion}
+use Rattle.std.specs.Prelude.{◌≡◌, ℕ, ◌+◌, List, [], ◌∷◌, map, IsPermutation}
 use Rattle.std.specs.List.Sorted.{IsNonDecreasingBy}
 use Rattle.entry_model.specs.State.{State}
 use Rattle.entry_model.specs.Run.{state_at}

@@ -13,7 +13,6 @@ use Rattle.trace_read.specs.declared.trace.Act.{Act}
 use Rattle.trace_read.specs.declared.trace.Act.TheVariants as acts
 use Rattle.run_model.specs.LineReplies.{hcall_plan}
 use Rattle.receipt_text.specs.declared.mark.Mark.{Mark}
-use Rattle.history_check.specs.declared.steps.Step.{Step}
 use Rattle.history_check.specs.declared.placed.PlacedStep.{PlacedStep}
 use Rattle.history_check.specs.Steps.{step_op, step_of, place_by, ops_of, found_states, ending_states}
 

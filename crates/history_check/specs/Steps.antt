@@ -3,7 +3,7 @@ use Rattle.std.specs.Prelude.{ℕ, ◌+◌, ◌*◌, ◌==◌, ◌&&◌, ◌||�
 use Rattle.basics.specs.Words.{bool_eq}
 use Rattle.entry_model.specs.State.{State}
 use Rattle.entry_model.specs.declared.operation.Op.{Op}
-use Rattle.entry_model.specs.declared.operation.Op.TheVariants.{Access, Read}
+use Rattle.entry_model.specs.declared.operation.Op.TheVariants.{Access}
 use Rattle.entry_model.specs.declared.operation.Answer.{Answer}
 use Rattle.entry_model.specs.declared.operation.Answer.TheVariants.{Entered, Removed, Protected, Was}
 use Rattle.entry_model.specs.declared.receipt.Receipt.{Receipt}

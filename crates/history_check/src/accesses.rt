@@ -55,7 +55,8 @@ fn is_current(line: &Line, state: &EntryState) -> bool
         && state.dword1 == line.dword1
 }
 
-/// The receipt of an access by a cached line whose entry was in this state. `None` where there is none.
+/// The receipt of an access by a cached line whose entry was in this state. `None` where there is
+/// none.
 pub fn hit_on(state: &EntryState, line: &Line, op: Op) -> Option<Receipt>
     ensures some { IfSome result (IsHitBy line.now op state.now) }
     ensures none { IfNone result ((r : Receipt) → IsHitBy line.now op state.now r → ⊥) }

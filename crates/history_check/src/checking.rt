@@ -53,8 +53,8 @@ fn behind_reply<'a>(
 
 /// The verdict on a text of replies to a trace: `Good` where it is the text of a good run of the
 /// trace, else `Bad` with the first section that no good run explains. Sections are counted from 1,
-/// and a quiet line ends each but the last; where all are explained and something follows them, it is
-/// one more than there are.
+/// and a quiet line ends each but the last; where all are explained and something follows them, it
+/// is one more than there are.
 pub fn check_replies(alloc: Global, trace: &Trace, text: &[u8]) -> Result<Verdict, AllocError>
     ensures { IfOk result (λ verdict. IsVerdict trace.now text.now verdict) }
 {

@@ -1,8 +1,8 @@
 use frame_grants::Grants;
 use std::marker::Model;
 
-/// What the lines of a section have in common: the binary logarithm of the table's size in bytes, and
-/// the granted memory.
+/// What the lines of a section have in common: the binary logarithm of the table's size in bytes,
+/// and the granted memory.
 #[derive(Drop)]
 pub struct Context<'a> {
     pub order: u8,

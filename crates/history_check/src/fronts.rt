@@ -82,11 +82,7 @@ fn pass_gone(fronts: &mut Fronts, opening: &[u64], gone: &Option<Line>) -> Resul
 }
 
 /// A receipt sets the front of its entry, unless it comes before it.
-fn keep_receipt(
-    fronts: &mut Fronts,
-    opening: &[u64],
-    receipt: &Receipt,
-) -> Result<bool, AllocError>
+fn keep_receipt(fronts: &mut Fronts, opening: &[u64], receipt: &Receipt) -> Result<bool, AllocError>
     ensures yes { IfOk
         result
         (λ kept.
@@ -139,8 +135,8 @@ fn keep_receipts(
     Ok(true)
 }
 
-/// Takes a line's events into the fronts of its processor: the cached line that was gone, if there was
-/// one, and the receipts. Answers whether none of these comes before its entry's front.
+/// Takes a line's events into the fronts of its processor: the cached line that was gone, if there
+/// was one, and the receipts. Answers whether none of these comes before its entry's front.
 pub fn keep_fronts(
     fronts: &mut Fronts,
     opening: &[u64],

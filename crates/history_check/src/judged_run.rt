@@ -72,8 +72,8 @@ impl JudgedRun {
         })
     }
 
-    /// Finds a section: how many bytes stand first that are the text of good replies to these lines.
-    /// `None` where there are no such replies; then nothing is told of the run.
+    /// Finds a section: how many bytes stand first that are the text of good replies to these
+    /// lines. `None` where there are no such replies; then nothing is told of the run.
     pub fn section(
         &mut self,
         alloc: Global,

@@ -36,9 +36,9 @@ fn has_left(closing: &[EntryState], gone: &Option<Line>) -> bool
 }
 
 /// Judges a line that isn't quiet by the states that its operations found, on a section that opened
-/// on states with these pairs and closes on these states. Gives how many bytes of the given text its
-/// reply has, and leaves its processor and the processor's fronts as they are behind it. `None` where
-/// no reply stands. `out` is room to write in.
+/// on states with these pairs and closes on these states. Gives how many bytes of the given text
+/// its reply has, and leaves its processor and the processor's fronts as they are behind it. `None`
+/// where no reply stands. `out` is room to write in.
 pub fn judge_line(
     context: &Context,
     opening: &[u64],

@@ -31,10 +31,10 @@ fn opening_fronts(alloc: Global, count: usize) -> Result<Vec<Fronts>, AllocError
     Ok(fronts)
 }
 
-/// Judges the lines of a section by the states that their operations found: so many of each line, one
-/// line after the other. `opening` has the pairs of the states on which the section opened, and
-/// `closing` the states on which it closes. Gives how many bytes of the given text the replies have,
-/// and leaves the processors as they are behind the lines. `None` where no replies stand.
+/// Judges the lines of a section by the states that their operations found: so many of each line,
+/// one line after the other. `opening` has the pairs of the states on which the section opened, and
+/// `closing` the states on which it closes. Gives how many bytes of the given text the replies
+/// have, and leaves the processors as they are behind the lines. `None` where no replies stand.
 pub fn judge_lines(
     alloc: Global,
     context: &Context,

@@ -109,8 +109,8 @@ fn as_reply(reply: Option<AccessReply>) -> Option<Reply>
     }
 }
 
-/// The replies that a line which isn't quiet may have, by operations that found these states: one or
-/// two.
+/// The replies that a line which isn't quiet may have, by operations that found these states: one
+/// or two.
 fn replies_on(
     context: &Context,
     processor: &Processor,

@@ -121,8 +121,8 @@ fn further_op(act: &Act) -> Op
     }
 }
 
-/// Appends the steps of a line whose reply shows these marks, and that names the operations of these
-/// receipts.
+/// Appends the steps of a line whose reply shows these marks, and that names the operations of
+/// these receipts.
 pub fn put_steps(
     steps: &mut Vec<PlacedStep>,
     act: &Act,

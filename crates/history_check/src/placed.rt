@@ -13,9 +13,9 @@ pub struct PlacedStep {
     pub step: Step,
 }
 
-/// Makes the steps in an order of their places, as if nobody else were at the table. Gives the state
-/// that each step found, in the order in which the steps are given, and leaves the states on which
-/// they end.
+/// Makes the steps in an order of their places, as if nobody else were at the table. Gives the
+/// state that each step found, in the order in which the steps are given, and leaves the states on
+/// which they end.
 pub fn find_states(
     alloc: Global,
     states: &mut Vec<EntryState>,

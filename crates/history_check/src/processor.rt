@@ -113,7 +113,8 @@ impl Processor {
         }
     }
 
-    /// The cached line that is gone, if this is the reply to a line: that of the page that it walked.
+    /// The cached line that is gone, if this is the reply to a line: that of the page that it
+    /// walked.
     pub fn gone_line(&self, act: &Act, reply: &Reply) -> Option<Line>
         ensures { result ≡ gone_line_of self.now act.now reply.now }
     {

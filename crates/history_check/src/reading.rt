@@ -30,8 +30,8 @@ fn are_in_table(marks: &[Mark], size: usize) -> bool
     true
 }
 
-/// Reads the marks of a section's lines from a text that begins with the replies to them. `None` where
-/// it begins with no replies that show marks of entries of a table of this size.
+/// Reads the marks of a section's lines from a text that begins with the replies to them. `None`
+/// where it begins with no replies that show marks of entries of a table of this size.
 pub fn read_section(
     alloc: Global,
     context: &Context,

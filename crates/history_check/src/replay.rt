@@ -6,7 +6,8 @@ ghost use Rattle.history_check.specs.Replay.{after_receipt, next_state};
 use entry_model::{Answer, EntryState, EntryStore, Line, Op, Receipt, reply};
 use std::marker::Model;
 
-/// A store that answers operations on states that are given one after the other, whatever the entry.
+/// A store that answers operations on states that are given one after the other, whatever the
+/// entry.
 #[derive(Drop)]
 pub struct Replay<'a> {
     states: &'a [EntryState],

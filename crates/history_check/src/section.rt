@@ -29,9 +29,10 @@ fn pairs_of(alloc: Global, states: &[EntryState]) -> Result<Vec<u64>, AllocError
     Ok(pairs)
 }
 
-/// Finds a section whose marks were read: their steps, and how many each line has. `opening` has the
-/// pairs of the states on which it opens. Gives how many bytes stand first that are the text of good
-/// replies to the lines, and leaves the states on which the section closes, and its processors.
+/// Finds a section whose marks were read: their steps, and how many each line has. `opening` has
+/// the pairs of the states on which it opens. Gives how many bytes stand first that are the text of
+/// good replies to the lines, and leaves the states on which the section closes, and its
+/// processors.
 fn section_by_steps(
     alloc: Global,
     context: &Context,
@@ -104,9 +105,10 @@ fn section_by_steps(
     Ok(judged)
 }
 
-/// Finds a section that opens on these states, with these processors: how many bytes stand first that
-/// are the text of good replies to its lines. Leaves the states on which it closes, and its
-/// processors. `None` where the text begins with no such replies; then nothing is told of the states.
+/// Finds a section that opens on these states, with these processors: how many bytes stand first
+/// that are the text of good replies to its lines. Leaves the states on which it closes, and its
+/// processors. `None` where the text begins with no such replies; then nothing is told of the
+/// states.
 pub fn section_found(
     alloc: Global,
     context: &Context,

@@ -1,11 +1,8 @@
-use Rattle.std.proofs.Common.{◌≡◌, ◌∙◌, sym, ap, length, List}
-use Rattle.frame_grants.specs.declared.grant.Grant.{Grant}
-use Rattle.entry_model.specs.State.{State}
+use Rattle.std.proofs.Common.{◌∙◌, sym, ap, length}
 use Rattle.hpt_resize.specs.TableMemory.{with_states}
 use Rattle.hpt_walk.specs.Access.{access_context}
-use Rattle.tlb_model.specs.Processor.{Processor}
 use Rattle.partition.specs.PartitionState.{PartitionState, with_memory}
-use Rattle.history_check.specs.FoundSection.{Opening, opening_of, run_with}
+use Rattle.history_check.specs.FoundSection.{opening_of, run_with}
 use Rattle.history_check.specs.JudgedRun.{run_state_of}
 use Rattle.history_check.proofs.JudgedRuns.{found_in_run, not_in_run, entries_few}
 use Rattle.history_check.proofs.judged_run.JudgedRun.section.Goals as goal

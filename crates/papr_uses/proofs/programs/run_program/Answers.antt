@@ -12,7 +12,8 @@ use Rattle.papr_uses.proofs.programs.run_program.Goals as goal
 pub returns-clause-complete : goal.returns-clause-complete
 returns-clause-complete c = λ accepted.
     let word : command_of (c.in-Ok.word ∷ []) ≡ Some commands.Run = run_word c.in-Ok.word c.in-Ok.ensures.ok in
-    let done : IsAnswered (Some commands.Run) c.papr_serial.result ⊎ (c.papr_serial.result ≡ Memory) = rw word at c.papr_serial.ensures.complete (rw (word, c.new-source.ensures) (trace_accepted c.args.input.items accepted)) never_rose never_rose in
+    let complete = c.papr_serial.ensures.complete (rw (word, c.new-source.ensures) (trace_accepted c.args.input.items accepted)) never_rose never_rose in
+    let done : IsAnswered (Some commands.Run) c.papr_serial.result ⊎ (c.papr_serial.result ≡ Memory) = rw word at complete in
     elim done [ inl is ↦ inl (run_done c.papr_serial.result is) | inr memory ↦ inr memory ]
 
 pub returns-clause-refuses : goal.returns-clause-refuses

@@ -44,7 +44,7 @@ fn groups_of_pages(rt: HostRuntime) -> Result<(), Fail> {
 type EntryRow = (u32, u64, u64, bool, u64, u8, u64);
 
 /// The pages of entries: a tag is the virtual address without its low 23 bits, from bit 7 on, and B.
-const ENTRIES: [EntryRow; 10] = [
+const ENTRIES: [EntryRow; 7] = [
     // 1 * 2^28 + 5 * 2^12 = 0x1000_5000 has the tag 0x1000; group 4
     (0x20, 0x1001, 0x3012, false, 1, 12, 5),
     // group 0x7FB, with H
@@ -94,7 +94,20 @@ const ENTRIES: [EntryRow; 10] = [
         34,
         9,
     ),
-    // 4 KB in 64 KB (L, and 7 as the last digit of the real page number): 0x1000_5000 as above,
+];
+
+#[test]
+fn pages_of_entries(rt: HostRuntime) -> Result<(), Fail> {
+    for (entry, dword0, dword1, one_tb, vsid, shift, index) in ENTRIES {
+        let page = Page::new(one_tb, vsid, shift, index).ok_or("no page")?;
+        assert_eq!(rt; page_of(18, entry, dword0, dword1), Some(page));
+    }
+    Ok(())
+}
+
+/// The pages of entries whose actual page is larger than their base page.
+const ENTRIES_OF_MIXED_SIZES: [EntryRow; 3] = [
+    // 4 KB in 64 KB (L, and 7 as the last digit of the real page number): 0x1000_5000 in its tag,
     // and the next base page of the same 64 KB, 1 ^ 6 = 7
     (0x20, 0x1005, 0x1_7012, false, 1, 12, 5),
     (0x38, 0x1005, 0x1_7012, false, 1, 12, 6),
@@ -103,8 +116,8 @@ const ENTRIES: [EntryRow; 10] = [
 ];
 
 #[test]
-fn pages_of_entries(rt: HostRuntime) -> Result<(), Fail> {
-    for (entry, dword0, dword1, one_tb, vsid, shift, index) in ENTRIES {
+fn base_pages_inside_larger_pages(rt: HostRuntime) -> Result<(), Fail> {
+    for (entry, dword0, dword1, one_tb, vsid, shift, index) in ENTRIES_OF_MIXED_SIZES {
         let page = Page::new(one_tb, vsid, shift, index).ok_or("no page")?;
         assert_eq!(rt; page_of(18, entry, dword0, dword1), Some(page));
     }

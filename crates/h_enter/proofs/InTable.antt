@@ -2,7 +2,6 @@
 use Rattle.std.specs.Prelude.{map}
 use Rattle.std.proofs.Common.{◌≡◌, ℕ, zero, suc, ◌+◌, ◌-◌, ◌*◌, ◌/◌, ◌^◌, ◌<◌, ◌≤◌, List, true, false, Option, Some, None, ◌⊎◌, inl, inr, nat_lt, arith}
 use Rattle.std.proofs.lemmas.Bool.{cases_Bool, ltb-true}
-use Rattle.hpte_fields.specs.Fields.{normal_words}
 use Rattle.papr_codes.specs.FlagBits.{has_flag}
 use Rattle.frame_grants.specs.declared.grant.Grant.{Grant}
 use Rattle.entry_model.specs.declared.operation.Op.{Op}
@@ -10,7 +9,8 @@ use Rattle.entry_model.specs.declared.operation.Op.TheVariants.{Enter}
 use Rattle.entry_model.specs.Trial.{call}
 use Rattle.entry_model.proofs.Trials.{Within}
 use Rattle.h_enter.specs.Enter.{candidates}
-use Rattle.h_enter.specs.Checks.{h_enter_plan, words_plan, suits_grants}
+use Rattle.page_grants.specs.Suited.{entered_words}
+use Rattle.h_enter.specs.Checks.{h_enter_plan, words_plan}
 use Rattle.entry_model.proofs.TrialSteps.{calls_from}
 use Rattle.h_enter.proofs.Search.{groups_of_eight}
 
@@ -25,16 +25,13 @@ candidates_within order op flags ptex low inside = at (cases_Bool (has_flag flag
   at (inl exact) = rw exact (trials_within _ op ptex 1 (omega arith))
   at (inr group) = let whole = groups_of_eight order low in rw group (trials_within _ op (ptex / 8 * 8) 8 (omega arith))
 
-words_within : (order : ℕ) (grants : List Grant) (flags ptex : ℕ) (words : Option (ℕ × ℕ)) → 18 ≤ order → ptex < 2 ^ (order - 4) → Within (2 ^ (order - 4)) (words_plan grants flags ptex words).calls
-words_within order grants flags ptex None low inside = tt
-words_within order grants flags ptex (Some w) low inside = at (cases_Bool (suits_grants grants w.0 w.1)) where
-  at : (suits_grants grants w.0 w.1 ≡ true) ⊎ (suits_grants grants w.0 w.1 ≡ false) → Within (2 ^ (order - 4)) (words_plan grants flags ptex (Some w)).calls
-  at (inl suits) = rw suits (candidates_within order (Enter w.0 w.1) flags ptex low inside)
-  at (inr refused) = rw refused tt
+words_within : (order flags ptex : ℕ) (words : Option (ℕ × ℕ)) → 18 ≤ order → ptex < 2 ^ (order - 4) → Within (2 ^ (order - 4)) (words_plan flags ptex words).calls
+words_within order flags ptex None low inside = tt
+words_within order flags ptex (Some w) low inside = candidates_within order (Enter w.0 w.1) flags ptex low inside
 
 pub h_enter_within : (order : ℕ) (grants : List Grant) (flags ptex pteh ptel : ℕ) → 18 ≤ order → Within (2 ^ (order - 4)) (h_enter_plan order grants flags ptex pteh ptel).calls
 unfolding h_enter_plan
 h_enter_within order grants flags ptex pteh ptel low = at (cases_Bool (nat_lt ptex (2 ^ (order - 4)))) where
   at : (nat_lt ptex (2 ^ (order - 4)) ≡ true) ⊎ (nat_lt ptex (2 ^ (order - 4)) ≡ false) → Within (2 ^ (order - 4)) (h_enter_plan order grants flags ptex pteh ptel).calls
-  at (inl inside) = rw inside (words_within order grants flags ptex (normal_words pteh ptel) low (ltb-true _ _ inside))
+  at (inl inside) = rw inside (words_within order flags ptex (entered_words grants pteh ptel) low (ltb-true _ _ inside))
   at (inr outside) = rw outside tt

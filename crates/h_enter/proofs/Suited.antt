@@ -16,7 +16,8 @@ use Rattle.entry_model.specs.Trial.{plan_of_code, call}
 use Rattle.entry_model.proofs.Heights.{calls_cost}
 use Rattle.entry_model.proofs.PlanBounds.{EntersOnly, IsTame, NoneWorn, answered_tame, each_call, entries_cost}
 use Rattle.h_enter.specs.Enter.{candidates, enter_told, enter_plan}
-use Rattle.h_enter.specs.Checks.{h_enter_plan, words_plan, suits_grants}
+use Rattle.page_grants.specs.Suited.{suits_grants, suited_words, entered_words}
+use Rattle.h_enter.specs.Checks.{h_enter_plan, words_plan}
 
 -- Words whose page is granted with these storage control bits, the first of them a doubleword.
 pub record IsSuited (grants : List Grant) (dword0 dword1 : ℕ) : Type 0 where
@@ -58,19 +59,26 @@ told_fine (r ∷ rs) fine = told_one r rs fine.0 (told_fine rs fine.1)
 refused_tame : (grants : List Grant) → IsTame (IsSuited grants) (plan_of_code Parameter)
 refused_tame grants = answered_tame (IsSuited grants) Parameter (λ e. cc)
 
-words_tame : (grants : List Grant) (flags ptex : ℕ) (words : Option (ℕ × ℕ)) → ((w : ℕ × ℕ) → words ≡ Some w → w.0 < 2 ^ 64) → IsTame (IsSuited grants) (words_plan grants flags ptex words)
-words_tame grants flags ptex None fits = refused_tame grants
-words_tame grants flags ptex (Some w) fits = at (cases_Bool (suits_grants grants w.0 w.1)) where
-  made : IsSuited grants w.0 w.1 → IsTame (IsSuited grants) (enter_plan flags ptex w.0 w.1)
-  made suits = record { enters = each_call (EntersOnly (IsSuited grants)) (Enter w.0 w.1) (candidates flags ptex) suits; few = candidates_cost (Enter w.0 w.1) flags ptex; code = λ rs trial fine. told_fine rs fine }
+suited_fits : (grants : List Grant) (words : Option (ℕ × ℕ)) → ((w : ℕ × ℕ) → words ≡ Some w → w.0 < 2 ^ 64) → (w : ℕ × ℕ) → suited_words grants words ≡ Some w → IsSuited grants w.0 w.1
+suited_fits grants None fits w e = absurd (cc)
+suited_fits grants (Some v) fits w e = at (cases_Bool (suits_grants grants v.0 v.1)) where
+  at : (suits_grants grants v.0 v.1 ≡ true) ⊎ (suits_grants grants v.0 v.1 ≡ false) → IsSuited grants w.0 w.1
+  at (inl suits) =
+      let same : v ≡ w = cc in
+      subst (λ (u : ℕ × ℕ). IsSuited grants u.0 u.1) same (record { suits = suits; fits = fits v refl })
+  at (inr refused) = absurd (cc)
 
-  at : (suits_grants grants w.0 w.1 ≡ true) ⊎ (suits_grants grants w.0 w.1 ≡ false) → IsTame (IsSuited grants) (words_plan grants flags ptex (Some w))
-  at (inl suits) = rw suits (made (record { suits = suits; fits = fits w refl }))
-  at (inr refused) = rw refused (refused_tame grants)
+-- What H_ENTER stores is suited.
+pub entered_suited : (grants : List Grant) (pteh ptel : ℕ) (w : ℕ × ℕ) → entered_words grants pteh ptel ≡ Some w → IsSuited grants w.0 w.1
+entered_suited grants pteh ptel w e = suited_fits grants (normal_words pteh ptel) (normal-fits pteh ptel) w e
+
+words_tame : (grants : List Grant) (flags ptex : ℕ) (words : Option (ℕ × ℕ)) → ((w : ℕ × ℕ) → words ≡ Some w → IsSuited grants w.0 w.1) → IsTame (IsSuited grants) (words_plan flags ptex words)
+words_tame grants flags ptex None suited = refused_tame grants
+words_tame grants flags ptex (Some w) suited = record { enters = each_call (EntersOnly (IsSuited grants)) (Enter w.0 w.1) (candidates flags ptex) (suited w refl); few = candidates_cost (Enter w.0 w.1) flags ptex; code = λ rs trial fine. told_fine rs fine }
 
 pub h_enter_tame : (order : ℕ) (grants : List Grant) (flags ptex pteh ptel : ℕ) → IsTame (IsSuited grants) (h_enter_plan order grants flags ptex pteh ptel)
 unfolding h_enter_plan
 h_enter_tame order grants flags ptex pteh ptel = at (cases_Bool (nat_lt ptex (2 ^ (order - 4)))) where
   at : (nat_lt ptex (2 ^ (order - 4)) ≡ true) ⊎ (nat_lt ptex (2 ^ (order - 4)) ≡ false) → IsTame (IsSuited grants) (h_enter_plan order grants flags ptex pteh ptel)
-  at (inl inside) = rw inside (words_tame grants flags ptex (normal_words pteh ptel) (normal-fits pteh ptel))
+  at (inl inside) = rw inside (words_tame grants flags ptex (entered_words grants pteh ptel) (entered_suited grants pteh ptel))
   at (inr outside) = rw outside (refused_tame grants)

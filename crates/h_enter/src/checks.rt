@@ -1,49 +1,14 @@
 ghost use Rattle.std.specs.Prelude.{◌≡◌};
 ghost use Rattle.entry_model.specs.Replies.{reply_with};
 ghost use Rattle.entry_model.specs.Trial.{IsReplyOf};
-ghost use Rattle.h_enter.specs.Checks.{suits_kind, suits_grants, h_enter_plan};
+ghost use Rattle.h_enter.specs.Checks.{h_enter_plan};
 
-use crate::granted::GrantedMemory;
 use crate::words::enter_words_into;
 use entry_model::{EntryStore, HReply, Receipts, Registers};
-use frame_grants::{Grants, Kind};
-use hpte_fields::{entry_count, frame, normal, wimg};
-use page_sizes::decode;
+use frame_grants::Grants;
+use hpte_fields::entry_count;
+use page_grants::{GrantedMemory, entered_words};
 use papr_codes::Rc;
-
-/// I, M, G and W as `hpte_fields::wimg` counts them.
-const WRITE_THROUGH: u8 = 8;
-
-const INHIBITED: u8 = 4;
-
-const COHERENT: u8 = 2;
-
-const GUARDED: u8 = 1;
-
-/// Whether the storage control bits suit what lies behind the page.
-fn suits_kind(wimg: u8, kind: Kind) -> bool
-    ensures { result ≡ Rattle.h_enter.specs.Checks.suits_kind wimg kind }
-{
-    match kind {
-        Kind::Ram => wimg == COHERENT || wimg == WRITE_THROUGH | INHIBITED | COHERENT,
-        Kind::Io => wimg == INHIBITED || wimg == INHIBITED | GUARDED,
-    }
-}
-
-/// Whether one grant holds the whole page that the words map, and its storage control bits suit it.
-#[tactic(auto, unfolding(crate::specs::Checks::suits_grants))]
-fn suits_grants<G: GrantedMemory>(grants: &G, dword0: u64, dword1: u64) -> bool
-    ensures { result
-        ≡ Rattle.h_enter.specs.Checks.suits_grants (G.grants grants.now) dword0 dword1 }
-{
-    let Some(size) = decode(dword0, dword1) else {
-        return false;
-    };
-    match grants.machine_of(frame(dword1, size.actual), 1 << size.actual) {
-        Some((_, kind)) => suits_kind(wimg(dword1), kind),
-        None => false,
-    }
-}
 
 /// [`h_enter`] with its receipts put into `receipts`, in place of what was there.
 // Out of line: docs/PERFORMANCE.md says why.
@@ -85,12 +50,9 @@ pub fn h_enter_granted_into<T: EntryStore, G: GrantedMemory>(
     if ptex >= u64::from(entry_count(store.order())) {
         return Registers::with_code(Rc::Parameter);
     }
-    let Some((dword0, dword1)) = normal(pteh, ptel) else {
+    let Some((dword0, dword1)) = entered_words(grants, pteh, ptel) else {
         return Registers::with_code(Rc::Parameter);
     };
-    if !suits_grants(grants, dword0, dword1) {
-        return Registers::with_code(Rc::Parameter);
-    }
     enter_words_into(store, flags, ptex, dword0, dword1, receipts)
 }
 

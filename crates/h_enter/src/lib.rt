@@ -5,9 +5,7 @@
 #![tactic(auto)]
 
 mod checks;
-mod granted;
 mod words;
 
 pub use checks::{h_enter, h_enter_granted_into, h_enter_into};
-pub use granted::GrantedMemory;
 pub use words::{enter_words, enter_words_into};

@@ -16,10 +16,10 @@ use Rattle.entry_model.specs.declared.hreply.HReply.{HReply}
 use Rattle.entry_model.specs.Receipt.{is_decided}
 use Rattle.entry_model.specs.Reply.{reply_of}
 use Rattle.entry_model.specs.Trial.{Call, call, IsTrial, Plan, IsReplyOf, plan_of_code}
-use Rattle.hpte_fields.specs.Fields.{normal_words}
 use Rattle.frame_grants.specs.declared.grant.Grant.{Grant}
 use Rattle.h_enter.specs.Enter.{candidates, enter_plan}
-use Rattle.h_enter.specs.Checks.{suits_grants, words_plan, h_enter_plan}
+use Rattle.page_grants.specs.Suited.{entered_words}
+use Rattle.h_enter.specs.Checks.{words_plan, h_enter_plan}
 use Rattle.h_update.proofs.Tame.{h_bulk_remove_each}
 use Rattle.h_update.specs.Single.{single_plan, h_remove_plan, h_protect_plan, h_clear_ref_plan, h_clear_mod_plan, read_entries, h_read_plan}
 use Rattle.h_update.specs.Bulk.{h_bulk_remove_plan}
@@ -61,13 +61,13 @@ each_call goes op (e ∷ es) h = (h, each_call goes op es h)
 single_on : (order ptex : ℕ) (op : Op) (words : Receipt → List ℕ) → is_decided (reply_of (state_past_end op) op).0 ≡ false → PlanGoesOn (single_plan order ptex op words)
 single_on order ptex op words h = cond_both (nat_lt ptex (2 ^ (order - 4))) _ (plan_of_code rc.Parameter) PlanGoesOn (λ _. ((refl, h), tt)) (λ _. tt)
 
-words_on : (grants : List Grant) (flags ptex : ℕ) (w : Option (ℕ × ℕ)) → PlanGoesOn (words_plan grants flags ptex w)
-words_on grants flags ptex None = tt
-words_on grants flags ptex (Some w) = cond_both (suits_grants grants w.0 w.1) (enter_plan flags ptex w.0 w.1) (plan_of_code rc.Parameter) PlanGoesOn (λ _. each_call (enter_plan flags ptex w.0 w.1).goes_on (ops.Enter w.0 w.1) (candidates flags ptex) (refl, refl)) (λ _. tt)
+words_on : (flags ptex : ℕ) (w : Option (ℕ × ℕ)) → PlanGoesOn (words_plan flags ptex w)
+words_on flags ptex None = tt
+words_on flags ptex (Some w) = each_call (enter_plan flags ptex w.0 w.1).goes_on (ops.Enter w.0 w.1) (candidates flags ptex) (refl, refl)
 
 enter_on : (order : ℕ) (grants : List Grant) (flags ptex pteh ptel : ℕ) → PlanGoesOn (h_enter_plan order grants flags ptex pteh ptel)
 unfolding h_enter_plan
-enter_on order grants flags ptex pteh ptel = cond_both (nat_lt ptex (2 ^ (order - 4))) (words_plan grants flags ptex (normal_words pteh ptel)) (plan_of_code rc.Parameter) PlanGoesOn (λ _. words_on grants flags ptex (normal_words pteh ptel)) (λ _. tt)
+enter_on order grants flags ptex pteh ptel = cond_both (nat_lt ptex (2 ^ (order - 4))) (words_plan flags ptex (entered_words grants pteh ptel)) (plan_of_code rc.Parameter) PlanGoesOn (λ _. words_on flags ptex (entered_words grants pteh ptel)) (λ _. tt)
 
 read_on : (order flags ptex : ℕ) → PlanGoesOn (h_read_plan order flags ptex)
 unfolding h_read_plan

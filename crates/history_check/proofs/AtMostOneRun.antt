@@ -8,8 +8,9 @@ use Rattle.entry_model.specs.Run.{state_at}
 use Rattle.entry_model.specs.History.{IsLegal, history}
 use Rattle.hpt_walk.specs.Access.{AccessContext}
 use Rattle.tlb_model.specs.Processor.{Processor}
-use Rattle.trace_read.specs.declared.trace.TraceLine.{TraceLine}
-use Rattle.trace_read.specs.Trace.{AcceptedTrace, is_quiet, IsAccepted}
+use Rattle.trace_line.specs.declared.line.TraceLine.{TraceLine}
+use Rattle.trace_line.specs.Lines.{is_quiet}
+use Rattle.trace_read.specs.Trace.{AcceptedTrace, IsAccepted}
 use Rattle.trace_reply.specs.declared.reply.Reply.{Reply}
 use Rattle.trace_reply.specs.Replies.{RepliedLine, receipts_in, AreReplies, lines_with_replies}
 use Rattle.run_model.specs.Processors.{processor_at, processor_after}

@@ -3,8 +3,9 @@ use Rattle.std.proofs.Common.{◌≡◌, ℕ, zero, suc, ◌+◌, ◌<◌, ◌�
 use Rattle.std.specs.Prelude.{count_by, if◌then◌else◌, nat_le}
 use Rattle.std.proofs.lemmas.List.Sums.{sum_by-cons}
 use Rattle.std.proofs.lemmas.Bool.{cases_Bool, le-leb, leb-true, lt-leb}
-use Rattle.trace_read.specs.declared.trace.TraceLine.{TraceLine}
-use Rattle.trace_read.specs.Trace.{AcceptedTrace, IsAccepted, is_quiet}
+use Rattle.trace_line.specs.declared.line.TraceLine.{TraceLine}
+use Rattle.trace_line.specs.Lines.{is_quiet}
+use Rattle.trace_read.specs.Trace.{AcceptedTrace, IsAccepted}
 use Rattle.trace_reply.specs.declared.reply.Reply.{Reply}
 use Rattle.trace_reply.specs.Replies.{RepliedLine, IsOfKind, lines_with_replies}
 use Rattle.reply_text.specs.Text.{reply_text, text_of}

@@ -15,12 +15,13 @@ use Rattle.entry_model.specs.declared.hreply.HReply.{HReply}
 use Rattle.entry_model.specs.declared.receipt.Receipt.{Receipt}
 use Rattle.entry_model.specs.Receipt.{is_access, is_decided, is_no_match}
 use Rattle.entry_model.specs.Reply.{reply_of, change_to, change_where, entered_state, is_found}
-use Rattle.hpte_fields.specs.Fields.{protected_word, normal_words}
+use Rattle.hpte_fields.specs.Fields.{protected_word}
 use Rattle.entry_model.specs.Trial.{Call, call, IsTrial, Plan, IsReplyOf, plan_of_code}
 use Rattle.entry_model.proofs.Exact.{exact, same}
 use Rattle.frame_grants.specs.declared.grant.Grant.{Grant}
 use Rattle.h_enter.specs.Enter.{candidates, enter_plan}
-use Rattle.h_enter.specs.Checks.{suits_grants, words_plan, h_enter_plan}
+use Rattle.page_grants.specs.Suited.{entered_words}
+use Rattle.h_enter.specs.Checks.{words_plan, h_enter_plan}
 use Rattle.h_update.specs.Single.{single_plan, h_remove_plan, h_protect_plan, h_clear_ref_plan, h_clear_mod_plan, read_entries, h_read_plan}
 use Rattle.h_update.proofs.Tame.{h_bulk_remove_each}
 use Rattle.hpt_walk.specs.Access.{AccessContext}
@@ -95,13 +96,13 @@ PlainPlan p = NoAccess p.calls
 single_plain : (order ptex : ℕ) (op : Op) (words : Receipt → List ℕ) → is_access op ≡ false → PlainPlan (single_plan order ptex op words)
 single_plain order ptex op words h = cond_both (nat_lt ptex (2 ^ (order - 4))) _ (plan_of_code rc.Parameter) PlainPlan (λ _. (h, tt)) (λ _. tt)
 
-words_plain : (grants : List Grant) (flags ptex : ℕ) (w : Option (ℕ × ℕ)) → PlainPlan (words_plan grants flags ptex w)
-words_plain grants flags ptex None = tt
-words_plain grants flags ptex (Some w) = cond_both (suits_grants grants w.0 w.1) (enter_plan flags ptex w.0 w.1) (plan_of_code rc.Parameter) PlainPlan (λ _. each_call (ops.Enter w.0 w.1) (candidates flags ptex) refl) (λ _. tt)
+words_plain : (flags ptex : ℕ) (w : Option (ℕ × ℕ)) → PlainPlan (words_plan flags ptex w)
+words_plain flags ptex None = tt
+words_plain flags ptex (Some w) = each_call (ops.Enter w.0 w.1) (candidates flags ptex) refl
 
 enter_plain : (order : ℕ) (grants : List Grant) (flags ptex pteh ptel : ℕ) → PlainPlan (h_enter_plan order grants flags ptex pteh ptel)
 unfolding h_enter_plan
-enter_plain order grants flags ptex pteh ptel = cond_both (nat_lt ptex (2 ^ (order - 4))) (words_plan grants flags ptex (normal_words pteh ptel)) (plan_of_code rc.Parameter) PlainPlan (λ _. words_plain grants flags ptex (normal_words pteh ptel)) (λ _. tt)
+enter_plain order grants flags ptex pteh ptel = cond_both (nat_lt ptex (2 ^ (order - 4))) (words_plan flags ptex (entered_words grants pteh ptel)) (plan_of_code rc.Parameter) PlainPlan (λ _. words_plain flags ptex (entered_words grants pteh ptel)) (λ _. tt)
 
 read_plain : (order flags ptex : ℕ) → PlainPlan (h_read_plan order flags ptex)
 unfolding h_read_plan

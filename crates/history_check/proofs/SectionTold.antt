@@ -6,7 +6,7 @@ use Rattle.entry_model.specs.State.{State}
 use Rattle.entry_model.specs.History.{pair_of}
 use Rattle.entry_model.specs.Fronts.{front_at, opening_fronts}
 use Rattle.tlb_model.specs.Processor.{Processor}
-use Rattle.trace_read.specs.declared.trace.TraceLine.{TraceLine}
+use Rattle.trace_line.specs.declared.line.TraceLine.{TraceLine}
 use Rattle.trace_reply.specs.declared.reply.Reply.{Reply}
 use Rattle.history_check.specs.declared.placed.PlacedStep.{PlacedStep}
 use Rattle.history_check.specs.PlacedSteps.{FindStates}

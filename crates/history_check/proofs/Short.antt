@@ -21,8 +21,8 @@ use Rattle.hpt_resize.specs.Rehash.{at_stamp_0, first_with, entry_at, collision_
 use Rattle.hpt_resize.specs.Pending.{PendingTable}
 use Rattle.hpt_resize.specs.Resize.{Table, CommitOutcome, commit_refusal, carry_outcome, complete_outcome, answer_outcome, outcome_of_commit}
 use Rattle.hpt_resize.specs.TableMemory.{TableMemory, opening_memory, empty_states, prepare_result, commit_result}
-use Rattle.trace_read.specs.declared.trace.Act.{Act}
-use Rattle.trace_read.specs.declared.trace.Act.TheVariants as acts
+use Rattle.trace_line.specs.declared.act.Act.{Act}
+use Rattle.trace_line.specs.declared.act.Act.TheVariants as acts
 use Rattle.trace_read.specs.Trace.{AcceptedTrace, IsAccepted}
 use Rattle.trace_reply.specs.Replies.{RepliedLine, receipts_in}
 use Rattle.run_model.specs.RunState.{RunState, states_of, opening_run, run_resize, run_quiet_line}

@@ -12,10 +12,10 @@ use Rattle.entry_model.specs.declared.access_reply.Outcome.{Outcome}
 use Rattle.entry_model.specs.declared.access_reply.Outcome.TheVariants as outcomes
 use Rattle.entry_model.specs.declared.access_reply.By.{By}
 use Rattle.entry_model.specs.declared.access_reply.By.TheVariants.{Hit, Walk}
-use Rattle.trace_read.specs.declared.trace.TraceLine.{TraceLine}
-use Rattle.trace_read.specs.declared.trace.Act.{Act}
-use Rattle.trace_read.specs.declared.trace.Act.TheVariants as acts
-use Rattle.trace_read.specs.Trace.{is_quiet}
+use Rattle.trace_line.specs.declared.line.TraceLine.{TraceLine}
+use Rattle.trace_line.specs.declared.act.Act.{Act}
+use Rattle.trace_line.specs.declared.act.Act.TheVariants as acts
+use Rattle.trace_line.specs.Lines.{is_quiet}
 use Rattle.trace_reply.specs.declared.reply.Reply.{Reply}
 use Rattle.trace_reply.specs.declared.reply.Reply.TheVariants as replies
 use Rattle.trace_reply.specs.Replies.{receipts_in, IsOfKind}

@@ -10,7 +10,7 @@ use Rattle.entry_model.specs.Run.{state_at}
 use Rattle.entry_model.specs.Fronts.{front_at, opening_fronts}
 use Rattle.hpt_walk.specs.Access.{AccessContext}
 use Rattle.tlb_model.specs.Processor.{Processor}
-use Rattle.trace_read.specs.declared.trace.TraceLine.{TraceLine}
+use Rattle.trace_line.specs.declared.line.TraceLine.{TraceLine}
 use Rattle.trace_reply.specs.declared.reply.Reply.{Reply}
 use Rattle.trace_reply.specs.Replies.{RepliedLine, AreReplies, receipts_in, lines_with_replies}
 use Rattle.run_model.specs.Processors.{processor_at, processors_after}

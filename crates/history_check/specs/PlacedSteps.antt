@@ -9,8 +9,8 @@ use Rattle.entry_model.specs.declared.receipt.Receipt.{Receipt}
 use Rattle.entry_model.specs.History.{place}
 use Rattle.hpt_walk.specs.Access.{AccessContext}
 use Rattle.papr_codes.specs.Hcalls.{hcall_of}
-use Rattle.trace_read.specs.declared.trace.Act.{Act}
-use Rattle.trace_read.specs.declared.trace.Act.TheVariants as acts
+use Rattle.trace_line.specs.declared.act.Act.{Act}
+use Rattle.trace_line.specs.declared.act.Act.TheVariants as acts
 use Rattle.run_model.specs.LineReplies.{hcall_plan}
 use Rattle.receipt_text.specs.declared.mark.Mark.{Mark}
 use Rattle.history_check.specs.declared.placed.PlacedStep.{PlacedStep}

@@ -1,5 +1,5 @@
 ghost use Rattle.std.specs.Prelude.{◌≡◌, ◌++◌, ◌∷◌, ℕ, List, true, IfOk, IfSome, IfNone};
-ghost use Rattle.trace_read.specs.Trace.{is_quiet};
+ghost use Rattle.trace_line.specs.Lines.{is_quiet};
 ghost use Rattle.reply_text.specs.Text.{reply_text};
 ghost use Rattle.history_check.specs.FoundSection.{ArePlain};
 ghost use Rattle.history_check.specs.Verdict.{IsVerdict};
@@ -8,7 +8,8 @@ use crate::judged_run::JudgedRun;
 use crate::verdict::Verdict;
 use reply_text::put_reply;
 use std::alloc::{AllocError, Global};
-use trace_read::{Trace, TraceLine};
+use trace_line::TraceLine;
+use trace_read::Trace;
 use trace_reply::Reply;
 
 /// The lines before the first quiet one, this one, and those behind it. `None` where none is quiet.

@@ -11,7 +11,7 @@ ghost use Rattle.history_check.specs.LineReply.{FitsText};
 use entry_model::{EntryState, Receipt};
 use reply_text::put_reply;
 use std::alloc::AllocError;
-use trace_read::TraceLine;
+use trace_line::TraceLine;
 use trace_reply::Reply;
 
 /// Whether the two states have the same parts.

@@ -1,6 +1,6 @@
 ghost use Rattle.std.specs.Prelude.{◌≡◌, ◌≤◌, ◌<◌, ◌+◌, ◌-◌, ◌^◌, ℕ, List, length, drop, map, replicate, true, None, IfOk, IfSome, IfNone, OnOk};
 ghost use Rattle.tlb_model.specs.Processor.{new_processor};
-ghost use Rattle.trace_read.specs.Trace.{is_quiet};
+ghost use Rattle.trace_line.specs.Lines.{is_quiet};
 ghost use Rattle.trace_reply.specs.declared.reply.Reply.{Reply};
 ghost use Rattle.trace_reply.specs.Replies.{lines_with_replies};
 ghost use Rattle.run_model.specs.RunState.{opening_run, run_quiet_line, run_resize, without_cache, is_success};
@@ -16,7 +16,8 @@ use papr_codes::{Hcall, Rc};
 use partition::Partition;
 use std::alloc::{AllocError, Global};
 use std::marker::Model;
-use trace_read::{Act, Config, TraceLine};
+use trace_line::{Act, TraceLine};
+use trace_read::Config;
 use trace_reply::Reply;
 
 /// What a run carries between two sections, as its replies tell of it.
@@ -120,7 +121,7 @@ impl JudgedRun {
     }
 
     /// The reply to a quiet line, as the run gives it.
-    #[tactic(auto, unfolding(run_model::specs::RunState::run_quiet_line, trace_read::specs::Trace::is_quiet))]
+    #[tactic(auto, unfolding(run_model::specs::RunState::run_quiet_line, trace_line::specs::Lines::is_quiet))]
     pub fn quiet(&mut self, alloc: Global, act: &Act) -> Result<Reply, AllocError>
         requires quiet { is_quiet act.now ≡ true }
         requires number { self.old.memory.table.number < 2 ^ 32 - 1 }

@@ -1,6 +1,6 @@
 ghost use Rattle.std.specs.Prelude.{◌≡◌, ◌<◌, ◌++◌, true, false, ℕ, List, IfOk, IfSome, IfNone};
 ghost use Rattle.entry_model.specs.Run.{state_at};
-ghost use Rattle.trace_read.specs.Trace.{is_quiet};
+ghost use Rattle.trace_line.specs.Lines.{is_quiet};
 ghost use Rattle.trace_reply.specs.declared.reply.Reply.{Reply};
 ghost use Rattle.reply_text.specs.Text.{reply_text};
 ghost use Rattle.run_model.specs.Processors.{processor_after};
@@ -15,7 +15,7 @@ use crate::line_reply::line_reply;
 use crate::processor::Processor;
 use entry_model::{EntryState, Line};
 use std::alloc::AllocError;
-use trace_read::TraceLine;
+use trace_line::TraceLine;
 
 /// Whether the entry of a cached line that was gone, if there was one, has left the line's stamp in
 /// these states.

@@ -13,7 +13,7 @@ use crate::processor::Processor;
 use entry_model::EntryState;
 use std::alloc::{AllocError, Global};
 use std::collections::HashMap;
-use trace_read::TraceLine;
+use trace_line::TraceLine;
 
 /// So many processors' fronts, none of which has left the states on which a section opened.
 fn opening_fronts(alloc: Global, count: usize) -> Result<Vec<Fronts>, AllocError>

@@ -5,7 +5,7 @@ ghost use Rattle.entry_model.specs.declared.access_reply.AccessReply.{AccessRepl
 ghost use Rattle.entry_model.specs.declared.access_reply.By.TheVariants.{Hit};
 ghost use Rattle.tlb_model.specs.Cache.{cached_line};
 ghost use Rattle.hpt_walk.specs.Access.{IsByWay};
-ghost use Rattle.trace_read.specs.Trace.{is_quiet};
+ghost use Rattle.trace_line.specs.Lines.{is_quiet};
 ghost use Rattle.trace_reply.specs.declared.reply.Reply.{Reply};
 ghost use Rattle.history_check.specs.Replay.{before_each};
 ghost use Rattle.history_check.specs.LineReply.{IsAccessOn, IsReplyTo, IsReplyOn, FitsText, FitsNoReply};
@@ -20,7 +20,7 @@ use hpt_walk::Request;
 use papr_codes::Hcall;
 use slb_model::{Segment, Slb};
 use std::alloc::AllocError;
-use trace_read::{Act, TraceLine};
+use trace_line::{Act, TraceLine};
 use trace_reply::Reply;
 
 /// Whether an `slbmte` of these words is accepted.

@@ -12,7 +12,7 @@ use papr_codes::Hcall;
 use receipt_text::Mark;
 use std::alloc::AllocError;
 use storage_prot::Want;
-use trace_read::Act;
+use trace_line::Act;
 
 /// What is kept of an operation: of an access only what it wants.
 fn step_op(op: &Op) -> Op

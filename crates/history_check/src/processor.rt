@@ -11,7 +11,7 @@ use power_addr::Page;
 use slb_model::{Segment, Slb};
 use std::marker::Model;
 use tlb_model::Tlb;
-use trace_read::Act;
+use trace_line::Act;
 use trace_reply::Reply;
 use vcpu::{kept_line, refill};
 

@@ -9,7 +9,7 @@ use crate::mark_steps::{named_receipts, put_steps};
 use crate::placed::PlacedStep;
 use receipt_text::{Mark, marks_of, split_at};
 use std::alloc::{AllocError, Global};
-use trace_read::TraceLine;
+use trace_line::TraceLine;
 
 /// The steps that the marks of a section's lines tell, and how many each line has.
 #[derive(Drop)]

@@ -13,7 +13,7 @@ use crate::processor::Processor;
 use crate::reading::read_section;
 use entry_model::EntryState;
 use std::alloc::{AllocError, Global};
-use trace_read::TraceLine;
+use trace_line::TraceLine;
 
 /// The pairs of stamp and number of bits of states.
 fn pairs_of(alloc: Global, states: &[EntryState]) -> Result<Vec<u64>, AllocError>

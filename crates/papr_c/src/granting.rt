@@ -4,7 +4,7 @@ ghost use Rattle.papr_c.specs.Grants.{listed, making_of, making_told, list_after
 
 use crate::grants::{PaprGrant, PaprGrants};
 use frame_grants::{GrantError, Grants, Kind};
-use h_enter::GrantedMemory;
+use page_grants::GrantedMemory;
 use pool_range::{PoolRange, RangeError};
 
 /// Why a list of grants wasn't made: the number of the refusal, or 0, and the index of the grant

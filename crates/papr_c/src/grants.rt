@@ -3,7 +3,7 @@ ghost use Rattle.frame_grants.specs.Grants.{holds};
 ghost use Rattle.papr_c.specs.Grants.{kind_of, grant_of, fields_at, listed, IsInOrder, AreListed};
 
 use frame_grants::{Grant, Kind};
-use h_enter::GrantedMemory;
+use page_grants::GrantedMemory;
 
 /// A range of the guest's logical addresses and the machine range behind it, in bytes.
 #[repr(C)]

@@ -8,7 +8,7 @@ use Rattle.std.proofs.lemmas.Bool.Decides.{nat_tests}
 use Rattle.std.proofs.lemmas.Nat.{div-mul-add, mod-mul-add, div-add-mod'}
 use Rattle.std.proofs.lemmas.Str.{digit_value-digit_char}
 use Rattle.std.proofs.Math.Nat.{div-eq_of_lt, mod-lt, mod-eq_of_lt, pow-zero}
-use Rattle.receipt_text.proofs.NumberSteps.{digits_onto-append, fewer}
+use Rattle.number_text.proofs.NumberSteps.{digits_onto-append, fewer}
 
 -- ---- one digit
 pub glyph_value : (d : ℕ) → d < 16 → digit_value (digit_glyph false d) ≡ d

@@ -9,7 +9,7 @@ use Rattle.std.proofs.lemmas.List.{append_cancel_right}
 use Rattle.entry_model.specs.declared.operation.Answer.{Answer}
 use Rattle.entry_model.specs.declared.operation.Answer.TheVariants as answers
 use Rattle.receipt_text.specs.declared.mark.Mark.{Mark}
-use Rattle.receipt_text.specs.Numbers.{hex}
+use Rattle.number_text.specs.Numbers.{hex}
 use Rattle.receipt_text.specs.Receipts.{answer_word, mark_text, mark_word}
 use Rattle.std.specs.Borrow.{Bor}
 use Rattle.receipt_text.specs.Cuts.{lacks, words_left}

@@ -9,9 +9,9 @@ use Rattle.std.specs.Str.{IsAscii}
 use Rattle.entry_model.specs.declared.operation.Answer.{Answer}
 use Rattle.entry_model.specs.declared.operation.Answer.TheVariants.{Entered, Taken, Removed, Protected, Was, Words, NotFound, NoMatch, Denied, At, Worn}
 use Rattle.entry_model.specs.declared.receipt.Receipt.{Receipt}
-use Rattle.receipt_text.specs.Numbers.{hex}
+use Rattle.number_text.specs.Numbers.{hex}
 use Rattle.receipt_text.specs.Receipts.{answer_word, bits_digit, receipt_text}
-use Rattle.receipt_text.proofs.NumberSteps.{decimal_IsAscii, hex_IsAscii}
+use Rattle.number_text.proofs.NumberSteps.{decimal_IsAscii, hex_IsAscii}
 use lib.Ieee.Fits.{and_l, and_r}
 
 abbrev are_ascii : List ℕ → Bool

@@ -1,5 +1,3 @@
-pub mod Room
-pub mod Numbers
 pub mod Receipts
 pub mod Cuts
 pub mod Marks

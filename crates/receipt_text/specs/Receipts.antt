@@ -7,7 +7,7 @@ use Rattle.entry_model.specs.declared.operation.Answer.{Answer}
 use Rattle.entry_model.specs.declared.operation.Answer.TheVariants.{Entered, Taken, Removed, Protected, Was, Words, NotFound, NoMatch, Denied, At, Worn}
 use Rattle.entry_model.specs.declared.receipt.Receipt.{Receipt}
 use Rattle.receipt_text.specs.declared.mark.Mark.{Mark}
-use Rattle.receipt_text.specs.Numbers.{hex}
+use Rattle.number_text.specs.Numbers.{hex}
 
 -- The word of an answer.
 abbrev pub answer_word : Answer → List ℕ

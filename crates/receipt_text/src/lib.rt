@@ -7,12 +7,10 @@ mod digits;
 mod laws;
 mod mark;
 mod marks;
-mod numbers;
 mod receipts;
 
 pub use cuts::split_at;
 pub use laws::receipts_are_read_back;
 pub use mark::{Mark, Marks};
 pub use marks::marks_of;
-pub use numbers::{put_decimal, put_hexadecimal, put_signed};
 pub use receipts::put_receipts;

@@ -2,7 +2,7 @@ ghost use Rattle.std.specs.Prelude.{◌≡◌, ◌<◌, ◌^◌, ℕ, List, IfSo
 ghost use Rattle.std.specs.Fmt.{decimal};
 ghost use Rattle.entry_model.specs.declared.operation.Answer.{Answer};
 ghost use Rattle.receipt_text.specs.declared.mark.Mark.{Mark};
-ghost use Rattle.receipt_text.specs.Numbers.{hex};
+ghost use Rattle.number_text.specs.Numbers.{hex};
 ghost use Rattle.receipt_text.specs.Receipts.{answer_word, mark_word};
 ghost use Rattle.receipt_text.specs.Marks.{AreSpelt, HasMarks, IsMark};
 

@@ -1,10 +1,10 @@
 ghost use Rattle.std.specs.Prelude.{◌≡◌, ◌≤◌, ◌+◌, ◌*◌, ◌++◌, length, drop, codes, OnOk, OnErr, string_bytes};
 ghost use Rattle.std.specs.Fmt.{decimal};
 ghost use Rattle.std.specs.Io.{StartsWith};
-ghost use Rattle.receipt_text.specs.Room.{TakesAtMost};
+ghost use Rattle.number_text.specs.Room.{TakesAtMost};
 ghost use Rattle.receipt_text.specs.Receipts.{answer_word, bits_digit, receipt_text, receipts_text};
 
-use crate::numbers::{write_hexadecimal, write_piece};
+use number_text::{write_hexadecimal, write_piece};
 use entry_model::{Answer, EntryState, Receipt};
 use itoa::write_digits;
 use std::alloc::AllocError;
@@ -75,7 +75,7 @@ fn put_receipt(out: &mut String, receipt: &Receipt) -> Result<(), AllocError>
 }
 
 /// The receipts of a reply, each behind a space, and a bar before the first.
-#[tactic(auto, using(crate::proofs::Prefixes::starts_before))]
+#[tactic(auto, using(number_text::proofs::Prefixes::starts_before))]
 pub fn put_receipts(out: &mut String, receipts: &[Receipt]) -> Result<(), AllocError>
     ensures text { OnOk
         result

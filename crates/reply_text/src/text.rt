@@ -4,15 +4,17 @@ ghost use Rattle.std.specs.Io.{StartsWith};
 ghost use Rattle.papr_codes.specs.ReturnCodes.{rc_code};
 ghost use Rattle.trace_reply.specs.Places.{reply_in};
 ghost use Rattle.trace_reply.specs.Replies.{is_dump};
-ghost use Rattle.receipt_text.specs.Room.{TakesAtMost};
+ghost use Rattle.number_text.specs.Room.{TakesAtMost};
 ghost use Rattle.reply_text.specs.Text.{want_word, name_of, head_text, word_text, code_text, hcall_text, outcome_text, way_text, access_text, verdict_text, entry_text, dump_head, table_text, dump_text, reply_text, text_from};
 
 use entry_model::{By, EntryState, Outcome, Receipts, ReplyWords};
 use papr_codes::{Hcall, Rc};
-use receipt_text::{put_decimal, put_hexadecimal, put_receipts, put_signed};
+use number_text::{put_decimal, put_hexadecimal, put_signed};
+use receipt_text::put_receipts;
 use std::alloc::{AllocError, Global};
 use storage_prot::Want;
-use trace_read::{Act, Trace, TraceLine};
+use trace_line::{Act, TraceLine};
+use trace_read::Trace;
 use trace_reply::{Replies, Reply, ReplyEnd, ReplyPlace, Shown};
 
 /// Room for the line of a reply that is no dump. It has at most 746 bytes: 42 as far as the name,

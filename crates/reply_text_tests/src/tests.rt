@@ -4,7 +4,8 @@ use reply_text::{put_reply, summary_of, text_of};
 use std::alloc::Global;
 use std::fmt::Write;
 use std::test::Fail;
-use trace_read::{Act, Trace, TraceError, TraceLine, parse};
+use trace_line::{Act, TraceLine};
+use trace_read::{Trace, TraceError, parse};
 use trace_reply::{Replies, Reply, Shown, ShownStates};
 
 /// Two lines, each of which needs no entry.

@@ -25,7 +25,7 @@ use Rattle.run_model.specs.ShownStores.{clears, stores, shows_changed, ShowsChan
 use Rattle.run_model.specs.CommittedResizes.{commits_by}
 use Rattle.run_model.specs.Landings.{IsLanding}
 use Rattle.papr_codes.specs.declared.calls.Hcall.TheVariants as calls
-use Rattle.trace_read.specs.declared.trace.Act.TheVariants as acts
+use Rattle.trace_line.specs.declared.act.Act.TheVariants as acts
 
 -- A bolted entry of the page of VSID 0x801 and index 1, at index 0 of a table of 2 ^ 18 bytes.
 entry : Bool → State

@@ -29,7 +29,7 @@ use Rattle.tlb_model.specs.CacheAfter.{kept_line, set_with, after_walk, cache_af
 use Rattle.tlb_model.specs.Processor.{Processor, new_processor}
 use Rattle.hpt_walk.proofs.Found.{found-on, found-off}
 use Rattle.hpt_walk.proofs.Walks.{walk_shown, walk_translates}
-use Rattle.trace_read.specs.declared.trace.Act.{Act}
+use Rattle.trace_line.specs.declared.act.Act.{Act}
 use Rattle.trace_reply.specs.declared.reply.Reply.{Reply}
 use Rattle.trace_reply.specs.Replies.{RepliedLine, receipts_in}
 use Rattle.run_model.specs.Processors.{processor_at, processor_after, processors_after}
@@ -38,7 +38,7 @@ use Rattle.run_model.proofs.Undisturbed.{IsUndisturbed}
 use Rattle.run_model.proofs.Each.{each_map, each_set, each_at}
 use Rattle.entry_model.specs.Reply.{AccessMode}
 use Rattle.entry_model.specs.declared.access_reply.Outcome.TheVariants as outcomes
-use Rattle.trace_read.specs.declared.trace.Act.TheVariants as acts
+use Rattle.trace_line.specs.declared.act.Act.TheVariants as acts
 use Rattle.trace_reply.specs.declared.reply.Reply.TheVariants as replies
 
 -- The line is of an entry of the table, its words translate its page, and it holds of the entry's state.

@@ -24,7 +24,7 @@ use Rattle.tlb_model.specs.Cache.{cached_line}
 use Rattle.tlb_model.specs.CacheAfter.{gone_line, gone_by_way}
 use Rattle.tlb_model.specs.Processor.{Processor}
 use Rattle.trace_read.specs.Trace.{AcceptedTrace}
-use Rattle.trace_read.specs.declared.trace.Act.{Act}
+use Rattle.trace_line.specs.declared.act.Act.{Act}
 use Rattle.trace_reply.specs.declared.reply.Reply.{Reply}
 use Rattle.trace_reply.specs.Replies.{RepliedLine, receipts_in}
 use Rattle.run_model.specs.Processors.{processor_at, processor_after, gone_line_of}
@@ -35,7 +35,7 @@ use Rattle.run_model.specs.Sections.{Section, section_end, sections_of}
 use Rattle.run_model.specs.GoodRun.{IsGoodRun, opening_states, AreInOrder, EachLineOfProcessor, IsAccessLine, AccessesAreReplied}
 use Rattle.run_model.specs.CachedAccesses.{IsByCurrentLine, UsesLine, line_in, UsesItsCache, AccessesUseCaches}
 use Rattle.run_model.proofs.OneProcessor.{first_events, left_high, left_rest, receipts_rest, pair_stamp}
-use Rattle.trace_read.specs.declared.trace.Act.TheVariants as acts
+use Rattle.trace_line.specs.declared.act.Act.TheVariants as acts
 use Rattle.trace_reply.specs.declared.reply.Reply.TheVariants as replies
 
 -- ---- hits

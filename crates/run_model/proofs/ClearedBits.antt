@@ -8,7 +8,7 @@ use Rattle.papr_codes.specs.declared.calls.Hcall.{Hcall}
 use Rattle.papr_codes.specs.declared.codes.Rc.{Rc}
 use Rattle.papr_codes.specs.Hcalls.{hcall_of}
 use Rattle.hpte_fields.specs.TableSize.{entry_count}
-use Rattle.hpte_fields.specs.Fields.{is_changed, with_rc, normal_words}
+use Rattle.hpte_fields.specs.Fields.{is_changed, with_rc}
 use Rattle.frame_grants.specs.declared.grant.Grant.{Grant}
 use Rattle.entry_model.specs.declared.operation.Answer.{Answer}
 use Rattle.entry_model.specs.declared.operation.Op.{Op}
@@ -17,14 +17,15 @@ use Rattle.entry_model.specs.declared.receipt.Receipt.{Receipt}
 use Rattle.entry_model.specs.declared.hreply.HReply.{HReply}
 use Rattle.entry_model.specs.Trial.{Call, IsTrial, Plan, IsReplyOf, plan_of_code, call}
 use Rattle.entry_model.proofs.PlanBounds.{each_call, trial_ops}
-use Rattle.h_enter.specs.Checks.{h_enter_plan, words_plan, suits_grants}
+use Rattle.page_grants.specs.Suited.{entered_words}
+use Rattle.h_enter.specs.Checks.{h_enter_plan, words_plan}
 use Rattle.h_enter.specs.Enter.{candidates, enter_plan}
 use Rattle.h_update.specs.Bulk.{h_bulk_remove_plan}
 use Rattle.h_update.proofs.Shown.{ShowsRemoved, removals_shown}
 use Rattle.h_update.specs.Single.{both_words, second_word, code_and_words, told_by, single_plan, remove_test, h_remove_plan, h_protect_plan, h_clear_ref_plan, h_clear_mod_plan, h_read_plan, read_entries}
 use Rattle.hpt_walk.specs.Access.{AccessContext}
 use Rattle.tlb_model.specs.Processor.{Processor}
-use Rattle.trace_read.specs.declared.trace.Act.{Act}
+use Rattle.trace_line.specs.declared.act.Act.{Act}
 use Rattle.trace_read.specs.Trace.{AcceptedTrace}
 use Rattle.trace_reply.specs.declared.reply.Reply.{Reply}
 use Rattle.trace_reply.specs.Replies.{RepliedLine}
@@ -39,7 +40,7 @@ use Rattle.papr_codes.specs.declared.calls.Hcall.TheVariants as calls
 use Rattle.papr_codes.specs.declared.codes.Rc.TheVariants as rc
 use Rattle.entry_model.specs.declared.operation.Answer.TheVariants as answers
 use Rattle.entry_model.specs.declared.operation.Op.TheVariants as ops
-use Rattle.trace_read.specs.declared.trace.Act.TheVariants as acts
+use Rattle.trace_line.specs.declared.act.Act.TheVariants as acts
 use Rattle.trace_reply.specs.declared.reply.Reply.TheVariants as replies
 
 -- ---- calls that clear nothing
@@ -57,13 +58,13 @@ plan_never : (h : Hcall) (plan : Plan) (reply : HReply) → CallsNeverClear plan
 plan_never h plan reply never is =
     each_map (λ (r : Receipt). NeverClears r.op) (ShowsWhatItClears h reply.words) reply.receipts (never_shows h reply.words) (trial_ops NeverClears plan.goes_on plan.calls reply.receipts never is.trial)
 
-words_never : (grants : List Grant) (flags ptex : ℕ) (words : Option (ℕ × ℕ)) → CallsNeverClear (words_plan grants flags ptex words).calls
-words_never grants flags ptex None = tt
-words_never grants flags ptex (Some w) = cond_both (suits_grants grants w.0 w.1) (enter_plan flags ptex w.0 w.1) (plan_of_code rc.Parameter) (λ (p : Plan). CallsNeverClear p.calls) (λ _. each_call NeverClears (ops.Enter w.0 w.1) (candidates flags ptex) (λ answer. refl)) (λ _. tt)
+words_never : (flags ptex : ℕ) (words : Option (ℕ × ℕ)) → CallsNeverClear (words_plan flags ptex words).calls
+words_never flags ptex None = tt
+words_never flags ptex (Some w) = each_call NeverClears (ops.Enter w.0 w.1) (candidates flags ptex) (λ answer. refl)
 
 enter_never : (order : ℕ) (grants : List Grant) (flags ptex pteh ptel : ℕ) → CallsNeverClear (h_enter_plan order grants flags ptex pteh ptel).calls
 unfolding h_enter_plan
-enter_never order grants flags ptex pteh ptel = cond_both (nat_lt ptex (entry_count order)) (words_plan grants flags ptex (normal_words pteh ptel)) (plan_of_code rc.Parameter) (λ (p : Plan). CallsNeverClear p.calls) (λ _. words_never grants flags ptex (normal_words pteh ptel)) (λ _. tt)
+enter_never order grants flags ptex pteh ptel = cond_both (nat_lt ptex (entry_count order)) (words_plan flags ptex (entered_words grants pteh ptel)) (plan_of_code rc.Parameter) (λ (p : Plan). CallsNeverClear p.calls) (λ _. words_never flags ptex (entered_words grants pteh ptel)) (λ _. tt)
 
 single_never : (order ptex : ℕ) (op : Op) (words : Receipt → List ℕ) → NeverClears op → CallsNeverClear (single_plan order ptex op words).calls
 single_never order ptex op words never = cond_both (nat_lt ptex (entry_count order)) (record { calls = call op ptex ∷ []; goes_on = λ answer. true; told = told_by words }) (plan_of_code rc.Parameter) (λ (p : Plan). CallsNeverClear p.calls) (λ _. (never, tt)) (λ _. tt)

@@ -16,8 +16,9 @@ use Rattle.entry_model.proofs.Sorted.{rises, flag, place_same}
 use Rattle.entry_model.proofs.RunHistory.{run_chain}
 use Rattle.hpt_walk.specs.Access.{AccessContext}
 use Rattle.tlb_model.specs.Processor.{Processor}
-use Rattle.trace_read.specs.declared.trace.TraceLine.{TraceLine}
-use Rattle.trace_read.specs.Trace.{AcceptedTrace, is_quiet, IsAccepted}
+use Rattle.trace_line.specs.declared.line.TraceLine.{TraceLine}
+use Rattle.trace_line.specs.Lines.{is_quiet}
+use Rattle.trace_read.specs.Trace.{AcceptedTrace, IsAccepted}
 use Rattle.trace_reply.specs.declared.reply.Reply.{Reply}
 use Rattle.trace_reply.specs.Replies.{RepliedLine, receipts_in, lines_with_replies}
 use Rattle.run_model.specs.Processors.{processor_at, processor_after, processors_after, gone_line_of}

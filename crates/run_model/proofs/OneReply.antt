@@ -24,9 +24,9 @@ use Rattle.hpt_walk.specs.Access.{AccessContext, outcome_of, hit_calls, IsByWay,
 use Rattle.hpt_walk.specs.declared.request.Request.{Request}
 use Rattle.tlb_model.specs.CacheAfter.{gone_by_way, gone_line}
 use Rattle.tlb_model.specs.Processor.{Processor}
-use Rattle.trace_read.specs.declared.trace.Act.{Act}
-use Rattle.trace_read.specs.declared.trace.TraceLine.{TraceLine}
-use Rattle.trace_read.specs.Trace.{is_quiet}
+use Rattle.trace_line.specs.declared.act.Act.{Act}
+use Rattle.trace_line.specs.declared.line.TraceLine.{TraceLine}
+use Rattle.trace_line.specs.Lines.{is_quiet}
 use Rattle.trace_reply.specs.declared.reply.Reply.{Reply}
 use Rattle.trace_reply.specs.Replies.{RepliedLine, receipts_in, AreReplies, lines_with_replies}
 use Rattle.run_model.specs.Processors.{processor_at, processors_after, gone_line_of}
@@ -36,7 +36,7 @@ use Rattle.hpt_resize.specs.TableMemory.{with_states}
 use Rattle.run_model.specs.SerialRun.{is_current, current_line, access_result, result_by_line, result_by_segment, call_result, line_result, with_result, run_line, replies_from}
 use Rattle.run_model.proofs.Undisturbed.{IsUndisturbed, state_behind, Stands}
 use Rattle.run_model.specs.Sections.{cut, cut_before}
-use Rattle.trace_read.specs.declared.trace.Act.TheVariants as acts
+use Rattle.trace_line.specs.declared.act.Act.TheVariants as acts
 use Rattle.trace_reply.specs.declared.reply.Reply.TheVariants as replies
 
 -- The line's entry has left its stamp.

@@ -10,7 +10,7 @@ use Rattle.entry_model.specs.State.{State, empty_state}
 use Rattle.entry_model.specs.declared.receipt.Receipt.{Receipt}
 use Rattle.h_update.specs.Single.{h_read_plan}
 use Rattle.tlb_model.specs.Processor.{new_processor}
-use Rattle.trace_read.specs.declared.trace.Act.TheVariants.{Call}
+use Rattle.trace_line.specs.declared.act.Act.TheVariants.{Call}
 use Rattle.run_model.specs.LineReplies.{hcall_plan}
 use Rattle.run_model.specs.Sections.{receipts_made}
 use Rattle.trace_reply.specs.Replies.{RepliedLine}

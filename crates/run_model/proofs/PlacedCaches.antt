@@ -36,7 +36,7 @@ use Rattle.hpt_walk.specs.Translations.{StandsInItsGroup}
 use Rattle.hpt_walk.proofs.Found.{found-on, found-off}
 use Rattle.hpt_walk.proofs.Granted.{access_lands}
 use Rattle.hpt_walk.proofs.PageUses.{walks_use, hits_use}
-use Rattle.trace_read.specs.declared.trace.Act.{Act}
+use Rattle.trace_line.specs.declared.act.Act.{Act}
 use Rattle.trace_reply.specs.declared.reply.Reply.{Reply}
 use Rattle.trace_reply.specs.Replies.{RepliedLine, receipts_in}
 use Rattle.hpt_resize.specs.TableMemory.{TableMemory, commit_result}
@@ -54,7 +54,7 @@ use Rattle.run_model.proofs.Resized.{memory_moves, Moves}
 use Rattle.papr_codes.specs.declared.calls.Hcall.TheVariants as calls
 use Rattle.entry_model.specs.declared.operation.Answer.TheVariants as answers
 use Rattle.entry_model.specs.declared.access_reply.Outcome.TheVariants as outcomes
-use Rattle.trace_read.specs.declared.trace.Act.TheVariants as acts
+use Rattle.trace_line.specs.declared.act.Act.TheVariants as acts
 use Rattle.trace_reply.specs.declared.reply.Reply.TheVariants as replies
 
 -- ---- the page of a segment

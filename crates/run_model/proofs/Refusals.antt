@@ -6,7 +6,7 @@ use Rattle.std.proofs.lemmas.Bool.{cases_Bool, cond_both, false≢true}
 use Rattle.papr_codes.specs.declared.calls.Hcall.{Hcall}
 use Rattle.papr_codes.specs.declared.codes.Rc.{Rc}
 use Rattle.hpte_fields.specs.TableSize.{entry_count}
-use Rattle.hpte_fields.specs.Fields.{normal_words, protected_word}
+use Rattle.hpte_fields.specs.Fields.{protected_word}
 use Rattle.frame_grants.specs.declared.grant.Grant.{Grant}
 use Rattle.entry_model.specs.State.{State, empty_state}
 use Rattle.entry_model.specs.declared.operation.Answer.{Answer}
@@ -17,7 +17,8 @@ use Rattle.entry_model.specs.Receipt.{after_of, is_at, is_taken, is_worn}
 use Rattle.entry_model.specs.Reply.{reply_of, change_to, change_where, entered_state, is_found}
 use Rattle.entry_model.specs.Trial.{Call, IsTrial, Plan, IsReplyOf, plan_of_code, call}
 use Rattle.entry_model.proofs.OperationLaws.{access_undone}
-use Rattle.h_enter.specs.Checks.{h_enter_plan, words_plan, suits_grants}
+use Rattle.page_grants.specs.Suited.{entered_words}
+use Rattle.h_enter.specs.Checks.{h_enter_plan, words_plan}
 use Rattle.h_enter.specs.Enter.{candidates, enter_plan, enter_told, told_by_ending}
 use Rattle.h_update.specs.Bulk.{h_bulk_remove_plan}
 use Rattle.h_update.specs.Single.{both_words, second_word, code_and_words, told_by, single_plan, remove_test, protect_test, h_remove_plan, h_protect_plan, h_clear_ref_plan, h_clear_mod_plan, h_read_plan, read_entries}
@@ -127,15 +128,14 @@ tried_without : (flags ptex dword0 dword1 : ℕ) → RefusedWithout (enter_plan 
 tried_without flags ptex dword0 dword1 reply is refused =
     entered_without (map (call (ops.Enter dword0 dword1)) (candidates flags ptex)) reply.receipts is.trial (code_of (enter_plan flags ptex dword0 dword1) reply is refused)
 
-words_without : (grants : List Grant) (flags ptex : ℕ) (words : Option (ℕ × ℕ)) → RefusedWithout (words_plan grants flags ptex words)
-words_without grants flags ptex None = answered_without rc.Parameter
-words_without grants flags ptex (Some w) =
-    cond_both (suits_grants grants w.0 w.1) (enter_plan flags ptex w.0 w.1) (plan_of_code rc.Parameter) RefusedWithout (λ _. tried_without flags ptex w.0 w.1) (λ _. answered_without rc.Parameter)
+words_without : (flags ptex : ℕ) (words : Option (ℕ × ℕ)) → RefusedWithout (words_plan flags ptex words)
+words_without flags ptex None = answered_without rc.Parameter
+words_without flags ptex (Some w) = tried_without flags ptex w.0 w.1
 
 enter_without : (order : ℕ) (grants : List Grant) (flags ptex pteh ptel : ℕ) → RefusedWithout (h_enter_plan order grants flags ptex pteh ptel)
 unfolding h_enter_plan
 enter_without order grants flags ptex pteh ptel =
-    cond_both (nat_lt ptex (entry_count order)) (words_plan grants flags ptex (normal_words pteh ptel)) (plan_of_code rc.Parameter) RefusedWithout (λ _. words_without grants flags ptex (normal_words pteh ptel)) (λ _. answered_without rc.Parameter)
+    cond_both (nat_lt ptex (entry_count order)) (words_plan flags ptex (entered_words grants pteh ptel)) (plan_of_code rc.Parameter) RefusedWithout (λ _. words_without flags ptex (entered_words grants pteh ptel)) (λ _. answered_without rc.Parameter)
 
 -- ---- calls on one entry
 coded_without : (answer : Answer) (words : List ℕ) → is_refusal (code_and_words answer words).0 ≡ true → is_change answer ≡ false

@@ -35,7 +35,7 @@ use Rattle.tlb_model.specs.Cache.{is_of, line_of_page, without_page, set_number,
 use Rattle.tlb_model.specs.CacheAfter.{kept_line, after_walk, cache_after, gone_by_way}
 use Rattle.tlb_model.specs.Processor.{Processor}
 use Rattle.tlb_model.specs.Sets.{with_set}
-use Rattle.trace_read.specs.declared.trace.Act.{Act}
+use Rattle.trace_line.specs.declared.act.Act.{Act}
 use Rattle.trace_read.specs.Trace.{AcceptedTrace, IsAccepted}
 use Rattle.trace_reply.specs.declared.reply.Reply.{Reply}
 use Rattle.trace_reply.specs.Replies.{RepliedLine}
@@ -48,7 +48,7 @@ use Rattle.run_model.specs.Landings.{Lands, LandsByItsEntry, AccessesLand}
 use Rattle.run_model.specs.RefusedCalls.{ends_at, is_refused, LeavesEntry, LeavesAll, RefusedLinesLeave, cache_without}
 use Rattle.run_model.proofs.AllSafe.{accesses_land}
 use Rattle.run_model.proofs.Refusals.{hcall_leaves}
-use Rattle.trace_read.specs.declared.trace.Act.TheVariants as acts
+use Rattle.trace_line.specs.declared.act.Act.TheVariants as acts
 use Rattle.trace_reply.specs.declared.reply.Reply.TheVariants as replies
 
 -- ---- the receipts of an access

@@ -12,7 +12,7 @@ use Rattle.hpt_resize.specs.Rehash.{collision_of}
 use Rattle.hpt_resize.specs.Pending.{PendingTable, no_entries, is_ready, with_more_ready}
 use Rattle.hpt_resize.specs.Resize.{PrepareOutcome, prepare_outcome, is_prepare_request, pool_without, is_pending, new_table_outcome, start_outcome, advance_outcome, outcome_of_prepare, CommitOutcome, is_commit_request, pending_refusal, commit_refusal, carry_outcome, complete_outcome, answer_outcome, outcome_of_commit}
 use Rattle.hpt_resize.specs.TableMemory.{TableMemory, prepare_result, commit_result}
-use Rattle.trace_read.specs.declared.trace.Act.{Act}
+use Rattle.trace_line.specs.declared.act.Act.{Act}
 use Rattle.trace_read.specs.Trace.{AcceptedTrace}
 use Rattle.trace_reply.specs.declared.reply.Reply.{Reply}
 use Rattle.trace_reply.specs.Replies.{RepliedLine, lines_with_replies}
@@ -22,7 +22,7 @@ use Rattle.run_model.specs.GoodRun.{QuietIsReplied, IsGoodRun}
 use Rattle.run_model.specs.RefusedCalls.{is_refusal, is_refused, drops_pending, memory_left, FoundNone, LeavesRun, RefusedQuietLinesLeave}
 use Rattle.papr_codes.specs.declared.calls.Hcall.TheVariants as calls
 use Rattle.papr_codes.specs.declared.codes.Rc.TheVariants as rc
-use Rattle.trace_read.specs.declared.trace.Act.TheVariants as acts
+use Rattle.trace_line.specs.declared.act.Act.TheVariants as acts
 
 -- ---- prepare
 -- The outcome at memory: where it is a refusal, what is left, and that a table was dropped only for one of another order.

@@ -10,16 +10,17 @@ use Rattle.entry_model.specs.State.{State, empty_state}
 use Rattle.entry_model.specs.declared.receipt.Receipt.{Receipt}
 use Rattle.entry_model.specs.Receipt.{receipt_of, after_of}
 use Rattle.entry_model.specs.Trial.{trial_run, plan_run}
-use Rattle.h_enter.specs.Checks.{suits_grants, h_enter_plan}
+use Rattle.page_grants.specs.Suited.{suits_grants}
+use Rattle.h_enter.specs.Checks.{h_enter_plan}
 use Rattle.h_enter.specs.Enter.{candidates}
 use Rattle.h_update.specs.Bulk.{asked_by, bulk_calls, bulk_told, h_bulk_remove_plan}
 use Rattle.hpt_resize.specs.Resize.{outcome_of_prepare}
 use Rattle.hpt_resize.specs.TableMemory.{prepare_result}
 use Rattle.tlb_model.specs.Processor.{new_processor}
-use Rattle.trace_read.specs.declared.trace.Act.{Act}
-use Rattle.trace_read.specs.declared.trace.Act.TheVariants.{Call, SlbMte}
-use Rattle.trace_read.specs.declared.trace.TraceLine.{TraceLine}
-use Rattle.trace_read.specs.Trace.{is_quiet}
+use Rattle.trace_line.specs.declared.act.Act.{Act}
+use Rattle.trace_line.specs.declared.act.Act.TheVariants.{Call, SlbMte}
+use Rattle.trace_line.specs.declared.line.TraceLine.{TraceLine}
+use Rattle.trace_line.specs.Lines.{is_quiet}
 use Rattle.trace_reply.specs.declared.reply.Reply.{Reply}
 use Rattle.run_model.specs.LineReplies.{hcall_plan}
 use Rattle.run_model.specs.RunState.{RunState, reply_of_code, run_resize, run_quiet_line}

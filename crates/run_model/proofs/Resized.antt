@@ -17,13 +17,13 @@ use Rattle.hpt_resize.specs.Resize.{Table, is_commit_request, pending_refusal, c
 use Rattle.hpt_resize.specs.TableMemory.{TableMemory, commit_result}
 use Rattle.hpt_resize.proofs.Groups.{carried_is, page_goes, target_page}
 use Rattle.hpt_resize.proofs.Rehashed.{rehashed_placed, source_in_table, source_of}
-use Rattle.trace_read.specs.declared.trace.Act.{Act}
+use Rattle.trace_line.specs.declared.act.Act.{Act}
 use Rattle.run_model.specs.RunState.{RunState, is_success, run_resize, run_quiet_line}
 use Rattle.run_model.specs.CommittedResizes.{commits_call, commits_by}
 use Rattle.hpt_resize.specs.Translations.{KeepsTranslations}
 use Rattle.run_model.proofs.Memories.{MemoryStands, memory_prepared, prepare_table, memory_committed}
 use Rattle.papr_codes.specs.declared.calls.Hcall.TheVariants as calls
-use Rattle.trace_read.specs.declared.trace.Act.TheVariants as acts
+use Rattle.trace_line.specs.declared.act.Act.TheVariants as acts
 
 -- ---- a committed resize
 -- The new table has the next number, no two entries met, and it holds what was carried.

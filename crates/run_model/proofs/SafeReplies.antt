@@ -24,7 +24,7 @@ use Rattle.tlb_model.specs.Cache.{cached_line}
 use Rattle.entry_model.specs.Trial.{Call, IsTrial, IsReplyOf, call}
 use Rattle.entry_model.proofs.Heights.{weight, calls_cost, trial_weight, cost_append}
 use Rattle.entry_model.proofs.PlanBounds.{EntersOnly, IsTame, IsTameReply, answered_tame, tame_reply, trial_ops, each_call, entries_cost}
-use Rattle.h_enter.specs.Checks.{suits_grants, suits_size, suits_kind}
+use Rattle.page_grants.specs.Suited.{suits_grants, suits_size, suits_kind}
 use Rattle.h_enter.proofs.Suited.{IsSuited, h_enter_tame}
 use Rattle.h_update.proofs.Tame.{h_remove_tame, h_protect_tame, h_read_tame, h_clear_ref_tame, h_clear_mod_tame, h_bulk_remove_tame}
 use Rattle.slb_model.specs.declared.segment.Segment.{Segment}
@@ -34,7 +34,7 @@ use Rattle.hpt_walk.specs.Access.{AccessContext, hit_calls, IsByWay, IsAccessRep
 use Rattle.hpt_walk.specs.declared.request.Request.{Request}
 use Rattle.tlb_model.specs.Processor.{Processor}
 use Rattle.hpt_walk.proofs.Granted.{IsGrantedPage, IsGrantedWords}
-use Rattle.trace_read.specs.declared.trace.Act.{Act}
+use Rattle.trace_line.specs.declared.act.Act.{Act}
 use Rattle.trace_reply.specs.declared.reply.Reply.{Reply}
 use Rattle.trace_reply.specs.Replies.{IsOfKind, receipts_in}
 use Rattle.run_model.specs.LineReplies.{hcall_plan, IsCallReply, IsReplyToAccess}
@@ -44,7 +44,7 @@ use Rattle.run_model.proofs.LowStamps.{top, EnterGranted, FromLowStamp, none_wor
 use Rattle.papr_codes.specs.declared.calls.Hcall.TheVariants as calls
 use Rattle.papr_codes.specs.declared.codes.Rc.TheVariants as rc
 use Rattle.entry_model.specs.declared.operation.Op.TheVariants as ops
-use Rattle.trace_read.specs.declared.trace.Act.TheVariants as acts
+use Rattle.trace_line.specs.declared.act.Act.TheVariants as acts
 use Rattle.trace_reply.specs.declared.reply.Reply.TheVariants as replies
 
 -- ---- words that H_ENTER accepts have a granted page

@@ -20,7 +20,7 @@ use Rattle.hpt_walk.specs.Access.{AccessContext}
 use Rattle.tlb_model.specs.Processor.{Processor}
 use Rattle.papr_codes.specs.Hcalls.{hcall_of}
 use Rattle.papr_codes.specs.declared.calls.Hcall.{Hcall}
-use Rattle.trace_read.specs.declared.trace.Act.{Act}
+use Rattle.trace_line.specs.declared.act.Act.{Act}
 use Rattle.trace_reply.specs.Replies.{RepliedLine, receipts_in}
 use Rattle.run_model.specs.Processors.{processor_at, processor_after, processors_after, gone_line_of}
 use Rattle.run_model.specs.LineReplies.{IsCallReply}
@@ -33,7 +33,7 @@ use Rattle.run_model.specs.GoodRun.{AreLegal, AreInOrder, EachLineOfProcessor, C
 use Rattle.run_model.proofs.Undisturbed.{AreUndisturbed, Stands, state_behind, processors_on}
 use Rattle.run_model.proofs.LinesByProcessor.{Cpus, InFileOrder, own_yes, own_no, processor_own, processor_other, processors_size, cpus_after, own_lines, own_processors, file_listed}
 use Rattle.papr_codes.specs.declared.calls.Hcall.TheVariants as calls
-use Rattle.trace_read.specs.declared.trace.Act.TheVariants as acts
+use Rattle.trace_line.specs.declared.act.Act.TheVariants as acts
 
 -- ---- the receipts of all lines
 pub replied_lines_run : (set : AccessContext) (processors : List Processor) (a b : List State) (ts : List RepliedLine) → AreUndisturbed set processors a ts b → IsRun a (receipts_by ts) b

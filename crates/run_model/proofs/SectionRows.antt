@@ -24,9 +24,9 @@ use Rattle.hpt_resize.specs.Resize.{outcome_of_prepare, outcome_of_commit}
 use Rattle.hpt_pool.specs.Pool.{lowest_place, multiples, taken_with, taken_without}
 use Rattle.tlb_model.specs.CacheAfter.{after_walk}
 use Rattle.tlb_model.specs.Processor.{Processor, new_processor}
-use Rattle.trace_read.specs.declared.trace.Act.{Act}
-use Rattle.trace_read.specs.declared.trace.Act.TheVariants.{Call, Access, SlbMte, Dump}
-use Rattle.trace_read.specs.Trace.{is_quiet}
+use Rattle.trace_line.specs.declared.act.Act.{Act}
+use Rattle.trace_line.specs.declared.act.Act.TheVariants.{Call, Access, SlbMte, Dump}
+use Rattle.trace_line.specs.Lines.{is_quiet}
 use Rattle.trace_reply.specs.declared.reply.Reply.{Reply}
 use Rattle.run_model.specs.GoodRun.{IsAccessLine}
 use Rattle.run_model.specs.Histories.{made, gone, closing_states, events_by}

@@ -14,9 +14,10 @@ use Rattle.slb_model.specs.Buffer.{segment_of}
 use Rattle.hpt_walk.specs.Access.{AccessContext, request}
 use Rattle.hpt_walk.specs.declared.request.Request.{Request}
 use Rattle.tlb_model.specs.Processor.{Processor, new_processor}
-use Rattle.trace_read.specs.declared.trace.Act.{Act}
-use Rattle.trace_read.specs.declared.trace.TraceLine.{TraceLine}
-use Rattle.trace_read.specs.Trace.{AcceptedTrace, is_quiet, IsAccepted}
+use Rattle.trace_line.specs.declared.act.Act.{Act}
+use Rattle.trace_line.specs.declared.line.TraceLine.{TraceLine}
+use Rattle.trace_line.specs.Lines.{is_quiet}
+use Rattle.trace_read.specs.Trace.{AcceptedTrace, IsAccepted}
 use Rattle.trace_reply.specs.declared.reply.Reply.{Reply}
 use Rattle.trace_reply.specs.Replies.{RepliedLine, IsOfKind, AreReplies, lines_with_replies}
 use Rattle.run_model.specs.Processors.{processor_at}
@@ -30,7 +31,7 @@ use Rattle.run_model.proofs.CachesHold.{ProcessorFresh, empty_fresh}
 use Rattle.run_model.proofs.SerialUndisturbed.{SoundRunState, serial_stands}
 use Rattle.run_model.proofs.SectionGood.{AllCpus, sections_good}
 use Rattle.papr_codes.specs.declared.calls.Hcall.TheVariants as calls
-use Rattle.trace_read.specs.declared.trace.Act.TheVariants as acts
+use Rattle.trace_line.specs.declared.act.Act.TheVariants as acts
 
 -- ---- kinds
 line_kind : (set : AccessContext) (states : List State) (seg : Segment) (a : Request) (c : Option Line) → IsOfKind (acts.Access a.want a.ea a.user) (result_by_line set states seg a c).0

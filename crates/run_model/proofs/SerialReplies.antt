@@ -37,9 +37,9 @@ use Rattle.tlb_model.specs.CacheAfter.{gone_by_way, gone_line}
 use Rattle.tlb_model.specs.Processor.{Processor}
 use Rattle.hpt_walk.proofs.Walks.{group_in_table}
 use Rattle.hpt_walk.proofs.Decided.{line_matches}
-use Rattle.trace_read.specs.declared.trace.Act.{Act}
-use Rattle.trace_read.specs.declared.trace.TraceLine.{TraceLine}
-use Rattle.trace_read.specs.Trace.{is_quiet}
+use Rattle.trace_line.specs.declared.act.Act.{Act}
+use Rattle.trace_line.specs.declared.line.TraceLine.{TraceLine}
+use Rattle.trace_line.specs.Lines.{is_quiet}
 use Rattle.trace_reply.specs.declared.reply.Reply.{Reply}
 use Rattle.trace_reply.specs.Replies.{receipts_in}
 use Rattle.run_model.specs.Processors.{processor_at, gone_line_of}
@@ -50,7 +50,7 @@ use Rattle.run_model.proofs.Each.{each_append}
 use Rattle.run_model.proofs.CachesHold.{IsFresh, ProcessorFresh, IsSound, processor_fresh}
 use Rattle.run_model.proofs.OneReply.{IsPassed}
 use Rattle.papr_codes.specs.declared.calls.Hcall.TheVariants as calls
-use Rattle.trace_read.specs.declared.trace.Act.TheVariants as acts
+use Rattle.trace_line.specs.declared.act.Act.TheVariants as acts
 use Rattle.trace_reply.specs.declared.reply.Reply.TheVariants as replies
 
 -- ---- each line's calls are of entries of the table

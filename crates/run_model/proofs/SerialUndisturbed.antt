@@ -11,9 +11,9 @@ use Rattle.entry_model.specs.State.{State}
 use Rattle.hpt_resize.specs.Resize.{Table}
 use Rattle.hpt_resize.specs.TableMemory.{TableMemory, prepare_result, commit_result}
 use Rattle.tlb_model.specs.Processor.{Processor}
-use Rattle.trace_read.specs.declared.trace.Act.{Act}
-use Rattle.trace_read.specs.declared.trace.TraceLine.{TraceLine}
-use Rattle.trace_read.specs.Trace.{is_quiet}
+use Rattle.trace_line.specs.declared.act.Act.{Act}
+use Rattle.trace_line.specs.declared.line.TraceLine.{TraceLine}
+use Rattle.trace_line.specs.Lines.{is_quiet}
 use Rattle.trace_reply.specs.declared.reply.Reply.{Reply}
 use Rattle.trace_reply.specs.Replies.{RepliedLine, lines_with_replies}
 use Rattle.run_model.specs.Processors.{processor_at, processors_after}
@@ -27,7 +27,7 @@ use Rattle.run_model.proofs.CachesHold.{no_cache, IsSound, ProcessorFresh, sound
 use Rattle.run_model.proofs.SerialReplies.{replied_line_meets}
 use Rattle.run_model.proofs.OneReply.{next}
 use Rattle.papr_codes.specs.declared.calls.Hcall.TheVariants as calls
-use Rattle.trace_read.specs.declared.trace.Act.TheVariants as acts
+use Rattle.trace_line.specs.declared.act.Act.TheVariants as acts
 
 -- What stands between two lines.
 pub record SoundRunState (w : RunState) : Type 0 where

@@ -5,8 +5,8 @@ use Rattle.storage_prot.specs.declared.want.Want.{Want}
 use Rattle.entry_model.specs.State.{State, empty_state}
 use Rattle.hpt_resize.specs.TableMemory.{TableMemory}
 use Rattle.tlb_model.specs.Processor.{new_processor}
-use Rattle.trace_read.specs.declared.trace.TraceLine.{TraceLine}
-use Rattle.trace_read.specs.declared.trace.Act.TheVariants.{Call, Access, SlbMte}
+use Rattle.trace_line.specs.declared.line.TraceLine.{TraceLine}
+use Rattle.trace_line.specs.declared.act.Act.TheVariants.{Call, Access, SlbMte}
 use Rattle.run_model.specs.RunState.{RunState}
 
 -- A table with these states, and a pool of four blocks of 2 ^ 18 bytes.

@@ -3,7 +3,7 @@ use Rattle.std.specs.Prelude.{◌≡◌, Bool, true, false, not, List, [], ◌�
 use Rattle.papr_codes.specs.declared.calls.Hcall.{Hcall}
 use Rattle.papr_codes.specs.Hcalls.{hcall_of}
 use Rattle.hpt_resize.specs.Resize.{Table}
-use Rattle.trace_read.specs.declared.trace.Act.{Act}
+use Rattle.trace_line.specs.declared.act.Act.{Act}
 use Rattle.trace_reply.specs.declared.reply.Reply.{Reply}
 use Rattle.trace_reply.specs.Replies.{RepliedLine}
 use Rattle.run_model.specs.RunState.{is_success}
@@ -11,7 +11,7 @@ use Rattle.run_model.specs.Sections.{Section, section_end}
 use Rattle.run_model.specs.ShownStores.{has_table_of}
 use Rattle.hpt_resize.specs.Translations.{KeepsTranslations}
 use Rattle.papr_codes.specs.declared.calls.Hcall.TheVariants as calls
-use Rattle.trace_read.specs.declared.trace.Act.TheVariants as acts
+use Rattle.trace_line.specs.declared.act.Act.TheVariants as acts
 use Rattle.trace_reply.specs.declared.reply.Reply.TheVariants as replies
 
 -- ---- commits

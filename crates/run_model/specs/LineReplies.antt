@@ -10,12 +10,12 @@ use Rattle.slb_model.specs.Refusals.{mte_refusal}
 use Rattle.slb_model.specs.Buffer.{segment_of}
 use Rattle.hpt_walk.specs.Access.{AccessContext, IsAccessReply, request}
 use Rattle.tlb_model.specs.Processor.{Processor}
-use Rattle.trace_read.specs.declared.trace.Act.{Act}
+use Rattle.trace_line.specs.declared.act.Act.{Act}
 use Rattle.trace_reply.specs.declared.reply.Reply.{Reply}
 use Rattle.tlb_model.specs.Cache.{cached_line}
 use Rattle.papr_codes.specs.declared.calls.Hcall.TheVariants as calls
 use Rattle.papr_codes.specs.declared.codes.Rc.TheVariants as rc
-use Rattle.trace_read.specs.declared.trace.Act.TheVariants as acts
+use Rattle.trace_line.specs.declared.act.Act.TheVariants as acts
 use Rattle.trace_reply.specs.declared.reply.Reply.TheVariants as replies
 
 -- What a hypervisor call on entries with these arguments does. A number that is none of them is answered H_FUNCTION.

@@ -7,10 +7,10 @@ use Rattle.slb_model.specs.Refusals.{mte_refusal}
 use Rattle.slb_model.specs.Buffer.{no_slots, slots_after, segment_of}
 use Rattle.tlb_model.specs.CacheAfter.{cache_after, gone_line}
 use Rattle.tlb_model.specs.Processor.{Processor, new_processor}
-use Rattle.trace_read.specs.declared.trace.Act.{Act}
+use Rattle.trace_line.specs.declared.act.Act.{Act}
 use Rattle.trace_reply.specs.declared.reply.Reply.{Reply}
 use Rattle.trace_reply.specs.Replies.{RepliedLine}
-use Rattle.trace_read.specs.declared.trace.Act.TheVariants as acts
+use Rattle.trace_line.specs.declared.act.Act.TheVariants as acts
 use Rattle.trace_reply.specs.declared.reply.Reply.TheVariants as replies
 
 -- The processor of a number; beyond the last, a new one.

@@ -14,7 +14,7 @@ use Rattle.hpt_resize.specs.TableMemory.{TableMemory, with_states}
 use Rattle.tlb_model.specs.Cache.{set_of, without_page}
 use Rattle.tlb_model.specs.Processor.{Processor}
 use Rattle.tlb_model.specs.Sets.{with_set}
-use Rattle.trace_read.specs.declared.trace.Act.{Act}
+use Rattle.trace_line.specs.declared.act.Act.{Act}
 use Rattle.trace_reply.specs.declared.reply.Reply.{Reply}
 use Rattle.trace_reply.specs.Replies.{receipts_in}
 use Rattle.run_model.specs.Processors.{processor_after, gone_line_of}
@@ -25,7 +25,7 @@ use Rattle.papr_codes.specs.declared.calls.Hcall.TheVariants as calls
 use Rattle.papr_codes.specs.declared.codes.Rc.TheVariants as rc
 use Rattle.entry_model.specs.declared.access_reply.Outcome.TheVariants as outcomes
 use Rattle.entry_model.specs.declared.operation.Answer.TheVariants as answers
-use Rattle.trace_read.specs.declared.trace.Act.TheVariants as acts
+use Rattle.trace_line.specs.declared.act.Act.TheVariants as acts
 use Rattle.trace_reply.specs.declared.reply.Reply.TheVariants as replies
 
 -- ---- what is refused

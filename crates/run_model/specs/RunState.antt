@@ -10,13 +10,13 @@ use Rattle.hpt_resize.specs.TableMemory.{TableMemory, opening_memory, prepare_re
 use Rattle.hpt_walk.specs.Access.{AccessContext, access_context}
 use Rattle.tlb_model.specs.Processor.{Processor, new_processor}
 use Rattle.trace_read.specs.Configuration.{Configuration}
-use Rattle.trace_read.specs.declared.trace.Act.{Act}
+use Rattle.trace_line.specs.declared.act.Act.{Act}
 use Rattle.trace_reply.specs.declared.shown.Shown.{Shown}
 use Rattle.trace_reply.specs.declared.reply.Reply.{Reply}
 use Rattle.entry_model.specs.Trial.{plan_of_code, reply_by}
 use Rattle.papr_codes.specs.declared.calls.Hcall.TheVariants as calls
 use Rattle.papr_codes.specs.declared.codes.Rc.TheVariants as rc
-use Rattle.trace_read.specs.declared.trace.Act.TheVariants as acts
+use Rattle.trace_line.specs.declared.act.Act.TheVariants as acts
 use Rattle.trace_reply.specs.declared.reply.Reply.TheVariants as replies
 
 -- The granted memory, the tables and their pool, and the processors.

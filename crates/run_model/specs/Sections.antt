@@ -2,7 +2,8 @@
 use Rattle.std.specs.Prelude.{ℕ, suc, List, [], ◌∷◌, Option, Some, None, length, if◌then◌else◌}
 use Rattle.entry_model.specs.declared.receipt.Receipt.{Receipt}
 use Rattle.tlb_model.specs.Processor.{Processor}
-use Rattle.trace_read.specs.Trace.{AcceptedTrace, is_quiet}
+use Rattle.trace_line.specs.Lines.{is_quiet}
+use Rattle.trace_read.specs.Trace.{AcceptedTrace}
 use Rattle.trace_reply.specs.declared.reply.Reply.{Reply}
 use Rattle.trace_reply.specs.Replies.{RepliedLine, lines_with_replies}
 use Rattle.run_model.specs.Processors.{processor_after}

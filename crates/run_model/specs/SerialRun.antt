@@ -18,15 +18,16 @@ use Rattle.hpt_walk.specs.Walk.{walk_calls}
 use Rattle.hpt_walk.specs.Access.{AccessContext, outcome_of, hit_calls, no_segment_reply, request, mode_for}
 use Rattle.hpt_walk.specs.declared.request.Request.{Request}
 use Rattle.tlb_model.specs.Processor.{Processor}
-use Rattle.trace_read.specs.declared.trace.Act.{Act}
-use Rattle.trace_read.specs.declared.trace.TraceLine.{TraceLine}
-use Rattle.trace_read.specs.Trace.{AcceptedTrace, is_quiet}
+use Rattle.trace_line.specs.declared.act.Act.{Act}
+use Rattle.trace_line.specs.declared.line.TraceLine.{TraceLine}
+use Rattle.trace_line.specs.Lines.{is_quiet}
+use Rattle.trace_read.specs.Trace.{AcceptedTrace}
 use Rattle.trace_reply.specs.declared.reply.Reply.{Reply}
 use Rattle.run_model.specs.Processors.{processor_at, processors_after}
 use Rattle.run_model.specs.LineReplies.{hcall_plan}
 use Rattle.run_model.specs.RunState.{RunState, context_of, states_of, opening_run, run_quiet_line}
 use Rattle.hpt_resize.specs.TableMemory.{with_states}
-use Rattle.trace_read.specs.declared.trace.Act.TheVariants as acts
+use Rattle.trace_line.specs.declared.act.Act.TheVariants as acts
 use Rattle.trace_reply.specs.declared.reply.Reply.TheVariants as replies
 
 -- ---- accesses

@@ -14,7 +14,7 @@ use Rattle.entry_model.specs.History.{history}
 use Rattle.entry_model.specs.Run.{state_at}
 use Rattle.h_update.specs.Bulk.{pairs_show}
 use Rattle.hpt_resize.specs.Rehash.{target_at}
-use Rattle.trace_read.specs.declared.trace.Act.{Act}
+use Rattle.trace_line.specs.declared.act.Act.{Act}
 use Rattle.trace_reply.specs.declared.reply.Reply.{Reply}
 use Rattle.run_model.specs.RunState.{states_of}
 use Rattle.run_model.specs.Sections.{Section, receipts_made, section_end}
@@ -22,7 +22,7 @@ use Rattle.run_model.specs.GoodRun.{EachLine}
 use Rattle.papr_codes.specs.declared.calls.Hcall.TheVariants as calls
 use Rattle.entry_model.specs.declared.operation.Answer.TheVariants as answers
 use Rattle.entry_model.specs.declared.operation.Op.TheVariants as ops
-use Rattle.trace_read.specs.declared.trace.Act.TheVariants as acts
+use Rattle.trace_line.specs.declared.act.Act.TheVariants as acts
 use Rattle.trace_reply.specs.declared.reply.Reply.TheVariants as replies
 
 -- ---- receipts

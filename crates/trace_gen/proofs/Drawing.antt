@@ -7,7 +7,7 @@ use Rattle.rand_core.specs.Stream.{Stream, next_u64}
 use Rattle.rand_core.specs.Steps.{first_words, stream_of, steps_u64_high}
 use Rattle.rand_xoshiro.specs.SplitMix64.{splitmix_seed}
 use Rattle.rand_xoshiro.specs.Xoshiro256.{of_seed, plus_plus}
-use Rattle.trace_read.specs.declared.trace.TraceLine.{TraceLine}
+use Rattle.trace_line.specs.declared.line.TraceLine.{TraceLine}
 use Rattle.trace_gen.specs.Generated.{line_of, segment_line, segment_lines, lines_from, words_of_seed}
 
 -- What a generator in this state will answer.

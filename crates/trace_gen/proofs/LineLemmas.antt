@@ -10,11 +10,12 @@ use Rattle.papr_codes.specs.declared.calls.Hcall.{Hcall}
 use Rattle.papr_codes.specs.declared.calls.Hcall.TheVariants.{Enter, Remove, Protect, ClearMod, ClearRef, Read}
 use Rattle.papr_codes.specs.Hcalls.{hcall_number, hcall_of, is_named, row_of}
 use Rattle.trace_read.specs.Configuration.{Configuration}
-use Rattle.trace_read.specs.Trace.{AcceptedTrace, IsTrace, IsSpelt, is_quiet, is_dump, is_resize}
-use Rattle.trace_read.specs.declared.trace.Act.{Act}
-use Rattle.trace_read.specs.declared.trace.TraceLine.{TraceLine}
+use Rattle.trace_line.specs.Lines.{IsTrace, IsSpelt, is_quiet, is_dump, is_resize}
+use Rattle.trace_read.specs.Trace.{AcceptedTrace}
+use Rattle.trace_line.specs.declared.act.Act.{Act}
+use Rattle.trace_line.specs.declared.line.TraceLine.{TraceLine}
 use Rattle.trace_gen.specs.Generated.{acts_of_word, act_of, entry_of, frame_of, generated_config, group_start, page_of, named_call, segment_line, kind_of, segment_lines, lines_from, words_of_seed, generated_trace}
-use Rattle.trace_read.specs.declared.trace.Act.TheVariants as acts
+use Rattle.trace_line.specs.declared.act.Act.TheVariants as acts
 
 -- ---- lists
 all_at : {X : Type 0} (P : X → Type 0) (xs : List X) (i : ℕ) (d : X) → AllByRecursion P xs → i < length xs → P (get_or xs i d)

@@ -4,7 +4,7 @@ use Rattle.rand_core.specs.Stream.{fill_bytes}
 use Rattle.rand_core.specs.Steps.{first_words, word_bytes, stream_of, u32_at}
 use Rattle.storage_prot.specs.declared.want.Want.TheVariants.{Load, Store}
 use Rattle.trace_gen.specs.Generated.{act_of, segment_lines, lines_from, words_of_seed}
-use Rattle.trace_read.specs.declared.trace.Act.TheVariants as acts
+use Rattle.trace_line.specs.declared.act.Act.TheVariants as acts
 
 -- ---- one word
 a_protect : act_of 0xcfc5d07f6f03c29b ≡ acts.Call 0x18 (3 ∷ 23 ∷ 0 ∷ 0 ∷ 0 ∷ 0 ∷ 0 ∷ 0 ∷ []) true

@@ -12,9 +12,9 @@ use Rattle.papr_codes.specs.declared.calls.Hcall.TheVariants.{Enter, Remove, Pro
 use Rattle.papr_codes.specs.Hcalls.{hcall_number}
 use Rattle.trace_read.specs.Configuration.{Configuration}
 use Rattle.trace_read.specs.Trace.{AcceptedTrace}
-use Rattle.trace_read.specs.declared.trace.Act.{Act}
-use Rattle.trace_read.specs.declared.trace.TraceLine.{TraceLine}
-use Rattle.trace_read.specs.declared.trace.Act.TheVariants as acts
+use Rattle.trace_line.specs.declared.act.Act.{Act}
+use Rattle.trace_line.specs.declared.line.TraceLine.{TraceLine}
+use Rattle.trace_line.specs.declared.act.Act.TheVariants as acts
 
 -- ---- the configuration
 -- 1 GB of main storage.

@@ -3,7 +3,7 @@ ghost use Rattle.trace_gen.specs.Generated.{act_of, line_of, named_call, segment
 
 use papr_codes::Hcall;
 use storage_prot::Want;
-use trace_read::{Act, TraceLine};
+use trace_line::{Act, TraceLine};
 
 /// V, and the page of VSID 1 and index 0.
 const FIRST_TAG: u64 = 0x1001;

@@ -2,7 +2,7 @@ use crate::generate;
 use papr_codes::Hcall;
 use std::test::Fail;
 use storage_prot::Want;
-use trace_read::{Act, TraceLine};
+use trace_line::{Act, TraceLine};
 
 fn call(hcall: Hcall, args: [u64; 8]) -> Act {
     Act::Call {

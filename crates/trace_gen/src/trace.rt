@@ -7,7 +7,8 @@ use frame_grants::{Grant, Grants, Kind};
 use rand_core::{Rng, SeedableRng};
 use rand_xoshiro::Xoshiro256PlusPlus;
 use std::alloc::{AllocError, Global};
-use trace_read::{Config, Trace, TraceLines};
+use trace_line::TraceLines;
+use trace_read::{Config, Trace};
 
 /// How many processors run the lines.
 const PROCESSORS: u32 = 4;

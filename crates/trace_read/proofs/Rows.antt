@@ -6,9 +6,9 @@ use Rattle.frame_grants.specs.Grants.{no_grant, no_grants, add_refusal, refusals
 use Rattle.pool_range.specs.Ranges.{range_refusal}
 use Rattle.papr_codes.specs.Hcalls.{hcall_of, row_of}
 use Rattle.storage_prot.specs.declared.want.Want.TheVariants.{Load, Store, Fetch}
-use Rattle.trace_read.specs.declared.trace.Act.{Act}
-use Rattle.trace_read.specs.declared.trace.Act.TheVariants.{Call, Access, SlbMte, SlbClear, Dump}
-use Rattle.trace_read.specs.declared.trace.TraceLine.{TraceLine}
+use Rattle.trace_line.specs.declared.act.Act.{Act}
+use Rattle.trace_line.specs.declared.act.Act.TheVariants.{Call, Access, SlbMte, SlbClear, Dump}
+use Rattle.trace_line.specs.declared.line.TraceLine.{TraceLine}
 use Rattle.trace_read.specs.declared.why.Why.TheVariants as whys
 use Rattle.trace_read.specs.Acts.{number_at, arguments_from, mode_at, act_by, run_act, dump_act}
 use Rattle.trace_read.specs.Counts.{may_add}
@@ -16,7 +16,7 @@ use Rattle.trace_read.specs.Forms.{call_named, other_verb, verb_of, form_named, 
 use Rattle.trace_read.specs.Grammar.{opening_reading, after_act, after_form, after_words, after_text, after_line, after_lines, trace_of}
 use Rattle.trace_read.specs.Numbers.{number_of}
 use Rattle.trace_read.specs.Settings.{default_settings, number_within, with_order, with_limit, with_cpus, with_pool, with_granted, with_begin}
-use Rattle.trace_read.specs.Trace.{is_quiet}
+use Rattle.trace_line.specs.Lines.{is_quiet}
 
 run_line : ℕ → ℕ → Act → TraceLine
 run_line number cpu act = record { number = number; cpu = cpu; act = act }

@@ -2,8 +2,8 @@
 use Rattle.std.specs.Prelude.{ℕ, ◌+◌, ◌==◌, ◌&&◌, Bool, true, false, List, [], ◌∷◌, length, codes, nat_lt, nat_le, slice_index_or, Option, Result, Ok, Err, if◌then◌else◌}
 use Rattle.std.specs.Str.{bytes_eq}
 use Rattle.papr_codes.specs.Hcalls.{hcall_number}
-use Rattle.trace_read.specs.declared.trace.Act.{Act}
-use Rattle.trace_read.specs.declared.trace.Act.TheVariants as acts
+use Rattle.trace_line.specs.declared.act.Act.{Act}
+use Rattle.trace_line.specs.declared.act.Act.TheVariants as acts
 use Rattle.trace_read.specs.declared.verbs.Verb.{Verb}
 use Rattle.trace_read.specs.declared.verbs.Verb.TheVariants as verbs
 use Rattle.trace_read.specs.declared.why.Why.{Why}

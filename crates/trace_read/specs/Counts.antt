@@ -1,10 +1,10 @@
 -- The quiet lines and the dumps among the run lines, and whether a further line may come.
 use Rattle.std.specs.Prelude.{◌≡◌, ◌≤◌, ℕ, ◌&&◌, List, count_by, nat_le, not, Result}
-use Rattle.trace_read.specs.declared.trace.Act.{Act}
-use Rattle.trace_read.specs.declared.trace.TraceLine.{TraceLine}
+use Rattle.trace_line.specs.declared.act.Act.{Act}
+use Rattle.trace_line.specs.declared.line.TraceLine.{TraceLine}
 use Rattle.trace_read.specs.declared.why.Why.{Why}
 use Rattle.trace_read.specs.declared.why.Why.TheVariants.{Dumps, Quiet}
-use Rattle.trace_read.specs.Trace.{is_quiet, is_dump}
+use Rattle.trace_line.specs.Lines.{is_quiet, is_dump}
 use Rattle.trace_read.specs.Whys.{◌>>=◌, guard}
 
 -- How many of the lines are quiet.

@@ -5,8 +5,8 @@ use Rattle.trace_read.specs.declared.forms.Form.{Form}
 use Rattle.trace_read.specs.declared.forms.Form.TheVariants as forms
 use Rattle.trace_read.specs.declared.stage.Stage.{Stage}
 use Rattle.trace_read.specs.declared.stage.Stage.TheVariants as stages
-use Rattle.trace_read.specs.declared.trace.Act.{Act}
-use Rattle.trace_read.specs.declared.trace.TraceLine.{TraceLine}
+use Rattle.trace_line.specs.declared.act.Act.{Act}
+use Rattle.trace_line.specs.declared.line.TraceLine.{TraceLine}
 use Rattle.trace_read.specs.declared.why.Why.{Why}
 use Rattle.trace_read.specs.declared.why.Why.TheVariants as whys
 use Rattle.trace_read.specs.Acts.{run_act, dump_act}
@@ -16,7 +16,8 @@ use Rattle.trace_read.specs.Forms.{form_of}
 use Rattle.trace_read.specs.TextLines.{raw_lines, without_cr, is_printable, words_of, is_remark}
 use Rattle.trace_read.specs.Places.{is_running, is_first, comes_at}
 use Rattle.trace_read.specs.Settings.{default_settings, with_order, with_limit, with_cpus, with_pool, with_granted, with_begin}
-use Rattle.trace_read.specs.Trace.{AcceptedTrace, IsTrace}
+use Rattle.trace_line.specs.Lines.{IsTrace}
+use Rattle.trace_read.specs.Trace.{AcceptedTrace}
 use Rattle.trace_read.specs.Whys.{◌>>=◌, guard}
 
 -- The lines so far: how many were read, what may come next, and what they have given.

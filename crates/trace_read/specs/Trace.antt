@@ -1,51 +1,14 @@
--- Accepted traces: the run lines, and what holds of them.
-use Rattle.std.specs.Prelude.{◌≡◌, ℕ, ◌^◌, ◌≤◌, ◌<◌, Bool, true, false, List, length, count_by, IsTrue}
-use Rattle.std.specs.List.{AllByRecursion}
-use Rattle.papr_codes.specs.declared.calls.Hcall.{Hcall}
-use Rattle.papr_codes.specs.declared.calls.Hcall.TheVariants.{Prepare, Commit}
-use Rattle.papr_codes.specs.Hcalls.{hcall_of, is_named}
-use Rattle.trace_read.specs.declared.trace.Act.{Act}
-use Rattle.trace_read.specs.declared.trace.Act.TheVariants as acts
-use Rattle.trace_read.specs.declared.trace.TraceLine.{TraceLine}
+-- Accepted traces.
+use Rattle.std.specs.Prelude.{List}
 use Rattle.frame_grants.specs.Grants.{IsSound}
+use Rattle.trace_line.specs.declared.line.TraceLine.{TraceLine}
+use Rattle.trace_line.specs.Lines.{IsTrace}
 use Rattle.trace_read.specs.Configuration.{Configuration, IsConfigured}
 
 -- A trace as its reader sees it: the configuration, and the run lines.
 pub record AcceptedTrace : Type 0 where
   pub config : Configuration
   pub lines : List TraceLine
-
--- ---- quiet lines
--- The two resize calls.
-abbrev pub is_resize : Hcall → Bool
-is_resize Prepare = true
-is_resize Commit = true
-is_resize other = false
-
--- At a quiet line no call of a processor runs: the resize calls, by name or by number, and dumps.
-unfoldable pub is_quiet : Act → Bool
-is_quiet (acts.Call number args spelt) = is_resize (hcall_of number)
-is_quiet acts.Dump = true
-is_quiet other = false
-
--- The line is a dump.
-abbrev pub is_dump : Act → Bool
-is_dump acts.Dump = true
-is_dump other = false
-
--- ---- what holds of the run lines
--- A call that is spelt is one of those that have a name.
-abbrev pub IsSpelt : Act → Type 0
-IsSpelt (acts.Call number args spelt) = spelt ≡ true → IsTrue (is_named (hcall_of number))
-IsSpelt other = Unit {0}
-
--- Each line has one of the processors; there are at most 2 ^ 17 lines, of these at most 256 quiet ones, and of these at most 16 dumps.
-pub record IsTrace (cpus : ℕ) (lines : List TraceLine) : Type 0 where
-  pub on_cpus : AllByRecursion (λ (l : TraceLine). l.cpu < cpus) lines
-  pub spelt : AllByRecursion (λ (l : TraceLine). IsSpelt l.act) lines
-  pub few : length lines ≤ 2 ^ 17
-  pub few_quiet : count_by (λ (l : TraceLine). is_quiet l.act) lines ≤ 256
-  pub few_dumps : count_by (λ (l : TraceLine). is_dump l.act) lines ≤ 16
 
 -- What each accepted trace has: the configuration lines were accepted, the grants stand beside the pool, and the run lines keep the limits.
 pub record IsAccepted (t : AcceptedTrace) : Type 0 where

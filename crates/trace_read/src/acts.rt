@@ -2,11 +2,11 @@ ghost use Rattle.std.specs.Prelude.{◌≡◌, ◌≤◌, ◌<◌, [], IfOk, sli
 ghost use Rattle.trace_read.specs.Forms.{IsNamedVerb, IsNamedForm};
 ghost use Rattle.trace_read.specs.TextLines.{texts};
 ghost use Rattle.trace_read.specs.Acts.{number_at, arguments_from, mode_at, act_by, run_act, dump_act};
-ghost use Rattle.trace_read.specs.Trace.{IsSpelt};
+ghost use Rattle.trace_line.specs.Lines.{IsSpelt};
 
 use crate::forms::{Form, is};
 use crate::numbers::number;
-use crate::trace::Act;
+use trace_line::Act;
 use crate::verbs::Verb;
 use crate::why::Why;
 

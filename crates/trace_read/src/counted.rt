@@ -1,7 +1,7 @@
 ghost use Rattle.std.specs.Prelude.{◌≡◌, ◌++◌, [], ◌∷◌, OnOk, OnErr, Ok};
 ghost use Rattle.trace_read.specs.Counts.{may_add, AreFew};
 
-use crate::trace::{Act, TraceLine, TraceLines};
+use trace_line::{Act, TraceLine, TraceLines};
 use crate::why::Why;
 use std::alloc::{AllocError, Global};
 use std::marker::Model;
@@ -21,7 +21,7 @@ pub struct CountedLines {
 
 impl Model for CountedLines {
     ghost use Rattle.std.specs.Prelude.{List};
-    ghost use Rattle.trace_read.specs.declared.trace.TraceLine.{TraceLine};
+    ghost use Rattle.trace_line.specs.declared.line.TraceLine.{TraceLine};
     ghost use Rattle.trace_read.specs.Counts.{IsCounted};
 
     ghost Value = { List TraceLine };

@@ -21,5 +21,5 @@ pub use config::Config;
 pub use lines::{drop_cr, lines_of, split_line};
 pub use numbers::number;
 pub use parser::{MOST_BYTES, TraceError, parse};
-pub use trace::{Act, Trace, TraceLine, TraceLines};
+pub use trace::Trace;
 pub use why::Why;

@@ -6,7 +6,7 @@ ghost use Rattle.trace_read.specs.TextLines.{texts};
 ghost use Rattle.trace_read.specs.Places.{is_first, is_running, comes_at};
 ghost use Rattle.trace_read.specs.Read.{ReadsTo};
 ghost use Rattle.trace_read.specs.Settings.{with_order, with_limit, with_cpus, with_pool, with_granted, with_begin};
-ghost use Rattle.trace_read.specs.Trace.{IsSpelt};
+ghost use Rattle.trace_line.specs.Lines.{IsSpelt};
 
 use crate::acts::{dump_act, run_act};
 use crate::counted::CountedLines;
@@ -15,7 +15,8 @@ use crate::lines::{drop_cr, is_remark_line, is_text, read_words};
 use crate::settings::Settings;
 use crate::stage::Stage;
 use crate::stop::Stop;
-use crate::trace::{Act, Trace, TraceLine};
+use crate::trace::Trace;
+use trace_line::{Act, TraceLine};
 use crate::verbs::Verb;
 use crate::why::Why;
 use frame_grants::Kind;

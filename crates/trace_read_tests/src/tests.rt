@@ -1,7 +1,8 @@
 use std::alloc::Global;
 use std::test::Fail;
 use storage_prot::Want;
-use trace_read::{Act, TraceError, Why, parse};
+use trace_line::Act;
+use trace_read::{TraceError, Why, parse};
 
 /// The first refused line of an input and the word of its reason; none where it is accepted.
 fn refusal(alloc: Global, input: &[u8]) -> Result<Option<(u32, &'static str)>, Fail> {

@@ -4,8 +4,8 @@ use Rattle.std.proofs.Common.{◌≡◌, ◌≢◌, ℕ, zero, suc, ◌+◌, ◌
 use Rattle.std.specs.List.{AllByRecursion}
 use Rattle.std.proofs.lemmas.Bool.{cases_Bool, eq-eqb}
 use Rattle.std.proofs.lemmas.List.{get_or_default, get_or-map, length-map, map-append, take_all}
-use Rattle.trace_read.specs.declared.trace.TraceLine.{TraceLine}
-use Rattle.trace_read.specs.declared.trace.Act.TheVariants.{Call}
+use Rattle.trace_line.specs.declared.line.TraceLine.{TraceLine}
+use Rattle.trace_line.specs.declared.act.Act.TheVariants.{Call}
 use Rattle.trace_runner.specs.Workers.{lines_of_cpu, count_with_lines, IsReadAt, AreOwn, AllNumbered}
 use Rattle.trace_runner.specs.DealtLines.{AreDealt, AllEmpty, count_with_own}
 use Rattle.trace_runner.proofs.Numbered.{all_set, all_weaker}

@@ -4,7 +4,7 @@ use Rattle.std.specs.List.{AllByRecursion}
 use Rattle.std.proofs.lemmas.Bool.{eqb-true, eq-eqb, eqb-false}
 use Rattle.std.proofs.lemmas.List.{drop_more, take_more, drop_all, take_all, get_or-set_same, get_or-set_other}
 use Rattle.std.proofs.lemmas.List.Elements.{filter-append}
-use Rattle.trace_read.specs.declared.trace.TraceLine.{TraceLine}
+use Rattle.trace_line.specs.declared.line.TraceLine.{TraceLine}
 use Rattle.trace_reply.specs.declared.reply.Reply.{Reply}
 use Rattle.trace_reply.specs.Replies.{RepliedLine, IsOfKind, AreReplies, lines_with_replies}
 use Rattle.run_model.specs.Histories.{lines_of_processor}

@@ -12,7 +12,7 @@ use Rattle.entry_lock.specs.declared.table.LockTable.{LockTable}
 use Rattle.entry_lock.specs.declared.table.Pass.{Pass}
 use Rattle.hpt_walk.specs.Access.{AccessContext}
 use Rattle.tlb_model.specs.Processor.{Processor}
-use Rattle.trace_read.specs.declared.trace.TraceLine.{TraceLine}
+use Rattle.trace_line.specs.declared.line.TraceLine.{TraceLine}
 use Rattle.trace_runner.specs.declared.worker.Worker.{Worker}
 use Rattle.trace_runner.specs.MachineState.{Holding}
 use Rattle.trace_runner.specs.Workers.{Keeping, lines_of_cpu, IsFresh, IsRest, IsSeenBy, HasRun, AreOwn, IsReady}

@@ -1,6 +1,6 @@
 -- What the parallel run of an accepted trace is and assures.
 use Rattle.std.proofs.Common.{◌≡◌, ℕ, List, sym, subst, Result, Ok, Err, IfOk, String, Global, string_bytes}
-use Rattle.trace_read.specs.declared.trace.TraceLine.{TraceLine}
+use Rattle.trace_line.specs.declared.line.TraceLine.{TraceLine}
 use Rattle.trace_read.specs.Trace.{AcceptedTrace, IsAccepted}
 use Rattle.trace_reply.specs.ReplyList.{ReplyList}
 use Rattle.trace_reply.specs.declared.reply.Reply.{Reply}

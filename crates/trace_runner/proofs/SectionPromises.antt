@@ -11,7 +11,7 @@ use Rattle.hpt_walk.specs.Access.{AccessContext}
 use Rattle.tlb_model.specs.Processor.{Processor}
 use Rattle.partition.specs.PartitionState.{PartitionState, with_memory}
 use Rattle.hpt_resize.specs.TableMemory.{with_states}
-use Rattle.trace_read.specs.declared.trace.TraceLine.{TraceLine}
+use Rattle.trace_line.specs.declared.line.TraceLine.{TraceLine}
 use Rattle.trace_reply.specs.declared.reply.Reply.{Reply}
 use Rattle.trace_reply.specs.Replies.{lines_with_replies}
 use Rattle.trace_runner.specs.declared.worker.Worker.{Worker}

@@ -3,10 +3,10 @@ use Rattle.std.proofs.Common.{◌≡◌, ℕ, ◌+◌, ◌-◌, ◌*◌, ◌/◌
 use Rattle.std.specs.Str.{IsUtf8, IsCharBoundary}
 use Rattle.std.proofs.lemmas.Str.{IsCharBoundary-from_take, IsUtf8-nil}
 use Rattle.std.proofs.lemmas.List.{length-append}
-use Rattle.trace_read.specs.declared.trace.TraceLine.{TraceLine}
-use Rattle.trace_read.specs.declared.trace.Act.{Act}
-use Rattle.trace_read.specs.declared.trace.Act.TheVariants as acts
-use Rattle.trace_read.specs.Trace.{is_quiet}
+use Rattle.trace_line.specs.declared.line.TraceLine.{TraceLine}
+use Rattle.trace_line.specs.declared.act.Act.{Act}
+use Rattle.trace_line.specs.declared.act.Act.TheVariants as acts
+use Rattle.trace_line.specs.Lines.{is_quiet}
 use Rattle.trace_reply.specs.declared.reply.Reply.{Reply}
 use Rattle.trace_reply.specs.declared.reply.Reply.TheVariants as replies
 use Rattle.trace_reply.specs.Replies.{IsOfKind, is_dump}

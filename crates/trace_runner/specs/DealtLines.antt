@@ -1,6 +1,6 @@
 -- The lines of a section, dealt to their processors.
 use Rattle.std.specs.Prelude.{◌≡◌, ℕ, ◌+◌, min, List, [], ◌∷◌, length, Vec}
-use Rattle.trace_read.specs.declared.trace.TraceLine.{TraceLine}
+use Rattle.trace_line.specs.declared.line.TraceLine.{TraceLine}
 use Rattle.trace_runner.specs.Workers.{AreOwn, AllNumbered}
 
 -- Each list has the indices of one processor's own lines among these, the first that of processor 0.

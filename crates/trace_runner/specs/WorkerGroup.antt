@@ -2,7 +2,7 @@
 use Rattle.std.specs.Prelude.{◌≡◌, ℕ, ◌+◌, ◌<◌, ◌≤◌, List, length}
 use Rattle.entry_lock.specs.declared.table.LockTable.{LockTable}
 use Rattle.hpt_walk.specs.Access.{AccessContext}
-use Rattle.trace_read.specs.declared.trace.TraceLine.{TraceLine}
+use Rattle.trace_line.specs.declared.line.TraceLine.{TraceLine}
 use Rattle.trace_runner.specs.declared.worker.Worker.{Worker}
 use Rattle.trace_runner.specs.Workers.{Keeping, IsReady, IsDone, AllNumbered, processors_before}
 

@@ -1,6 +1,6 @@
 ghost use Rattle.std.specs.Prelude.{◌≡◌, ◌≤◌, ◌<◌, ◌^◌, length, IfOk, OnOk};
 ghost use Rattle.std.specs.List.{AllByRecursion};
-ghost use Rattle.trace_read.specs.declared.trace.TraceLine.{TraceLine};
+ghost use Rattle.trace_line.specs.declared.line.TraceLine.{TraceLine};
 ghost use Rattle.run_model.specs.RunState.{opening_run, shown_of};
 ghost use Rattle.run_model.specs.SerialRun.{serial_replies, replies_from, state_after_lines};
 ghost use Rattle.run_model.specs.GoodRun.{IsGoodRun};
@@ -11,7 +11,8 @@ use crate::machine::Machine;
 use crate::opening::open_machine;
 use reply_text::Counts;
 use std::alloc::{AllocError, Global};
-use trace_read::{Trace, TraceLine};
+use trace_line::TraceLine;
+use trace_read::Trace;
 use trace_reply::{ReplyPlace, Shown};
 
 /// What a summary counts of the replies of a run, and the table at its end.

@@ -1,11 +1,11 @@
 //! The lines of a section, dealt to their processors.
 ghost use Rattle.std.specs.Prelude.{◌≡◌, ◌<◌, ◌≤◌, [], length, IfOk};
 ghost use Rattle.std.specs.List.{AllByRecursion};
-ghost use Rattle.trace_read.specs.declared.trace.TraceLine.{TraceLine as LineOf};
+ghost use Rattle.trace_line.specs.declared.line.TraceLine.{TraceLine as LineOf};
 ghost use Rattle.trace_runner.specs.DealtLines.{AreDealt, AllEmpty, count_with_own};
 
 use std::alloc::{AllocError, Global};
-use trace_read::TraceLine;
+use trace_line::TraceLine;
 
 /// So many empty lists.
 fn empty_lists(alloc: Global, count: usize) -> Result<Vec<Vec<usize>>, AllocError>

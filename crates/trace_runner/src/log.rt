@@ -1,13 +1,13 @@
 //! What is kept of the replies of a parallel run.
 ghost use Rattle.std.specs.Prelude.{◌≡◌, ℕ, ◌<◌, ◌≤◌, ◌+◌, ◌++◌, List, [], ◌∷◌, false, IfOk, OnOk};
-ghost use Rattle.trace_read.specs.declared.trace.TraceLine.{TraceLine as LineOf};
-ghost use Rattle.trace_read.specs.Trace.{is_quiet};
+ghost use Rattle.trace_line.specs.declared.line.TraceLine.{TraceLine as LineOf};
+ghost use Rattle.trace_line.specs.Lines.{is_quiet};
 ghost use Rattle.trace_reply.specs.declared.reply.Reply.{Reply};
 ghost use Rattle.trace_reply.specs.Replies.{IsOfKind};
 ghost use Rattle.trace_reply.specs.Places.{reply_in};
 
 use std::alloc::{AllocError, Global};
-use trace_read::TraceLine;
+use trace_line::TraceLine;
 use trace_reply::ReplyPlace;
 
 /// What a worker keeps of the replies to its lines, in room that was made before.

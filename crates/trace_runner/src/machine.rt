@@ -1,6 +1,6 @@
 ghost use Rattle.std.specs.Prelude.{◌≡◌, ◌<◌, ◌≤◌, ◌+◌, ◌-◌, ◌^◌, length, map, true, false, replicate, IfOk, OnOk, vec_len};
 ghost use Rattle.tlb_model.specs.Processor.{new_processor};
-ghost use Rattle.trace_read.specs.Trace.{is_quiet};
+ghost use Rattle.trace_line.specs.Lines.{is_quiet};
 ghost use Rattle.run_model.specs.RunState.{opening_run, run_quiet_line, run_resize, shown_of, without_cache, is_success};
 ghost use Rattle.run_model.specs.SerialRun.{run_line};
 ghost use Rattle.trace_reply.specs.Places.{reply_in};
@@ -13,7 +13,8 @@ use papr_table::PlainTable;
 use partition::Partition;
 use std::alloc::{AllocError, Global};
 use std::marker::Model;
-use trace_read::{Act, Config, TraceLine};
+use trace_line::{Act, TraceLine};
+use trace_read::Config;
 use trace_reply::{Reply, ReplyPlace, Shown};
 use vcpu::Cpu;
 
@@ -121,7 +122,7 @@ impl Machine {
 
     // A quiet line. These are rare, so other lines make no room for what this holds.
     #[inline(never)]
-    #[tactic(auto, unfolding(run_model::specs::RunState::run_quiet_line, trace_read::specs::Trace::is_quiet))]
+    #[tactic(auto, unfolding(run_model::specs::RunState::run_quiet_line, trace_line::specs::Lines::is_quiet))]
     fn quiet(&mut self, alloc: Global, act: &Act, place: &mut ReplyPlace) -> Result<(), AllocError>
         requires quiet { is_quiet act.now ≡ true }
         requires number { self.old.memory.table.number < 2 ^ 32 - 1 }

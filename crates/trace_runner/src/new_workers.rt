@@ -2,7 +2,7 @@
 ghost use Rattle.std.specs.Prelude.{◌≡◌, ◌≢◌, ℕ, ◌+◌, ◌<◌, ◌≤◌, min, List, [], length, vec_len, vec_capacity, IfOk, IsSomeAnd};
 ghost use Rattle.std.specs.List.{AllByRecursion};
 ghost use Rattle.hpte_fields.specs.TableSize.{entry_count};
-ghost use Rattle.trace_read.specs.declared.trace.TraceLine.{TraceLine as LineOf};
+ghost use Rattle.trace_line.specs.declared.line.TraceLine.{TraceLine as LineOf};
 ghost use Rattle.entry_model.specs.Fronts.{opening_fronts};
 ghost use Rattle.tlb_model.specs.Cache.{AllCached};
 ghost use Rattle.entry_lock.specs.PassOfTable.{IsOf, view_of};
@@ -18,7 +18,7 @@ use entry_lock::{LockTable, Pass};
 use entry_model::EntryState;
 use std::alloc::{AllocError, Global};
 use std::snapshot::Snapshot;
-use trace_read::TraceLine;
+use trace_line::TraceLine;
 use vcpu::Cpu;
 
 /// A pass with one share of what is left.

@@ -1,6 +1,6 @@
 ghost use Rattle.std.specs.Prelude.{◌≡◌, ◌<◌, length, IfOk};
 ghost use Rattle.std.specs.List.{AllByRecursion};
-ghost use Rattle.trace_read.specs.declared.trace.TraceLine.{TraceLine};
+ghost use Rattle.trace_line.specs.declared.line.TraceLine.{TraceLine};
 ghost use Rattle.run_model.specs.RunState.{opening_run};
 ghost use Rattle.run_model.specs.SerialRun.{serial_replies};
 ghost use Rattle.run_model.specs.GoodRun.{IsGoodRun};

@@ -1,7 +1,7 @@
 //! The parallel run: between two quiet lines, a thread for each processor that has lines there.
 ghost use Rattle.std.specs.Prelude.{◌≡◌, ℕ, ◌<◌, ◌≤◌, ◌-◌, ◌^◌, length, IfOk, string_bytes};
 ghost use Rattle.std.specs.List.{AllByRecursion};
-ghost use Rattle.trace_read.specs.declared.trace.TraceLine.{TraceLine as LineOf};
+ghost use Rattle.trace_line.specs.declared.line.TraceLine.{TraceLine as LineOf};
 ghost use Rattle.trace_reply.specs.Replies.{AreReplies};
 ghost use Rattle.run_model.specs.SerialRun.{serial_replies};
 ghost use Rattle.run_model.specs.GoodRun.{IsGoodRun};
@@ -23,7 +23,8 @@ use crate::together::run_together;
 use std::alloc::{AllocError, Global};
 use std::sync::Wait;
 use std::thread::Threads;
-use trace_read::{Trace, TraceLine};
+use trace_line::TraceLine;
+use trace_read::Trace;
 use trace_reply::{Replies, ReplyPlace};
 
 /// Runs the lines of a section, in a thread for each processor that has some, and puts the replies

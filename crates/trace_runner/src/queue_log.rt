@@ -7,7 +7,7 @@ use crate::log::{ReplyLog, RunLog};
 use std::alloc::{AllocError, Global};
 use std::collections::VecDeque;
 use std::mem;
-use trace_read::TraceLine;
+use trace_line::TraceLine;
 use trace_reply::{Replies, Reply, ReplyPlace};
 
 /// The replies themselves.

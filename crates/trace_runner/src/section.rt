@@ -2,7 +2,7 @@
 ghost use Rattle.std.specs.Prelude.{◌≡◌, ℕ, ◌+◌, ◌<◌, ◌≤◌, ◌++◌, List, length, map, vec_capacity, IfSome, OnOk};
 ghost use Rattle.std.specs.List.{AllByRecursion};
 ghost use Rattle.entry_lock.specs.PassOfTable.{IsOf};
-ghost use Rattle.trace_read.specs.declared.trace.TraceLine.{TraceLine as LineOf};
+ghost use Rattle.trace_line.specs.declared.line.TraceLine.{TraceLine as LineOf};
 ghost use Rattle.trace_reply.specs.declared.reply.Reply.{Reply};
 ghost use Rattle.trace_runner.specs.SectionRun.{pass_count, HasNoOtherPass, IsJoinOf, IsPairJoined, AllKeep, AddsReplies};
 
@@ -10,7 +10,7 @@ use crate::log::RunLog;
 use crate::worker::Worker;
 use entry_lock::{LockTable, Pass};
 use std::alloc::AllocError;
-use trace_read::TraceLine;
+use trace_line::TraceLine;
 use vcpu::Cpu;
 
 /// Joins a pass and a further one, where there are both.

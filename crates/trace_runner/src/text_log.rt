@@ -7,7 +7,7 @@ use crate::log::{ReplyLog, RunLog};
 use reply_text::{REPLY_ROOM, put_place};
 use std::alloc::{AllocError, Global};
 use std::collections::VecDeque;
-use trace_read::TraceLine;
+use trace_line::TraceLine;
 use trace_reply::ReplyPlace;
 
 /// Room in the text of a run for the line of a common reply. Longer texts make theirs as they grow.

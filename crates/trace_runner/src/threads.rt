@@ -13,7 +13,7 @@ use entry_lock::LockTable;
 use frame_grants::Grants;
 use std::sync::Wait;
 use std::thread::{Threads, join_mut};
-use trace_read::TraceLine;
+use trace_line::TraceLine;
 
 /// Runs the lines, each processor's in a thread of its own; a processor without lines gets none. It
 /// takes no memory for replies or receipts.

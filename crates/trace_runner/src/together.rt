@@ -14,7 +14,7 @@ use entry_model::EntryState;
 use frame_grants::Grants;
 use std::sync::Wait;
 use std::thread::Threads;
-use trace_read::TraceLine;
+use trace_line::TraceLine;
 use vcpu::Cpu;
 
 /// Runs the lines by these workers, each with lines in a thread of its own, joins their passes, and

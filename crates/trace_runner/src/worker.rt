@@ -3,7 +3,7 @@ ghost use Rattle.std.specs.Prelude.{◌≡◌, ◌++◌, false, length};
 ghost use Rattle.hpte_fields.specs.TableSize.{entry_count};
 ghost use Rattle.tlb_model.specs.Cache.{AllCached};
 ghost use Rattle.entry_lock.specs.PassOfTable.{IsOf, view_of};
-ghost use Rattle.trace_read.specs.Trace.{is_quiet};
+ghost use Rattle.trace_line.specs.Lines.{is_quiet};
 ghost use Rattle.run_model.specs.Processors.{processor_after};
 ghost use Rattle.trace_reply.specs.Replies.{IsOfKind, receipts_in};
 ghost use Rattle.trace_reply.specs.Places.{reply_in};
@@ -19,7 +19,7 @@ use entry_lock::{LockTable, Pass, Waiting};
 use frame_grants::Grants;
 use std::snapshot::Snapshot;
 use std::sync::Wait;
-use trace_read::TraceLine;
+use trace_line::TraceLine;
 use trace_reply::ReplyPlace;
 use vcpu::Cpu;
 

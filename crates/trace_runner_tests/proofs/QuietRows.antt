@@ -18,7 +18,8 @@ use Rattle.entry_model.specs.State.{State, empty_state}
 use Rattle.entry_model.specs.Reply.{has_base}
 use Rattle.entry_model.specs.Run.{state_at}
 use Rattle.entry_model.specs.Trial.{trial_run, plan_run}
-use Rattle.h_enter.specs.Checks.{suits_grants, h_enter_plan}
+use Rattle.page_grants.specs.Suited.{suits_grants}
+use Rattle.h_enter.specs.Checks.{h_enter_plan}
 use Rattle.h_enter.specs.Enter.{candidates}
 use Rattle.h_update.specs.Single.{h_read_plan}
 use Rattle.hpt_resize.specs.TableMemory.{TableMemory, opening_memory, empty_states, prepare_result, commit_result, with_states}
@@ -28,9 +29,9 @@ use Rattle.hpt_walk.specs.Access.{outcome_of}
 use Rattle.tlb_model.specs.CacheAfter.{after_walk}
 use Rattle.tlb_model.specs.Processor.{Processor, new_processor}
 use Rattle.hpt_walk.specs.Walk.{walk_calls}
-use Rattle.trace_read.specs.declared.trace.Act.TheVariants.{Dump}
-use Rattle.trace_read.specs.declared.trace.TraceLine.{TraceLine}
-use Rattle.trace_read.specs.Trace.{is_quiet}
+use Rattle.trace_line.specs.declared.act.Act.TheVariants.{Dump}
+use Rattle.trace_line.specs.declared.line.TraceLine.{TraceLine}
+use Rattle.trace_line.specs.Lines.{is_quiet}
 use Rattle.run_model.specs.LineReplies.{hcall_plan}
 use Rattle.run_model.specs.SerialRun.{line_result, run_line, replies_from}
 use Rattle.reply_text.specs.Text.{text_from, head_text, code_text, entry_text, dump_head, table_text}

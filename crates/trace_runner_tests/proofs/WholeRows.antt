@@ -14,14 +14,16 @@ use Rattle.hpt_hash.specs.Hash.{group_of}
 use Rattle.tlb_model.specs.Cache.{empty_cache, cached_line}
 use Rattle.entry_model.specs.Reply.{has_base}
 use Rattle.entry_model.specs.Trial.{trial_run, plan_run}
-use Rattle.h_enter.specs.Checks.{suits_grants, h_enter_plan}
+use Rattle.page_grants.specs.Suited.{suits_grants}
+use Rattle.h_enter.specs.Checks.{h_enter_plan}
 use Rattle.h_enter.specs.Enter.{candidates}
 use Rattle.h_update.specs.Single.{h_remove_plan, h_protect_plan, h_clear_mod_plan}
 use Rattle.hpt_walk.specs.Access.{outcome_of}
 use Rattle.tlb_model.specs.CacheAfter.{after_walk}
 use Rattle.tlb_model.specs.Processor.{new_processor}
 use Rattle.hpt_walk.specs.Walk.{walk_calls}
-use Rattle.trace_read.specs.Trace.{is_quiet, AcceptedTrace}
+use Rattle.trace_line.specs.Lines.{is_quiet}
+use Rattle.trace_read.specs.Trace.{AcceptedTrace}
 use Rattle.run_model.specs.LineReplies.{hcall_plan}
 use Rattle.run_model.specs.SerialRun.{line_result, run_line, serial_replies}
 use Rattle.reply_text.specs.Text.{text_from, head_text, code_text, text_of, dump_head, table_text, entry_text}
@@ -29,7 +31,7 @@ use Rattle.run_model.specs.RunState.{opening_run, shown_of, run_quiet_line}
 use Rattle.hpt_resize.specs.TableMemory.{opening_memory, empty_states}
 use Rattle.hpt_pool.specs.Pool.{lowest_place, multiples, taken_with}
 use Rattle.frame_grants.specs.declared.grant.Kind.TheVariants.{Ram}
-use Rattle.trace_read.specs.declared.trace.Act.TheVariants.{Dump}
+use Rattle.trace_line.specs.declared.act.Act.TheVariants.{Dump}
 use Rattle.run_model.proofs.SmallPartition.{calls, reaches, mte}
 
 whole : AcceptedTrace

@@ -1,8 +1,8 @@
 use Rattle.std.proofs.Common.{◌≡◌, ◌<◌, ◌∙◌, List, [], ◌∷◌, false, ap, sym, refl, subst, length, length-set, get_or, set, ◌+◌, arith}
 use Rattle.std.proofs.lemmas.Grind.{common_steps}
-use Rattle.trace_read.specs.declared.trace.TraceLine.{TraceLine}
-use Rattle.trace_read.specs.declared.trace.Act.TheVariants as acts
-use Rattle.trace_read.specs.Trace.{is_quiet}
+use Rattle.trace_line.specs.declared.line.TraceLine.{TraceLine}
+use Rattle.trace_line.specs.declared.act.Act.TheVariants as acts
+use Rattle.trace_line.specs.Lines.{is_quiet}
 use Rattle.entry_model.specs.State.{State}
 use Rattle.entry_model.specs.Fronts.{front_at}
 use Rattle.history_check.specs.FrontKeeping.{fronts_of}

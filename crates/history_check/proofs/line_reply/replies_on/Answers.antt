@@ -1,7 +1,7 @@
 use Rattle.std.proofs.Common.{◌≡◌, true, false, sym, ◌∙◌, ap}
-use Rattle.trace_read.specs.declared.trace.Act.{Act}
-use Rattle.trace_read.specs.declared.trace.Act.TheVariants as acts
-use Rattle.trace_read.specs.Trace.{is_quiet}
+use Rattle.trace_line.specs.declared.act.Act.{Act}
+use Rattle.trace_line.specs.declared.act.Act.TheVariants as acts
+use Rattle.trace_line.specs.Lines.{is_quiet}
 use Rattle.history_check.proofs.line_reply.replies_on.Goals as goal
 
 dump_is_quiet : (act : Act) → act ≡ acts.Dump → is_quiet act ≡ false → ⊥

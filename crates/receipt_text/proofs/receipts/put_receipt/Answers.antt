@@ -2,7 +2,7 @@ use Rattle.std.proofs.Common.{◌≡◌, ◌-◌, ◌∙◌, drop, arith, length
 use Rattle.std.proofs.lemmas.List.{take_all}
 use Rattle.std.proofs.lemmas.Str.{IsUtf8-from_ascii}
 use Rattle.receipt_text.specs.Receipts.{receipt_text}
-use Rattle.receipt_text.proofs.Prefixes.{OnOk-push_str}
+use Rattle.number_text.proofs.Prefixes.{OnOk-push_str}
 use Rattle.receipt_text.proofs.ReceiptSteps.{IsAscii-receipt_text}
 use Rattle.receipt_text.proofs.receipts.put_receipt.Goals as goal
 

@@ -2,7 +2,7 @@ use Rattle.std.proofs.Common.{◌≡◌, ◌∙◌, ap, arith, append_assoc, app
 use Rattle.std.proofs.lemmas.Fmt.{length-decimal-le}
 use Rattle.std.proofs.lemmas.List.{drop_all}
 use Rattle.entry_model.specs.declared.receipt.Receipt.{Receipt}
-use Rattle.receipt_text.proofs.Lengths.{decimal_short, hex_short}
+use Rattle.number_text.proofs.Lengths.{decimal_short, hex_short}
 use Rattle.receipt_text.proofs.receipts.write_receipt.Goals as goal
 
 pub write_digits-stamp-requires : goal.write_digits-stamp-requires

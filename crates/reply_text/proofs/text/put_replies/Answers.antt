@@ -1,7 +1,7 @@
 use Rattle.std.proofs.Common.{◌≡◌, ◌∙◌, sym, arith, [], string_bytes, append-nil, drop}
 use Rattle.std.proofs.lemmas.List.{drop_all}
 use Rattle.reply_text.specs.Text.{text_from}
-use Rattle.receipt_text.proofs.Prefixes.{starts_still}
+use Rattle.number_text.proofs.Prefixes.{starts_still}
 use Rattle.reply_text.proofs.TextSteps.{text_goes_on}
 use Rattle.reply_text.proofs.text.put_replies.Goals as goal
 

@@ -1,6 +1,6 @@
 use Rattle.std.proofs.Common.{◌≡◌, ◌<◌, ◌∙◌, sym, subst, arith, length, get_or}
 use Rattle.std.proofs.lemmas.List.{length-set}
-use Rattle.trace_read.specs.declared.trace.TraceLine.{TraceLine}
+use Rattle.trace_line.specs.declared.line.TraceLine.{TraceLine}
 use Rattle.trace_runner.proofs.MergedReplies.{each_at}
 use Rattle.trace_runner.proofs.DealtLines.{past, dealt_none, dealt_more, dealt_all}
 use Rattle.trace_runner.proofs.dealing.deal_lines.Goals as goal

@@ -1,6 +1,6 @@
 use Rattle.std.proofs.Common.{◌≡◌, ◌+◌, ◌++◌, List, length, reverse, vec_capacity}
 use Rattle.hpt_walk.specs.Access.{AccessContext}
-use Rattle.trace_read.specs.declared.trace.TraceLine.{TraceLine}
+use Rattle.trace_line.specs.declared.line.TraceLine.{TraceLine}
 use Rattle.trace_runner.specs.MachineState.{AllHold}
 use Rattle.trace_runner.specs.Workers.{processors_before, AreOwn, IsReady, IsRest, AllNumbered}
 use Rattle.trace_runner.specs.DealtLines.{AreDealt, count_with_own}

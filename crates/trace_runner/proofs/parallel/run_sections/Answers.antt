@@ -1,7 +1,7 @@
 use Rattle.std.proofs.Common.{◌≡◌, ◌+◌, ◌++◌, ◌<◌, ◌≤◌, ◌∙◌, sym, subst, refl, get_or, false, length, [], ◌∷◌, arith}
 use Rattle.std.specs.List.{AllByRecursion}
-use Rattle.trace_read.specs.declared.trace.TraceLine.{TraceLine}
-use Rattle.trace_read.specs.declared.trace.Act.TheVariants.{Call}
+use Rattle.trace_line.specs.declared.line.TraceLine.{TraceLine}
+use Rattle.trace_line.specs.declared.act.Act.TheVariants.{Call}
 use Rattle.trace_runner.specs.Workers.{NoneQuiet}
 use Rattle.trace_runner.proofs.MergedReplies.{each_at}
 use Rattle.trace_runner.proofs.SectionsRun.{part, done_none, done_more, put_more, run_ended, no_quiet_more, no_quiet_yet, part_each, section_processors, section_number}

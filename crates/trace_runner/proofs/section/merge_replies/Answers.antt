@@ -1,7 +1,7 @@
 use Rattle.std.proofs.Common.{◌+◌, ◌<◌, ◌∙◌, [], false, refl, sym, subst, length, drop, get_or, arith}
 use Rattle.std.proofs.lemmas.List.{length-set}
-use Rattle.trace_read.specs.declared.trace.TraceLine.{TraceLine}
-use Rattle.trace_read.specs.declared.trace.Act.TheVariants.{Call}
+use Rattle.trace_line.specs.declared.line.TraceLine.{TraceLine}
+use Rattle.trace_line.specs.declared.act.Act.TheVariants.{Call}
 use Rattle.trace_runner.specs.Workers.{lines_of_cpu}
 use Rattle.trace_runner.proofs.MergedReplies.{merging_none, merging_first, merging_more, merging_all, each_at}
 use Rattle.trace_runner.proofs.section.merge_replies.Goals as goal

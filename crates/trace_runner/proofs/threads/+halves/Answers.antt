@@ -4,7 +4,7 @@ use Rattle.hpt_walk.specs.Access.{access_context}
 use denote.Param.Send.{sendable, param_send}
 use Rattle.entry_lock.proofs.table.LockTable.TheSendSync as lock_table
 use Rattle.frame_grants.proofs.grants.Grants.TheSendSync as grants
-use Rattle.trace_read.proofs.trace.TraceLine.TheSendSync as trace_line
+use Rattle.trace_line.proofs.line.TraceLine.TheSendSync as trace_line
 use Rattle.trace_runner.proofs.threads.+halves.Lts-both_halves as lts
 use Rattle.trace_runner.proofs.WorkerSend.{worker_send}
 use Rattle.trace_runner.proofs.WorkerGroups.{has_pass, ready_front, ready_back, runs_idle, runs_both}

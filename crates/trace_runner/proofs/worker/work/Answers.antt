@@ -3,7 +3,7 @@ use Rattle.std.proofs.Common.{◌≡◌, ◌∙◌, ◌++◌, ◌<◌, ℕ, List
 use Rattle.std.proofs.lemmas.List.{take_more, take_all, get_or_read}
 use Rattle.entry_lock.specs.declared.table.Pass.{Pass}
 use Rattle.hpt_walk.specs.Access.{access_context}
-use Rattle.trace_read.specs.declared.trace.TraceLine.{TraceLine}
+use Rattle.trace_line.specs.declared.line.TraceLine.{TraceLine}
 use Rattle.trace_reply.specs.Places.{reply_in}
 use Rattle.trace_runner.specs.Workers.{HasRun, lines_of_cpu}
 use Rattle.trace_runner.proofs.MergedReplies.{each_at}

@@ -6,7 +6,7 @@ use Rattle.std.proofs.lemmas.Bool.Decides.{nat_tests}
 use Rattle.std.proofs.lemmas.Str.Ascii.{IsAscii-cons, IsAscii-nil}
 use Rattle.std.specs.Fmt.{decimal, digits, digits_onto, digit_glyph}
 use Rattle.std.specs.Str.{IsAscii}
-use Rattle.receipt_text.specs.Numbers.{hex}
+use Rattle.number_text.specs.Numbers.{hex}
 
 -- ---- a loop's steps
 -- The first digit.

@@ -1,6 +1,6 @@
 use Rattle.std.proofs.Common.{ap, arith, drop, false, length, length-append, length-drop}
 use Rattle.std.specs.Fmt.{digits}
-use Rattle.receipt_text.proofs.numbers.write_hexadecimal.Goals as goal
+use Rattle.number_text.proofs.numbers.write_hexadecimal.Goals as goal
 
 pub returns-clause-start : goal.returns-clause-start
 returns-clause-start c =

@@ -1,6 +1,6 @@
 use Rattle.std.proofs.Common.{◌≡◌, ◌+◌, ◌-◌, ◌^◌, ◌<◌, ◌≤◌, ◌++◌, false, drop}
 use Rattle.std.specs.Fmt.{digits, digits_onto}
-use Rattle.receipt_text.proofs.numbers.write_hexadecimal_digits.Given as goal
+use Rattle.number_text.proofs.numbers.write_hexadecimal_digits.Given as goal
 
 -- What is left has its digits in the places that are left.
 abbrev pub invariant-loop-start : goal.invariant-loop-start

@@ -1,9 +1,9 @@
 use Rattle.std.proofs.Common.{◌≡◌, ◌-◌, ◌∙◌, drop, arith, length-drop, append-nil}
 use Rattle.std.proofs.lemmas.List.{take_all}
 use Rattle.std.proofs.lemmas.Str.{IsUtf8-from_ascii}
-use Rattle.receipt_text.specs.Numbers.{hex}
-use Rattle.receipt_text.proofs.NumberSteps.{hex_IsAscii}
-use Rattle.receipt_text.proofs.numbers.put_hexadecimal.Goals as goal
+use Rattle.number_text.specs.Numbers.{hex}
+use Rattle.number_text.proofs.NumberSteps.{hex_IsAscii}
+use Rattle.number_text.proofs.numbers.put_hexadecimal.Goals as goal
 
 pub from_utf8_unchecked-requires : goal.from_utf8_unchecked-requires
 from_utf8_unchecked-requires c =

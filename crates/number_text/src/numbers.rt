@@ -1,8 +1,8 @@
 ghost use Rattle.std.specs.Prelude.{◌≡◌, ◌+◌, ◌++◌, ◌<◌, ◌≤◌, false, length, drop, OnOk, OnErr, string_bytes};
 ghost use Rattle.std.specs.Fmt.{decimal, digit_glyph, digits, signed_decimal};
 ghost use Rattle.std.specs.Io.{StartsWith};
-ghost use Rattle.receipt_text.specs.Room.{TakesAtMost};
-ghost use Rattle.receipt_text.specs.Numbers.{hex};
+ghost use Rattle.number_text.specs.Room.{TakesAtMost};
+ghost use Rattle.number_text.specs.Numbers.{hex};
 
 use itoa::Buffer;
 use std::alloc::AllocError;

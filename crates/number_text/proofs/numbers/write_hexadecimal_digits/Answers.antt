@@ -1,7 +1,7 @@
 use Rattle.std.proofs.Common.{◌≡◌, ◌+◌, ◌-◌, ◌∙◌, drop, sym, arith}
 use Rattle.std.proofs.lemmas.List.{drop-set}
-use Rattle.receipt_text.proofs.NumberSteps.{digits_onto_start, digits_onto_last, digits_onto_step, fewer}
-use Rattle.receipt_text.proofs.numbers.write_hexadecimal_digits.Goals as goal
+use Rattle.number_text.proofs.NumberSteps.{digits_onto_start, digits_onto_last, digits_onto_step, fewer}
+use Rattle.number_text.proofs.numbers.write_hexadecimal_digits.Goals as goal
 
 pub loop-start-init : goal.loop-start-init
 loop-start-init c =

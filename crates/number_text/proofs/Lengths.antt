@@ -2,8 +2,8 @@
 use Rattle.std.proofs.Common.{◌≡◌, ℕ, zero, suc, ◌+◌, ◌/◌, ◌%◌, ◌^◌, ◌<◌, ◌≤◌, Bool, true, false, List, [], ◌∷◌, length, eqb, cond, arith, subst}
 use Rattle.std.proofs.lemmas.Fmt.{length-decimal-le}
 use Rattle.std.specs.Fmt.{decimal, digits, digits_onto, digit_glyph}
-use Rattle.receipt_text.specs.Numbers.{hex}
-use Rattle.receipt_text.proofs.NumberSteps.{fewer}
+use Rattle.number_text.specs.Numbers.{hex}
+use Rattle.number_text.proofs.NumberSteps.{fewer}
 
 -- In base 10 they have at most 10 digits.
 pub decimal_short : (n : ℕ) → n < 2 ^ 32 → length (decimal n) ≤ 10

@@ -1,4 +1,5 @@
-ghost use Rattle.std.specs.Prelude.{◌≡◌};
+ghost use Rattle.std.specs.Prelude.{◌≡◌, IfSome, Some};
+ghost use Rattle.hpte_fields.specs.Fields.{normal_words};
 ghost use Rattle.page_grants.specs.Suited as suited;
 
 use crate::granted::GrantedMemory;
@@ -41,9 +42,11 @@ pub fn suits_grants<G: GrantedMemory>(grants: &G, dword0: u64, dword1: u64) -> b
 }
 
 /// The doublewords that H_ENTER stores for those of a guest. `None` where these can't be stored, or
-/// where no single grant holds the whole page that they map with these storage control bits.
+/// where no single grant holds the whole page that they map with these storage control bits. Of what
+/// it stores H_ENTER stores the same.
 pub fn entered_words<G: GrantedMemory>(grants: &G, pteh: u64, ptel: u64) -> Option<(u64, u64)>
-    ensures { result ≡ suited.entered_words (G.grants grants.now) pteh ptel }
+    ensures value { result ≡ suited.entered_words (G.grants grants.now) pteh ptel }
+    ensures again { IfSome result (λ w. normal_words w.0 w.1 ≡ Some w) }
 {
     let (dword0, dword1) = normal(pteh, ptel)?;
     if suits_grants(grants, dword0, dword1) {

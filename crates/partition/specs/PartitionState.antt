@@ -30,7 +30,7 @@ abbrev pub with_memory : PartitionState → TableMemory → PartitionState
 with_memory partition memory = record partition { memory = memory }
 
 -- ---- the beginning
--- An empty table of the configured order in a pool that is empty but for it, beside the configured grants.
+-- A table of the configured order with the configured entries, in a pool that is empty but for it, beside the configured grants.
 unfoldable pub opening_partition : Configuration → PartitionState
 opening_partition config = record {
   memory
@@ -39,7 +39,8 @@ opening_partition config = record {
       config.limit
       config.order
       config.granted.pool_base
-      config.granted.pool_order;
+      config.granted.pool_order
+      config.entries;
   granted = config.granted;
 }
 

@@ -60,8 +60,8 @@ impl Model for Partition {
 }
 
 impl Partition {
-    /// The partition of a configuration: all entries of its table are empty, and the table has the
-    /// lowest place in the pool. The only error is want of memory.
+    /// The partition of a configuration: the entries that it names are valid, all others are empty, and
+    /// the table has the lowest place in the pool. The only error is want of memory.
     pub fn open(alloc: Global, config: &Config) -> Result<Partition, AllocError>
         ensures ok { IfOk result (λ partition. partition ≡ opening_partition config.now) }
         ensures has_states { IfOk result HasStates }

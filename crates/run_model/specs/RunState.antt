@@ -33,11 +33,17 @@ context_of w = access_context w.memory.table.order w.grants
 abbrev pub states_of : RunState → List State
 states_of w = w.memory.table.states
 
--- At first all entries are empty, and no processor has a segment or a cached translation.
+-- At first the configured entries are valid, all others are empty, and no processor has a segment or a cached translation.
 unfoldable pub opening_run : Configuration → RunState
 opening_run c = record {
   grants = c.granted.grants;
-  memory = opening_memory c.limit c.order c.granted.pool_base c.granted.pool_order;
+  memory =
+      opening_memory
+      c.limit
+      c.order
+      c.granted.pool_base
+      c.granted.pool_order
+      c.entries;
   processors = replicate c.cpus new_processor;
 }
 

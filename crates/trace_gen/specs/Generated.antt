@@ -28,6 +28,7 @@ generated_config = record {
   limit = 22;
   cpus = 4;
   granted = record { pool_base = 0x1000000000; pool_order = 24; grants = whole_ram ∷ [] };
+  entries = [];
 }
 
 -- ---- the parts of a word

@@ -8,7 +8,7 @@ use rand_core::{Rng, SeedableRng};
 use rand_xoshiro::Xoshiro256PlusPlus;
 use std::alloc::{AllocError, Global};
 use trace_line::TraceLines;
-use trace_read::{Config, Trace};
+use trace_read::{Config, EntryLines, Trace};
 
 /// How many processors run the lines.
 const PROCESSORS: u32 = 4;
@@ -26,7 +26,7 @@ pub fn generate(alloc: Global, seed: u64, lines: u32) -> Result<Trace, AllocErro
     push_segments(&mut list)?;
     push_words(&mut list, seed, lines)?;
     let trace = Trace {
-        config: config(),
+        config: config(alloc),
         lines: list,
     };
     trace.keeps_limits();
@@ -34,7 +34,7 @@ pub fn generate(alloc: Global, seed: u64, lines: u32) -> Result<Trace, AllocErro
 }
 
 // The configuration of each generated trace.
-fn config() -> Config
+fn config(alloc: Global) -> Config
     ensures { result ≡ generated_config }
 {
     let mut grants = Grants::new(0x10_0000_0000, 24);
@@ -52,6 +52,7 @@ fn config() -> Config
         pool_base: 0x10_0000_0000,
         pool_order: 24,
         grants,
+        entries: EntryLines::new(alloc),
     }
 }
 

@@ -1,13 +1,19 @@
 -- The configuration of a partition.
-use Rattle.std.specs.Prelude.{◌≡◌, ℕ, ◌≤◌}
+use Rattle.std.specs.Prelude.{◌≡◌, ℕ, ◌<◌, ◌≤◌, List, [], ◌∷◌, Some}
+use Rattle.std.specs.List.{AllByRecursion}
+use Rattle.hpte_fields.specs.TableSize.{entry_count}
+use Rattle.frame_grants.specs.declared.grant.Grant.{Grant}
 use Rattle.frame_grants.specs.Grants.{GrantedMemory}
+use Rattle.page_grants.specs.Suited.{entered_words}
+use Rattle.table_image.specs.declared.entry.ImageEntry.{ImageEntry}
 
--- The order of the opening table, the highest order that the guest may ask for, the number of processors, and the grants beside the pool of table memory.
+-- The order of the opening table, the highest order that the guest may ask for, the number of processors, the grants beside the pool of table memory, and the entries that are valid in the opening table.
 pub record Configuration : Type 0 where
   pub order : ℕ
   pub limit : ℕ
   pub cpus : ℕ
   pub granted : GrantedMemory
+  pub entries : List ImageEntry
 
 -- Orders are from 18 to 22, there are 1 to 64 processors, and the pool is the one that the grants stand beside.
 pub record AreSettings
@@ -31,3 +37,20 @@ pub record IsConfigured
   where
     pub settings : AreSettings order limit cpus pool_base pool_order granted
     pub room : order ≤ pool_order
+
+-- ---- the entries of the opening table
+-- The entry may lie in the opening table: its index is one of the table's, and H_ENTER would store just these doublewords, R and C among them.
+pub record IsOpeningEntry (order : ℕ) (grants : List Grant) (e : ImageEntry) : Type 0 where
+  pub in_table : e.index < entry_count order
+  pub stored : entered_words grants e.dword0 e.dword1 ≡ Some (e.dword0, e.dword1)
+
+-- Each index is above those before it.
+abbrev pub AreRising : List ImageEntry → Type 0
+AreRising [] = Unit {0}
+AreRising (e ∷ es) = AllByRecursion (λ (later : ImageEntry). e.index < later.index) es × AreRising es
+
+-- Each may lie in the opening table, and their indices rise.
+pub record AreOpeningEntries (order : ℕ) (grants : List Grant) (entries : List ImageEntry) : Type 0
+  where
+    pub each : AllByRecursion (IsOpeningEntry order grants) entries
+    pub rising : AreRising entries

@@ -1,5 +1,5 @@
 -- What the configuration lines give, as readings of their words.
-use Rattle.std.specs.Prelude.{◌≡◌, ℕ, ◌==◌, ◌&&◌, List, length, nat_le, is_none, Option, Some, None, Result, Ok, Err}
+use Rattle.std.specs.Prelude.{◌≡◌, ℕ, ◌==◌, ◌&&◌, List, [], length, nat_le, is_none, Option, Some, None, Result, Ok, Err}
 use Rattle.frame_grants.specs.declared.error.GrantError.{GrantError}
 use Rattle.frame_grants.specs.declared.grant.Grant.{Grant}
 use Rattle.frame_grants.specs.declared.grant.Kind.{Kind}
@@ -11,9 +11,15 @@ use Rattle.trace_read.specs.Acts.{number_at}
 use Rattle.trace_read.specs.Configuration.{Configuration}
 use Rattle.trace_read.specs.Whys.{◌>>=◌, guard, why_of_grant}
 
--- A table of 2 ^ 18 bytes that may grow to 2 ^ 22, one processor, and no grant beside a pool of 2 ^ 24 bytes.
+-- A table of 2 ^ 18 bytes that may grow to 2 ^ 22, one processor, no grant beside a pool of 2 ^ 24 bytes, and no entry.
 abbrev pub default_settings : Configuration
-default_settings = record { order = 18; limit = 22; cpus = 1; granted = no_grants 0x1000000000 24 }
+default_settings = record {
+  order = 18;
+  limit = 22;
+  cpus = 1;
+  granted = no_grants 0x1000000000 24;
+  entries = [];
+}
 
 -- ---- one line each
 -- The number of a line that has one, between these bounds, which are among the numbers allowed.

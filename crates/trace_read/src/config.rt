@@ -1,3 +1,4 @@
+use crate::entries::EntryLines;
 use frame_grants::Grants;
 use std::marker::Model;
 
@@ -16,16 +17,26 @@ pub struct Config {
     pub pool_order: u8,
     /// The memory that is granted to the guest, beside that pool.
     pub grants: Grants,
+    /// The valid entries of the opening table.
+    pub entries: EntryLines,
 }
 
 impl Model for Config {
-    ghost use Rattle.trace_read.specs.Configuration.{Configuration, IsConfigured};
+    ghost use Rattle.std.specs.Prelude.{◌×◌};
+    ghost use Rattle.trace_read.specs.Configuration.{Configuration, IsConfigured, AreOpeningEntries};
 
     ghost Value = { Configuration };
 
     ghost view = { λ c.
-        record { order = c.order; limit = c.limit; cpus = c.cpus; granted = c.grants } };
+        record {
+          order = c.order;
+          limit = c.limit;
+          cpus = c.cpus;
+          granted = c.grants;
+          entries = c.entries;
+        } };
 
     ghost invariant = { λ c.
-        IsConfigured c.order c.limit c.cpus c.pool_base c.pool_order c.grants };
+        IsConfigured c.order c.limit c.cpus c.pool_base c.pool_order c.grants
+        × AreOpeningEntries c.order c.grants.grants c.entries };
 }

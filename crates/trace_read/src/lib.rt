@@ -5,6 +5,7 @@
 mod acts;
 mod config;
 mod counted;
+mod entries;
 mod forms;
 mod lines;
 mod numbers;
@@ -18,6 +19,7 @@ mod verbs;
 mod why;
 
 pub use config::Config;
+pub use entries::EntryLines;
 pub use lines::{drop_cr, lines_of, split_line};
 pub use numbers::number;
 pub use parser::{MOST_BYTES, TraceError, parse};

@@ -57,7 +57,7 @@ impl Reader {
         Reader {
             taken: 0,
             stage: Stage::Order,
-            settings: Settings::new(),
+            settings: Settings::new(alloc),
             lines: CountedLines::new(alloc),
         }
     }

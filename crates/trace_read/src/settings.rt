@@ -4,9 +4,11 @@ ghost use Rattle.trace_read.specs.Settings.{default_settings, number_within, wit
 
 use crate::acts::number_at;
 use crate::config::Config;
+use crate::entries::EntryLines;
 use crate::why::{Why, grant_why};
 use frame_grants::{Grant, Grants, Kind};
 use pool_range::PoolRange;
+use std::alloc::Global;
 use std::marker::Model;
 
 /// The machine region for page tables where a trace names none: its base, and the binary logarithm
@@ -41,22 +43,32 @@ pub struct Settings {
     pool_base: u64,
     pool_order: u8,
     grants: Grants,
+    entries: EntryLines,
 }
 
 impl Model for Settings {
+    ghost use Rattle.std.specs.Prelude.{◌≡◌, ◌×◌, []};
     ghost use Rattle.trace_read.specs.Configuration.{Configuration, AreSettings};
 
     ghost Value = { Configuration };
 
     ghost view = { λ s.
-        record { order = s.order; limit = s.limit; cpus = s.cpus; granted = s.grants } };
+        record {
+          order = s.order;
+          limit = s.limit;
+          cpus = s.cpus;
+          granted = s.grants;
+          entries = s.entries;
+        } };
 
-    ghost invariant = { λ s. AreSettings s.order s.limit s.cpus s.pool_base s.pool_order s.grants };
+    ghost invariant = { λ s.
+        AreSettings s.order s.limit s.cpus s.pool_base s.pool_order s.grants
+        × (s.entries ≡ []) };
 }
 
 impl Settings {
     /// Those of a trace without configuration lines.
-    pub fn new() -> Self
+    pub fn new(alloc: Global) -> Self
         ensures { result ≡ default_settings }
     {
         Settings {
@@ -66,6 +78,7 @@ impl Settings {
             pool_base: POOL_BASE,
             pool_order: POOL_ORDER,
             grants: Grants::new(POOL_BASE, POOL_ORDER),
+            entries: EntryLines::new(alloc),
         }
     }
 
@@ -176,6 +189,7 @@ impl Settings {
             pool_base,
             pool_order,
             grants,
+            entries,
         } = self;
         Config {
             order,
@@ -184,6 +198,7 @@ impl Settings {
             pool_base,
             pool_order,
             grants,
+            entries,
         }
     }
 }

@@ -36,7 +36,7 @@ use Rattle.run_model.proofs.SmallPartition.{calls, reaches, mte}
 
 whole : AcceptedTrace
 whole = record {
-  config = record { order = 18; limit = 22; cpus = 1; granted = record { pool_base = 0x1000000000; pool_order = 24; grants = record { logical = 0; machine = 0x2000000000; length = 0x40000000; kind = Ram } ∷ [] } };
+  config = record { order = 18; limit = 22; cpus = 1; granted = record { pool_base = 0x1000000000; pool_order = 24; grants = record { logical = 0; machine = 0x2000000000; length = 0x40000000; kind = Ram } ∷ [] }; entries = [] };
   lines =
       mte 4 0x8000000 0x1000
       ∷ calls 5 0x08 (0 ∷ 0x20 ∷ 0x1001 ∷ 0x3013 ∷ [])

@@ -8,7 +8,7 @@ use papr_codes::Rc;
 use partition::Partition;
 use std::alloc::{AllocError, Global};
 use std::test::Fail;
-use trace_read::Config;
+use trace_read::{Config, EntryLines};
 
 /// A partition with a table of the lowest order.
 fn smallest(alloc: Global, limit: u8, pool_order: u8) -> Result<Partition, AllocError>
@@ -28,6 +28,7 @@ fn smallest(alloc: Global, limit: u8, pool_order: u8) -> Result<Partition, Alloc
         pool_base: 0x10_0000_0000,
         pool_order,
         grants: Grants::new(0x10_0000_0000, pool_order),
+        entries: EntryLines::new(alloc),
     };
     Partition::open(alloc, &config)
 }

@@ -22,7 +22,6 @@ pub struct Config {
 }
 
 impl Model for Config {
-    ghost use Rattle.std.specs.Prelude.{◌×◌};
     ghost use Rattle.trace_read.specs.Configuration.{Configuration, IsConfigured, AreOpeningEntries};
 
     ghost Value = { Configuration };

@@ -47,7 +47,7 @@ pub struct Settings {
 }
 
 impl Model for Settings {
-    ghost use Rattle.std.specs.Prelude.{◌≡◌, ◌×◌, []};
+    ghost use Rattle.std.specs.Prelude.{◌≡◌, []};
     ghost use Rattle.trace_read.specs.Configuration.{Configuration, AreSettings};
 
     ghost Value = { Configuration };

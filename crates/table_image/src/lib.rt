@@ -1,8 +1,17 @@
-//! Images of page tables.
+//! Images of page tables: an entry's doublewords as digits in the layout of the Power ISA, version
+//! 2.07, and in that of version 3.0, and the text of a whole table.
 #![tactic(auto)]
 
+mod digits;
 mod entry;
+mod error;
+mod image;
+mod laws;
 mod layout;
 
+pub use digits::{digits_of, words_of};
 pub use entry::ImageEntry;
+pub use error::ImageError;
+pub use image::{ImageText, image_text};
+pub use laws::digits_are_read_back;
 pub use layout::Layout;

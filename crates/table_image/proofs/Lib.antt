@@ -1,3 +1,4 @@
 pub mod BitFields
 pub mod DigitTexts
+pub mod Lengths
 mod Rows

@@ -14,7 +14,8 @@ use Rattle.trace_read.specs.Configuration.{Configuration}
 use Rattle.trace_read.specs.Counts.{may_add}
 use Rattle.trace_read.specs.Forms.{form_of}
 use Rattle.trace_read.specs.TextLines.{raw_lines, without_cr, is_printable, words_of, is_remark}
-use Rattle.trace_read.specs.Places.{is_running, is_first, comes_at}
+use Rattle.trace_read.specs.Entries.{with_entry}
+use Rattle.trace_read.specs.Places.{is_running, is_first, may_have_entries, comes_at}
 use Rattle.trace_read.specs.Settings.{default_settings, with_order, with_limit, with_cpus, with_pool, with_granted, with_begin}
 use Rattle.trace_line.specs.Lines.{IsTrace}
 use Rattle.trace_read.specs.Trace.{AcceptedTrace}
@@ -57,6 +58,7 @@ after_form forms.Limit r ws = set_to r stages.Cpus (with_limit r.config ws)
 after_form forms.Cpus r ws = set_to r stages.Pool (with_cpus r.config ws)
 after_form forms.Pool r ws = set_to r stages.Grants (with_pool r.config ws)
 after_form (forms.Grant kind) r ws = set_to r stages.Grants (with_granted r.config kind ws)
+after_form forms.Entry r ws = set_to r stages.Entries (with_entry r.config ws)
 after_form forms.Begin r ws = set_to r stages.Lines (with_begin r.config ws)
 after_form (forms.Run verb) r ws = after_act r (run_act r.config.cpus verb ws)
 after_form forms.Dump r ws = after_act r (dump_act ws)
@@ -113,9 +115,10 @@ trace_of bytes =
     else after_lines opening_reading (raw_lines bytes)
 
 -- ---- what holds of a reading at all times
--- Before the first line the limit is the highest. Run lines come behind `begin` alone, where the pool has room for the table; they are a trace's, and no more than the lines that were read.
+-- Before the first line the limit is the highest. There are no entries while grants may come. Run lines come behind `begin` alone, where the pool has room for the table; they are a trace's, and no more than the lines that were read.
 pub record IsReading (r : Reading) : Type 0 where
   pub highest : is_first r.stage ≡ true → r.config.limit ≡ 22
+  pub empty : may_have_entries r.stage ≡ false → r.config.entries ≡ []
   pub room : is_running r.stage ≡ true → r.config.order ≤ r.config.granted.pool_order
   pub none : is_running r.stage ≡ false → r.lines ≡ []
   pub trace : IsTrace r.config.cpus r.lines

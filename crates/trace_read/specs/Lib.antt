@@ -7,6 +7,7 @@ pub mod Whys
 pub mod Forms
 pub mod Acts
 pub mod Settings
+pub mod Entries
 pub mod Counts
 pub mod Places
 pub mod Grammar

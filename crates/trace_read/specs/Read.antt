@@ -5,11 +5,10 @@ use Rattle.trace_read.specs.declared.parser.TraceError.TheVariants as errors
 use Rattle.trace_read.specs.declared.stop.Stop.{Stop}
 use Rattle.trace_read.specs.declared.stop.Stop.TheVariants as stops
 use Rattle.trace_read.specs.declared.why.Why.{Why}
-use Rattle.trace_read.specs.Grammar.{Reading}
 use Rattle.trace_read.specs.Trace.{AcceptedTrace}
 
--- The reading after a line is as the line says, or the line is refused, or memory ran out.
-abbrev pub ReadsTo : Result Reading Why → Result (Unit {0}) Stop → Reading → Type 0
+-- What there is after a line is as the line says, or the line is refused, or memory ran out.
+abbrev pub ReadsTo : {A : Type 0} → Result A Why → Result (Unit {0}) Stop → A → Type 0
 ReadsTo said (Ok done) new = said ≡ Ok new
 ReadsTo said (Err stops.Memory) new = Unit {0}
 ReadsTo said (Err (stops.Refused why)) new = said ≡ Err why

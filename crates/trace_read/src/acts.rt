@@ -11,7 +11,7 @@ use crate::verbs::Verb;
 use crate::why::Why;
 
 /// The word at an index; a missing one is empty.
-fn word_at<'a>(words: &[&'a [u8]], i: usize) -> &'a [u8]
+pub fn word_at<'a>(words: &[&'a [u8]], i: usize) -> &'a [u8]
     ensures { result.now ≡ slice_index_or (texts words.now) i [] }
 {
     if i < words.len() { words[i] } else { &[] }

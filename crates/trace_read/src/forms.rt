@@ -20,6 +20,8 @@ pub enum Form {
     Pool,
     /// `ram LOGICAL MACHINE LENGTH` or `io LOGICAL MACHINE LENGTH`
     Grant(Kind),
+    /// `entry LAYOUT INDEX DIGITS`
+    Entry,
     /// `begin`
     Begin,
     /// A processor, and what it does, where the line says so.
@@ -62,6 +64,8 @@ fn named_form(word: &[u8]) -> Option<Form>
         Some(Form::Grant(Kind::Ram))
     } else if is(word, "io") {
         Some(Form::Grant(Kind::Io))
+    } else if is(word, "entry") {
+        Some(Form::Entry)
     } else if is(word, "begin") {
         Some(Form::Begin)
     } else if is(word, "dump") {

@@ -6,6 +6,7 @@ mod acts;
 mod config;
 mod counted;
 mod entries;
+mod entry_line;
 mod forms;
 mod lines;
 mod numbers;

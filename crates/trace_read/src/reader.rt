@@ -3,7 +3,8 @@ ghost use Rattle.trace_read.specs.Acts.{run_act, dump_act};
 ghost use Rattle.trace_read.specs.Forms.{IsNamedForm};
 ghost use Rattle.trace_read.specs.Grammar.{opening_reading, after_line, after_text, after_words, after_form, set_to, after_act, with_run_line};
 ghost use Rattle.trace_read.specs.TextLines.{texts};
-ghost use Rattle.trace_read.specs.Places.{is_first, is_running, comes_at};
+ghost use Rattle.trace_read.specs.Entries.{with_entry};
+ghost use Rattle.trace_read.specs.Places.{is_first, is_running, may_have_entries, comes_at};
 ghost use Rattle.trace_read.specs.Read.{ReadsTo};
 ghost use Rattle.trace_read.specs.Settings.{with_order, with_limit, with_cpus, with_pool, with_granted, with_begin};
 ghost use Rattle.trace_line.specs.Lines.{IsSpelt};
@@ -140,6 +141,7 @@ impl Reader {
             Form::Cpus => self.take_cpus(words),
             Form::Pool => self.take_pool(words),
             Form::Grant(kind) => self.take_grant(kind, words),
+            Form::Entry => self.take_entry(words),
             Form::Begin => self.take_begin(words),
             Form::Run(verb) => self.take_run(verb, words),
             Form::Dump => self.take_dump(words),
@@ -159,7 +161,7 @@ impl Reader {
     }
 
     fn take_limit(&mut self, words: &[&[u8]]) -> Result<(), Stop>
-        requires { is_running self.old.stage ≡ false }
+        requires { may_have_entries self.old.stage ≡ false }
         ensures { ReadsTo
             (set_to self.old Stage.Cpus (with_limit self.old.config (texts words.now)))
             result
@@ -171,7 +173,7 @@ impl Reader {
     }
 
     fn take_cpus(&mut self, words: &[&[u8]]) -> Result<(), Stop>
-        requires { is_running self.old.stage ≡ false }
+        requires { may_have_entries self.old.stage ≡ false }
         ensures { ReadsTo
             (set_to self.old Stage.Pool (with_cpus self.old.config (texts words.now)))
             result
@@ -183,7 +185,7 @@ impl Reader {
     }
 
     fn take_pool(&mut self, words: &[&[u8]]) -> Result<(), Stop>
-        requires { is_running self.old.stage ≡ false }
+        requires { may_have_entries self.old.stage ≡ false }
         ensures { ReadsTo
             (set_to self.old Stage.Grants (with_pool self.old.config (texts words.now)))
             result
@@ -195,7 +197,7 @@ impl Reader {
     }
 
     fn take_grant(&mut self, kind: Kind, words: &[&[u8]]) -> Result<(), Stop>
-        requires { is_running self.old.stage ≡ false }
+        requires { may_have_entries self.old.stage ≡ false }
         ensures { ReadsTo
             (set_to self.old Stage.Grants (with_granted self.old.config kind (texts words.now)))
             result
@@ -203,6 +205,18 @@ impl Reader {
     {
         self.settings.take_grant(kind, words)?;
         self.stage = Stage::Grants;
+        Ok(())
+    }
+
+    fn take_entry(&mut self, words: &[&[u8]]) -> Result<(), Stop>
+        requires { is_running self.old.stage ≡ false }
+        ensures { ReadsTo
+            (set_to self.old Stage.Entries (with_entry self.old.config (texts words.now)))
+            result
+            self.new }
+    {
+        self.settings.take_entry(words)?;
+        self.stage = Stage::Entries;
         Ok(())
     }
 

@@ -1,15 +1,22 @@
-ghost use Rattle.std.specs.Prelude.{◌≡◌, ◌≤◌, IfOk, OnOk};
+ghost use Rattle.std.specs.Prelude.{◌≡◌, ◌≤◌, ◌++◌, [], ◌∷◌, IfOk, OnOk, OnErr};
+ghost use Rattle.trace_read.specs.Configuration.{AreOpeningEntries};
+ghost use Rattle.trace_read.specs.Entries.{entry_named, with_entry};
+ghost use Rattle.trace_read.specs.Read.{ReadsTo};
 ghost use Rattle.trace_read.specs.TextLines.{texts};
 ghost use Rattle.trace_read.specs.Settings.{default_settings, number_within, with_order, with_limit, with_cpus, with_pool, with_granted, with_begin, SetsTo};
 
-use crate::acts::number_at;
+use crate::acts::{number_at, word_at};
 use crate::config::Config;
 use crate::entries::EntryLines;
+use crate::entry_line::{is_above, is_stored, layout_named, words_spelt};
+use crate::stop::Stop;
 use crate::why::{Why, grant_why};
 use frame_grants::{Grant, Grants, Kind};
+use hpte_fields::entry_count;
 use pool_range::PoolRange;
 use std::alloc::Global;
 use std::marker::Model;
+use table_image::ImageEntry;
 
 /// The machine region for page tables where a trace names none: its base, and the binary logarithm
 /// of its size in bytes.
@@ -47,8 +54,7 @@ pub struct Settings {
 }
 
 impl Model for Settings {
-    ghost use Rattle.std.specs.Prelude.{◌≡◌, []};
-    ghost use Rattle.trace_read.specs.Configuration.{Configuration, AreSettings};
+    ghost use Rattle.trace_read.specs.Configuration.{Configuration, AreSettings, AreOpeningEntries};
 
     ghost Value = { Configuration };
 
@@ -63,7 +69,7 @@ impl Model for Settings {
 
     ghost invariant = { λ s.
         AreSettings s.order s.limit s.cpus s.pool_base s.pool_order s.grants
-        × (s.entries ≡ []) };
+        × AreOpeningEntries s.order s.grants.grants s.entries };
 }
 
 impl Settings {
@@ -85,8 +91,10 @@ impl Settings {
     /// `order S`
     #[tactic(auto, unfolding(crate::specs::Settings::with_order))]
     pub fn take_order(&mut self, words: &[&[u8]]) -> Result<(), Why>
-        requires { self.old.limit ≡ 22 }
-        ensures { SetsTo (with_order self.old (texts words.now)) result self.old self.new }
+        requires highest { self.old.limit ≡ 22 }
+        requires empty { self.old.entries ≡ [] }
+        ensures taken { SetsTo (with_order self.old (texts words.now)) result self.old self.new }
+        ensures entries { self.new.entries ≡ self.old.entries }
     {
         self.order = number_within(words, 18, 22)? as u8;
         Ok(())
@@ -95,7 +103,8 @@ impl Settings {
     /// `limit S`
     #[tactic(auto, unfolding(crate::specs::Settings::with_limit))]
     pub fn take_limit(&mut self, words: &[&[u8]]) -> Result<(), Why>
-        ensures { SetsTo (with_limit self.old (texts words.now)) result self.old self.new }
+        ensures taken { SetsTo (with_limit self.old (texts words.now)) result self.old self.new }
+        ensures entries { self.new.entries ≡ self.old.entries }
     {
         self.limit = number_within(words, u64::from(self.order), 22)? as u8;
         Ok(())
@@ -104,7 +113,8 @@ impl Settings {
     /// `cpus N`
     #[tactic(auto, unfolding(crate::specs::Settings::with_cpus))]
     pub fn take_cpus(&mut self, words: &[&[u8]]) -> Result<(), Why>
-        ensures { SetsTo (with_cpus self.old (texts words.now)) result self.old self.new }
+        ensures taken { SetsTo (with_cpus self.old (texts words.now)) result self.old self.new }
+        ensures entries { self.new.entries ≡ self.old.entries }
     {
         self.cpus = number_within(words, 1, 64)? as u32;
         Ok(())
@@ -113,7 +123,9 @@ impl Settings {
     /// `pool BASE ORDER`
     #[tactic(auto, unfolding(crate::specs::Settings::with_pool))]
     pub fn take_pool(&mut self, words: &[&[u8]]) -> Result<(), Why>
-        ensures { SetsTo (with_pool self.old (texts words.now)) result self.old self.new }
+        requires { self.old.entries ≡ [] }
+        ensures taken { SetsTo (with_pool self.old (texts words.now)) result self.old self.new }
+        ensures entries { self.new.entries ≡ self.old.entries }
     {
         if words.len() != 3 {
             return Err(Why::Count);
@@ -134,7 +146,9 @@ impl Settings {
     /// `ram LOGICAL MACHINE LENGTH` or `io LOGICAL MACHINE LENGTH`
     #[tactic(auto, unfolding(crate::specs::Settings::with_granted, frame_grants::specs::Grants::with_grant))]
     pub fn take_grant(&mut self, kind: Kind, words: &[&[u8]]) -> Result<(), Why>
-        ensures { SetsTo (with_granted self.old kind (texts words.now)) result self.old self.new }
+        requires { self.old.entries ≡ [] }
+        ensures taken { SetsTo (with_granted self.old kind (texts words.now)) result self.old self.new }
+        ensures entries { self.new.entries ≡ self.old.entries }
     {
         if words.len() != 4 {
             return Err(Why::Count);
@@ -151,6 +165,50 @@ impl Settings {
         if let Err(error) = self.grants.add(grant) {
             return Err(grant_why(error));
         }
+        Ok(())
+    }
+
+    /// The entry that a line names.
+    #[tactic(auto, unfolding(crate::specs::Entries::entry_named))]
+    fn entry_named(&self, words: &[&[u8]]) -> Result<ImageEntry, Why>
+        ensures entry { result ≡ entry_named self.now (texts words.now) }
+        ensures opening { IfOk
+            result
+            (λ entry. AreOpeningEntries
+            self.now.order
+            self.now.granted.grants
+            (self.now.entries ++ entry ∷ [])) }
+    {
+        if words.len() != 4 {
+            return Err(Why::Count);
+        }
+        let index = number_at(words, 2)?;
+        let layout = layout_named(word_at(words, 1)).ok_or(Why::Entry)?;
+        if index >= u64::from(entry_count(self.order)) {
+            return Err(Why::Entry);
+        }
+        if !is_above(self.entries.as_slice(), index) {
+            return Err(Why::Entry);
+        }
+        let (dword0, dword1) = words_spelt(layout, word_at(words, 3)).ok_or(Why::Entry)?;
+        if !is_stored(&self.grants, dword0, dword1) {
+            return Err(Why::Entry);
+        }
+        Ok(ImageEntry {
+            index: index as u32,
+            dword0,
+            dword1,
+        })
+    }
+
+    /// `entry old INDEX DIGITS` or `entry new INDEX DIGITS`
+    #[tactic(auto, unfolding(crate::specs::Entries::with_entry))]
+    pub fn take_entry(&mut self, words: &[&[u8]]) -> Result<(), Stop>
+        ensures taken { ReadsTo (with_entry self.old (texts words.now)) result self.new }
+        ensures err { OnErr result (self.new ≡ self.old) }
+    {
+        let entry = self.entry_named(words)?;
+        self.entries.push(entry)?;
         Ok(())
     }
 

@@ -14,8 +14,10 @@ pub enum Stage {
     Cpus,
     /// `pool`
     Pool,
-    /// `ram`, `io` and `begin`
+    /// `ram` and `io`
     Grants,
+    /// `entry` and `begin`
+    Entries,
     /// Run lines: the configuration has ended.
     Lines,
 }
@@ -36,8 +38,9 @@ impl Stage {
             Form::Order => matches!(self, Stage::Order),
             Form::Limit => matches!(self, Stage::Order | Stage::Limit),
             Form::Cpus => matches!(self, Stage::Order | Stage::Limit | Stage::Cpus),
-            Form::Pool => !matches!(self, Stage::Grants | Stage::Lines),
-            Form::Grant(_) | Form::Begin => !self.is_running(),
+            Form::Pool => !matches!(self, Stage::Grants | Stage::Entries | Stage::Lines),
+            Form::Grant(_) => !matches!(self, Stage::Entries | Stage::Lines),
+            Form::Entry | Form::Begin => !self.is_running(),
             Form::Run(_) | Form::Dump => self.is_running(),
         }
     }

@@ -42,6 +42,8 @@ pub enum Why {
     Overlap,
     /// The grant meets the pool of page tables.
     Tables,
+    /// The words of `entry` name no entry that may stand in the opening table behind those before.
+    Entry,
     /// At `begin`, the pool has no room for the opening table.
     Small,
     /// The input ended without `begin`; reported one past the last line.
@@ -72,6 +74,7 @@ impl Why {
             Why::Many => "many",
             Why::Overlap => "overlap",
             Why::Tables => "tables",
+            Why::Entry => "entry",
             Why::Small => "small",
             Why::Begin => "begin",
         }

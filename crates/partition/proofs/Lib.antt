@@ -4,4 +4,5 @@ pub mod Opening
 mod Carrying
 mod Committing
 mod Rows
+pub mod Entries
 pub mod Pairing

@@ -5,4 +5,5 @@ mod Carrying
 mod Committing
 mod Rows
 pub mod Entries
+pub mod Bits
 pub mod Pairing

@@ -4,4 +4,5 @@ pub mod Finds
 pub mod Placed
 mod Preparing
 pub mod Holding
+pub mod OpeningStates
 mod Rows

@@ -16,7 +16,7 @@ use Rattle.entry_model.specs.declared.hreply.HReply.{HReply}
 use Rattle.entry_model.specs.declared.receipt.Receipt.{Receipt}
 use Rattle.h_enter.specs.Enter.{enter_plan, candidates}
 use Rattle.h_update.specs.Single.{both_words, code_and_words, h_read_plan, h_remove_plan, remove_test, told_by}
-use Rattle.papr_uses.proofs.Bits.{put_back}
+use Rattle.partition.proofs.Bits.{put_back}
 
 -- ---- one call
 -- The receipts of one call on an entry, and the states after it.

@@ -3,7 +3,6 @@ pub mod Committed
 pub mod OneSegment
 pub mod OneLine
 pub mod Granted
-pub mod Bits
 pub mod Entered
 pub mod NoSegment
 pub mod WholeRuns

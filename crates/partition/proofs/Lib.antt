@@ -4,4 +4,6 @@ pub mod Opening
 mod Carrying
 mod Committing
 mod Rows
+pub mod Entries
+pub mod Bits
 pub mod Pairing

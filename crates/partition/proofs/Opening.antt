@@ -14,7 +14,8 @@ use Rattle.frame_grants.specs.Grants.{GrantedMemory}
 use Rattle.trace_read.specs.Configuration.{Configuration}
 use Rattle.entry_model.specs.State.{State, empty_state}
 use Rattle.hpte_fields.specs.TableSize.{entry_count}
-use Rattle.hpt_resize.specs.TableMemory.{empty_states, opening_memory}
+use Rattle.hpt_resize.specs.TableMemory.{empty_states, with_entries, opening_memory}
+use Rattle.hpt_resize.proofs.OpeningStates.{opening-length}
 use Rattle.partition.specs.PartitionState.{PartitionState, IsPartition, opening_partition}
 use Rattle.partition.proofs.Resizing.{partition, memory_or}
 use Rattle.frame_grants.specs.Grants as grants
@@ -43,34 +44,25 @@ sound_pool copied granted base order sound same base_is order_is =
 pub beside : (pool : PoolState) (granted : GrantedMemory) (base order : ℕ) → pool ≡ no_blocks base order → granted.pool_base ≡ base → granted.pool_order ≡ order → pool ≡ no_blocks granted.pool_base granted.pool_order
 beside pool granted base order is first second = cc
 
--- ---- the states
-pub all_empty : (states : List State) (order n : ℕ) (one : State) → order ≤ 22 → states ≡ replicate n one → n ≡ 1 * 2 ^ (order - 4) % 2 ^ 64 → one ≡ empty_state 0 → states ≡ empty_states order
-unfolding empty_states
-all_empty states order n one small is count empty =
-    let most : 2 ^ (order - 4) ≤ 2 ^ 18 = pow_mono {i = order - 4} {j = 18} (omega arith) in
-    let fits : 1 * 2 ^ (order - 4) % 2 ^ 64 ≡ 2 ^ (order - 4) = omega (arith, mod-eq_of_lt {n = 1 * 2 ^ (order - 4)} {m = 2 ^ 64} (omega arith)) in
-    is ∙ ap (λ m. replicate m one) (count ∙ fits) ∙ ap (replicate (2 ^ (order - 4))) empty
-
 -- ---- the partition
 pub record IsOpened (config : Configuration) (new : PoolState) (place : ℕ) (states : List State) (granted : GrantedMemory) : Type 0 where
   pub kept : IsPartition (partition config.limit new None (record { order = config.order; place = place; number = 0; states = states }) granted)
   pub is : partition config.limit new None (record { order = config.order; place = place; number = 0; states = states }) granted ≡ opening_partition config
 
-opened_is : (config : Configuration) (new : PoolState) (place : ℕ) (states : List State) (granted : GrantedMemory) → new ≡ with_block (no_blocks config.granted.pool_base config.granted.pool_order) (block_at place config.order) → lowest_place (no_blocks config.granted.pool_base config.granted.pool_order) config.order ≡ Some place → states ≡ empty_states config.order → granted ≡ config.granted → partition config.limit new None (record { order = config.order; place = place; number = 0; states = states }) granted ≡ opening_partition config
+opened_is : (config : Configuration) (new : PoolState) (place : ℕ) (states : List State) (granted : GrantedMemory) → new ≡ with_block (no_blocks config.granted.pool_base config.granted.pool_order) (block_at place config.order) → lowest_place (no_blocks config.granted.pool_base config.granted.pool_order) config.order ≡ Some place → states ≡ with_entries (empty_states config.order) config.entries → granted ≡ config.granted → partition config.limit new None (record { order = config.order; place = place; number = 0; states = states }) granted ≡ opening_partition config
 unfolding opening_partition opening_memory
 opened_is config new place states granted now lowest empty same =
     let at : unwrap_or (lowest_place (no_blocks config.granted.pool_base config.granted.pool_order) config.order) 0 ≡ place = ap (λ (o : Option ℕ). unwrap_or o 0) lowest in
     rw (now, empty, same, at) refl
 
-pub is_opened : (config : Configuration) (pool new : PoolState) (o : Option ℕ) (place : ℕ) (states : List State) (granted : GrantedMemory) → 18 ≤ config.order → config.order ≤ config.limit → config.limit ≤ 22 → granted ≡ config.granted → pool ≡ no_blocks config.granted.pool_base config.granted.pool_order → o ≡ lowest_place pool config.order → o ≡ Some place → IfSome o (λ p. new ≡ with_block pool (block_at p config.order)) → IsSound new → states ≡ empty_states config.order → IsOpened config new place states granted
-unfolding empty_states
+pub is_opened : (config : Configuration) (pool new : PoolState) (o : Option ℕ) (place : ℕ) (states : List State) (granted : GrantedMemory) → 18 ≤ config.order → config.order ≤ config.limit → config.limit ≤ 22 → granted ≡ config.granted → pool ≡ no_blocks config.granted.pool_base config.granted.pool_order → o ≡ lowest_place pool config.order → o ≡ Some place → IfSome o (λ p. new ≡ with_block pool (block_at p config.order)) → IsSound new → states ≡ with_entries (empty_states config.order) config.entries → IsOpened config new place states granted
 is_opened config pool new None place states granted low within high same is first found made sound empty = absurd (cc)
 is_opened config pool new (Some other) place states granted low within high same is first found made sound empty =
     let at : other ≡ place = cc in
     let open_pool : PoolState = no_blocks config.granted.pool_base config.granted.pool_order in
     let now : new ≡ with_block open_pool (block_at place config.order) = made ∙ ap (λ n. with_block pool (block_at n config.order)) at ∙ ap (λ (p : PoolState). with_block p (block_at place config.order)) is in
     let lowest : lowest_place open_pool config.order ≡ Some place = ap (λ (p : PoolState). lowest_place p config.order) (sym is) ∙ sym first ∙ found in
-    let long : length states ≡ entry_count config.order = ap length empty ∙ length-replicate (entry_count config.order) (empty_state 0) in
+    let long : length states ≡ entry_count config.order = ap length empty ∙ opening-length config.order config.entries in
     record {
       kept = record {
         limit_low = omega arith;

@@ -4,6 +4,7 @@
 
 mod laws;
 mod partition_state;
+mod states;
 
 pub use laws::{commit_keeps_translations, kept_translations_are_paired};
 pub use partition_state::Partition;

@@ -5,6 +5,7 @@ ghost use Rattle.hpt_resize.specs.Resize.{needs_table};
 ghost use Rattle.hpt_resize.specs.TableMemory.{prepare_result, commit_result, with_states};
 ghost use Rattle.partition.specs.PartitionState.{HasStates, HasNoStates, IsPartition, CountsTables, opening_partition, with_memory, reply_of_code};
 
+use crate::states::opening_states;
 use entry_model::{EntryState, HReply};
 use frame_grants::Grants;
 use hpt_pool::Pool;
@@ -69,7 +70,7 @@ impl Partition {
         let grants = config.grants.copy();
         let range = PoolRange::accepted(config.pool_base, config.pool_order);
         let mut pool = Pool::within(alloc, range)?;
-        let states = vec![in alloc; EntryState::empty(0); 1 << (config.order - 4)]?;
+        let states = opening_states(alloc, config)?;
         let place = pool.take(config.order).unwrap();
         Ok(Partition {
             limit: config.limit,

@@ -161,11 +161,11 @@ run_safe t rs is good =
     let cpus = t.config.cpus in
     let replied_lines = lines_with_replies t.lines rs in
     let c = cut replied_lines in
-    let run_state : IsLowStampRunState granted 0 cpus (opening_run t.config) = record { grants = opening_grants t.config; processors = opening_processors t; states = opening_states t.config; placed = opening_placed t.config } in
+    let run_state : IsLowStampRunState granted 1 cpus (opening_run t.config) = record { grants = opening_grants t.config; processors = opening_processors t; states = opening_states t.config is.entries; placed = opening_placed t.config } in
     let lines : InSections (IsLine cpus) c.0 c.1 = cut_in (IsLine cpus) replied_lines (replied_lines_lines cpus t.lines rs is.lines.on_cpus good.kinds) in
     let few : length t.lines ≤ 2 ^ 17 = is.lines.few in
-    let low : 0 + 32 * line_count c.0 c.1 ≤ top = omega (arith, cut_count replied_lines, replied_lines_count t.lines rs) in
-    let safe = sections_safe granted 0 cpus (opening_run t.config) c.0 c.1 is.sound.apart run_state lines low good.legal good.calls good.accesses good.quiets in
+    let low : 1 + 32 * line_count c.0 c.1 ≤ top = omega (arith, cut_count replied_lines, replied_lines_count t.lines rs) in
+    let safe = sections_safe granted 1 cpus (opening_run t.config) c.0 c.1 is.sound.apart run_state lines low good.legal good.calls good.accesses good.quiets in
     (replies_in IsUnworn t.lines rs good.kinds (cut_out (λ (x : RepliedLine). IsUnworn x.reply) replied_lines safe.0), safe.1)
 
 pub all_unworn : (t : AcceptedTrace) (rs : List Reply) → IsAccepted t → IsGoodRun t rs → AllByRecursion IsUnworn rs

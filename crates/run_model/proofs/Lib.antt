@@ -19,6 +19,7 @@ pub mod StoresKept
 pub mod LowStamps
 pub mod SafeReplies
 pub mod PlacedCaches
+pub mod OpeningEntries
 pub mod LowStampRuns
 pub mod AllSafe
 pub mod ClearedBits

@@ -11,6 +11,7 @@ use Rattle.frame_grants.specs.declared.grant.Grant.{Grant}
 use Rattle.frame_grants.specs.Grants.{GrantedMemory}
 use Rattle.hpt_pool.specs.Pool.{PoolState, lowest_place}
 use Rattle.entry_model.specs.State.{State, empty_state}
+use Rattle.entry_model.specs.Reply.{entered_state}
 use Rattle.entry_model.specs.Run.{state_at}
 use Rattle.entry_model.proofs.Heights.{height}
 use Rattle.hpt_resize.specs.declared.carry.Collision.{Collision}
@@ -19,16 +20,18 @@ use Rattle.hpte_fields.specs.TableSize.{entry_count}
 use Rattle.hpt_resize.specs.Pending.{PendingTable, is_ready, with_more_ready}
 use Rattle.hpt_resize.specs.Resize.{Table, PrepareOutcome, prepare_outcome, is_prepare_request, is_commit_request, pool_without, is_pending, new_table_outcome, start_outcome, advance_outcome, outcome_of_prepare, CommitOutcome, pending_refusal, commit_refusal, carry_outcome, complete_outcome, answer_outcome, outcome_of_commit}
 use Rattle.hpt_resize.specs.TableMemory.{TableMemory, opening_memory, empty_states, prepare_result, commit_result}
+use Rattle.table_image.specs.declared.entry.ImageEntry.{ImageEntry}
 use Rattle.tlb_model.specs.Processor.{Processor}
-use Rattle.trace_read.specs.Configuration.{Configuration}
+use Rattle.trace_read.specs.Configuration.{Configuration, IsOpeningEntry, AreOpeningEntries}
 use Rattle.trace_line.specs.declared.act.Act.{Act}
 use Rattle.trace_reply.specs.declared.reply.Reply.{Reply}
 use Rattle.trace_reply.specs.Replies.{RepliedLine}
 use Rattle.run_model.specs.RunState.{RunState, states_of, opening_run, run_resize, run_quiet_line}
 use Rattle.run_model.specs.Sections.{processors_after_lines, section_end}
 use Rattle.run_model.specs.Landings.{IsUnworn}
-use Rattle.run_model.proofs.Each.{each_at, each_of_map}
+use Rattle.run_model.proofs.Each.{each_map, each_at, each_of_map}
 use Rattle.run_model.proofs.LowStamps.{IsLowStamp, empty_low_stamp}
+use Rattle.run_model.proofs.OpeningEntries.{each_with_entries, entered_granted}
 use Rattle.run_model.proofs.SectionGood.{quiet_size}
 use Rattle.run_model.proofs.PlacedCaches.{ProcessorPlaced, AllPlaced, quiet_placed, all_new_placed}
 use Rattle.papr_codes.specs.declared.calls.Hcall.TheVariants as calls
@@ -154,9 +157,15 @@ each_replicate : (granted : GrantedMemory) (n count : ℕ) → AreLowStamp grant
 each_replicate granted n zero = tt
 each_replicate granted n (suc count) = (empty_low_stamp granted.grants n, each_replicate granted n count)
 
-pub opening_states : (c : Configuration) → AreLowStamp c.granted 0 (states_of (opening_run c))
+-- An entry that is valid at first has stamp 0, and a granted page.
+entered_low_stamp : (order : ℕ) (grants : List Grant) (e : ImageEntry) → IsOpeningEntry order grants e → IsLowStamp grants 1 (entered_state e.dword0 e.dword1)
+entered_low_stamp order grants e h = record { low = omega arith; granted = entered_granted grants e.dword0 e.dword1 h.stored }
+
+pub opening_states : (c : Configuration) → AreOpeningEntries c.order c.granted.grants c.entries → AreLowStamp c.granted 1 (states_of (opening_run c))
 unfolding opening_run opening_memory empty_states
-opening_states c = each_replicate c.granted 0 (entry_count c.order)
+opening_states c is =
+    let entered : AllByRecursion (λ (e : ImageEntry). IsLowStamp c.granted.grants 1 (entered_state e.dword0 e.dword1)) c.entries = each_map (IsOpeningEntry c.order c.granted.grants) (λ (e : ImageEntry). IsLowStamp c.granted.grants 1 (entered_state e.dword0 e.dword1)) c.entries (entered_low_stamp c.order c.granted.grants) is.each in
+    each_with_entries (IsLowStamp c.granted.grants 1) (empty_states c.order) c.entries (each_replicate c.granted 1 (entry_count c.order)) entered
 
 pub opening_placed : (c : Configuration) → AllPlaced (opening_run c)
 unfolding opening_run

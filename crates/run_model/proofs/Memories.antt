@@ -1,17 +1,18 @@
 -- What the two resize calls keep of a partition at memory.
 use Rattle.std.specs.Prelude.{◌==◌, ◌&&◌, ◌||◌, nat_lt, nat_le, IfSome}
-use Rattle.std.proofs.Common.{◌≡◌, ℕ, ◌-◌, ◌^◌, ◌≤◌, Bool, true, false, refl, ◌⊎◌, inl, inr, not, length, Option, Some, None, arith}
+use Rattle.std.proofs.Common.{◌≡◌, ℕ, ◌-◌, ◌^◌, ◌≤◌, Bool, true, false, refl, ◌⊎◌, inl, inr, not, List, length, Option, Some, None, arith}
 use Rattle.std.proofs.lemmas.Bool.{cond_both, and_parts, ltb-false, leb-true}
-use Rattle.std.proofs.lemmas.List.{length-replicate}
 use Rattle.papr_codes.specs.declared.codes.Rc.{Rc}
 use Rattle.papr_codes.specs.declared.codes.Rc.TheVariants.{Success}
+use Rattle.table_image.specs.declared.entry.ImageEntry.{ImageEntry}
 use Rattle.hpt_pool.specs.Pool.{PoolState, lowest_place}
 use Rattle.hpt_resize.specs.declared.carry.Collision.{Collision}
 use Rattle.hpt_resize.specs.Rehash.{collision_of}
 use Rattle.hpt_resize.proofs.Rehashed.{rehashed-length}
 use Rattle.hpt_resize.specs.Pending.{PendingTable}
 use Rattle.hpt_resize.specs.Resize.{PrepareOutcome, prepare_outcome, is_prepare_request, pool_without, is_pending, new_table_outcome, start_outcome, advance_outcome, outcome_of_prepare, Table, CommitOutcome, commit_refusal, carry_outcome, complete_outcome, answer_outcome, outcome_of_commit}
-use Rattle.hpt_resize.specs.TableMemory.{TableMemory, opening_memory, prepare_result, commit_result, empty_states}
+use Rattle.hpt_resize.specs.TableMemory.{TableMemory, opening_memory, prepare_result, commit_result}
+use Rattle.hpt_resize.proofs.OpeningStates.{opening-length}
 
 -- A table has one of the orders that the project allows.
 abbrev pub IsAllowed : PendingTable → Type 0
@@ -98,6 +99,6 @@ unfolding commit_result outcome_of_commit
 commit_moves memory flags shift h = (answered_commits memory.limit (commit_refusal flags shift memory.pending) memory.pending memory.pool memory.table h).moved
 
 -- ---- the beginning
-pub opening_stands : (limit order base size : ℕ) → limit ≤ 22 → 18 ≤ order → MemoryStands (opening_memory limit order base size)
-unfolding opening_memory empty_states
-opening_stands limit order base size high low = record { limited = high; low = low; size = length-replicate (2 ^ (order - 4)) _; allowed = tt }
+pub opening_stands : (limit order base size : ℕ) (entries : List ImageEntry) → limit ≤ 22 → 18 ≤ order → MemoryStands (opening_memory limit order base size entries)
+unfolding opening_memory
+opening_stands limit order base size entries high low = record { limited = high; low = low; size = opening-length order entries; allowed = tt }

@@ -56,7 +56,7 @@ words_granted : (grants : List Grant) (dword1 : ℕ) (size : Option PageSize) �
 words_granted grants dword1 None h = absurd (cc)
 words_granted grants dword1 (Some size) h = size_granted grants dword1 size.actual (machine_range grants (frame_of dword1 size.actual) (2 ^ size.actual)) refl h
 
-suited_granted : (grants : List Grant) (dword0 dword1 : ℕ) → IsSuited grants dword0 dword1 → IsGrantedWords grants dword0 dword1
+pub suited_granted : (grants : List Grant) (dword0 dword1 : ℕ) → IsSuited grants dword0 dword1 → IsGrantedWords grants dword0 dword1
 unfolding suits_grants
 suited_granted grants dword0 dword1 h = record { page = words_granted grants dword1 (size_of dword0 dword1) h.suits; fits = h.fits }
 

@@ -91,7 +91,7 @@ pub opening_sound : (t : AcceptedTrace) → IsAccepted t → SoundRunState (open
 unfolding opening_run
 opening_sound t is =
     let c = t.config in
-    let memory = opening_stands c.limit c.order c.granted.pool_base c.granted.pool_order is.configured.settings.at_most is.configured.settings.at_least in
+    let memory = opening_stands c.limit c.order c.granted.pool_base c.granted.pool_order c.entries is.configured.settings.at_most is.configured.settings.at_least in
     record { lines = record { size = memory.size; low = memory.low; fresh = each_replicate _ c.cpus }; memory = memory }
 
 pub opening_processors : (t : AcceptedTrace) → length (opening_run t.config).processors ≡ t.config.cpus

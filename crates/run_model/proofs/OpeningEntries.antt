@@ -1,0 +1,23 @@
+-- The entries that are valid at first: what holds of each of them, and of an empty entry, holds of each opening state.
+use Rattle.std.proofs.Common.{◌≡◌, ℕ, List, [], ◌∷◌, Some}
+use Rattle.std.specs.List.{AllByRecursion}
+use Rattle.frame_grants.specs.declared.grant.Grant.{Grant}
+use Rattle.page_grants.specs.Suited.{entered_words}
+use Rattle.h_enter.proofs.Suited.{entered_suited}
+use Rattle.table_image.specs.declared.entry.ImageEntry.{ImageEntry}
+use Rattle.entry_model.specs.State.{State, empty_state}
+use Rattle.entry_model.specs.Reply.{entered_state}
+use Rattle.hpt_walk.proofs.Granted.{IsGranted, reply_granted, empty_granted}
+use Rattle.hpt_resize.specs.TableMemory.{with_entries}
+use Rattle.hpt_resize.proofs.OpeningStates.{with_entry}
+use Rattle.run_model.proofs.Each.{each_set}
+use Rattle.run_model.proofs.SafeReplies.{suited_granted}
+use Rattle.entry_model.specs.declared.operation.Op.TheVariants as ops
+
+pub each_with_entries : (P : State → Type 0) (states : List State) (es : List ImageEntry) → AllByRecursion P states → AllByRecursion (λ (e : ImageEntry). P (entered_state e.dword0 e.dword1)) es → AllByRecursion P (with_entries states es)
+each_with_entries P states [] h k = h
+each_with_entries P states (e ∷ es) h k = each_with_entries P (with_entry states e) es (each_set P states e.index (entered_state e.dword0 e.dword1) k.0 h) k.1
+
+-- The page of words that H_ENTER would store is granted.
+pub entered_granted : (grants : List Grant) (dword0 dword1 : ℕ) → entered_words grants dword0 dword1 ≡ Some (dword0, dword1) → IsGranted grants (entered_state dword0 dword1)
+entered_granted grants dword0 dword1 stored = reply_granted grants (empty_state 0) (ops.Enter dword0 dword1) (suited_granted grants dword0 dword1 (entered_suited grants dword0 dword1 (dword0, dword1) stored)) (empty_granted grants 0)

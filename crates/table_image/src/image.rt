@@ -24,7 +24,7 @@ impl Model for ImageText {
 }
 
 impl ImageText {
-    /// Its bytes, which are ASCII.
+    /// Its bytes.
     pub fn as_bytes(&self) -> &[u8]
         ensures { result.now ≡ self.now }
     {
@@ -71,7 +71,7 @@ fn put_line(out: &mut String, index: u32, digits: &[u8; 32]) -> Result<(), Alloc
 
 /// The image of a table of `2^order` bytes with these valid entries, in this layout: a line with the
 /// layout, the order and how many entries there are, and for each entry a line of its index and its
-/// digits ([`digits_of`]). The entries stand as they are listed, in rising index.
+/// digits ([`digits_of`]). The lines stand in the order in which the entries are listed.
 ///
 /// [`ImageError::Layout`] names the first entry that the layout can't hold; [`ImageError::Memory`]
 /// comes where memory ends.

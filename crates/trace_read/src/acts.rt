@@ -6,9 +6,9 @@ ghost use Rattle.trace_line.specs.Lines.{IsSpelt};
 
 use crate::forms::{Form, is};
 use crate::numbers::number;
-use trace_line::Act;
 use crate::verbs::Verb;
 use crate::why::Why;
+use trace_line::Act;
 
 /// The word at an index; a missing one is empty.
 pub fn word_at<'a>(words: &[&'a [u8]], i: usize) -> &'a [u8]

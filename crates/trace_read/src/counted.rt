@@ -1,10 +1,10 @@
 ghost use Rattle.std.specs.Prelude.{◌≡◌, ◌++◌, [], ◌∷◌, OnOk, OnErr, Ok};
 ghost use Rattle.trace_read.specs.Counts.{may_add, AreFew};
 
-use trace_line::{Act, TraceLine, TraceLines};
 use crate::why::Why;
 use std::alloc::{AllocError, Global};
 use std::marker::Model;
+use trace_line::{Act, TraceLine, TraceLines};
 
 /// The most dumps and quiet lines that a trace may have; dumps are quiet lines too.
 const MOST_DUMPS: u32 = 16;

@@ -17,12 +17,12 @@ use crate::settings::Settings;
 use crate::stage::Stage;
 use crate::stop::Stop;
 use crate::trace::Trace;
-use trace_line::{Act, TraceLine};
 use crate::verbs::Verb;
 use crate::why::Why;
 use frame_grants::Kind;
 use std::alloc::Global;
 use std::marker::Model;
+use trace_line::{Act, TraceLine};
 
 /// The most lines that an input may have.
 const MOST_LINES: u32 = 131_072;

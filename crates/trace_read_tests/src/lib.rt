@@ -2,4 +2,6 @@
 #![tactic(auto)]
 
 #[cfg(test)]
+mod entry_lines;
+#[cfg(test)]
 mod tests;

@@ -29,7 +29,9 @@ cpus 2
 pool 0x2000000000 20
 ram 0 0x100000 0x10000
 io 0x10000 0x200000 0x1000
+entry old 0x20 0000000000001001000000000000a192
 # begin
+entry\tnew 0x7fff 00000000000010030400000000002012
 begin
 1 H_ENTER 0x0 0X20 0x1001 4096\r
 
@@ -63,6 +65,15 @@ fn the_configuration_is_read(rt: HostRuntime) -> Result<(), Fail> {
     assert_eq!(rt; config.pool_base, 0x20_0000_0000);
     assert_eq!(rt; config.pool_order, 20);
     assert_eq!(rt; config.grants.list().len(), 2);
+    let entries = config.entries.as_slice();
+    let expected = [
+        (0x20, 0x1001, 0xa192),
+        (0x7fff, 0x4000_0000_0000_1003, 0x2012),
+    ];
+    assert_eq!(rt; entries.len(), expected.len());
+    for (entry, words) in entries.iter().zip(expected) {
+        assert_eq!(rt; (entry.index, entry.dword0, entry.dword1), words);
+    }
     Ok(())
 }
 
@@ -75,14 +86,14 @@ fn each_kind_of_line_is_read(rt: HostRuntime) -> Result<(), Fail> {
         rs: 0x1000,
     };
     let expected = [
-        (9, 1, call(8, [0, 0x20, 0x1001, 4096, 0, 0, 0, 0], true)),
-        (11, 0, call(0x36C, [1, 0, 0, 0, 0, 0, 0, 0], false)),
-        (12, 1, access(Want::Load, 0x5000, true)),
-        (13, 0, access(Want::Store, 1, false)),
-        (14, 0, access(Want::Fetch, 1, false)),
-        (15, 0, segment),
-        (16, 0, Act::SlbClear),
-        (17, 0, Act::Dump),
+        (11, 1, call(8, [0, 0x20, 0x1001, 4096, 0, 0, 0, 0], true)),
+        (13, 0, call(0x36C, [1, 0, 0, 0, 0, 0, 0, 0], false)),
+        (14, 1, access(Want::Load, 0x5000, true)),
+        (15, 0, access(Want::Store, 1, false)),
+        (16, 0, access(Want::Fetch, 1, false)),
+        (17, 0, segment),
+        (18, 0, Act::SlbClear),
+        (19, 0, Act::Dump),
     ];
     assert_eq!(rt; lines.len(), expected.len());
     for (line, (number, cpu, act)) in lines.iter().zip(expected) {

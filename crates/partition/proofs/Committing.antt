@@ -14,7 +14,6 @@ use Rattle.hpt_resize.specs.TableMemory.{TableMemory, commit_result}
 use Rattle.partition.specs.Laws.{PairsCarriedPages}
 use Rattle.partition.proofs.Resizing.{refusal_fails}
 use Rattle.partition.proofs.Carrying.{rehash_keeps}
-use Rattle.hpt_walk.specs.Access.{request}
 
 -- ---- what a call that isn't refused says
 if_else : (b : Bool) (x : Option Rc) (rc : Rc) → (if b then x else Some rc) ≡ None → (b ≡ true) × (x ≡ None)

@@ -2,12 +2,10 @@
 use Rattle.std.specs.Prelude.{unwrap_or}
 use Rattle.std.proofs.Common.{◌≡◌, ℕ, ◌+◌, ◌-◌, ◌*◌, ◌%◌, ◌^◌, ◌≤◌, true, false, List, length, replicate, Contains, Option, Some, None, Result, Ok, Err, IfOk, IfSome, MatchOption, refl, sym, ap, ◌∙◌, subst, arith}
 use Rattle.std.specs.Option.{IsSome}
-use Rattle.std.specs.Result.{IsOkUnless}
 use Rattle.std.proofs.lemmas.Nat.{pow_pos}
 use Rattle.std.proofs.Math.Pow.{pow_mono}
 use Rattle.std.proofs.Math.Nat.{mod-eq_of_lt}
 use Rattle.std.proofs.lemmas.List.{length-replicate}
-use Rattle.std.proofs.lemmas.Bool.Decides.{nat_tests}
 use Rattle.hpt_pool.specs.Pool.{PoolState, IsSound, IsLowest, FitsNowhere, block_at, fits, lowest_place, no_blocks, with_block}
 use Rattle.hpt_pool.proofs.Lowest.{multiple_placed, fits_is}
 use Rattle.hpt_pool.proofs.Kept.{with_contains}

@@ -1,5 +1,5 @@
 -- A new table that keeps each bolted page's translation pairs the carried pages.
-use Rattle.std.proofs.Common.{◌≡◌, ℕ, ◌+◌, ◌*◌, ◌/◌, ◌%◌, ◌<◌, ◌≤◌, length, Option, Some, sym, ap, ◌∙◌, subst, arith}
+use Rattle.std.proofs.Common.{◌≡◌, ℕ, ◌/◌, ◌%◌, ◌<◌, ◌≤◌, length, Option, Some, sym, ap, ◌∙◌, subst, arith}
 use Rattle.power_addr.specs.Pages.{VirtualPage}
 use Rattle.hpte_fields.specs.Fields.{is_secondary}
 use Rattle.hpt_hash.specs.Hash.{group_of}

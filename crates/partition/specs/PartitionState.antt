@@ -1,5 +1,5 @@
 -- A partition while no call of a processor runs.
-use Rattle.std.specs.Prelude.{◌≡◌, ◌≢◌, ◌+◌, ◌≤◌, ◌==◌, ◌||◌, IsTrue, List, [], length, Contains}
+use Rattle.std.specs.Prelude.{◌≡◌, ◌≢◌, ◌+◌, ◌≤◌, ◌==◌, ◌||◌, IsTrue, [], length, Contains}
 use Rattle.hpt_pool.specs.Pool.{Block, IsSound, block_at}
 use Rattle.frame_grants.specs.Grants.{GrantedMemory}
 use Rattle.trace_read.specs.Configuration.{Configuration}

@@ -6,7 +6,7 @@ ghost use Rattle.reply_text.specs.Summary.{IsCountOf, count_of, row_text, counte
 use crate::counted::Counted;
 use crate::counts::Counts;
 use entry_model::EntryState;
-use receipt_text::put_decimal;
+use number_text::put_decimal;
 use std::alloc::{AllocError, Global};
 use trace_read::Trace;
 use trace_reply::{Replies, Reply, Shown};

@@ -57,7 +57,7 @@ fn name(act: &Act) -> &'static str
 }
 
 /// The line's number, its processor, and its name.
-#[tactic(auto, using(receipt_text::proofs::Lengths::decimal_short), unfolding(crate::specs::Text::head_text))]
+#[tactic(auto, using(number_text::proofs::Lengths::decimal_short), unfolding(crate::specs::Text::head_text))]
 fn put_head(out: &mut String, line: &TraceLine) -> Result<(), AllocError>
     ensures text { OnOk
         result
@@ -75,7 +75,7 @@ fn put_head(out: &mut String, line: &TraceLine) -> Result<(), AllocError>
 }
 
 /// The words of a reply, each behind a space.
-#[tactic(auto, using(receipt_text::proofs::Prefixes::starts_before))]
+#[tactic(auto, using(number_text::proofs::Prefixes::starts_before))]
 fn put_words(out: &mut String, words: &[u64]) -> Result<(), AllocError>
     ensures text { OnOk
         result
@@ -152,7 +152,7 @@ fn way(by: Option<By>) -> &'static str
 }
 
 /// Where an access ended, by what, and its receipts.
-#[tactic(auto, using(receipt_text::proofs::Prefixes::starts_before))]
+#[tactic(auto, using(number_text::proofs::Prefixes::starts_before))]
 fn put_access(
     out: &mut String,
     outcome: Outcome,

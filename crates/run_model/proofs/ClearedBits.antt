@@ -19,7 +19,7 @@ use Rattle.entry_model.specs.Trial.{Call, IsTrial, Plan, IsReplyOf, plan_of_code
 use Rattle.entry_model.proofs.PlanBounds.{each_call, trial_ops}
 use Rattle.page_grants.specs.Suited.{entered_words}
 use Rattle.h_enter.specs.Checks.{h_enter_plan, words_plan}
-use Rattle.h_enter.specs.Enter.{candidates, enter_plan}
+use Rattle.h_enter.specs.Enter.{candidates}
 use Rattle.h_update.specs.Bulk.{h_bulk_remove_plan}
 use Rattle.h_update.proofs.Shown.{ShowsRemoved, removals_shown}
 use Rattle.h_update.specs.Single.{both_words, second_word, code_and_words, told_by, single_plan, remove_test, h_remove_plan, h_protect_plan, h_clear_ref_plan, h_clear_mod_plan, h_read_plan, read_entries}

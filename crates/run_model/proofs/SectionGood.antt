@@ -28,8 +28,8 @@ use Rattle.run_model.specs.RunState.{RunState, context_of, states_of, without_ca
 use Rattle.hpt_resize.specs.TableMemory.{with_states}
 use Rattle.run_model.specs.Histories.{lines_of_processor, receipts_by, closing_from, closing_states, Event, made, InOrder, gone_events, events_by}
 use Rattle.entry_model.specs.Fronts.{pair_beyond}
-use Rattle.run_model.specs.Sections.{Section, receipts_made, section_end, processors_after_lines, sections_from}
-use Rattle.run_model.specs.GoodRun.{AreLegal, AreInOrder, EachLineOfProcessor, CallsAreReplied, IsAccessLine, AccessesAreReplied, QuietIsReplied, IsGoodSection}
+use Rattle.run_model.specs.Sections.{receipts_made, section_end, processors_after_lines, sections_from}
+use Rattle.run_model.specs.GoodRun.{EachLineOfProcessor, IsAccessLine, IsGoodSection}
 use Rattle.run_model.proofs.Undisturbed.{AreUndisturbed, Stands, state_behind, processors_on}
 use Rattle.run_model.proofs.LinesByProcessor.{Cpus, InFileOrder, own_yes, own_no, processor_own, processor_other, processors_size, cpus_after, own_lines, own_processors, file_listed}
 use Rattle.papr_codes.specs.declared.calls.Hcall.TheVariants as calls

@@ -16,7 +16,7 @@ use Rattle.entry_model.specs.Run.{state_at}
 use Rattle.hpt_resize.specs.TableMemory.{empty_states, with_entries}
 use Rattle.hpt_resize.proofs.OpeningStates.{with_entry, entries-more, entries-other, opening-length}
 
-each_map : {A : Type 0} (P Q : A → Type 0) (xs : List A) → ((x : A) → P x → Q x) → AllByRecursion P xs → AllByRecursion Q xs
+pub each_map : {A : Type 0} (P Q : A → Type 0) (xs : List A) → ((x : A) → P x → Q x) → AllByRecursion P xs → AllByRecursion Q xs
 each_map P Q [] f h = tt
 each_map P Q (x ∷ xs) f h = (f x h.0, each_map P Q xs f h.1)
 
@@ -25,7 +25,7 @@ abbrev pub AreInTable : ℕ → List ImageEntry → Type 0
 AreInTable count entries = AllByRecursion (λ (e : ImageEntry). e.index < count) entries
 
 -- Each entry is in its place.
-each_entered : (states : List State) (es : List ImageEntry) → AreInTable (length states) es → AreRising es → AllByRecursion (λ (e : ImageEntry). state_at (with_entries states es) e.index ≡ entered_state e.dword0 e.dword1) es
+pub each_entered : (states : List State) (es : List ImageEntry) → AreInTable (length states) es → AreRising es → AllByRecursion (λ (e : ImageEntry). state_at (with_entries states es) e.index ≡ entered_state e.dword0 e.dword1) es
 each_entered states [] within rising = tt
 each_entered states (e ∷ es) within rising =
     let here : e.index < length states = within.0 in
@@ -37,7 +37,7 @@ each_entered states (e ∷ es) within rising =
     )
 
 -- Where an empty table of this order is empty: everywhere.
-empty_at : (order index : ℕ) → state_at (empty_states order) index ≡ empty_state 0
+pub empty_at : (order index : ℕ) → state_at (empty_states order) index ≡ empty_state 0
 unfolding empty_states
 empty_at order index = at (cases_lt index (entry_count order)) where
   at : (index < entry_count order) ⊎ (entry_count order ≤ index) → state_at (replicate (entry_count order) (empty_state 0)) index ≡ empty_state 0

@@ -1,14 +1,15 @@
 -- Worked values, which the checker computes.
-use Rattle.std.proofs.Common.{◌≡◌, ℕ, List, [], ◌∷◌, Option, Some, None, refl}
+use Rattle.std.proofs.Common.{◌≡◌, ℕ, true, List, [], ◌∷◌, Option, Some, None, refl}
 use Rattle.hpt_pool.specs.Pool.{Block, block_at, lowest_place, multiples, taken_with}
 use Rattle.frame_grants.specs.Grants.{no_grants}
 use Rattle.trace_read.specs.Configuration.{Configuration}
-use Rattle.entry_model.specs.State.{State}
+use Rattle.entry_model.specs.State.{State, empty_state}
+use Rattle.entry_model.specs.Run.{state_at}
 use Rattle.papr_codes.specs.declared.codes.Rc.TheVariants.{Success, Busy, Closed, LongBusy, Parameter, Resource}
 use Rattle.hpt_resize.specs.Pending.{PendingTable}
 use Rattle.hpt_resize.specs.Resize.{outcome_of_prepare, outcome_of_commit}
-use Rattle.hpt_resize.specs.TableMemory.{TableMemory, opening_memory, prepare_result, commit_result}
-use Rattle.partition.specs.PartitionState.{opening_partition}
+use Rattle.hpt_resize.specs.TableMemory.{TableMemory, empty_states, opening_memory, prepare_result, commit_result}
+use Rattle.partition.specs.PartitionState.{PartitionState, opening_partition}
 
 -- ---- the opening table
 config : ℕ → Configuration
@@ -25,6 +26,19 @@ its_block_is_taken = refl
 the_first_number : (opening_partition (config 18)).memory.table.number ≡ 0
 unfolding opening_partition opening_memory config
 the_first_number = refl
+
+-- ---- an entry that is valid at first, with R and C
+opened : PartitionState
+unfolding opening_partition opening_memory lowest_place multiples
+opened = opening_partition (record (config 18) { entries = record { index = 0x20; dword0 = 0x1001; dword1 = 0x3192 } ∷ [] })
+
+it_has_its_words : state_at opened.memory.table.states 0x20 ≡ record { valid = true; dword0 = 0x1001; dword1 = 0x3012; referenced = true; changed = true; stamp = 0 }
+unfolding opened opening_partition opening_memory empty_states config
+it_has_its_words = refl
+
+the_next_one_is_empty : state_at opened.memory.table.states 0x21 ≡ empty_state 0
+unfolding opened opening_partition opening_memory empty_states config
+the_next_one_is_empty = refl
 
 -- ---- the resize calls on any states
 memory : ℕ → Option PendingTable → List Block → List State → TableMemory

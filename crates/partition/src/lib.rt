@@ -6,7 +6,9 @@ mod laws;
 mod partition_state;
 mod states;
 
-pub use laws::{commit_keeps_translations, kept_translations_are_paired};
+pub use laws::{
+    commit_keeps_translations, kept_translations_are_paired, opens_again, opens_with_entries,
+};
 pub use partition_state::Partition;
 
 #[cfg(test)]

@@ -15,7 +15,8 @@ pub fn opening_states(alloc: Global, config: &Config) -> Result<Vec<EntryState>,
         (λ states. states.items ≡ with_entries (empty_states config.now.order) config.now.entries) }
 {
     let mut states = vec![in alloc; EntryState::empty(0); 1 << (config.order - 4)]?;
-    for entry in config.entries.as_slice() {
+    let entries = config.entries.as_slice();
+    for entry in entries {
         states[entry.index as usize] = entered(entry);
     }
     Ok(states)

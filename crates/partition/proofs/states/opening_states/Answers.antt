@@ -12,9 +12,9 @@ loop-entry-init c =
 
 pub index_mut-requires : goal.index_mut-requires
 index_mut-requires c =
-    let es = c.as_slice-entry-items.result.now in
+    let es = c.as_slice-entries.result.now in
     let i = c.loop-entry.entry-index in
-    let opening : AreOpeningEntries c.config.inside.order c.config.inside.grants.grants es = subst (AreOpeningEntries c.config.inside.order c.config.inside.grants.grants) (sym c.as_slice-entry-items.ensures) c.config.invariant.1 in
+    let opening : AreOpeningEntries c.config.inside.order c.config.inside.grants.grants es = subst (AreOpeningEntries c.config.inside.order c.config.inside.grants.grants) (sym c.as_slice-entries.ensures) c.config.invariant.1 in
     let so_far = c.loop-entry.invariant ∙ ap (λ (x : Configuration). with_entries (empty_states x.order) (take i es)) (sym c.config.view_is) in
     omega (arith, c.loop-entry.states.ok.0, next_inside c.config.inside.order c.config.inside.grants.grants c.loop-entry.states.items es (take i es) i (record { index = 0; dword0 = 0; dword1 = 0 }) opening c.loop-entry-test.true so_far)
 

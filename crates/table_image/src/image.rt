@@ -69,9 +69,9 @@ fn put_line(out: &mut String, index: u32, digits: &[u8; 32]) -> Result<(), Alloc
     out.push_str("\n")
 }
 
-/// The image of a table of `2^order` bytes with these valid entries, in this layout: a line with the
-/// layout, the order and how many entries there are, and for each entry a line of its index and its
-/// digits ([`digits_of`]). The lines stand in the order in which the entries are listed.
+/// The image of a table of `2^order` bytes with these valid entries, in this layout: a line with
+/// the layout, the order and how many entries there are, and for each entry a line of its index and
+/// its digits ([`digits_of`]). The lines stand in the order in which the entries are listed.
 ///
 /// [`ImageError::Layout`] names the first entry that the layout can't hold; [`ImageError::Memory`]
 /// comes where memory ends.

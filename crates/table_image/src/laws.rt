@@ -2,8 +2,8 @@
 
 ghost use Rattle.table_image.specs.Image.{IsReadBack};
 
-/// What [`crate::digits_of`] gives, [`crate::words_of`] gives back, where doubleword 1 is without the
-/// bit that H_ENTER clears.
+/// What [`crate::digits_of`] gives, [`crate::words_of`] gives back, where doubleword 1 is without
+/// the bit that H_ENTER clears.
 pub fn digits_are_read_back()
     ensures { IsReadBack }
 {}

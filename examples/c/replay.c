@@ -47,15 +47,19 @@ static char *read_all(void)
     return text;
 }
 
-/* A word is a number where it begins with a digit; then all of it has to be one. */
+/* A word is a number where it begins with a digit; then all of it has to be one. Only the digits of an
+ * entry's doublewords are none. */
 static bool split(struct line *line)
 {
     char *rest = line->text;
     for (char *word; line->words < 12 && (word = strtok_r(rest, " \t\r", &rest));) {
         char *end = word;
-        if (word[0] >= '0' && word[0] <= '9')
+        bool is_digits = line->words == 3 && !strcmp(line->word[0], "entry");
+        if (word[0] >= '0' && word[0] <= '9' && !is_digits)
             line->value[line->words] = strtoull(word, &end, 0);
         line->word[line->words++] = word;
+        if (is_digits)
+            continue;
         if (word[0] >= '0' && word[0] <= '9' && (*end || end[-1] == 'x'))
             return false;
     }
@@ -200,6 +204,27 @@ static void run_line(unsigned long n, const struct line *l)
         call_line(number_of(name), l->value + 2);
 }
 
+static bool open_current(void)
+{
+    return guest.current.entries || open_table(&guest, &guest.current, guest.current.order);
+}
+
+/* `entry LAYOUT INDEX DIGITS`: a valid entry of the opening table. */
+static bool entry_line(const struct line *l)
+{
+    uint64_t dword0, dword1;
+    if (!open_current() || sscanf(l->word[3], "%16" SCNx64 "%16" SCNx64, &dword0, &dword1) != 2)
+        return false;
+    if (!strcmp(l->word[1], "new")) {
+        dword0 |= dword1 >> 58 << 62;
+        dword1 &= ~(UINT64_C(3) << 58);
+    }
+    guest.current.entries[l->value[2]] = (struct papr_entry){
+        .dword0 = dword0, .dword1 = dword1 & ~UINT64_C(0x180), .valid = true,
+        .referenced = dword1 & 0x100, .changed = dword1 & 0x80};
+    return true;
+}
+
 /* The lines before `begin`, and it; false where the library or the memory refuses. */
 static bool set_line(const struct line *l)
 {
@@ -213,10 +238,12 @@ static bool set_line(const struct line *l)
         guest.pool_base = v[0], guest.pool_order = (uint8_t)v[1];
     else if (!strcmp(name, "ram") || !strcmp(name, "io"))
         guest.given[guest.given_count++] = (struct papr_grant){v[0], v[1], v[2], name[0] == 'i'};
+    else if (!strcmp(name, "entry"))
+        return entry_line(l);
     else if (!strcmp(name, "begin"))
         return papr_make_grants(guest.given, guest.given_count, guest.pool_base, guest.pool_order,
                                 &guest.grants).refusal == PAPR_GRANTED &&
-               open_table(&guest, &guest.current, guest.current.order);
+               open_current();
     return true;
 }
 

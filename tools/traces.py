@@ -24,6 +24,14 @@ class Resize:
     shift: int
 
 
+def read_order(word: str) -> int:
+    """An order of a table, as an option names it."""
+    value = read_number(word)
+    if value not in ORDERS:
+        raise ArgumentTypeError(f"{word} is not {ORDERS[0]} to {ORDERS[-1]}")
+    return value
+
+
 def number_of(words: list[str], place: int) -> Optional[int]:
     """The number at a place of a line: 0 where no word is there, and nothing where it isn't one."""
     try:

@@ -30,13 +30,14 @@ includedir = $(DESTDIR)$(PREFIX)/include
 dist = out/dist
 
 # A tool's name behind papr-, and its file in tools/.
-tools = from-qemu:qemu-log-to-trace history:entry-history picture:run-picture receipts:receipts why:why bad-line:bad-line
+tools = from-qemu:qemu-log-to-trace history:entry-history picture:run-picture receipts:receipts why:why bad-line:bad-line \
+    cut:cut-trace entries:htab-to-entries
 tool_name = $(firstword $(subst :, ,$(1)))
 tool_file = $(lastword $(subst :, ,$(1)))
 link_tool = ln -sf ../share/papr/$(1) $(bindir)/papr-$(2);
 commands = $(foreach tool,$(tools),papr-$(call tool_name,$(tool)))
 tool_files = $(foreach tool,$(tools),tools/$(call tool_file,$(tool)))
-modules = tools/common.py tools/grants.py tools/replies.py tools/svg.py
+modules = tools/common.py tools/grants.py tools/replies.py tools/svg.py tools/traces.py
 pages = man/papr.1 $(commands:%=man/%.1)
 examples = $(filter-out examples/c examples/rust,$(wildcard examples/*))
 sources_c = $(wildcard examples/c/*)

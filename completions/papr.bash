@@ -8,7 +8,9 @@ _papr_options() {
 _papr() {
     COMPREPLY=()
     if [ "$COMP_CWORD" -eq 1 ]; then
-        mapfile -t COMPREPLY < <(compgen -W 'run par check drill' -- "${COMP_WORDS[COMP_CWORD]}")
+        mapfile -t COMPREPLY < <(compgen -W 'run par check image drill' -- "${COMP_WORDS[COMP_CWORD]}")
+    elif [ "$COMP_CWORD" -eq 2 ] && [ "${COMP_WORDS[1]}" = image ]; then
+        mapfile -t COMPREPLY < <(compgen -W 'old new' -- "${COMP_WORDS[COMP_CWORD]}")
     fi
 }
 
@@ -22,4 +24,5 @@ _papr_tool() {
 }
 
 complete -F _papr papr
-complete -o filenames -F _papr_tool papr-from-qemu papr-history papr-picture papr-receipts papr-why papr-bad-line
+complete -o filenames -F _papr_tool papr-from-qemu papr-history papr-picture papr-receipts papr-why papr-bad-line \
+    papr-cut papr-entries

@@ -1,10 +1,11 @@
 """Grants of memory for a trace: those given, and those that its H_ENTER calls need."""
 
+import argparse
 from collections import Counter
 from dataclasses import dataclass
 from typing import Iterable, Optional
 
-from common import Bad
+from common import Bad, read_number
 
 MOST_GRANTS = 64
 GRANULE = 4_096
@@ -23,6 +24,9 @@ LARGE_SIZES = (
     (12, 24, 0x38),
     (16, 24, 0x8),
 )
+
+# W (8), I (4), M (2) and G (1), as papr takes them in a grant of each kind.
+SUITED = {"ram": (0x2, 0xE), "io": (0x4, 0x5)}
 
 Range = tuple[int, int]  # first byte, and one past the last
 Page = tuple[str, Range]  # `ram` or `io`, and the logical range
@@ -74,6 +78,21 @@ def entered_page(dword0: int, dword1: int) -> Optional[Page]:
     if start + 2**shift > PAGE_END:
         return None
     return "io" if inhibited else "ram", (start, start + 2**shift)
+
+
+def suits(dword1: int, kind: str) -> bool:
+    """Whether papr takes W, I, M and G in a grant of this kind."""
+    return dword1 >> 3 & 0xF in SUITED[kind]
+
+
+def is_held(dword0: int, dword1: int, grants: Iterable[Grant]) -> bool:
+    """Whether papr's H_ENTER takes the words: one grant holds the page, and suits W, I, M and G."""
+    shift = actual_shift(dword0, dword1)
+    if shift is None or dword0 >> 62 > 1:
+        return False
+    start = (dword1 & 0x0FFF_FFFF_FFFF_F000) >> shift << shift
+    page = start, start + 2**shift
+    return any(inside(page, g.pages) and suits(dword1, g.kind) for g in grants)
 
 
 def meets(one: Range, other: Range) -> bool:
@@ -187,3 +206,25 @@ def count_ungranted(pages: Counter[Page], grants: list[Grant]) -> int:
         for (kind, page), count in pages.items()
         if not any(g.kind == kind and inside(page, g.pages) for g in grants)
     )
+
+
+def add_options(parser: argparse.ArgumentParser) -> None:
+    """The options that give grants."""
+    worked_out_of = {"ram": "from 0 to the highest page entered", "io": "the io pages entered"}
+    for kind, default in worked_out_of.items():
+        parser.add_argument(
+            f"--{kind}",
+            nargs=3,
+            type=read_number,
+            metavar=("LOGICAL", "MACHINE", "LENGTH"),
+            action="append",
+            default=[],
+            help=f"a grant of {kind}; may be repeated (default: {default})",
+        )
+
+
+def given(options: argparse.Namespace) -> list[Grant]:
+    """The grants that the options name, which a trace takes."""
+    named = [Grant("ram", *g) for g in options.ram] + [Grant("io", *g) for g in options.io]
+    check(named)
+    return named

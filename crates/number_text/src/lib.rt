@@ -3,6 +3,4 @@
 
 mod numbers;
 
-pub use numbers::{
-    put_decimal, put_hexadecimal, put_signed, write_hexadecimal, write_piece,
-};
+pub use numbers::{put_decimal, put_hexadecimal, put_signed, write_hexadecimal, write_piece};

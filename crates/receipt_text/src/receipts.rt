@@ -4,9 +4,9 @@ ghost use Rattle.std.specs.Io.{StartsWith};
 ghost use Rattle.number_text.specs.Room.{TakesAtMost};
 ghost use Rattle.receipt_text.specs.Receipts.{answer_word, bits_digit, receipt_text, receipts_text};
 
-use number_text::{write_hexadecimal, write_piece};
 use entry_model::{Answer, EntryState, Receipt};
 use itoa::write_digits;
+use number_text::{write_hexadecimal, write_piece};
 use std::alloc::AllocError;
 
 /// Room for a receipt, which has at most 34 bytes.

@@ -1,6 +1,6 @@
 -- In a good run entries and stamps are numbers that a text tells.
-use Rattle.std.proofs.Common.{◌≡◌, ℕ, zero, suc, ◌<◌, ◌≤◌, ◌-◌, ◌^◌, List, [], ◌∷◌, sym, ◌∙◌, subst, length, arith, Option, Some, None}
-use Rattle.std.specs.Prelude.{replicate, slice_index, IfSome}
+use Rattle.std.proofs.Common.{◌≡◌, ℕ, ◌<◌, ◌≤◌, ◌-◌, ◌^◌, List, [], ◌∷◌, sym, ◌∙◌, subst, length, arith, Option, Some, None}
+use Rattle.std.specs.Prelude.{slice_index, IfSome}
 use Rattle.std.specs.List.{AllByRecursion, range_with_len}
 use Rattle.std.specs.Option.{option_map_or}
 use Rattle.std.proofs.Math.Pow.{pow_mono}
@@ -20,7 +20,7 @@ use Rattle.hpte_fields.specs.TableSize.{entry_count}
 use Rattle.hpt_resize.specs.Rehash.{at_stamp_0, first_with, entry_at, collision_of, rehashed_states}
 use Rattle.hpt_resize.specs.Pending.{PendingTable}
 use Rattle.hpt_resize.specs.Resize.{Table, CommitOutcome, commit_refusal, carry_outcome, complete_outcome, answer_outcome, outcome_of_commit}
-use Rattle.hpt_resize.specs.TableMemory.{TableMemory, opening_memory, empty_states, prepare_result, commit_result}
+use Rattle.hpt_resize.specs.TableMemory.{TableMemory, opening_memory, prepare_result, commit_result}
 use Rattle.trace_line.specs.declared.act.Act.{Act}
 use Rattle.trace_line.specs.declared.act.Act.TheVariants as acts
 use Rattle.trace_read.specs.Trace.{AcceptedTrace, IsAccepted}

@@ -1,9 +1,11 @@
 -- The grant of each generated trace is accepted.
-use Rattle.std.proofs.Common.{◌≡◌, Some, None, Result, Ok, Err, OnOk, MatchResult, refl, ap, ◌∙◌, arith}
+use Rattle.std.proofs.Common.{◌≡◌, List, [], Some, None, Result, Ok, Err, OnOk, MatchResult, refl, sym, subst, ap, ◌∙◌, arith}
 use Rattle.std.specs.Result.{IsOk}
 use Rattle.frame_grants.specs.Grants.{GrantedMemory, no_grants, add_refusal, refusals, with_grant}
 use Rattle.frame_grants.specs.declared.error.GrantError.{GrantError}
-use Rattle.trace_read.specs.Configuration.{Configuration, IsConfigured}
+use Rattle.frame_grants.specs.declared.grant.Grant.{Grant}
+use Rattle.table_image.specs.declared.entry.ImageEntry.{ImageEntry}
+use Rattle.trace_read.specs.Configuration.{Configuration, IsConfigured, AreOpeningEntries}
 use Rattle.trace_gen.specs.Generated.{whole_ram, generated_config}
 
 not_refused : add_refusal (no_grants 0x1000000000 24) whole_ram ≡ None
@@ -21,8 +23,8 @@ unfolding generated_config with_grant
 granted_is (Ok x) old new is ok made = made ∙ ap (λ (g : GrantedMemory). with_grant g whole_ram) is
 granted_is (Err e) old new is ok made = absurd (cc)
 
-abbrev pub config_with : GrantedMemory → Configuration
-config_with granted = record { order = 18; limit = 22; cpus = 4; granted = granted }
+abbrev pub config_with : GrantedMemory → List ImageEntry → Configuration
+config_with granted entries = record { order = 18; limit = 22; cpus = 4; granted = granted; entries = entries }
 
 pub configured : (granted : GrantedMemory) → granted ≡ generated_config.granted → IsConfigured 18 22 4 0x1000000000 24 granted
 unfolding generated_config
@@ -39,6 +41,10 @@ configured granted is = record {
   room = omega arith;
 }
 
-pub config_is : (granted : GrantedMemory) → granted ≡ generated_config.granted → config_with granted ≡ generated_config
+-- No entry is named.
+pub none_named : (grants : List Grant) (entries : List ImageEntry) → entries ≡ [] → AreOpeningEntries 18 grants entries
+none_named grants entries is = subst (AreOpeningEntries 18 grants) (sym is) (record { each = tt; rising = tt })
+
+pub config_is : (granted : GrantedMemory) (entries : List ImageEntry) → granted ≡ generated_config.granted → entries ≡ [] → config_with granted entries ≡ generated_config
 unfolding generated_config
-config_is granted is = ap config_with is
+config_is granted entries is none = ap (λ (es : List ImageEntry). config_with granted es) none ∙ ap (λ (g : GrantedMemory). config_with g []) is

@@ -1,4 +1,1 @@
-pub mod Outcomes
-pub mod CutLines
-pub mod JudgedInputs
-pub mod Completeness
+pub mod Verdicts

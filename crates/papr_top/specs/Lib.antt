@@ -1,7 +1,3 @@
-pub mod Status
-pub mod Commands
-pub mod Inputs
 pub mod Top
-pub mod Finish
-pub mod Reading
+pub mod Judging
 pub mod Laws

@@ -1,94 +1,19 @@
 ghost use Rattle.std.specs.Prelude.{◌≡◌, ◌≢◌, ◌≤◌, ◌⊎◌, None, Some};
-ghost use Rattle.std.specs.Fn.{FnOnceReturnsAt};
 ghost use Rattle.trace_io.specs.Outside.{Rose};
 ghost use Rattle.trace_gen.specs.Generated.{generated_trace};
-ghost use Rattle.papr_top.specs.Inputs.{trace_input, judged_input};
-ghost use Rattle.papr_top.specs.Top.{IsOutcome, HasInput, HasRefusedInput, IsAnswered, EndsReading, EndsDrill, IsMade, WithDone, IsVerdictText};
-ghost use Rattle.papr_top.specs.Commands.{without_par};
-ghost use Rattle.papr_top.specs.Commands as words_of;
+ghost use Rattle.papr_edge.specs.Commands.{without_par};
+ghost use Rattle.papr_edge.specs.Commands as words_of;
+ghost use Rattle.papr_edge.specs.Ends.{IsAnswered};
+ghost use Rattle.papr_top.specs.Top.{IsOutcome, HasInput, HasRefusedInput, EndsDrill};
 
-use crate::answer::{parallel_text, serial_text, status_of, summary, verdict_line};
-use crate::command::{Command, command_of};
-use crate::ending::{finish, refuse};
-use crate::reading::{read_trace, read_verdict};
-use crate::status::Status;
-use std::alloc::{AllocError, Global};
+use crate::answer::{parallel_text, serial_text, summary};
+use crate::judging::check;
+use papr_edge::{Command, Status, answer_input, command_of, finish};
+use std::alloc::Global;
 use std::sync::Wait;
 use std::thread::Threads;
 use trace_io::{Sink, Source};
-use trace_read::Trace;
 use trace_runner::Gate;
-
-/// Reads the source to its end, and writes the text that is made of the trace, or the refusal.
-fn answer_input<S: Source, K: Sink, F: FnOnce(&Trace) -> Result<String, AllocError>>(
-    alloc: Global,
-    source: &mut S,
-    sink: &mut K,
-    text_of: F,
-) -> Status
-    requires { F.IsAlwaysCallable text_of }
-    ensures outcome { EndsReading
-        trace_input
-        (WithDone (IsMade (FnOnceReturnsAt F.FnOnce text_of)))
-        (record {
-          left = S.left source.old;
-          left_after = S.left source.new;
-          taken = K.taken sink.old;
-          taken_after = K.taken sink.new;
-        })
-        result }
-    ensures read_fault { result ≡ Status.ReadFault
-        → Rose (S.faults source.old) (S.faults source.new) }
-    ensures write_fault { result ≡ Status.WriteFault
-        → Rose (K.faults sink.old) (K.faults sink.new) }
-    ensures no_read_fault { result ≢ Status.ReadFault
-        → S.faults source.new ≡ S.faults source.old }
-    ensures no_write_fault { result ≢ Status.WriteFault
-        → K.faults sink.new ≡ K.faults sink.old }
-    ensures source_faults { S.faults source.old ≤ S.faults source.new }
-    ensures sink_faults { K.faults sink.old ≤ K.faults sink.new }
-{
-    match read_trace(alloc, source) {
-        Ok(trace) => match text_of(&trace) {
-            Ok(text) => finish(sink, text.as_bytes(), Status::Done),
-            Err(_) => Status::Memory,
-        },
-        Err(error) => refuse(alloc, sink, error),
-    }
-}
-
-/// `check`: reads the source to its end, and writes the verdict on the text behind its trace, or the
-/// refusal.
-fn check<S: Source, K: Sink>(alloc: Global, source: &mut S, sink: &mut K) -> Status
-    ensures outcome { EndsReading
-        judged_input
-        IsVerdictText
-        (record {
-          left = S.left source.old;
-          left_after = S.left source.new;
-          taken = K.taken sink.old;
-          taken_after = K.taken sink.new;
-        })
-        result }
-    ensures read_fault { result ≡ Status.ReadFault
-        → Rose (S.faults source.old) (S.faults source.new) }
-    ensures write_fault { result ≡ Status.WriteFault
-        → Rose (K.faults sink.old) (K.faults sink.new) }
-    ensures no_read_fault { result ≢ Status.ReadFault
-        → S.faults source.new ≡ S.faults source.old }
-    ensures no_write_fault { result ≢ Status.WriteFault
-        → K.faults sink.new ≡ K.faults sink.old }
-    ensures source_faults { S.faults source.old ≤ S.faults source.new }
-    ensures sink_faults { K.faults sink.old ≤ K.faults sink.new }
-{
-    match read_verdict(alloc, source) {
-        Ok(verdict) => match verdict_line(alloc, verdict) {
-            Ok(text) => finish(sink, text.as_bytes(), status_of(verdict)),
-            Err(_) => Status::Memory,
-        },
-        Err(error) => refuse(alloc, sink, error),
-    }
-}
 
 /// `drill`: writes the summary of a generated trace.
 fn drill<K: Sink>(alloc: Global, seed: u64, lines: u32, sink: &mut K) -> Status

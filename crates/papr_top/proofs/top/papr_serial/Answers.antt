@@ -1,10 +1,11 @@
 use Rattle.std.proofs.Common.{◌≡◌, Some}
-use Rattle.papr_top.specs.Commands.{command_of}
-use Rattle.papr_top.specs.declared.command.Command.TheVariants as commands
-use Rattle.papr_top.specs.Top.{Run, WithDone, IsVerdictText}
-use Rattle.papr_top.specs.Inputs.{trace_input, judged_input}
-use Rattle.papr_top.proofs.Completeness.{trace_done, judged_done, reading_refused}
-use Rattle.papr_top.proofs.Outcomes.{long_trace, long_judged}
+use Rattle.papr_edge.specs.Commands.{command_of}
+use Rattle.papr_edge.specs.declared.command.Command.TheVariants as commands
+use Rattle.papr_edge.specs.Ends.{Run, WithDone}
+use Rattle.papr_top.specs.Top.{IsVerdictText}
+use Rattle.papr_edge.specs.Inputs.{trace_input, judged_input}
+use Rattle.papr_edge.proofs.Completeness.{trace_done, judged_done, reading_refused}
+use Rattle.papr_edge.proofs.Outcomes.{long_trace, long_judged}
 use Rattle.papr_top.proofs.top.papr_serial.Goals as goal
 
 pub returns-in-Some-Run-clause-complete : goal.returns-in-Some-Run-clause-complete
@@ -29,7 +30,7 @@ returns-in-Some-Check-clause-complete g c = λ input no_read_fault no_write_faul
     let left = g.S.Source.left in
     let taken = g.K.Sink.taken in
     let ran : Run = record { left = left c.args.source.now; left_after = left c.check.new.source; taken = taken c.args.sink.now; taken_after = taken c.check.new.sink } in
-    rw asked (judged_done ran c.check.result c.check.ensures.outcome (rw asked at input) (λ is. no_read_fault (c.check.ensures.read_fault is)) (λ is. no_write_fault (c.check.ensures.write_fault is)))
+    rw asked (judged_done IsVerdictText ran c.check.result c.check.ensures.outcome (rw asked at input) (λ is. no_read_fault (c.check.ensures.read_fault is)) (λ is. no_write_fault (c.check.ensures.write_fault is)))
 
 pub returns-in-Some-Check-clause-refuses : goal.returns-in-Some-Check-clause-refuses
 returns-in-Some-Check-clause-refuses g c = λ input no_read_fault no_write_fault.

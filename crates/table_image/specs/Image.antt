@@ -1,19 +1,23 @@
 -- The image of a table: a line with its order and how many entries follow, then a line for each entry.
-use Rattle.std.specs.Prelude.{◌≡◌, ℕ, ◌^◌, ◌<◌, bit_and, List, [], ◌∷◌, ◌++◌, length, codes, Option, Some, None, Result, Ok, Err}
+use Rattle.std.specs.Prelude.{◌≡◌, ℕ, ◌^◌, ◌<◌, ⊤, bit_and, Bool, List, [], ◌++◌, length, find, codes, Option, Some, None, is_none, unwrap_or, Result, Ok, Err}
+use Rattle.std.specs.List.{flat_map}
 use Rattle.std.specs.Fmt.{decimal}
 use Rattle.number_text.specs.Numbers.{hex}
 use Rattle.table_image.specs.declared.entry.ImageEntry.{ImageEntry}
+use Rattle.table_image.specs.declared.error.ImageError.{ImageError}
+use Rattle.table_image.specs.declared.error.ImageError.TheVariants as errors
 use Rattle.table_image.specs.declared.layout.Layout.{Layout}
 use Rattle.table_image.specs.declared.layout.Layout.TheVariants.{Old, New}
 use Rattle.table_image.specs.Layouts.{entry_digits, entry_words, cleared_bit}
 
+-- ---- the lines
 -- The word of a layout.
 abbrev pub layout_word : Layout → List ℕ
 layout_word Old = codes "old"
 layout_word New = codes "new"
 
 -- The first line.
-abbrev pub image_head : Layout → ℕ → ℕ → List ℕ
+unfoldable pub image_head : Layout → ℕ → ℕ → List ℕ
 image_head layout order count =
     codes "image "
     ++ layout_word layout
@@ -23,31 +27,39 @@ image_head layout order count =
     ++ decimal count
     ++ codes "\n"
 
--- An entry's line, by its digits.
-abbrev pub entry_line : ℕ → List ℕ → List ℕ
-entry_line index digits = hex index ++ codes " " ++ digits ++ codes "\n"
+-- A line of an index and digits.
+abbrev pub digits_line : ℕ → List ℕ → List ℕ
+digits_line index digits = hex index ++ codes " " ++ digits ++ codes "\n"
 
--- An entry's line before others; or the index of the first entry that the layout can't hold.
-abbrev pub line_before : ℕ → Option (List ℕ) → Result (List ℕ) ℕ → Result (List ℕ) ℕ
-line_before index None rest = Err index
-line_before index (Some digits) (Ok lines) = Ok (entry_line index digits ++ lines)
-line_before index (Some digits) (Err first) = Err first
+-- The digits of an entry: none where the layout can't hold it.
+abbrev pub digits_in : Layout → ImageEntry → Option (List ℕ)
+digits_in layout e = entry_digits layout (e.dword0, e.dword1)
 
--- The lines of entries, in their order; or the index of the first that the layout can't hold.
-abbrev pub entry_lines : Layout → List ImageEntry → Result (List ℕ) ℕ
-entry_lines layout [] = Ok []
-entry_lines layout (e ∷ es) =
-    line_before e.index (entry_digits layout (e.dword0, e.dword1)) (entry_lines layout es)
+-- The line of an entry that the layout can hold.
+abbrev pub entry_line : Layout → ImageEntry → List ℕ
+entry_line layout e = digits_line e.index (unwrap_or (digits_in layout e) [])
 
--- The first line before the others, where the layout can hold all entries.
-abbrev pub head_before : List ℕ → Result (List ℕ) ℕ → Result (List ℕ) ℕ
-head_before head (Ok lines) = Ok (head ++ lines)
-head_before head (Err first) = Err first
+-- ---- the image
+-- The layout can't hold the entry.
+abbrev pub is_unheld : Layout → ImageEntry → Bool
+is_unheld layout e = is_none (digits_in layout e)
+
+-- A text where there is no such entry; or else its index.
+abbrev pub text_unless : Option ImageEntry → List ℕ → Result (List ℕ) ℕ
+text_unless None text = Ok text
+text_unless (Some e) text = Err e.index
 
 -- The image of a table of 2 ^ order bytes with these valid entries; or the index of the first that the layout can't hold.
 unfoldable pub image_of : Layout → ℕ → List ImageEntry → Result (List ℕ) ℕ
 image_of layout order entries =
-    head_before (image_head layout order (length entries)) (entry_lines layout entries)
+    text_unless
+    (find (is_unheld layout) entries)
+    (image_head layout order (length entries) ++ flat_map (entry_line layout) entries)
+
+-- What an error tells of the image: the index in place of it, or, where memory ends, nothing.
+abbrev pub TellsOf : ImageError → Result (List ℕ) ℕ → Type 0
+TellsOf (errors.Layout index) image = image ≡ Err index
+TellsOf errors.Memory image = ⊤
 
 -- ---- the law
 -- What a layout holds is read back: the digits of doublewords without the bit that H_ENTER clears spell these doublewords.

@@ -1,8 +1,8 @@
 -- The two layouts of an entry's doublewords, and their digits.
-use Rattle.std.specs.Prelude.{ℕ, ◌+◌, ◌*◌, ◌/◌, ◌%◌, ◌^◌, ◌==◌, ◌&&◌, bit_and, Bool, if◌then◌else◌, List, ◌++◌, drop, Option, Some, None, Result, Ok, Err}
+use Rattle.std.specs.Prelude.{ℕ, ◌+◌, ◌*◌, ◌/◌, ◌%◌, ◌^◌, ◌==◌, ◌&&◌, bit_and, Bool, if◌then◌else◌, List, ◌++◌, drop, Option, Some, None}
 use Rattle.std.specs.Option.{option_map, option_and_then}
+use Rattle.std.specs.Result.{result_ok}
 use Rattle.hex.specs.Hex.{encode_lower, decode_sized}
-use Rattle.hex.specs.declared.error.FromHexError.{FromHexError}
 use Rattle.byteorder.specs.Endian.{big_bytes, big_number}
 use Rattle.hpte_fields.specs.Fields.{segment_code}
 use Rattle.table_image.specs.declared.layout.Layout.{Layout}
@@ -13,29 +13,28 @@ use Rattle.table_image.specs.declared.layout.Layout.TheVariants.{Old, New}
 abbrev pub digits_of_words : ℕ × ℕ → List ℕ
 digits_of_words w = encode_lower (big_bytes 8 w.0 ++ big_bytes 8 w.1)
 
--- The doublewords that sixteen bytes spell.
-abbrev pub words_of_bytes : Result (List ℕ) FromHexError → Option (ℕ × ℕ)
-words_of_bytes (Ok bytes) = Some (big_number 8 bytes, big_number 8 (drop 8 bytes))
-words_of_bytes (Err e) = None
+-- The two doublewords of sixteen bytes.
+abbrev pub words_of_bytes : List ℕ → ℕ × ℕ
+words_of_bytes bytes = (big_number 8 bytes, big_number 8 (drop 8 bytes))
 
 -- The doublewords that 32 digits of either case spell: none where there are more or fewer, or one is no digit.
 abbrev pub words_of_digits : List ℕ → Option (ℕ × ℕ)
-words_of_digits digits = words_of_bytes (decode_sized digits 16)
+words_of_digits digits = option_map words_of_bytes (result_ok (decode_sized digits 16))
 
 -- ---- the newer layout
--- The twelve high bits of doubleword 0, which the newer layout leaves out: B, and ten bits of the abbreviated virtual page number.
-abbrev pub left_out : ℕ
-left_out = 0xFFF0000000000000
+-- The ten bits of doubleword 0 below B, which the newer layout has no place for.
+abbrev pub unheld : ℕ
+unheld = 0x3FF0000000000000
 
 -- The place of B in doubleword 1 of the newer layout.
 abbrev pub segment_place : ℕ
 segment_place = 0x0C00000000000000
 
--- The newer layout can hold the entry: the ten bits that it leaves out are clear, and so are those of doubleword 1 where it puts B.
+-- The newer layout can hold the entry: the ten bits are clear, and so are those of doubleword 1 where it puts B.
 abbrev pub fits_new : ℕ × ℕ → Bool
-fits_new w = (bit_and w.0 0x3FF0000000000000 == 0) && (bit_and w.1 segment_place == 0)
+fits_new w = (bit_and w.0 unheld == 0) && (bit_and w.1 segment_place == 0)
 
--- The doublewords of an entry that it can hold.
+-- The newer layout's doublewords of an entry that it can hold: B stands in the second, and the first has 52 bits.
 abbrev pub new_words : ℕ × ℕ → ℕ × ℕ
 new_words w = (w.0 % 2 ^ 52, w.1 + segment_code w.0 * 2 ^ 58)
 
@@ -44,7 +43,7 @@ abbrev pub old_words : ℕ × ℕ → ℕ × ℕ
 old_words w = (w.0 + w.1 / 2 ^ 58 % 2 ^ 2 * 2 ^ 62, bit_and w.1 0xF3FFFFFFFFFFFFFF)
 
 -- ---- both layouts
--- The doublewords in this layout of those of the older one: none where it can't hold them.
+-- An entry's doublewords in this layout: none where it can't hold them.
 abbrev pub laid_out : Layout → ℕ × ℕ → Option (ℕ × ℕ)
 laid_out Old w = Some w
 laid_out New w = if fits_new w then Some (new_words w) else None
@@ -53,7 +52,11 @@ laid_out New w = if fits_new w then Some (new_words w) else None
 abbrev pub cleared_bit : ℕ
 cleared_bit = 0x4000000000000000
 
--- The older layout's doublewords of those that were read in this layout: none where the bit is set that H_ENTER clears, or, in the newer layout, a bit that it leaves out.
+-- The twelve bits of doubleword 0 that are none of its own in the newer layout.
+abbrev pub left_out : ℕ
+left_out = 0xFFF0000000000000
+
+-- The older layout's doublewords of those that were read in this layout: none where the bit is set that H_ENTER clears, or, in the newer layout, one of the twelve that it leaves out.
 abbrev pub read_words : Layout → ℕ × ℕ → Option (ℕ × ℕ)
 read_words Old w = if bit_and w.1 cleared_bit == 0 then Some w else None
 read_words New w =

@@ -4,12 +4,16 @@
 
 mod digits;
 mod entry;
+mod error;
 mod image;
 mod laws;
 mod layout;
+#[cfg(test)]
+mod tests;
 
 pub use digits::{digits_of, words_of};
 pub use entry::ImageEntry;
-pub use image::{ImageError, ImageText, image_text};
+pub use error::ImageError;
+pub use image::{ImageText, image_text};
 pub use laws::digits_are_read_back;
 pub use layout::Layout;

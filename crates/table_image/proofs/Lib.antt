@@ -1,0 +1,3 @@
+pub mod BitFields
+pub mod DigitTexts
+mod Rows

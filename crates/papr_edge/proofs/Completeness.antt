@@ -24,7 +24,7 @@ read_whole reads left bytes rest refuses took end =
     ]
 
 -- What was read reads as the input that the source told.
-told_input : {A : Type 0} (reads : List ℕ → Result A (ℕ × Reason)) (P : Result A (ℕ × Reason) → Type 0) (left left_after : Option (List ℕ)) (bytes : List ℕ) → RefusesLong reads → IsSomeAnd left (λ input. P (reads input)) → Reads left bytes left_after → P (reads bytes)
+pub told_input : {A : Type 0} (reads : List ℕ → Result A (ℕ × Reason)) (P : Result A (ℕ × Reason) → Type 0) (left left_after : Option (List ℕ)) (bytes : List ℕ) → RefusesLong reads → IsSomeAnd left (λ input. P (reads input)) → Reads left bytes left_after → P (reads bytes)
 told_input reads P None left_after bytes refuses holds read = absurd holds
 told_input reads P (Some left) None bytes refuses holds read = absurd read.took
 told_input reads P (Some left) (Some rest) bytes refuses holds read =

@@ -4,7 +4,8 @@ use Rattle.std.specs.Str.{bytes_eq}
 use Rattle.std.specs.declared.alloc.Global.{Global}
 use Rattle.trace_read.specs.Numbers.{number_of}
 use Rattle.papr_edge.specs.declared.command.Command.{Command}
-use Rattle.papr_edge.specs.declared.command.Command.TheVariants.{Run, Par, Check, Drill}
+use Rattle.papr_edge.specs.declared.command.Command.TheVariants.{Run, Par, Check, Image, Drill}
+use Rattle.table_image.specs.declared.layout.Layout.TheVariants.{Old, New}
 
 -- At most 100,000 lines are generated.
 abbrev pub drill_by : Option ℕ → Option ℕ → Option Command
@@ -15,6 +16,13 @@ drill_by seed lines = None
 unfoldable pub drill_of : List ℕ → List ℕ → Option Command
 drill_of seed lines = drill_by (number_of seed) (number_of lines)
 
+-- The image that a word asks for: `old` or `new`.
+unfoldable pub image_of : List ℕ → Option Command
+image_of layout =
+    if bytes_eq layout (codes "old") then Some (Image Old)
+    else if bytes_eq layout (codes "new") then Some (Image New)
+    else None
+
 -- `run`, `par` or `check`.
 unfoldable pub reading_of : List ℕ → Option Command
 reading_of word =
@@ -23,9 +31,13 @@ reading_of word =
     else if bytes_eq word (codes "check") then Some Check
     else None
 
--- `run`, `par`, `check`, or `drill SEED LINES`.
+-- `run`, `par`, `check`, `image LAYOUT`, or `drill SEED LINES`.
 unfoldable pub command_of : List (String Global) → Option Command
 command_of (word ∷ []) = reading_of (string_bytes word)
+command_of (word ∷ layout ∷ []) =
+    if bytes_eq (string_bytes word) (codes "image")
+    then image_of (string_bytes layout)
+    else None
 command_of (word ∷ seed ∷ lines ∷ []) =
     if bytes_eq (string_bytes word) (codes "drill")
     then drill_of (string_bytes seed) (string_bytes lines)
@@ -37,6 +49,7 @@ abbrev pub IsInRange : Command → Type 0
 IsInRange Run = Unit {0}
 IsInRange Par = Unit {0}
 IsInRange Check = Unit {0}
+IsInRange (Image layout) = Unit {0}
 IsInRange (Drill seed lines) = lines ≤ 100000
 
 -- The command without threads: `par` is none of its forms.

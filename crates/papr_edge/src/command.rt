@@ -1,7 +1,8 @@
 ghost use Rattle.std.specs.Prelude.{◌≡◌, ◌≤◌, IfSome};
-ghost use Rattle.papr_edge.specs.Commands.{drill_of, reading_of, IsInRange};
+ghost use Rattle.papr_edge.specs.Commands.{drill_of, image_of, reading_of, IsInRange};
 ghost use Rattle.papr_edge.specs.Commands as words;
 
+use table_image::Layout;
 use trace_read::number;
 
 /// The most lines that are generated.
@@ -16,6 +17,9 @@ pub enum Command {
     Par,
     /// Judges whether the text behind a trace is that of a good run of it.
     Check,
+    /// Runs the trace that is read, one line after the other, and writes the table at its end, in this
+    /// layout.
+    Image(Layout),
     /// Runs a generated trace: its seed, and how many lines are drawn, at most 100,000.
     Drill { seed: u64, lines: u32 },
 }
@@ -35,6 +39,19 @@ fn drill(seed: &str, lines: &str) -> Option<Command>
         seed,
         lines: lines as u32,
     })
+}
+
+/// An image in a layout: `old` or `new`.
+#[tactic(auto, unfolding(crate::specs::Commands::image_of))]
+fn image(layout: &str) -> Option<Command>
+    ensures value { result ≡ image_of layout.now }
+    ensures range { IfSome result IsInRange }
+{
+    match layout {
+        "old" => Some(Command::Image(Layout::Old)),
+        "new" => Some(Command::Image(Layout::New)),
+        _ => None,
+    }
 }
 
 /// The command of one word.
@@ -59,6 +76,7 @@ pub fn command_of(list: &[String]) -> Option<Command>
 {
     match list {
         [word] => reading(word.as_str()),
+        [word, layout] if word.as_str() == "image" => image(layout.as_str()),
         [word, seed, lines] if word.as_str() == "drill" => drill(seed.as_str(), lines.as_str()),
         _ => None,
     }

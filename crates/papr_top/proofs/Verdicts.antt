@@ -12,7 +12,7 @@ use Rattle.papr_edge.specs.Finish.{Finishes}
 use Rattle.papr_edge.specs.Ends.{Run, EndsReading}
 use Rattle.papr_edge.proofs.JudgedInputs.{by_parts}
 use Rattle.papr_edge.proofs.Outcomes.{refused_long, long_judged, answered, answered_no}
-use Rattle.papr_top.specs.Top.{IsVerdictText, verdict_text, status_with}
+use Rattle.papr_top.specs.Judging.{IsVerdictText, verdict_text, status_with}
 use Rattle.papr_top.specs.Judging.{IsJudged, IsVerdictOfInput}
 
 -- ---- what the bytes give

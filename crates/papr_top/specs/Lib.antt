@@ -1,3 +1,5 @@
-pub mod Top
+pub mod Texts
 pub mod Judging
+pub mod Images
+pub mod Top
 pub mod Laws

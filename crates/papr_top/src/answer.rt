@@ -1,7 +1,7 @@
 ghost use Rattle.std.specs.Prelude.{◌≡◌, ◌≤◌, IfOk, string_bytes};
 ghost use Rattle.trace_gen.specs.Generated.{generated_trace};
 ghost use Rattle.run_model.specs.SerialRun.{serial_replies};
-ghost use Rattle.papr_top.specs.Top.{drill_text, IsAssured, IsSerialText, IsParallelText};
+ghost use Rattle.papr_top.specs.Texts.{drill_text, IsAssured, IsSerialText, IsParallelText};
 
 use reply_text::summary_of_counts;
 use std::alloc::{AllocError, Global};
@@ -31,7 +31,7 @@ pub fn parallel_text<R: Threads + Wait + Sync, G: Gate + Sync>(
 }
 
 /// The summary of a generated trace.
-#[tactic(auto, unfolding(crate::specs::Top::drill_text))]
+#[tactic(auto, unfolding(crate::specs::Texts::drill_text))]
 pub fn summary(alloc: Global, seed: u64, lines: u32) -> Result<String, AllocError>
     requires { lines ≤ 100000 }
     ensures text { IfOk result (λ s. string_bytes s ≡ drill_text (generated_trace seed lines)) }

@@ -3,7 +3,7 @@ ghost use Rattle.trace_io.specs.Outside.{Rose};
 ghost use Rattle.trace_read.specs.Grammar.{most_bytes};
 ghost use Rattle.papr_edge.specs.Inputs.{judged_input};
 ghost use Rattle.papr_edge.specs.Ends.{EndsReading};
-ghost use Rattle.papr_top.specs.Top.{IsVerdictText, verdict_text, status_with};
+ghost use Rattle.papr_top.specs.Judging.{IsVerdictText, verdict_text, status_with};
 ghost use Rattle.papr_top.specs.Judging.{IsJudged, IsVerdictOfInput};
 
 use history_check::{Verdict, check_replies};

@@ -4,6 +4,7 @@
 #![tactic(auto)]
 
 mod answer;
+mod imaging;
 mod judging;
 mod laws;
 mod top;

@@ -7,11 +7,13 @@ ghost use Rattle.papr_edge.specs.Ends.{IsAnswered};
 ghost use Rattle.papr_top.specs.Top.{IsOutcome, HasInput, HasRefusedInput, EndsDrill};
 
 use crate::answer::{parallel_text, serial_text, summary};
+use crate::imaging::image;
 use crate::judging::check;
 use papr_edge::{Command, Status, answer_input, command_of, finish};
 use std::alloc::Global;
 use std::sync::Wait;
 use std::thread::Threads;
+use table_image::Layout;
 use trace_io::{Sink, Source};
 use trace_runner::Gate;
 
@@ -45,7 +47,10 @@ fn drill<K: Sink>(alloc: Global, seed: u64, lines: u32, sink: &mut K) -> Status
 /// An input that is no trace is refused with its first refused line and the reason:
 /// [`Status::Refused`]. `check` reads a trace, a line `replies` and a text, and writes whether the
 /// text is that of a good run of the trace: `good`, or `bad section K` with the first section that no
-/// good run explains, [`Status::CheckNo`]. `drill SEED LINES` leaves the source as it is, and writes the summary of the
+/// good run explains, [`Status::CheckNo`]. `image old` and `image new` run a trace as `run` does, and
+/// write the table at its end, in the layout of the Power ISA, version 2.07, or in that of version
+/// 3.0; where the layout can't hold an entry, the first such is named: [`Status::Refused`]. `drill
+/// SEED LINES` leaves the source as it is, and writes the summary of the
 /// serial run of a generated trace. Other words leave it too, and are answered with a usage line:
 /// [`Status::Usage`]. All text goes to the sink. [`Status::Memory`] is want of memory.
 pub fn papr_serial<S: Source, K: Sink>(
@@ -80,9 +85,11 @@ pub fn papr_serial<S: Source, K: Sink>(
         → ¬ Rose (S.faults source.old) (S.faults source.new)
         → ¬ Rose (K.faults sink.old) (K.faults sink.new)
         → (result ≡ Status.Refused) ⊎ (result ≡ Status.Memory) }
-    // Under other words than `run` and `check` the source is left as it is.
+    // Under other words than `run`, `check` and `image` the source is left as it is.
     ensures untouched { words_of.command_of words.now ≢ Some Command.Run
         → words_of.command_of words.now ≢ Some Command.Check
+        → words_of.command_of words.now ≢ Some (Command.Image Layout.Old)
+        → words_of.command_of words.now ≢ Some (Command.Image Layout.New)
         → source.new ≡ source.old }
     // A fault is one of the source's or of the sink's own, and else their counts stand.
     ensures read_fault { result ≡ Status.ReadFault
@@ -99,6 +106,7 @@ pub fn papr_serial<S: Source, K: Sink>(
     match command_of(words) {
         Some(Command::Run) => answer_input(alloc, source, sink, |trace| serial_text(alloc, trace)),
         Some(Command::Check) => check(alloc, source, sink),
+        Some(Command::Image(layout)) => image(alloc, layout, source, sink),
         Some(Command::Drill { seed, lines }) => drill(alloc, seed, lines, sink),
         None | Some(Command::Par) => finish(sink, b"papr: usage\n", Status::Usage),
     }
@@ -141,10 +149,12 @@ pub fn papr<R: Threads + Wait + Sync, S: Source, K: Sink, G: Gate + Sync>(
         → ¬ Rose (S.faults source.old) (S.faults source.new)
         → ¬ Rose (K.faults sink.old) (K.faults sink.new)
         → (result ≡ Status.Refused) ⊎ (result ≡ Status.Memory) }
-    // Under other words than `run`, `par` and `check` the source is left as it is.
+    // Under other words than `run`, `par`, `check` and `image` the source is left as it is.
     ensures untouched { words_of.command_of words.now ≢ Some Command.Run
         → words_of.command_of words.now ≢ Some Command.Par
         → words_of.command_of words.now ≢ Some Command.Check
+        → words_of.command_of words.now ≢ Some (Command.Image Layout.Old)
+        → words_of.command_of words.now ≢ Some (Command.Image Layout.New)
         → source.new ≡ source.old }
     // A fault is one of the source's or of the sink's own, and else their counts stand.
     ensures read_fault { result ≡ Status.ReadFault

@@ -1,6 +1,6 @@
 use Rattle.papr_edge.specs.Finish.{Finishes}
 use Rattle.papr_edge.specs.Inputs.{judged_input}
-use Rattle.papr_top.specs.Top.{IsVerdictText, status_with, verdict_text}
+use Rattle.papr_top.specs.Judging.{IsVerdictText, status_with, verdict_text}
 use Rattle.papr_edge.proofs.Outcomes.{refused}
 use Rattle.papr_top.proofs.Verdicts.{verdict_told, no_verdict}
 use Rattle.papr_top.proofs.judging.check.Goals as goal

@@ -2,7 +2,7 @@ use Rattle.std.proofs.Common.{◌≡◌, Some, rules}
 use Rattle.papr_edge.specs.Commands.{command_of}
 use Rattle.papr_edge.specs.declared.command.Command.TheVariants as commands
 use Rattle.papr_edge.specs.Ends.{Run, WithDone}
-use Rattle.papr_top.specs.Top.{IsParallelText}
+use Rattle.papr_top.specs.Texts.{IsParallelText}
 use Rattle.papr_edge.specs.Inputs.{trace_input}
 use Rattle.papr_edge.proofs.Completeness.{trace_done, reading_refused}
 use Rattle.papr_edge.proofs.Outcomes.{long_trace, ends_weaker}

@@ -1,4 +1,2 @@
-pub mod Outcomes
-pub mod CutLines
-pub mod JudgedInputs
-pub mod Completeness
+pub mod Verdicts
+pub mod ImageEnds

@@ -3,7 +3,7 @@ use Rattle.std.specs.Prelude.{ℕ, List, ◌⊎◌}
 use Rattle.trace_read.specs.Trace.{AcceptedTrace}
 use Rattle.history_check.specs.declared.verdict.Verdict.TheVariants.{Good}
 use Rattle.history_check.specs.Verdict.{IsVerdict}
-use Rattle.papr_top.specs.Top.{IsSerialText, IsParallelText}
+use Rattle.papr_top.specs.Texts.{IsSerialText, IsParallelText}
 
 -- What may be written of a trace under `run` or `par` has the verdict Good for it.
 abbrev pub WrittenTextsAreGood : Type 0

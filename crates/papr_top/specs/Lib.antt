@@ -1,7 +1,5 @@
-pub mod Status
-pub mod Commands
-pub mod Inputs
+pub mod Texts
+pub mod Judging
+pub mod Images
 pub mod Top
-pub mod Finish
-pub mod Reading
 pub mod Laws

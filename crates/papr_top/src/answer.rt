@@ -1,51 +1,15 @@
 ghost use Rattle.std.specs.Prelude.{◌≡◌, ◌≤◌, IfOk, string_bytes};
 ghost use Rattle.trace_gen.specs.Generated.{generated_trace};
 ghost use Rattle.run_model.specs.SerialRun.{serial_replies};
-ghost use Rattle.papr_top.specs.Top.{refusal_text, verdict_text, status_with, drill_text, IsAssured, IsSerialText, IsParallelText};
+ghost use Rattle.papr_top.specs.Texts.{drill_text, IsAssured, IsSerialText, IsParallelText};
 
-use crate::reason::Reason;
-use crate::status::Status;
-use history_check::Verdict;
 use reply_text::summary_of_counts;
 use std::alloc::{AllocError, Global};
-use std::fmt::Write;
 use std::sync::Wait;
 use std::thread::Threads;
 use trace_gen::generate;
 use trace_read::Trace;
 use trace_runner::{Gate, parallel_to_text, run_counted, run_to_text};
-
-/// The line that refuses an input.
-pub fn refusal(alloc: Global, line: u32, reason: Reason) -> Result<String, AllocError>
-    ensures { IfOk result (λ s. string_bytes s ≡ refusal_text line reason) }
-{
-    let word = reason.word();
-    let mut out = String::new(alloc);
-    write!(out, "papr: line {line}: {word}\n")?;
-    Ok(out)
-}
-
-/// The line that tells a verdict.
-pub fn verdict_line(alloc: Global, verdict: Verdict) -> Result<String, AllocError>
-    ensures { IfOk result (λ s. string_bytes s ≡ verdict_text verdict) }
-{
-    let mut out = String::new(alloc);
-    match verdict {
-        Verdict::Good => out.push_str("good\n")?,
-        Verdict::Bad(section) => write!(out, "bad section {section}\n")?,
-    }
-    Ok(out)
-}
-
-/// The status that comes with a verdict.
-pub fn status_of(verdict: Verdict) -> Status
-    ensures { result ≡ status_with verdict }
-{
-    match verdict {
-        Verdict::Good => Status::Done,
-        Verdict::Bad(_) => Status::CheckNo,
-    }
-}
 
 /// The text of the serial run.
 pub fn serial_text(alloc: Global, trace: &Trace) -> Result<String, AllocError>
@@ -67,7 +31,7 @@ pub fn parallel_text<R: Threads + Wait + Sync, G: Gate + Sync>(
 }
 
 /// The summary of a generated trace.
-#[tactic(auto, unfolding(crate::specs::Top::drill_text))]
+#[tactic(auto, unfolding(crate::specs::Texts::drill_text))]
 pub fn summary(alloc: Global, seed: u64, lines: u32) -> Result<String, AllocError>
     requires { lines ≤ 100000 }
     ensures text { IfOk result (λ s. string_bytes s ≡ drill_text (generated_trace seed lines)) }

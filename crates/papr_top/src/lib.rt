@@ -4,16 +4,12 @@
 #![tactic(auto)]
 
 mod answer;
-mod command;
-mod cutting;
-mod ending;
+mod imaging;
+mod judging;
 mod laws;
-mod reading;
-mod reason;
-mod status;
 mod top;
 
 pub use laws::written_texts_are_good;
-pub use status::Status;
+pub use papr_edge::Status;
 pub use top::{papr, papr_serial};
 pub use trace_runner::{Gate, OpenGate};

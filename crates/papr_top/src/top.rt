@@ -1,94 +1,21 @@
 ghost use Rattle.std.specs.Prelude.{◌≡◌, ◌≢◌, ◌≤◌, ◌⊎◌, None, Some};
-ghost use Rattle.std.specs.Fn.{FnOnceReturnsAt};
 ghost use Rattle.trace_io.specs.Outside.{Rose};
 ghost use Rattle.trace_gen.specs.Generated.{generated_trace};
-ghost use Rattle.papr_top.specs.Inputs.{trace_input, judged_input};
-ghost use Rattle.papr_top.specs.Top.{IsOutcome, HasInput, HasRefusedInput, IsAnswered, EndsReading, EndsDrill, IsMade, WithDone, IsVerdictText};
-ghost use Rattle.papr_top.specs.Commands.{without_par};
-ghost use Rattle.papr_top.specs.Commands as words_of;
+ghost use Rattle.papr_edge.specs.Commands.{without_par};
+ghost use Rattle.papr_edge.specs.Commands as words_of;
+ghost use Rattle.papr_edge.specs.Ends.{IsAnswered};
+ghost use Rattle.papr_top.specs.Top.{IsOutcome, HasInput, HasRefusedInput, EndsDrill};
 
-use crate::answer::{parallel_text, serial_text, status_of, summary, verdict_line};
-use crate::command::{Command, command_of};
-use crate::ending::{finish, refuse};
-use crate::reading::{read_trace, read_verdict};
-use crate::status::Status;
-use std::alloc::{AllocError, Global};
+use crate::answer::{parallel_text, serial_text, summary};
+use crate::imaging::image;
+use crate::judging::check;
+use papr_edge::{Command, Status, answer_input, command_of, finish};
+use std::alloc::Global;
 use std::sync::Wait;
 use std::thread::Threads;
+use table_image::Layout;
 use trace_io::{Sink, Source};
-use trace_read::Trace;
 use trace_runner::Gate;
-
-/// Reads the source to its end, and writes the text that is made of the trace, or the refusal.
-fn answer_input<S: Source, K: Sink, F: FnOnce(&Trace) -> Result<String, AllocError>>(
-    alloc: Global,
-    source: &mut S,
-    sink: &mut K,
-    text_of: F,
-) -> Status
-    requires { F.IsAlwaysCallable text_of }
-    ensures outcome { EndsReading
-        trace_input
-        (WithDone (IsMade (FnOnceReturnsAt F.FnOnce text_of)))
-        (record {
-          left = S.left source.old;
-          left_after = S.left source.new;
-          taken = K.taken sink.old;
-          taken_after = K.taken sink.new;
-        })
-        result }
-    ensures read_fault { result ≡ Status.ReadFault
-        → Rose (S.faults source.old) (S.faults source.new) }
-    ensures write_fault { result ≡ Status.WriteFault
-        → Rose (K.faults sink.old) (K.faults sink.new) }
-    ensures no_read_fault { result ≢ Status.ReadFault
-        → S.faults source.new ≡ S.faults source.old }
-    ensures no_write_fault { result ≢ Status.WriteFault
-        → K.faults sink.new ≡ K.faults sink.old }
-    ensures source_faults { S.faults source.old ≤ S.faults source.new }
-    ensures sink_faults { K.faults sink.old ≤ K.faults sink.new }
-{
-    match read_trace(alloc, source) {
-        Ok(trace) => match text_of(&trace) {
-            Ok(text) => finish(sink, text.as_bytes(), Status::Done),
-            Err(_) => Status::Memory,
-        },
-        Err(error) => refuse(alloc, sink, error),
-    }
-}
-
-/// `check`: reads the source to its end, and writes the verdict on the text behind its trace, or the
-/// refusal.
-fn check<S: Source, K: Sink>(alloc: Global, source: &mut S, sink: &mut K) -> Status
-    ensures outcome { EndsReading
-        judged_input
-        IsVerdictText
-        (record {
-          left = S.left source.old;
-          left_after = S.left source.new;
-          taken = K.taken sink.old;
-          taken_after = K.taken sink.new;
-        })
-        result }
-    ensures read_fault { result ≡ Status.ReadFault
-        → Rose (S.faults source.old) (S.faults source.new) }
-    ensures write_fault { result ≡ Status.WriteFault
-        → Rose (K.faults sink.old) (K.faults sink.new) }
-    ensures no_read_fault { result ≢ Status.ReadFault
-        → S.faults source.new ≡ S.faults source.old }
-    ensures no_write_fault { result ≢ Status.WriteFault
-        → K.faults sink.new ≡ K.faults sink.old }
-    ensures source_faults { S.faults source.old ≤ S.faults source.new }
-    ensures sink_faults { K.faults sink.old ≤ K.faults sink.new }
-{
-    match read_verdict(alloc, source) {
-        Ok(verdict) => match verdict_line(alloc, verdict) {
-            Ok(text) => finish(sink, text.as_bytes(), status_of(verdict)),
-            Err(_) => Status::Memory,
-        },
-        Err(error) => refuse(alloc, sink, error),
-    }
-}
 
 /// `drill`: writes the summary of a generated trace.
 fn drill<K: Sink>(alloc: Global, seed: u64, lines: u32, sink: &mut K) -> Status
@@ -120,7 +47,10 @@ fn drill<K: Sink>(alloc: Global, seed: u64, lines: u32, sink: &mut K) -> Status
 /// An input that is no trace is refused with its first refused line and the reason:
 /// [`Status::Refused`]. `check` reads a trace, a line `replies` and a text, and writes whether the
 /// text is that of a good run of the trace: `good`, or `bad section K` with the first section that no
-/// good run explains, [`Status::CheckNo`]. `drill SEED LINES` leaves the source as it is, and writes the summary of the
+/// good run explains, [`Status::CheckNo`]. `image old` and `image new` run a trace as `run` does, and
+/// write the table at its end, in the layout of the Power ISA, version 2.07, or in that of version
+/// 3.0; where the layout can't hold an entry, the first such is named: [`Status::Refused`]. `drill
+/// SEED LINES` leaves the source as it is, and writes the summary of the
 /// serial run of a generated trace. Other words leave it too, and are answered with a usage line:
 /// [`Status::Usage`]. All text goes to the sink. [`Status::Memory`] is want of memory.
 pub fn papr_serial<S: Source, K: Sink>(
@@ -155,9 +85,11 @@ pub fn papr_serial<S: Source, K: Sink>(
         → ¬ Rose (S.faults source.old) (S.faults source.new)
         → ¬ Rose (K.faults sink.old) (K.faults sink.new)
         → (result ≡ Status.Refused) ⊎ (result ≡ Status.Memory) }
-    // Under other words than `run` and `check` the source is left as it is.
+    // Under other words than `run`, `check` and `image` the source is left as it is.
     ensures untouched { words_of.command_of words.now ≢ Some Command.Run
         → words_of.command_of words.now ≢ Some Command.Check
+        → words_of.command_of words.now ≢ Some (Command.Image Layout.Old)
+        → words_of.command_of words.now ≢ Some (Command.Image Layout.New)
         → source.new ≡ source.old }
     // A fault is one of the source's or of the sink's own, and else their counts stand.
     ensures read_fault { result ≡ Status.ReadFault
@@ -174,6 +106,7 @@ pub fn papr_serial<S: Source, K: Sink>(
     match command_of(words) {
         Some(Command::Run) => answer_input(alloc, source, sink, |trace| serial_text(alloc, trace)),
         Some(Command::Check) => check(alloc, source, sink),
+        Some(Command::Image(layout)) => image(alloc, layout, source, sink),
         Some(Command::Drill { seed, lines }) => drill(alloc, seed, lines, sink),
         None | Some(Command::Par) => finish(sink, b"papr: usage\n", Status::Usage),
     }
@@ -216,10 +149,12 @@ pub fn papr<R: Threads + Wait + Sync, S: Source, K: Sink, G: Gate + Sync>(
         → ¬ Rose (S.faults source.old) (S.faults source.new)
         → ¬ Rose (K.faults sink.old) (K.faults sink.new)
         → (result ≡ Status.Refused) ⊎ (result ≡ Status.Memory) }
-    // Under other words than `run`, `par` and `check` the source is left as it is.
+    // Under other words than `run`, `par`, `check` and `image` the source is left as it is.
     ensures untouched { words_of.command_of words.now ≢ Some Command.Run
         → words_of.command_of words.now ≢ Some Command.Par
         → words_of.command_of words.now ≢ Some Command.Check
+        → words_of.command_of words.now ≢ Some (Command.Image Layout.Old)
+        → words_of.command_of words.now ≢ Some (Command.Image Layout.New)
         → source.new ≡ source.old }
     // A fault is one of the source's or of the sink's own, and else their counts stand.
     ensures read_fault { result ≡ Status.ReadFault

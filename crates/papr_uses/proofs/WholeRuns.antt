@@ -7,13 +7,15 @@ use Rattle.trace_io.specs.Outside.{Rose}
 use Rattle.trace_read.specs.declared.why.Why.TheVariants.{Long}
 use Rattle.trace_read.specs.Trace.{AcceptedTrace}
 use Rattle.trace_read.specs.Grammar.{trace_of}
-use Rattle.papr_top.specs.declared.command.Command.TheVariants as commands
-use Rattle.papr_top.specs.Commands.{command_of, reading_of}
+use Rattle.papr_edge.specs.declared.command.Command.TheVariants as commands
+use Rattle.papr_edge.specs.Commands.{command_of, reading_of}
 use Rattle.trace_read.specs.declared.why.Why.{Why}
-use Rattle.papr_top.specs.declared.status.Status.{Status}
-use Rattle.papr_top.specs.declared.status.Status.TheVariants.{Done}
-use Rattle.papr_top.specs.Inputs.{trace_input, with_reason}
-use Rattle.papr_top.specs.Top.{Run, Reads, Answers, WithDone, IsAnswered, IsSerialText}
+use Rattle.papr_edge.specs.declared.status.Status.{Status}
+use Rattle.papr_edge.specs.declared.status.Status.TheVariants.{Done}
+use Rattle.papr_edge.specs.Inputs.{trace_input, with_reason}
+use Rattle.papr_edge.specs.Reading.{Reads}
+use Rattle.papr_edge.specs.Ends.{Run, Answers, WithDone, IsAnswered}
+use Rattle.papr_top.specs.Top.{IsSerialText}
 use Rattle.papr_uses.specs.RunText.{PutsTextOfBytes}
 
 -- A count that stays at 0 didn't rise.

@@ -37,15 +37,24 @@ fn words_of_no_listed_form_are_answered_before_anything_is_read(
         &["drill", "18446744073709551616", "0"],
         &["drill", "1", "0", "0"],
         &["1", "0", "drill"],
+        &["image"],
+        &["image", ""],
+        &["image", "older"],
+        &["image", "Old"],
+        &["image", "old", "new"],
+        &["images", "old"],
+        &["old"],
     ];
     for words in forms {
         let (status, text) = answer_to(alloc, words)?;
         assert_eq!(rt; status, Status::Usage, "at {words:?}");
         assert_eq!(rt; text.as_str(), "papr: usage\n", "at {words:?}");
     }
-    let (status, text) = answer_to(alloc, &["run"])?;
-    assert_eq!(rt; status, Status::ReadFault);
-    assert_eq!(rt; text.as_str(), "");
+    for words in [&["run"] as &[&str], &["image", "old"], &["image", "new"]] {
+        let (status, text) = answer_to(alloc, words)?;
+        assert_eq!(rt; status, Status::ReadFault, "at {words:?}");
+        assert_eq!(rt; text.as_str(), "", "at {words:?}");
+    }
     Ok(())
 }
 

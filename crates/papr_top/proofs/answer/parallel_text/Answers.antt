@@ -1,7 +1,7 @@
 use Rattle.std.proofs.Common.{Result, Ok, Err, IfOk, String, Global, string_bytes}
 use Rattle.trace_read.specs.Trace.{AcceptedTrace}
 use Rattle.trace_runner.specs.ParallelRun.{IsTextOfRun}
-use Rattle.papr_top.specs.Top.{IsParallelText}
+use Rattle.papr_top.specs.Texts.{IsParallelText}
 use Rattle.papr_top.proofs.answer.parallel_text.Goals as goal
 
 as_parallel : {E : Type 0} (t : AcceptedTrace) (r : Result (String Global) E) → IfOk r (λ s. IsTextOfRun t (string_bytes s)) → IfOk r (λ s. IsParallelText t (string_bytes s))

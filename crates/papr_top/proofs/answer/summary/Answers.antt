@@ -3,7 +3,7 @@ use Rattle.trace_read.specs.Trace.{AcceptedTrace}
 use Rattle.run_model.specs.SerialRun.{serial_replies}
 use Rattle.reply_text.specs.Summary.{count_of, counts_text, summary_text}
 use Rattle.reply_text.proofs.SummarySteps.{counts_text_is}
-use Rattle.papr_top.specs.Top.{drill_text}
+use Rattle.papr_top.specs.Texts.{drill_text}
 use Rattle.papr_top.proofs.answer.summary.Goals as goal
 
 -- The text from the counts is that of the replies, which a drill doesn't keep.

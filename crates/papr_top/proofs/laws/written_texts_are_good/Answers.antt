@@ -4,7 +4,7 @@ use Rattle.run_model.specs.SerialRun.{serial_replies}
 use Rattle.history_check.specs.declared.verdict.Verdict.TheVariants.{Good}
 use Rattle.history_check.specs.Verdict.{IsVerdict}
 use Rattle.history_check.proofs.EarlierSections.{good_verdict}
-use Rattle.papr_top.specs.Top.{IsSerialText, IsParallelText}
+use Rattle.papr_top.specs.Texts.{IsSerialText, IsParallelText}
 use Rattle.papr_top.proofs.laws.written_texts_are_good.Goals as goal
 
 judged_good : (t : AcceptedTrace) (text : List ℕ) → IsSerialText t text ⊎ IsParallelText t text → IsVerdict t text Good

@@ -1,10 +1,11 @@
 use Rattle.std.proofs.Common.{◌≡◌, Some, rules}
-use Rattle.papr_top.specs.Commands.{command_of}
-use Rattle.papr_top.specs.declared.command.Command.TheVariants as commands
-use Rattle.papr_top.specs.Top.{Run, WithDone, IsParallelText}
-use Rattle.papr_top.specs.Inputs.{trace_input}
-use Rattle.papr_top.proofs.Completeness.{trace_done, reading_refused}
-use Rattle.papr_top.proofs.Outcomes.{long_trace, ends_weaker}
+use Rattle.papr_edge.specs.Commands.{command_of}
+use Rattle.papr_edge.specs.declared.command.Command.TheVariants as commands
+use Rattle.papr_edge.specs.Ends.{Run, WithDone}
+use Rattle.papr_top.specs.Texts.{IsParallelText}
+use Rattle.papr_edge.specs.Inputs.{trace_input}
+use Rattle.papr_edge.proofs.Completeness.{trace_done, reading_refused}
+use Rattle.papr_edge.proofs.Outcomes.{long_trace, ends_weaker}
 use Rattle.papr_top.proofs.top.papr.Goals as goal
 
 pub returns-in-Some-Par-clause-complete : goal.returns-in-Some-Par-clause-complete

@@ -1,11 +1,12 @@
 use Rattle.std.proofs.Common.{◌≡◌, ◌⊎◌, inl, inr, [], ◌∷◌, Some, refl, subst, ap}
 use Rattle.trace_io.specs.Memory.{SourceState, told}
-use Rattle.papr_top.specs.declared.command.Command.TheVariants as commands
-use Rattle.papr_top.specs.Commands.{command_of}
-use Rattle.papr_top.specs.declared.status.Status.{Status}
-use Rattle.papr_top.specs.declared.status.Status.TheVariants.{Done, Memory}
-use Rattle.papr_top.specs.Inputs.{trace_input}
-use Rattle.papr_top.specs.Top.{Run, EndsReading, WithDone, IsAnswered, IsSerialText}
+use Rattle.papr_edge.specs.declared.command.Command.TheVariants as commands
+use Rattle.papr_edge.specs.Commands.{command_of}
+use Rattle.papr_edge.specs.declared.status.Status.{Status}
+use Rattle.papr_edge.specs.declared.status.Status.TheVariants.{Done, Memory}
+use Rattle.papr_edge.specs.Inputs.{trace_input}
+use Rattle.papr_edge.specs.Ends.{Run, EndsReading, WithDone, IsAnswered}
+use Rattle.papr_top.specs.Top.{IsSerialText}
 use Rattle.papr_uses.proofs.WholeRuns.{run_word, never_rose, answered, run_done, trace_accepted, trace_refused}
 use Rattle.papr_uses.proofs.programs.run_program.Goals as goal
 

@@ -1,0 +1,4 @@
+pub mod Outcomes
+pub mod CutLines
+pub mod JudgedInputs
+pub mod Completeness

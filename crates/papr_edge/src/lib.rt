@@ -1,0 +1,19 @@
+//! The edge of the program `papr`: what its words ask for, how its input is read and cut, how a text is
+//! written and an input refused, and the statuses.
+#![tactic(auto)]
+
+mod answering;
+mod command;
+mod cutting;
+mod ending;
+mod reading;
+mod reason;
+mod status;
+
+pub use answering::answer_input;
+pub use command::{Command, command_of};
+pub use cutting::{cut, line_count};
+pub use ending::{finish, refuse};
+pub use reading::{NoInput, parse_input, read_bytes, read_trace};
+pub use reason::Reason;
+pub use status::Status;

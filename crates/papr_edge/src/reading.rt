@@ -1,0 +1,68 @@
+ghost use Rattle.std.specs.Prelude.{◌≡◌, ◌≢◌, ◌≤◌, IfOk, IfErr, Err, length};
+ghost use Rattle.trace_io.specs.Outside.{Rose};
+ghost use Rattle.trace_read.specs.Grammar.{most_bytes};
+ghost use Rattle.trace_read.specs.Trace.{IsAccepted};
+ghost use Rattle.papr_edge.specs.Inputs.{trace_input};
+ghost use Rattle.papr_edge.specs.Reading.{Reads, IsInput, WasLong, IsParsedInput};
+
+use crate::reason::Reason;
+use std::alloc::Global;
+use trace_io::{ReadAllError, Source, read_all};
+use trace_read::{MOST_BYTES, Trace, TraceError, Why, parse};
+
+/// Why there is no input.
+#[derive(Clone, Copy, PartialEq, Eq, Debug)]
+pub enum NoInput {
+    /// It is refused: the first refused line, and the reason.
+    Refused { line: u32, reason: Reason },
+    /// The source failed.
+    Fault,
+    /// There is not enough memory.
+    Memory,
+}
+
+/// Reads the source to its end. An input past the limit is refused before its first line.
+pub fn read_bytes<S: Source>(alloc: Global, source: &mut S) -> Result<Vec<u8>, NoInput>
+    ensures bytes { IfOk result (λ v. Reads (S.left source.old) v.items (S.left source.new)) }
+    ensures within { IfOk result (λ v. length v.items ≤ most_bytes) }
+    ensures long { IfErr result (λ e. WasLong e (S.left source.old) (S.left source.new)) }
+    ensures fault { result ≡ Err NoInput.Fault → Rose (S.faults source.old) (S.faults source.new) }
+    ensures no_fault { result ≢ Err NoInput.Fault → S.faults source.new ≡ S.faults source.old }
+    ensures faults { S.faults source.old ≤ S.faults source.new }
+{
+    read_all(alloc, source, MOST_BYTES).map_err(|error| match error {
+        ReadAllError::Long => NoInput::Refused {
+            line: 0,
+            reason: Reason::Trace(Why::Long),
+        },
+        ReadAllError::Fault => NoInput::Fault,
+        ReadAllError::Memory => NoInput::Memory,
+    })
+}
+
+/// The trace that the bytes are, or why they are none.
+pub fn parse_input(alloc: Global, bytes: &[u8]) -> Result<Trace, NoInput>
+    ensures parsed { IsParsedInput result (trace_input bytes.now) }
+    ensures accepted { IfOk result IsAccepted }
+    ensures no_fault { result ≢ Err NoInput.Fault }
+{
+    match parse(alloc, bytes) {
+        Ok(trace) => Ok(trace),
+        Err(TraceError::Line { line, why }) => Err(NoInput::Refused {
+            line,
+            reason: Reason::Trace(why),
+        }),
+        Err(TraceError::Memory) => Err(NoInput::Memory),
+    }
+}
+
+/// Reads the source to its end, and gives the trace that it is.
+pub fn read_trace<S: Source>(alloc: Global, source: &mut S) -> Result<Trace, NoInput>
+    ensures input { IsInput trace_input result (S.left source.old) (S.left source.new) }
+    ensures fault { result ≡ Err NoInput.Fault → Rose (S.faults source.old) (S.faults source.new) }
+    ensures no_fault { result ≢ Err NoInput.Fault → S.faults source.new ≡ S.faults source.old }
+    ensures faults { S.faults source.old ≤ S.faults source.new }
+{
+    let bytes = read_bytes(alloc, source)?;
+    parse_input(alloc, &bytes)
+}

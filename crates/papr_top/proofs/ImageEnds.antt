@@ -1,0 +1,68 @@
+-- How `image` ends, from what was read and written.
+use Rattle.std.proofs.Common.{◌≡◌, ◌≢◌, ◌⊎◌, ℕ, false, true, Some, Result, Ok, Err, IsSomeAnd, IsOkAnd, IsOk, IsErr, IfOk, sym, refl, subst, inl, inr}
+use Rattle.trace_read.specs.Trace.{AcceptedTrace}
+use Rattle.table_image.specs.declared.layout.Layout.{Layout}
+use Rattle.papr_edge.specs.declared.command.Command.TheVariants.{Image}
+use Rattle.papr_edge.specs.declared.reason.Reason.{Reason}
+use Rattle.papr_edge.specs.declared.status.Status.{Status}
+use Rattle.papr_edge.specs.declared.status.Status.TheVariants.{Done, Usage, Refused, ReadFault, WriteFault, Memory, CheckNo}
+use Rattle.papr_edge.specs.Inputs.{trace_input}
+use Rattle.papr_edge.specs.Reading.{IsInput}
+use Rattle.papr_edge.specs.Finish.{Finishes, WritesNothing}
+use Rattle.papr_edge.specs.Ends.{Run, IsOutput, EndsReading, IsAnswered}
+use Rattle.papr_edge.proofs.Outcomes.{long_trace}
+use Rattle.papr_edge.proofs.Completeness.{told_input}
+use Rattle.papr_top.specs.Images.{IsImage, EndsImage, HasImage, HasNoImage, image_output, layout_refusal_text}
+
+-- It ends as a command that reads.
+pub as_image : (layout : Layout) (run : Run) (result : Status) → EndsReading trace_input (IsImage layout) run result → EndsImage layout run result
+as_image layout run Done ends = ends
+as_image layout run Usage ends = ends
+as_image layout run Refused ends = inl ends
+as_image layout run ReadFault ends = ends
+as_image layout run WriteFault ends = ends
+as_image layout run Memory ends = ends
+as_image layout run CheckNo ends = ends
+
+-- The line of an entry was being written.
+pub entry_refused : (layout : Layout) (run : Run) (t : AcceptedTrace) (index faults faults_after : ℕ) (result : Status) → IsInput trace_input (Ok t) run.left run.left_after → image_output layout t ≡ Err index → Finishes Refused (layout_refusal_text index) run.taken run.taken_after faults faults_after result ⊎ WritesNothing Memory run.taken run.taken_after result → EndsImage layout run result
+entry_refused layout run t index faults faults_after result input unheld (inl (inl done)) =
+    subst (EndsImage layout run) (sym done.0) (inr (record { bytes = input.0; input = t; text = layout_refusal_text index; read = input.1; accepted = input.2; said = (index, unheld, refl); written = done.1 }))
+entry_refused layout run t index faults faults_after result input unheld (inl (inr stopped)) =
+    subst (EndsImage layout run) (sym stopped.0) (record { bytes = input.0; text = layout_refusal_text index; read = input.1; output = subst (λ parsed. IsOutput (IsImage layout) parsed (layout_refusal_text index)) (sym input.2) (Refused, (index, unheld, refl)); written = stopped.2 })
+entry_refused layout run t index faults faults_after result input unheld (inr ended) = subst (EndsImage layout run) (sym ended.0) ended.1
+
+-- ---- where the source tells its input
+abbrev pub IsHeld : Layout → Result AcceptedTrace (ℕ × Reason) → Type 0
+IsHeld layout read = IsOkAnd read (λ t. IsOk (image_output layout t))
+
+abbrev pub IsUnheld : Layout → Result AcceptedTrace (ℕ × Reason) → Type 0
+IsUnheld layout read = IfOk read (λ t. IsErr (image_output layout t))
+
+-- A trace whose image the layout can hold.
+pub image_done : (layout : Layout) (run : Run) (result : Status) → EndsImage layout run result → IsSomeAnd run.left (HasImage layout) → result ≢ ReadFault → result ≢ WriteFault → IsAnswered (Some (Image layout)) result ⊎ (result ≡ Memory)
+image_done layout run Done ends has no_read_fault no_write_fault = inl tt
+image_done layout run Memory ends has no_read_fault no_write_fault = inr refl
+image_done layout run Refused (inl ends) has no_read_fault no_write_fault =
+    absurd (subst (IsHeld layout) ends.refused (told_input trace_input (IsHeld layout) run.left run.left_after ends.bytes long_trace has ends.read))
+image_done layout run Refused (inr ends) has no_read_fault no_write_fault =
+    (let held : IsOk (image_output layout ends.input) = subst (IsHeld layout) ends.accepted (told_input trace_input (IsHeld layout) run.left run.left_after ends.bytes long_trace has ends.read) in
+    let wrong : false ≡ true = subst IsOk ends.said.1 held in
+    cc)
+image_done layout run CheckNo ends has no_read_fault no_write_fault = absurd ends.said
+image_done layout run ReadFault ends has no_read_fault no_write_fault = absurd (no_read_fault refl)
+image_done layout run WriteFault ends has no_read_fault no_write_fault = absurd (no_write_fault refl)
+image_done layout run Usage ends has no_read_fault no_write_fault = absurd ends
+
+-- An input that is refused, or whose image the layout can't hold.
+pub image_refused : (layout : Layout) (run : Run) (result : Status) → EndsImage layout run result → IsSomeAnd run.left (HasNoImage layout) → result ≢ ReadFault → result ≢ WriteFault → (result ≡ Refused) ⊎ (result ≡ Memory)
+image_refused layout run Refused ends has no_read_fault no_write_fault = inl refl
+image_refused layout run Memory ends has no_read_fault no_write_fault = inr refl
+image_refused layout run Done ends has no_read_fault no_write_fault =
+    (let unheld : IsErr (image_output layout ends.input) = subst (IsUnheld layout) ends.accepted (told_input trace_input (IsUnheld layout) run.left run.left_after ends.bytes long_trace has ends.read) in
+    let wrong : false ≡ true = subst IsErr ends.said.0 unheld in
+    cc)
+image_refused layout run CheckNo ends has no_read_fault no_write_fault = absurd ends.said
+image_refused layout run ReadFault ends has no_read_fault no_write_fault = absurd (no_read_fault refl)
+image_refused layout run WriteFault ends has no_read_fault no_write_fault = absurd (no_write_fault refl)
+image_refused layout run Usage ends has no_read_fault no_write_fault = absurd ends

@@ -1,0 +1,39 @@
+-- What may be written of a trace.
+use Rattle.std.specs.Prelude.{◌≡◌, ℕ, List, length}
+use Rattle.trace_read.specs.Trace.{AcceptedTrace}
+use Rattle.trace_reply.specs.declared.reply.Reply.{Reply}
+use Rattle.trace_reply.specs.declared.shown.Shown.{Shown}
+use Rattle.run_model.specs.RunState.{opening_run, shown_of}
+use Rattle.run_model.specs.SerialRun.{serial_replies, state_after_lines}
+use Rattle.run_model.specs.GoodRun.{IsGoodRun}
+use Rattle.run_model.specs.Assurances.{Assures}
+use Rattle.reply_text.specs.Text.{text_of}
+use Rattle.reply_text.specs.Summary.{summary_text}
+
+-- The replies are a good run, and have what good runs assure.
+pub record IsAssured (t : AcceptedTrace) (rs : List Reply) : Type 0 where
+  pub good : IsGoodRun t rs
+  pub assures : Assures t rs
+
+-- The text of the serial run, which is assured.
+pub record IsSerialText (t : AcceptedTrace) (text : List ℕ) : Type 0 where
+  pub is : text ≡ text_of t (serial_replies t)
+  pub assured : IsAssured t (serial_replies t)
+
+-- The text of some run that is assured: one that processors beside each other made.
+pub record IsParallelText (t : AcceptedTrace) (text : List ℕ) : Type 0 where
+  pub replies : List Reply
+  pub is : text ≡ text_of t replies
+  pub assured : IsAssured t replies
+
+-- The table at the end of the serial run.
+abbrev pub table_at_end : AcceptedTrace → Shown
+table_at_end t = shown_of (state_after_lines (opening_run t.config) t.lines).memory
+
+-- The summary of the serial run of a trace, with the valid entries of the table at its end.
+unfoldable pub drill_text : AcceptedTrace → List ℕ
+drill_text t =
+    summary_text
+    (length t.lines)
+    (serial_replies t)
+    (table_at_end t).states

@@ -31,6 +31,7 @@ use Rattle.run_model.specs.Sections.{receipts_made, section_end}
 use Rattle.run_model.specs.GoodRun.{AreLegal}
 use Rattle.run_model.proofs.Each.{each_map, each_at, each_of_map, each_front, each_back}
 use Rattle.run_model.proofs.Memories.{IsAllowed, MemoryStands, memory_prepared, memory_committed, opening_stands}
+use Rattle.run_model.proofs.OpeningEntries.{each_opening}
 use Rattle.run_model.proofs.LowStamps.{each_from_histories, each_state, closed_size}
 use Rattle.run_model.proofs.LinesByProcessor.{Cpus, file_listed}
 use Rattle.run_model.proofs.SectionGood.{each_regrouped}
@@ -153,14 +154,10 @@ quiet_plain w (acts.Call number args spelt) h = resize_plain w (hcall_of number)
 quiet_plain w other h = h
 
 -- ---- the beginning
-each_replicate : (count : ℕ) → LowStates (replicate count (empty_state 0))
-each_replicate zero = tt
-each_replicate (suc count) = (omega arith, each_replicate count)
-
 pub opening_plain : (t : AcceptedTrace) → IsAccepted t → IsPlain (opening_run t.config)
-unfolding opening_run opening_memory empty_states
+unfolding opening_run opening_memory
 opening_plain t is =
     let c = t.config in
     let below : c.order ≤ c.limit = is.configured.settings.within in
     let most : c.limit ≤ 22 = is.configured.settings.at_most in
-    record { memory = opening_stands c.limit c.order c.granted.pool_base c.granted.pool_order is.configured.settings.at_most is.configured.settings.at_least; high = omega arith; low = each_replicate (entry_count c.order) }
+    record { memory = opening_stands c.limit c.order c.granted.pool_base c.granted.pool_order c.entries is.configured.settings.at_most is.configured.settings.at_least; high = omega arith; low = each_opening IsLow c (omega arith) (λ e h. omega arith) is.entries }

@@ -1,7 +1,7 @@
 -- The states of an opening table, entry by entry.
-use Rattle.std.proofs.Common.{◌≡◌, ◌≢◌, ℕ, zero, suc, ◌<◌, List, [], ◌∷◌, ◌++◌, length, get_or, set, refl, sym, ◌∙◌, arith}
-use Rattle.std.specs.List.{AllByRecursion, Contains}
-use Rattle.std.proofs.lemmas.List.{length-set, get_or-set_other, get_or-set_same, length-replicate}
+use Rattle.std.proofs.Common.{◌≡◌, ◌≢◌, ℕ, List, [], ◌∷◌, ◌++◌, length, set, refl, ◌∙◌}
+use Rattle.std.specs.List.{AllByRecursion}
+use Rattle.std.proofs.lemmas.List.{length-set, get_or-set_other, length-replicate}
 use Rattle.hpte_fields.specs.TableSize.{entry_count}
 use Rattle.table_image.specs.declared.entry.ImageEntry.{ImageEntry}
 use Rattle.entry_model.specs.State.{State, empty_state}

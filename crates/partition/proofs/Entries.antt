@@ -30,8 +30,7 @@ each_entered states [] within rising = tt
 each_entered states (e ∷ es) within rising =
     let here : e.index < length states = within.0 in
     let apart : AllByRecursion (λ (later : ImageEntry). e.index ≢ later.index) es = each_map (λ (later : ImageEntry). e.index < later.index) (λ (later : ImageEntry). e.index ≢ later.index) es (λ later lt same. omega arith) rising.0 in
-    let size : length states ≡ length (with_entry states e) = sym (length-set states e.index (entered_state e.dword0 e.dword1)) in
-    (
+    let size : length states ≡ length (with_entry states e) = sym (length-set states e.index (entered_state e.dword0 e.dword1)) in (
       entries-other (with_entry states e) es e.index apart ∙ get_or-set_same states e.index (entered_state e.dword0 e.dword1) (empty_state 0) here,
       each_entered (with_entry states e) es (subst (λ n. AreInTable n es) size within.1) rising.1,
     )

@@ -1,18 +1,15 @@
 -- The opening table has a place in the pool of an accepted configuration.
 use Rattle.std.specs.Prelude.{unwrap_or}
-use Rattle.std.proofs.Common.{◌≡◌, ℕ, ◌+◌, ◌-◌, ◌*◌, ◌%◌, ◌^◌, ◌≤◌, true, false, List, length, replicate, Contains, Option, Some, None, Result, Ok, Err, IfOk, IfSome, MatchOption, refl, sym, ap, ◌∙◌, subst, arith}
+use Rattle.std.proofs.Common.{◌≡◌, ℕ, ◌+◌, ◌-◌, ◌*◌, ◌^◌, ◌≤◌, true, false, List, length, Contains, Option, Some, None, Result, Ok, Err, IfOk, IfSome, MatchOption, refl, sym, ap, ◌∙◌, subst, arith}
 use Rattle.std.specs.Option.{IsSome}
 use Rattle.std.proofs.lemmas.Nat.{pow_pos}
-use Rattle.std.proofs.Math.Pow.{pow_mono}
-use Rattle.std.proofs.Math.Nat.{mod-eq_of_lt}
-use Rattle.std.proofs.lemmas.List.{length-replicate}
 use Rattle.hpt_pool.specs.Pool.{PoolState, IsSound, IsLowest, FitsNowhere, block_at, fits, lowest_place, no_blocks, with_block}
 use Rattle.hpt_pool.proofs.Lowest.{multiple_placed, fits_is}
 use Rattle.hpt_pool.proofs.Kept.{with_contains}
 use Rattle.pool_range.specs.Ranges.{IsPoolRange}
 use Rattle.frame_grants.specs.Grants.{GrantedMemory}
 use Rattle.trace_read.specs.Configuration.{Configuration}
-use Rattle.entry_model.specs.State.{State, empty_state}
+use Rattle.entry_model.specs.State.{State}
 use Rattle.hpte_fields.specs.TableSize.{entry_count}
 use Rattle.hpt_resize.specs.TableMemory.{empty_states, with_entries, opening_memory}
 use Rattle.hpt_resize.proofs.OpeningStates.{opening-length}

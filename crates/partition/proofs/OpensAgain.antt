@@ -1,13 +1,13 @@
 -- An entry's words with R and C put back open as its state at stamp 0.
-use Rattle.std.proofs.Common.{◌≡◌, ℕ, true, List, Some, ap, sym, ◌∙◌, refl, bit_and}
-use Rattle.hpte_fields.specs.Fields.{page_bits, with_rc, without_rc, is_referenced, is_changed}
+use Rattle.std.proofs.Common.{◌≡◌, true, List, Some, ◌∙◌, refl}
+use Rattle.hpte_fields.specs.Fields.{with_rc, without_rc, is_referenced, is_changed}
 use Rattle.frame_grants.specs.declared.grant.Grant.{Grant}
 use Rattle.page_grants.specs.Suited.{entered_words}
 use Rattle.trace_read.proofs.StoredWords.{AreStored, stored_parts, stored_whole, same_stored}
 use Rattle.entry_model.specs.State.{State, IsCanonicalState}
 use Rattle.entry_model.specs.Reply.{entered_state, words_of}
 use Rattle.hpt_resize.specs.Rehash.{at_stamp_0}
-use Rattle.partition.specs.Laws.{CanBeOpened, OpensAgain}
+use Rattle.partition.specs.Laws.{OpensAgain}
 use Rattle.partition.proofs.PutBack.{put_off, put_second, without_none, read_referenced, read_changed}
 
 words_stored : (grants : List Grant) (s : State) → entered_words grants s.dword0 s.dword1 ≡ Some (s.dword0, s.dword1) → entered_words grants (words_of s).0 (words_of s).1 ≡ Some (words_of s)

@@ -1,15 +1,14 @@
 -- A partition opens with the entries of its configuration and no other.
-use Rattle.std.proofs.Common.{◌≡◌, ◌≢◌, ℕ, ◌<◌, ◌^◌, true, List, [], ◌∷◌, length, Some, subst, ap, sym, refl, ◌∙◌, bit_and, arith}
+use Rattle.std.proofs.Common.{◌≡◌, ℕ, ◌<◌, ◌^◌, List, [], ◌∷◌, length, subst, ap, sym, refl, ◌∙◌, bit_and, arith}
 use Rattle.std.specs.List.{AllByRecursion}
 use Rattle.std.proofs.lemmas.Nat.{and_le_r}
 use Rattle.hpte_fields.specs.TableSize.{entry_count}
-use Rattle.hpte_fields.specs.Fields.{without_rc}
 use Rattle.hpte_fields.proofs.Masks.{masks_join}
 use Rattle.frame_grants.specs.declared.grant.Grant.{Grant}
 use Rattle.table_image.specs.declared.entry.ImageEntry.{ImageEntry}
-use Rattle.trace_read.specs.Configuration.{Configuration, IsOpeningEntry, AreOpeningEntries}
+use Rattle.trace_read.specs.Configuration.{IsOpeningEntry}
 use Rattle.trace_read.proofs.StoredWords.{stored_parts}
-use Rattle.entry_model.specs.State.{State, IsCanonicalState, empty_state}
+use Rattle.entry_model.specs.State.{State, IsCanonicalState}
 use Rattle.entry_model.specs.Reply.{entered_state, words_of}
 use Rattle.entry_model.specs.Run.{state_at}
 use Rattle.hpt_resize.specs.TableMemory.{empty_states, with_entries, opening_memory}

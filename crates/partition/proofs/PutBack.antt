@@ -1,6 +1,6 @@
 -- R and C that are put into a doubleword 1 that has them clear.
 use Rattle.std.specs.Prelude.{◌==◌, if◌then◌else◌}
-use Rattle.std.proofs.Common.{◌≡◌, ℕ, ◌^◌, ◌<◌, Bool, true, false, ap, sym, ◌∙◌, refl, bit_and, bit_or}
+use Rattle.std.proofs.Common.{◌≡◌, ℕ, Bool, true, false, ap, sym, ◌∙◌, refl, bit_and, bit_or}
 use Rattle.std.specs.Int.Bits.{and_zero_l, or_zero_r}
 use Rattle.std.proofs.lemmas.Nat.{and_comm}
 use Rattle.hpte_fields.specs.Fields.{is_referenced, is_changed, with_rc, without_rc, stored_second}

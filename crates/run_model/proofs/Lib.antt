@@ -20,7 +20,10 @@ pub mod LowStamps
 pub mod SafeReplies
 pub mod PlacedCaches
 pub mod OpeningEntries
+mod RehashedStates
+mod StoredReplies
 pub mod LowStampRuns
+mod EnteredEntries
 pub mod AllSafe
 pub mod ClearedBits
 pub mod Refusals

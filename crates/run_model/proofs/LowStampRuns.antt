@@ -1,8 +1,7 @@
 -- Runs whose stamps are low, and what quiet lines keep of them.
-use Rattle.std.specs.Prelude.{◌≢◌, ◌==◌, nat_lt, if◌then◌else◌, replicate, slice_index}
-use Rattle.std.proofs.Common.{◌≡◌, ℕ, zero, suc, ◌≤◌, List, [], ◌∷◌, not, ap, ◌∙◌, refl, length, Option, Some, None, arith}
-use Rattle.std.specs.List.{AllByRecursion, range_with_len}
-use Rattle.std.specs.Option.{option_map_or}
+use Rattle.std.specs.Prelude.{◌≢◌, ◌==◌, nat_lt, if◌then◌else◌, slice_index}
+use Rattle.std.proofs.Common.{◌≡◌, ℕ, suc, ◌≤◌, List, [], ◌∷◌, not, ap, ◌∙◌, refl, length, Option, Some, None, arith}
+use Rattle.std.specs.List.{AllByRecursion}
 use Rattle.std.proofs.lemmas.Bool.{cond_both}
 use Rattle.papr_codes.specs.declared.calls.Hcall.{Hcall}
 use Rattle.papr_codes.specs.declared.codes.Rc.{Rc}
@@ -10,16 +9,14 @@ use Rattle.papr_codes.specs.Hcalls.{hcall_of}
 use Rattle.frame_grants.specs.declared.grant.Grant.{Grant}
 use Rattle.frame_grants.specs.Grants.{GrantedMemory}
 use Rattle.hpt_pool.specs.Pool.{PoolState, lowest_place}
-use Rattle.entry_model.specs.State.{State, empty_state}
+use Rattle.entry_model.specs.State.{State}
 use Rattle.entry_model.specs.Reply.{entered_state}
-use Rattle.entry_model.specs.Run.{state_at}
 use Rattle.entry_model.proofs.Heights.{height}
 use Rattle.hpt_resize.specs.declared.carry.Collision.{Collision}
-use Rattle.hpt_resize.specs.Rehash.{at_stamp_0, first_with, entry_at, collision_of, rehashed_states}
-use Rattle.hpte_fields.specs.TableSize.{entry_count}
+use Rattle.hpt_resize.specs.Rehash.{at_stamp_0, collision_of, rehashed_states}
 use Rattle.hpt_resize.specs.Pending.{PendingTable, is_ready, with_more_ready}
 use Rattle.hpt_resize.specs.Resize.{Table, PrepareOutcome, prepare_outcome, is_prepare_request, is_commit_request, pool_without, is_pending, new_table_outcome, start_outcome, advance_outcome, outcome_of_prepare, CommitOutcome, pending_refusal, commit_refusal, carry_outcome, complete_outcome, answer_outcome, outcome_of_commit}
-use Rattle.hpt_resize.specs.TableMemory.{TableMemory, opening_memory, empty_states, prepare_result, commit_result}
+use Rattle.hpt_resize.specs.TableMemory.{TableMemory, prepare_result, commit_result}
 use Rattle.table_image.specs.declared.entry.ImageEntry.{ImageEntry}
 use Rattle.tlb_model.specs.Processor.{Processor}
 use Rattle.trace_read.specs.Configuration.{Configuration, IsOpeningEntry, AreOpeningEntries}
@@ -29,9 +26,9 @@ use Rattle.trace_reply.specs.Replies.{RepliedLine}
 use Rattle.run_model.specs.RunState.{RunState, states_of, opening_run, run_resize, run_quiet_line}
 use Rattle.run_model.specs.Sections.{processors_after_lines, section_end}
 use Rattle.run_model.specs.Landings.{IsUnworn}
-use Rattle.run_model.proofs.Each.{each_map, each_at, each_of_map}
 use Rattle.run_model.proofs.LowStamps.{IsLowStamp, empty_low_stamp}
-use Rattle.run_model.proofs.OpeningEntries.{each_with_entries, entered_granted}
+use Rattle.run_model.proofs.OpeningEntries.{each_opening, entered_granted}
+use Rattle.run_model.proofs.RehashedStates.{rehashed_each}
 use Rattle.run_model.proofs.SectionGood.{quiet_size}
 use Rattle.run_model.proofs.PlacedCaches.{ProcessorPlaced, AllPlaced, quiet_placed, all_new_placed}
 use Rattle.papr_codes.specs.declared.calls.Hcall.TheVariants as calls
@@ -52,17 +49,8 @@ pub record IsLowStampRunState (granted : GrantedMemory) (n cpus : ℕ) (w : RunS
 restamped_low_stamp : (grants : List Grant) (n : ℕ) (s : State) → IsLowStamp grants n s → IsLowStamp grants n (at_stamp_0 s)
 restamped_low_stamp grants n s h = record { low = let low : height s ≤ n = h.low in omega arith; granted = h.granted }
 
-carried_low_stamp : (granted : GrantedMemory) (n : ℕ) (states : List State) (index : Option ℕ) → AreLowStamp granted n states → IsLowStamp granted.grants n (option_map_or (λ i. at_stamp_0 (state_at states i)) index (empty_state 0))
-carried_low_stamp granted n states None h = empty_low_stamp granted.grants n
-carried_low_stamp granted n states (Some i) h = restamped_low_stamp granted.grants n (state_at states i) (each_at (IsLowStamp granted.grants n) states i (empty_state 0) (empty_low_stamp granted.grants n) h)
-
-entry_low_stamp : (granted : GrantedMemory) (n from to : ℕ) (states : List State) (target : ℕ) → AreLowStamp granted n states → IsLowStamp granted.grants n (entry_at from to states target)
-unfolding entry_at
-entry_low_stamp granted n from to states target h = carried_low_stamp granted n states (first_with from to states (length states) target) h
-
 rehashed_low_stamp : (granted : GrantedMemory) (n from to : ℕ) (states : List State) → AreLowStamp granted n states → AreLowStamp granted n (rehashed_states from to states)
-unfolding rehashed_states
-rehashed_low_stamp granted n from to states h = each_of_map (IsLowStamp granted.grants n) (entry_at from to states) (range_with_len 0 (entry_count to)) (λ e. entry_low_stamp granted n from to states e h)
+rehashed_low_stamp granted n = rehashed_each (IsLowStamp granted.grants n) (empty_low_stamp granted.grants n) (restamped_low_stamp granted.grants n)
 
 -- The code is not H_HARDWARE, and the stamps stay low.
 pub record CommitsLowStamp (granted : GrantedMemory) (n : ℕ) (c : CommitOutcome) : Type 0 where
@@ -153,19 +141,12 @@ unfolding section_end
 closed_run_state granted n m cpus w ts h states placed = record { grants = h.grants; processors = processors_by_size 0 w.processors ts ∙ h.processors; states = states; placed = placed }
 
 -- ---- the beginning
-each_replicate : (granted : GrantedMemory) (n count : ℕ) → AreLowStamp granted n (replicate count (empty_state 0))
-each_replicate granted n zero = tt
-each_replicate granted n (suc count) = (empty_low_stamp granted.grants n, each_replicate granted n count)
-
 -- An entry that is valid at first has stamp 0, and a granted page.
 entered_low_stamp : (order : ℕ) (grants : List Grant) (e : ImageEntry) → IsOpeningEntry order grants e → IsLowStamp grants 1 (entered_state e.dword0 e.dword1)
 entered_low_stamp order grants e h = record { low = omega arith; granted = entered_granted grants e.dword0 e.dword1 h.stored }
 
 pub opening_states : (c : Configuration) → AreOpeningEntries c.order c.granted.grants c.entries → AreLowStamp c.granted 1 (states_of (opening_run c))
-unfolding opening_run opening_memory empty_states
-opening_states c is =
-    let entered : AllByRecursion (λ (e : ImageEntry). IsLowStamp c.granted.grants 1 (entered_state e.dword0 e.dword1)) c.entries = each_map (IsOpeningEntry c.order c.granted.grants) (λ (e : ImageEntry). IsLowStamp c.granted.grants 1 (entered_state e.dword0 e.dword1)) c.entries (entered_low_stamp c.order c.granted.grants) is.each in
-    each_with_entries (IsLowStamp c.granted.grants 1) (empty_states c.order) c.entries (each_replicate c.granted 1 (entry_count c.order)) entered
+opening_states c = each_opening (IsLowStamp c.granted.grants 1) c (empty_low_stamp c.granted.grants 1) (entered_low_stamp c.order c.granted.grants)
 
 pub opening_placed : (c : Configuration) → AllPlaced (opening_run c)
 unfolding opening_run

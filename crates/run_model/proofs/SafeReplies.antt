@@ -107,7 +107,7 @@ walk_cost order seg a =
     let second = access_op seg.page (mode_for seg a) true in
     omega (arith, cost_append (group_calls first (group_of seg.page order false)) (group_calls second (group_of seg.page order true)), entries_cost first (group_of seg.page order false * 8) 8, entries_cost second (group_of seg.page order true * 8) 8)
 
-walk_enters : (W : ℕ → ℕ → Type 0) (order : ℕ) (seg : Segment) (a : Request) → AllByRecursion (λ (c : Call). EntersOnly W c.op) (walk_calls order seg.page (mode_for seg a))
+pub walk_enters : (W : ℕ → ℕ → Type 0) (order : ℕ) (seg : Segment) (a : Request) → AllByRecursion (λ (c : Call). EntersOnly W c.op) (walk_calls order seg.page (mode_for seg a))
 unfolding walk_calls
 walk_enters W order seg a =
     let first = access_op seg.page (mode_for seg a) false in

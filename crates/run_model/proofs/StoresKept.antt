@@ -13,7 +13,7 @@ use Rattle.trace_reply.specs.declared.reply.Reply.{Reply}
 use Rattle.run_model.specs.RunState.{states_of}
 use Rattle.run_model.specs.Sections.{Section, section_end, sections_of}
 use Rattle.run_model.specs.GoodRun.{IsGoodRun, AreLegal}
-use Rattle.run_model.specs.ShownStores.{history_in, closing_state, has_table_of, carried_to, ShowsChange, StaysShown, NoStoreIsLostIn}
+use Rattle.run_model.specs.ShownStores.{history_in, closing_state, has_table_of, carried_to, ShowsChange, StaysShown, NoStoreIsLostIn, NoSetBitIsLostIn}
 use Rattle.run_model.specs.CommittedResizes.{is_committed}
 use Rattle.run_model.proofs.Resized.{Moves, IsAfter, resized_at}
 use Rattle.run_model.proofs.SectionChain.{AreChained, chained_rest, chained, closed_order, same_number, other_number}
@@ -67,3 +67,14 @@ none_lost (s ∷ rest) h legal = (
 -- In a good run every store that succeeds shows in a change bit until a reply reports or clears it.
 pub no_store_is_lost : (t : AcceptedTrace) (rs : List Reply) → IsAccepted t → IsGoodRun t rs → NoStoreIsLostIn (sections_of t rs)
 no_store_is_lost t rs is good = none_lost (sections_of t rs) (chained t rs is good) good.legal
+
+-- ---- bits that are set already
+none_unset : (ss : List Section) → AreChained ss → AllByRecursion AreLegal ss → NoSetBitIsLostIn ss
+none_unset [] h legal = tt
+none_unset (s ∷ rest) h legal = (λ entry valid changed. shown entry (record { valid = valid; changed = changed }), none_unset rest (chained_rest s rest h) legal.1) where
+  shown : (entry : ℕ) → IsDirty (state_at (states_of s.before) entry) → ShowsChange (history_in s entry) (closing_state s entry) (StaysShown s entry rest)
+  shown entry dirty = shows (state_at (states_of s.before) entry) (closing_state s entry) (history_in s entry) (StaysShown s entry rest) (stays_shown s entry rest h legal.1) dirty (legal.0.legal entry (dirty_in_table (states_of s.before) entry dirty))
+
+-- In a good run every change bit that is set when a section begins shows until a reply reports or clears it.
+pub no_set_bit_is_lost : (t : AcceptedTrace) (rs : List Reply) → IsAccepted t → IsGoodRun t rs → NoSetBitIsLostIn (sections_of t rs)
+no_set_bit_is_lost t rs is good = none_unset (sections_of t rs) (chained t rs is good) good.legal

@@ -6,10 +6,12 @@ use Rattle.trace_line.specs.Lines.{is_quiet}
 use Rattle.trace_read.specs.Trace.{AcceptedTrace, IsAccepted}
 use Rattle.trace_reply.specs.declared.reply.Reply.{Reply}
 use Rattle.trace_reply.specs.Replies.{AreReplies}
+use Rattle.run_model.specs.EnteredEntries.{CanBeEntered}
+use Rattle.run_model.specs.RunState.{states_of, opening_run}
 use Rattle.run_model.specs.Sections.{sections_of}
-use Rattle.run_model.specs.SerialRun.{serial_replies}
+use Rattle.run_model.specs.SerialRun.{serial_replies, state_after_lines}
 use Rattle.run_model.specs.GoodRun.{IsGoodRun}
-use Rattle.run_model.specs.ShownStores.{NoStoreIsLostIn, ClearedBitsAreShown}
+use Rattle.run_model.specs.ShownStores.{NoStoreIsLostIn, NoSetBitIsLostIn, ClearedBitsAreShown}
 use Rattle.run_model.specs.CommittedResizes.{ResizesKeepTranslations}
 use Rattle.run_model.specs.Landings.{AccessesLand, IsUnworn}
 use Rattle.run_model.specs.CachedAccesses.{AccessesUseCaches}
@@ -56,6 +58,14 @@ NoStoreIsLost =
     → IsAccepted t
     → IsGoodRun t rs
     → NoStoreIsLostIn (sections_of t rs)
+
+-- In a good run every change bit that is set when a section begins, and so when the run begins, shows until a reply reports or clears it.
+abbrev pub NoSetBitIsLost : Type 0
+NoSetBitIsLost =
+    (t : AcceptedTrace) (rs : List Reply)
+    → IsAccepted t
+    → IsGoodRun t rs
+    → NoSetBitIsLostIn (sections_of t rs)
 
 -- In a good run the reply that clears a change bit shows it.
 abbrev pub ClearingRepliesShow : Type 0
@@ -110,3 +120,13 @@ RefusedResizesChangeNothing =
     (t : AcceptedTrace) (rs : List Reply)
     → IsGoodRun t rs
     → RefusedQuietLinesLeave (sections_of t rs)
+
+-- ---- what entries are
+-- Whatever lines the serial run of an accepted trace's configuration executes, each valid entry is one that H_ENTER could have made: its doublewords came from H_ENTER, from H_PROTECT or from the configuration, and a resize keeps them.
+abbrev pub EntriesCanBeEntered : Type 0
+EntriesCanBeEntered =
+    (t : AcceptedTrace) (lines : List TraceLine)
+    → IsAccepted t
+    → AllByRecursion
+    (CanBeEntered t.config.granted.grants)
+    (states_of (state_after_lines (opening_run t.config) lines))

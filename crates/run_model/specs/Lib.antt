@@ -12,4 +12,5 @@ pub mod Landings
 pub mod RefusedCalls
 pub mod CachedAccesses
 pub mod Assurances
+pub mod EnteredEntries
 pub mod Laws

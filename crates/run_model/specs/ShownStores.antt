@@ -126,3 +126,14 @@ NoStoreIsLostIn (s ∷ rest) =
     → entry < length (states_of s.before)
     → StoresAreShown (history_in s entry) (closing_state s entry) (StaysShown s entry rest))
     × NoStoreIsLostIn rest
+
+-- ---- bits that are set already
+-- C of each valid entry that has it when a section begins is shown from there on, in each section; so is that of each entry of the opening table.
+abbrev pub NoSetBitIsLostIn : List Section → Type 0
+NoSetBitIsLostIn [] = Unit {0}
+NoSetBitIsLostIn (s ∷ rest) =
+    ((entry : ℕ)
+    → (state_at (states_of s.before) entry).valid ≡ true
+    → (state_at (states_of s.before) entry).changed ≡ true
+    → ShowsChange (history_in s entry) (closing_state s entry) (StaysShown s entry rest))
+    × NoSetBitIsLostIn rest

@@ -1,6 +1,6 @@
 //! Laws of the runs of a trace. Each function does nothing, and its contract is the law.
 
-ghost use Rattle.run_model.specs.Laws.{SerialIsGood, ParallelIsGood, SerialIsParallel, SerialIsTheOneGoodRun, NoStoreIsLost, ClearingRepliesShow, ResizesKeepBoltedPages, AccessesLandByTheirEntries, CachedLinesAreCurrentOrGone, NoEntryIsWorn, RefusedLinesChangeNothing, RefusedResizesChangeNothing};
+ghost use Rattle.run_model.specs.Laws.{SerialIsGood, ParallelIsGood, SerialIsParallel, SerialIsTheOneGoodRun, NoStoreIsLost, NoSetBitIsLost, ClearingRepliesShow, ResizesKeepBoltedPages, AccessesLandByTheirEntries, CachedLinesAreCurrentOrGone, NoEntryIsWorn, RefusedLinesChangeNothing, RefusedResizesChangeNothing, EntriesCanBeEntered};
 
 /// The serial run of a trace is a good run.
 pub fn serial_is_good()
@@ -26,6 +26,12 @@ pub fn one_good_run()
 /// In a good run every store that succeeds shows in a change bit until a reply reports or clears it.
 pub fn no_store_is_lost()
     ensures { NoStoreIsLost }
+{}
+
+/// In a good run every change bit that is set when a section begins, as those of the opening table
+/// are, shows until a reply reports or clears it.
+pub fn no_set_bit_is_lost()
+    ensures { NoSetBitIsLost }
 {}
 
 /// In a good run the reply that clears a change bit shows it: H_REMOVE's in register 5, H_CLEAR_MOD's in
@@ -66,4 +72,9 @@ pub fn refused_lines_change_nothing()
 /// commit on which two entries meet drop the pending table.
 pub fn refused_resizes_change_nothing()
     ensures { RefusedResizesChangeNothing }
+{}
+
+/// Each valid entry that a serial run comes to is one that H_ENTER could have made.
+pub fn reached_entries_can_be_entered()
+    ensures { EntriesCanBeEntered }
 {}

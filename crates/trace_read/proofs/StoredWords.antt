@@ -1,11 +1,12 @@
 -- Doublewords of an entry that H_ENTER would store as they are, and others that map the same page.
 use Rattle.std.specs.Prelude.{◌||◌, is_none, if◌then◌else◌, nat_lt}
-use Rattle.std.proofs.Common.{◌≡◌, ℕ, ◌/◌, ◌%◌, ◌^◌, List, Bool, true, false, Option, Some, None, ap, sym, ◌∙◌, refl, bit_and, inl, inr, ◌⊎◌}
+use Rattle.std.proofs.Common.{◌≡◌, ℕ, ◌/◌, ◌%◌, ◌^◌, ◌≤◌, List, Bool, true, false, Option, Some, None, ap, sym, ◌∙◌, refl, bit_and, inl, inr, ◌⊎◌, arith}
 use Rattle.std.specs.Option.{option_map_or}
-use Rattle.std.proofs.lemmas.Bool.{cases_Bool}
+use Rattle.std.proofs.lemmas.Bool.{cases_Bool, ltb-false, or_parts}
 use Rattle.page_sizes.specs.declared.size.PageSize.{PageSize}
 use Rattle.page_sizes.specs.Sizes.{size_of}
 use Rattle.hpte_fields.specs.Fields.{page_bits, wimg_of, segment_code, stored_first, stored_second, normal_words}
+use Rattle.hpte_fields.proofs.Again.{normal_again}
 use Rattle.hpte_fields.proofs.Masks.{field_stays}
 use Rattle.hpte_fields.proofs.PageBits.{same_size, same_frame}
 use Rattle.frame_grants.specs.declared.grant.Grant.{Grant}
@@ -69,3 +70,15 @@ same_stored grants h l m page control second is =
       second = second;
       suits = ap (λ (s : Option PageSize). option_map_or (suits_size grants m) s false) size ∙ suits_same grants (size_of h l) l m page (same_control l m control) ∙ is.suits;
     }
+
+-- ---- what is stored
+-- Whatever words H_ENTER is given, it would store as they are those that it stores.
+pub entered_again : (grants : List Grant) (pteh ptel : ℕ) (w : ℕ × ℕ) → entered_words grants pteh ptel ≡ Some w → AreStored grants w.0 w.1
+entered_again grants pteh ptel w e =
+    let both = suited_some grants (normal_words pteh ptel) w e in
+    let legal = (legal_some _ (stored_first pteh, stored_second ptel) w both.0).0 in
+    let code : segment_code pteh ≤ 1 = ltb-false 1 (segment_code pteh) (or_parts (nat_lt 1 (segment_code pteh)) (is_none (size_of pteh ptel)) legal).0 in
+    let again : normal_words w.0 w.1 ≡ Some w = normal_again pteh ptel w (omega arith) both.0 in
+    let suits = both.1 in
+    let whole : suited_words grants (Some w) ≡ Some w = rw suits refl in
+    stored_parts grants w.0 w.1 (ap (suited_words grants) again ∙ whole)

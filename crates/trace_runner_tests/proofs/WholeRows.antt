@@ -64,3 +64,18 @@ far = record whole {
 the_last_group : text_of far (serial_replies far) ≡ codes "4 0 slbmte ok\n5 0 H_ENTER 0 0x3fd8 | 0x3fd8.0.0.entered\n6 0 load at 0x2000003000 walk | 0x20.0.0.nomatch 0x21.0.0.nomatch 0x22.0.0.nomatch 0x23.0.0.nomatch 0x24.0.0.nomatch 0x25.0.0.nomatch 0x26.0.0.nomatch 0x27.0.0.nomatch 0x3fd8.1.0.at\n7 dump table 0 order 18 place 0x1000000000 entries 1\n 0x3fd8 0x1003 0x3112 1\n"
 unfolding digits far whole dump_head table_text entry_text shown_of run_quiet_line opening_run opening_memory empty_states lowest_place multiples taken_with text_from head_text code_text run_line line_result hcall_plan is_quiet hcall_of row_of plan_run trial_run candidates suits_grants h_enter_plan h_remove_plan h_protect_plan h_clear_mod_plan machine_range mte_refusal tests_of_words no_slots slots_after slot_of_words segment_of new_processor empty_cache cached_line same_page after_walk walk_calls group_of tag_of has_base permission rows outcome_of
 the_last_group = refl
+
+-- An entry that is valid at first, with R and C: a load uses it, and a dump shows it with its words.
+opened : AcceptedTrace
+opened = record whole {
+  config = record (whole.config) { entries = record { index = 0x20; dword0 = 0x1001; dword1 = 0x3192 } ∷ [] };
+  lines =
+      mte 5 0x8000000 0x1000
+      ∷ reaches 6 Load 0x5000 false
+      ∷ record { number = 7; cpu = 0; act = Dump }
+      ∷ [];
+}
+
+an_opening_entry : text_of opened (serial_replies opened) ≡ codes "5 0 slbmte ok\n6 0 load at 0x2000003000 walk | 0x20.0.3.at\n7 dump table 0 order 18 place 0x1000000000 entries 1\n 0x20 0x1001 0x3192 0\n"
+unfolding digits opened whole dump_head table_text entry_text shown_of run_quiet_line opening_run opening_memory empty_states lowest_place multiples taken_with text_from head_text code_text run_line line_result hcall_plan is_quiet hcall_of row_of plan_run trial_run candidates suits_grants h_enter_plan h_remove_plan h_protect_plan h_clear_mod_plan machine_range mte_refusal tests_of_words no_slots slots_after slot_of_words segment_of new_processor empty_cache cached_line same_page after_walk walk_calls group_of tag_of has_base permission rows outcome_of
+an_opening_entry = refl

@@ -1,5 +1,4 @@
-use Rattle.std.proofs.Common.{◌≡◌, ℕ, refl, sym, ap, ◌∙◌, subst, take, List, arith}
-use Rattle.table_image.specs.declared.entry.ImageEntry.{ImageEntry}
+use Rattle.std.proofs.Common.{refl, sym, ap, ◌∙◌, subst, take, arith}
 use Rattle.trace_read.specs.Configuration.{Configuration, AreOpeningEntries}
 use Rattle.hpt_resize.specs.TableMemory.{empty_states, with_entries}
 use Rattle.partition.proofs.Entries.{all_empty, next_inside, next_placed}

@@ -1,4 +1,4 @@
-use Rattle.std.proofs.Common.{◌≡◌, length, ap, sym, ◌∙◌, subst, refl, Option, arith}
+use Rattle.std.proofs.Common.{◌≡◌, length, ap, sym, ◌∙◌, subst, Option}
 use Rattle.hpt_pool.specs.Pool.{no_blocks}
 use Rattle.hpt_resize.specs.Pending.{PendingTable}
 use Rattle.trace_read.specs.Configuration.{Configuration}

@@ -3,12 +3,10 @@ use Rattle.std.proofs.Common.{◌≡◌, ◌∙◌, sym, refl, subst, ap, ℕ, z
 use Rattle.std.specs.Option.{option_map_or}
 use Rattle.std.specs.List.{AllByRecursion}
 use Rattle.std.proofs.lemmas.Option.{none-some, same_Some, slice_get_within}
-use Rattle.std.proofs.lemmas.Bool.{false≢true, eqb-true, and_parts, ltb-true, lt-ltb}
+use Rattle.std.proofs.lemmas.Bool.{false≢true, eqb-true, and_parts, ltb-true}
 use Rattle.std.proofs.lemmas.Bool.Decides.{nat_tests}
 use Rattle.frame_grants.specs.declared.grant.Grant.{Grant}
 use Rattle.page_grants.specs.Suited.{entered_words}
-use Rattle.table_image.specs.declared.layout.Layout.{Layout}
-use Rattle.table_image.specs.Layouts.{entry_words}
 use Rattle.table_image.specs.declared.entry.ImageEntry.{ImageEntry}
 use Rattle.trace_read.specs.Configuration.{AreRising, AreOpeningEntries, IsOpeningEntry}
 use Rattle.trace_read.specs.Entries.{is_above, is_stored}

@@ -5,4 +5,5 @@ pub mod Placed
 mod Preparing
 pub mod Holding
 pub mod OpeningStates
+pub mod StateBack
 mod Rows

@@ -2,4 +2,5 @@ pub mod Masks
 pub mod Again
 pub mod KeptBits
 pub mod PageBits
+pub mod PutBack
 mod Rows

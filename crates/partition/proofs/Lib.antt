@@ -6,7 +6,6 @@ mod Committing
 mod Rows
 pub mod Entries
 pub mod Bits
-mod PutBack
 mod OpensAgain
 mod OpensWith
 pub mod Pairing

@@ -24,6 +24,9 @@ mod RehashedStates
 mod StoredReplies
 pub mod LowStampRuns
 mod EnteredEntries
+mod TableSizes
+mod ReadAgain
+mod OpeningAgain
 pub mod AllSafe
 pub mod ClearedBits
 pub mod Refusals

@@ -1,13 +1,20 @@
 -- The laws of runs: the serial run is a good one, and what follows of a run from its being good.
-use Rattle.std.specs.Prelude.{◌≡◌, ℕ, false, List}
+use Rattle.std.specs.Prelude.{◌≡◌, ℕ, ◌<◌, false, List, Contains, Some}
 use Rattle.std.specs.List.{AllByRecursion}
+use Rattle.table_image.specs.declared.entry.ImageEntry.{ImageEntry}
+use Rattle.table_image.specs.declared.layout.Layout.{Layout}
+use Rattle.table_image.specs.Layouts.{entry_digits}
 use Rattle.trace_line.specs.declared.line.TraceLine.{TraceLine}
 use Rattle.trace_line.specs.Lines.{is_quiet}
+use Rattle.entry_model.specs.State.{State}
+use Rattle.entry_model.specs.Reply.{words_of}
+use Rattle.trace_read.specs.Configuration.{Configuration}
 use Rattle.trace_read.specs.Trace.{AcceptedTrace, IsAccepted}
 use Rattle.trace_reply.specs.declared.reply.Reply.{Reply}
 use Rattle.trace_reply.specs.Replies.{AreReplies}
 use Rattle.run_model.specs.EnteredEntries.{CanBeEntered}
-use Rattle.run_model.specs.RunState.{states_of, opening_run}
+use Rattle.run_model.specs.OpeningAgain.{IsOpenedAgain, entry_line_words, memory_after}
+use Rattle.run_model.specs.RunState.{states_of, opening_run, shown_of}
 use Rattle.run_model.specs.Sections.{sections_of}
 use Rattle.run_model.specs.SerialRun.{serial_replies, state_after_lines}
 use Rattle.run_model.specs.GoodRun.{IsGoodRun}
@@ -130,3 +137,16 @@ EntriesCanBeEntered =
     → AllByRecursion
     (CanBeEntered t.config.granted.grants)
     (states_of (state_after_lines (opening_run t.config) lines))
+
+-- What a layout holds of a table can be opened again: each valid entry of each table that a serial run reaches, written by its index and its digits, behind `entry` lines of lower indices, in a trace whose opening table has the order of that table, and whose grants are the same.
+abbrev pub ImagesOpenAgain : Type 0
+ImagesOpenAgain =
+    (t : AcceptedTrace) (lines : List TraceLine) (layout : Layout) (index : ℕ) (s : State)
+    (digits : List ℕ) (c : Configuration)
+    → IsAccepted t
+    → Contains (shown_of (memory_after t lines)).states (index, s)
+    → entry_digits layout (words_of s) ≡ Some digits
+    → c.order ≡ (memory_after t lines).table.order
+    → c.granted.grants ≡ t.config.granted.grants
+    → AllByRecursion (λ (e : ImageEntry). e.index < index) c.entries
+    → IsOpenedAgain c (entry_line_words layout index digits) index s

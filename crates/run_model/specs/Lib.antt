@@ -13,4 +13,5 @@ pub mod RefusedCalls
 pub mod CachedAccesses
 pub mod Assurances
 pub mod EnteredEntries
+pub mod OpeningAgain
 pub mod Laws

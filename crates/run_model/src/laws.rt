@@ -1,6 +1,6 @@
 //! Laws of the runs of a trace. Each function does nothing, and its contract is the law.
 
-ghost use Rattle.run_model.specs.Laws.{SerialIsGood, ParallelIsGood, SerialIsParallel, SerialIsTheOneGoodRun, NoStoreIsLost, NoSetBitIsLost, ClearingRepliesShow, ResizesKeepBoltedPages, AccessesLandByTheirEntries, CachedLinesAreCurrentOrGone, NoEntryIsWorn, RefusedLinesChangeNothing, RefusedResizesChangeNothing, EntriesCanBeEntered};
+ghost use Rattle.run_model.specs.Laws.{SerialIsGood, ParallelIsGood, SerialIsParallel, SerialIsTheOneGoodRun, NoStoreIsLost, NoSetBitIsLost, ClearingRepliesShow, ResizesKeepBoltedPages, AccessesLandByTheirEntries, CachedLinesAreCurrentOrGone, NoEntryIsWorn, RefusedLinesChangeNothing, RefusedResizesChangeNothing, EntriesCanBeEntered, ImagesOpenAgain};
 
 /// The serial run of a trace is a good run.
 pub fn serial_is_good()
@@ -77,4 +77,11 @@ pub fn refused_resizes_change_nothing()
 /// Each valid entry that a serial run comes to is one that H_ENTER could have made.
 pub fn reached_entries_can_be_entered()
     ensures { EntriesCanBeEntered }
+{}
+
+/// Each valid entry that a serial run comes to, and that a layout can hold, may stand in the opening table
+/// of another trace with the same grants: an `entry` line with its index and its digits is accepted, and
+/// the entry opens with its doublewords, R and C, at stamp 0.
+pub fn images_open_again()
+    ensures { ImagesOpenAgain }
 {}

@@ -12,7 +12,7 @@ mod laws;
 pub use calls::make_call;
 pub use laws::{
     accesses_land_by_their_entries, cached_lines_are_current_or_gone, clearing_replies_show,
-    no_entry_is_worn, no_set_bit_is_lost, no_store_is_lost, one_good_run, parallel_is_good,
-    reached_entries_can_be_entered, refused_lines_change_nothing, refused_resizes_change_nothing,
-    resizes_keep_bolted_pages, serial_is_good, serial_is_parallel,
+    images_open_again, no_entry_is_worn, no_set_bit_is_lost, no_store_is_lost, one_good_run,
+    parallel_is_good, reached_entries_can_be_entered, refused_lines_change_nothing,
+    refused_resizes_change_nothing, resizes_keep_bolted_pages, serial_is_good, serial_is_parallel,
 };

@@ -5,10 +5,11 @@ use Rattle.std.specs.Option.{option_map_or}
 use Rattle.std.proofs.lemmas.Bool.{cases_Bool, ltb-false, or_parts}
 use Rattle.page_sizes.specs.declared.size.PageSize.{PageSize}
 use Rattle.page_sizes.specs.Sizes.{size_of}
-use Rattle.hpte_fields.specs.Fields.{page_bits, wimg_of, segment_code, stored_first, stored_second, normal_words}
+use Rattle.hpte_fields.specs.Fields.{page_bits, wimg_of, segment_code, stored_first, stored_second, normal_words, with_rc}
 use Rattle.hpte_fields.proofs.Again.{normal_again}
 use Rattle.hpte_fields.proofs.Masks.{field_stays}
 use Rattle.hpte_fields.proofs.PageBits.{same_size, same_frame}
+use Rattle.hpte_fields.proofs.PutBack.{put_off, put_second}
 use Rattle.frame_grants.specs.declared.grant.Grant.{Grant}
 use Rattle.page_grants.specs.Suited.{suits_size, suits_grants, suited_words, entered_words}
 
@@ -70,6 +71,14 @@ same_stored grants h l m page control second is =
       second = second;
       suits = ap (λ (s : Option PageSize). option_map_or (suits_size grants m) s false) size ∙ suits_same grants (size_of h l) l m page (same_control l m control) ∙ is.suits;
     }
+
+-- So are doublewords with R and C put in.
+pub put_stored : (grants : List Grant) (dword0 dword1 : ℕ) (referenced changed : Bool) → AreStored grants dword0 dword1 → AreStored grants dword0 (with_rc dword1 referenced changed)
+put_stored grants h l r c is =
+    same_stored grants h l (with_rc l r c)
+    (put_off l 0x0FFFFFFFFFFFF000 r c refl refl)
+    (put_off l 0x78 r c refl refl)
+    (put_second l r c is.second) is
 
 -- ---- what is stored
 -- Whatever words H_ENTER is given, it would store as they are those that it stores.

@@ -1,0 +1,31 @@
+-- An entry that a run came to stands in the opening table of another trace.
+use Rattle.std.specs.Prelude.{◌≡◌, ℕ, List, [], ◌∷◌, codes, Ok}
+use Rattle.number_text.specs.Numbers.{hex}
+use Rattle.table_image.specs.declared.layout.Layout.{Layout}
+use Rattle.table_image.specs.Image.{layout_word}
+use Rattle.trace_line.specs.declared.line.TraceLine.{TraceLine}
+use Rattle.trace_read.specs.Configuration.{Configuration}
+use Rattle.trace_read.specs.Entries.{with_entry}
+use Rattle.trace_read.specs.Trace.{AcceptedTrace}
+use Rattle.entry_model.specs.State.{State}
+use Rattle.entry_model.specs.Run.{state_at}
+use Rattle.hpt_resize.specs.TableMemory.{TableMemory}
+use Rattle.run_model.specs.RunState.{states_of, opening_run}
+use Rattle.run_model.specs.SerialRun.{state_after_lines}
+
+-- The words of an `entry` line: the layout, the index, and the digits as an image writes them.
+abbrev pub entry_line_words : Layout → ℕ → List ℕ → List (List ℕ)
+entry_line_words layout index digits =
+    codes "entry" ∷ layout_word layout ∷ hex index ∷ digits ∷ []
+
+-- The line is accepted behind these configuration lines, and the table that opens on what it gives has the entry's state at stamp 0: its doublewords, R and C.
+pub record IsOpenedAgain
+    (c : Configuration) (words : List (List ℕ)) (index : ℕ) (s : State) : Type 0
+  where
+    pub opened : Configuration
+    pub accepted : with_entry c words ≡ Ok opened
+    pub state : state_at (states_of (opening_run opened)) index ≡ record s { stamp = 0 }
+
+-- The memory of tables after these lines of the serial run of an accepted trace's configuration.
+abbrev pub memory_after : AcceptedTrace → List TraceLine → TableMemory
+memory_after t lines = (state_after_lines (opening_run t.config) lines).memory

@@ -17,7 +17,7 @@ use Rattle.entry_model.specs.History.{IsLegal, history, by_place, put_in, preced
 use Rattle.basics.specs.Words.{bool_eq}
 use Rattle.entry_model.proofs.Sorted.{state_self}
 use Rattle.receipt_text.specs.Receipts.{mark_of}
-use Rattle.history_check.specs.Steps.{step_op, raises_stamp, is_unchanged}
+use Rattle.history_check.specs.Steps.{step_op, raises_stamp, is_store_access, is_unchanged}
 
 pub record Alike (x y : Receipt) : Type 0 where
   pub mark : mark_of x ≡ mark_of y
@@ -111,7 +111,7 @@ touched_eq s w = rw (bool_same_self s.valid, eq-eqb s.dword0 s.dword0 refl, eq-e
   with_true false b = refl
 
 abbrev IsUnchanged : Op → State → Answer × State → Type 0
-IsUnchanged op s x = state_eq x.1 s ≡ is_unchanged op x.0 s.referenced s.changed
+IsUnchanged op s x = state_eq x.1 s ≡ is_unchanged (is_store_access op) x.0 s.referenced s.changed
 
 unchanged_is : (s : State) (op : Op) → IsUnchanged (step_op op) s (reply_of s op)
 unchanged_is s (ops.Enter a b) = either_P s.valid (answers.Taken, s) (change_to s answers.Entered (entered_state a b)) (IsUnchanged (ops.Enter a b) s) (state_self s) (changed_after s answers.Entered (entered_state a b) (IsUnchanged (ops.Enter a b) s) (state_self s) (above_stamp s (record (entered_state a b) { stamp = s.stamp + 1 }) refl))
@@ -123,13 +123,13 @@ unchanged_is s ops.ClearMod = where_after s.valid s answers.Was (record s { chan
 unchanged_is s (ops.Access t b k n w) =
     either_P (is_match s t b) (answer_of_match s (access_mode k n w)) (answers.NoMatch, s) (IsUnchanged (ops.Access 0 0 false false w) s) (either_P (is_allowed s (access_mode k n w)) (answers.At, touched_state s w) (answers.Denied, s) (IsUnchanged (ops.Access 0 0 false false w) s) (touched_eq s w) (state_self s)) (state_self s)
 
-pub flag_of : (r : Receipt) → state_eq (after_of r) r.before ≡ is_unchanged (step_op r.op) r.answer r.before.referenced r.before.changed
-flag_of r = unchanged_is r.before r.op ∙ ap (λ a. is_unchanged (step_op r.op) a r.before.referenced r.before.changed) (sym r.lawful)
+pub flag_of : (r : Receipt) → state_eq (after_of r) r.before ≡ is_unchanged (is_store_access (step_op r.op)) r.answer r.before.referenced r.before.changed
+flag_of r = unchanged_is r.before r.op ∙ ap (λ a. is_unchanged (is_store_access (step_op r.op)) a r.before.referenced r.before.changed) (sym r.lawful)
 
 alike_flag : (x y : Receipt) → Alike x y → state_eq (after_of x) x.before ≡ state_eq (after_of y) y.before
 alike_flag x y h =
     let b = same_bits x y h.mark in
-    flag_of x ∙ (λ i. is_unchanged (h.op i) (h.mark i).answer (b.0 i) (b.1 i)) ∙ sym (flag_of y)
+    flag_of x ∙ (λ i. is_unchanged (is_store_access (h.op i)) (h.mark i).answer (b.0 i) (b.1 i)) ∙ sym (flag_of y)
 
 -- receipts with the same marks have one place
 pub alike_place : (x y : Receipt) → Alike x y → place x ≡ place y

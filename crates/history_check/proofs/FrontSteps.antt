@@ -40,6 +40,15 @@ made_leads f g r ahead set = record { with_events = on; without = back } where
         let k = rw other at h in
         subst (λ p. InOrder e p later) (sym old) k
 
+-- a front that the receipt doesn't move
+pub made_stays : (f : Fronts) (r : Receipt) → f r.entry ≤ pair_of r.before → pair_of (after_of r) ≡ f r.entry → LeadsTo f (made r ∷ []) f
+made_stays f r ahead same = made_leads f f r ahead front where
+  front : (e : ℕ) → f e ≡ (if r.entry == e then pair_of (after_of r) else f e)
+  front e = at (cases_Bool (eqb r.entry e)) where
+    at : (eqb r.entry e ≡ true) ⊎ (eqb r.entry e ≡ false) → f e ≡ (if r.entry == e then pair_of (after_of r) else f e)
+    at (inl own) = rw own (ap f (sym (eqb-true r.entry e own)) ∙ sym same)
+    at (inr other) = rw other refl
+
 pub made_before : (f : Fronts) (r : Receipt) (later : List Event) → pair_of r.before < f r.entry → LeadsNowhere f (made r ∷ later)
 made_before f r later low more h =
     let own : InOrder r.entry (f r.entry) (made r ∷ (later ++ more)) = h r.entry in

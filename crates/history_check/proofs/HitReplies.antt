@@ -63,8 +63,8 @@ one_hit set seg a line op s r outcome q (x ∷ []) asked h mine by e k before =
     let end : outcome ≡ q.outcome = mine.outcome ∙ ap (outcome_of set.grants a.ea) all ∙ sym k.outcome in
     λ i. record { outcome = end i; by = sym by i; receipts = all i }
 
--- What `hit_reply` owes where it gives a reply.
-pub hit_told : (set : AccessContext) (seg : Segment) (a : Request) (line : Line) (op : Op) (s : State) (ss : List State) (r : Receipt) (outcome : Outcome) → op ≡ hit_op seg a line → IsHitBy line op s r → outcome ≡ outcome_by set.grants a.ea (Some r) → length ss ≡ 1 → s ≡ get_or ss 0 s → IsHit set seg a line (replied outcome r) × ((q : AccessReply) → q.by ≡ Some Hit → IsHit set seg a line q → before_each q.receipts ≡ ss → replied outcome r ≡ q)
+-- What `hit_end` owes where it tells an end.
+pub hit_told : (set : AccessContext) (seg : Segment) (a : Request) (line : Line) (op : Op) (s : State) (ss : List State) (r : Receipt) (outcome : Outcome) → op ≡ hit_op seg a line → IsHitBy line op s r → outcome ≡ outcome_by set.grants a.ea (Some r) → length ss ≡ 1 → s ≡ get_or ss 0 s → (before_each (r ∷ []) ≡ ss) × IsHit set seg a line (replied outcome r) × ((q : AccessReply) → q.by ≡ Some Hit → IsHit set seg a line q → before_each q.receipts ≡ ss → replied outcome r ≡ q)
 hit_told set seg a line op s ss r outcome asked h ends n at =
     let mine = hit_stands set seg a line op s r outcome asked h ends in
-    (mine, λ q by k before. one_hit set seg a line op s r outcome q q.receipts asked h mine by refl k (before ∙ one_state ss s n at))
+    ((λ i. h.before i ∷ []) ∙ sym (one_state ss s n at), mine, λ q by k before. one_hit set seg a line op s r outcome q q.receipts asked h mine by refl k (before ∙ one_state ss s n at))

@@ -1,6 +1,7 @@
 -- The judge's loop: where it stands between two sections, and what each of its ends says of the whole text.
-use Rattle.std.proofs.Common.{◌≡◌, ℕ, zero, suc, ◌+◌, ◌<◌, ◌≤◌, List, [], ◌∷◌, ◌++◌, true, false, ap, sym, ◌∙◌, refl, subst, length, arith, append-nil, zero-add, Option, Some, None, ◌⊎◌, inl, inr}
+use Rattle.std.proofs.Common.{◌≡◌, ℕ, zero, suc, ◌+◌, ◌<◌, ◌≤◌, ◌^◌, List, [], ◌∷◌, ◌++◌, true, false, ap, sym, ◌∙◌, refl, subst, length, arith, append-nil, zero-add, Option, Some, None, ◌⊎◌, inl, inr}
 use Rattle.std.specs.Prelude.{count_by, if◌then◌else◌, nat_le}
+use Rattle.std.proofs.lemmas.List.{length-append}
 use Rattle.std.proofs.lemmas.List.Sums.{sum_by-cons}
 use Rattle.std.proofs.lemmas.Bool.{cases_Bool, le-leb, leb-true, lt-leb}
 use Rattle.trace_line.specs.declared.line.TraceLine.{TraceLine}
@@ -81,6 +82,7 @@ pub record AtSection (t : AcceptedTrace) (text : List ℕ) (k : ℕ) (w : RunSta
   pub plain : IsPlain w
   pub cpus : AreOnProcessors (length w.processors) ns
   pub count : k + quiet_count ns ≡ quiet_count t.lines
+  pub few : length ns ≤ 2 ^ 17
 
 pub at_first : (t : AcceptedTrace) (text : List ℕ) → IsAccepted t → AtSection t text 0 (opening_run t.config) t.lines text
 at_first t text is = record {
@@ -88,11 +90,16 @@ at_first t text is = record {
   plain = opening_plain t is;
   cpus = subst (λ n. AreOnProcessors n t.lines) (sym (opening_processors t)) is.lines.on_cpus;
   count = omega arith;
+  few = is.lines.few;
 }
 
 -- The first lines' processors.
 pub front_cpus : (t : AcceptedTrace) (text : List ℕ) (k : ℕ) (w : RunState) (ms : List TraceLine) (l : TraceLine) (ns : List TraceLine) (x : List ℕ) → AtSection t text k w (ms ++ l ∷ ns) x → AreOnProcessors (length w.processors) ms
 front_cpus t text k w ms l ns x h = each_front (λ (m : TraceLine). m.cpu < length w.processors) ms (l ∷ ns) h.cpus
+
+-- How many they are.
+pub front_few : (t : AcceptedTrace) (text : List ℕ) (k : ℕ) (w : RunState) (ms : List TraceLine) (l : TraceLine) (ns : List TraceLine) (x : List ℕ) → AtSection t text k w (ms ++ l ∷ ns) x → length ms ≤ 2 ^ 17
+front_few t text k w ms l ns x h = omega (arith, h.few, length-append ms (l ∷ ns))
 
 pub few_standing : (t : AcceptedTrace) (text : List ℕ) (k : ℕ) (w : RunState) (ns : List TraceLine) (x : List ℕ) → IsAccepted t → AtSection t text k w ns x → k ≤ 256
 few_standing t text k w ns x is h = omega (arith, h.count, is.lines.few_quiet)
@@ -137,6 +144,7 @@ module _ (t : AcceptedTrace) (text : List ℕ) (k : ℕ) (w : RunState) (ms : Li
         plain = quiet_plain (section_end w (lines_with_replies ms rs)) l.act stays;
         cpus = subst (λ n. AreOnProcessors n ns) (sym size) (each_back (λ (m : TraceLine). m.cpu < length w.processors) ms (l ∷ ns) h.cpus).1;
         count = omega (arith, quiet_behind ms l ns plain quiet, h.count);
+        few = omega (arith, h.few, length-append ms (l ∷ ns));
       })
 
   fails : ((rs : List Reply) (r : Reply) (y : List ℕ) → IsFound w ms (Some (record { line = l; reply = r })) x rs (reply_text l r ++ y) → ⊥) → IsVerdict t text (verdicts.Bad (k + 1))

@@ -1,12 +1,11 @@
 -- The steps of a line, by the marks of its reply.
-use Rattle.std.specs.List.{AllByRecursion, range_with_len}
+use Rattle.std.specs.List.{range_with_len}
 use Rattle.std.proofs.Common.{◌≡◌, ℕ, ◌*◌, ◌≤◌, List, [], ◌∷◌, ◌++◌, Bool, true, false, ap, sym, ◌∙◌, refl, subst, ◌⊎◌, inl, inr, map, length, arith, Option, Some, None}
 use Rattle.std.proofs.lemmas.Bool.{cases_Bool}
 use Rattle.std.proofs.lemmas.List.{length-map}
 use Rattle.papr_codes.specs.Hcalls.{hcall_of}
 use Rattle.entry_model.specs.declared.operation.Answer.{Answer}
 use Rattle.entry_model.specs.declared.operation.Op.{Op}
-use Rattle.entry_model.specs.declared.operation.Op.TheVariants as ops
 use Rattle.entry_model.specs.declared.receipt.Receipt.{Receipt}
 use Rattle.entry_model.specs.declared.line.Line.{Line}
 use Rattle.entry_model.specs.declared.access_reply.AccessReply.{AccessReply}
@@ -32,52 +31,33 @@ use Rattle.trace_reply.specs.Replies.{receipts_in}
 use Rattle.run_model.specs.LineReplies.{hcall_plan, IsCallReply, IsReplyToAccess}
 use Rattle.receipt_text.specs.Receipts.{mark_of}
 use Rattle.history_check.specs.ReplyMarks.{marks_in}
-use Rattle.history_check.specs.Steps.{step_op, place_by, ops_of}
-use Rattle.history_check.specs.PlacedSteps.{placed_step, placed_mark, placed_marks, named_ops, further_op, placed_line}
+use Rattle.history_check.specs.Steps.{step_op, is_store_access, place_by, ops_of}
+use Rattle.history_check.specs.PlacedSteps.{placed_step, placed_mark, named_ops, call_op, line_op, placed_line}
 use Rattle.history_check.proofs.SectionFixed.{place_is}
+use Rattle.history_check.proofs.CallSteps.{AllKeep, each_keeps, plan_keeps}
 
 -- ---- trials
--- a receipt's step, by its mark and its operation
-one_placed : (r : Receipt) (o : Op) → step_op r.op ≡ step_op o → placed_step r ≡ placed_mark (mark_of r) o
+-- a receipt's step, by its mark and what is kept of its operation
+one_placed : (r : Receipt) (o : Op) → step_op r.op ≡ o → placed_step r ≡ placed_mark o (mark_of r)
 one_placed r o same = λ i. record {
   place = (place_is r ∙ ap (placed_at r) same) i;
   step = record { entry = r.entry; op = same i; answer = r.answer };
 } where
   placed_at : Receipt → Op → ℕ
-  placed_at x z = place_by (mark_of x) z
+  placed_at x z = place_by (mark_of x) (is_store_access z)
 
--- the receipts of a trial, by the operations of its calls
-trial_placed : (goes : Answer → Bool) (further : Op) (cs : List Call) (rs : List Receipt) → IsTrial goes cs rs → map placed_step rs ≡ placed_marks further (ops_of cs) (map mark_of rs)
-trial_placed goes further [] [] h = refl
-trial_placed goes further [] (r ∷ rs) h = absurd h
-trial_placed goes further (c ∷ cs) [] h = absurd h
-trial_placed goes further (c ∷ cs) (r ∷ rs) h =
-    let here : placed_step r ≡ placed_mark (mark_of r) c.op = one_placed r c.op (ap step_op h.0.op) in
-    let rest : map placed_step rs ≡ placed_marks further (ops_of cs) (map mark_of rs) = at (cases_Bool (goes r.answer)) (trial_placed goes further cs rs) in
-    λ i. here i ∷ rest i where
-      none : rs ≡ [] → map placed_step rs ≡ placed_marks further (ops_of cs) (map mark_of rs)
-      none e = subst (λ z. map placed_step z ≡ placed_marks further (ops_of cs) (map mark_of z)) (sym e) refl
-
-      at : (goes r.answer ≡ true) ⊎ (goes r.answer ≡ false) → (IsTrial goes cs rs → map placed_step rs ≡ placed_marks further (ops_of cs) (map mark_of rs)) → map placed_step rs ≡ placed_marks further (ops_of cs) (map mark_of rs)
-      at (inl q) go = go (rw q at h.1)
-      at (inr q) go = none (rw q at h.1)
-
--- each call is an access that wants the same
-abbrev AllWant : Op → List Call → Type 0
-AllWant o cs = AllByRecursion (λ (c : Call). step_op c.op ≡ step_op o) cs
-
-same_placed : (goes : Answer → Bool) (o : Op) (cs : List Call) (rs : List Receipt) → AllWant o cs → IsTrial goes cs rs → map placed_step rs ≡ placed_marks o [] (map mark_of rs)
+same_placed : (goes : Answer → Bool) (o : Op) (cs : List Call) (rs : List Receipt) → AllKeep o cs → IsTrial goes cs rs → map placed_step rs ≡ map (placed_mark o) (map mark_of rs)
 same_placed goes o [] [] w h = refl
 same_placed goes o [] (r ∷ rs) w h = absurd h
 same_placed goes o (c ∷ cs) [] w h = absurd h
 same_placed goes o (c ∷ cs) (r ∷ rs) w h =
-    let here : placed_step r ≡ placed_mark (mark_of r) o = one_placed r o (ap step_op h.0.op ∙ w.0) in
-    let rest : map placed_step rs ≡ placed_marks o [] (map mark_of rs) = at (cases_Bool (goes r.answer)) (same_placed goes o cs rs w.1) in
+    let here : placed_step r ≡ placed_mark o (mark_of r) = one_placed r o (ap step_op h.0.op ∙ w.0) in
+    let rest : map placed_step rs ≡ map (placed_mark o) (map mark_of rs) = at (cases_Bool (goes r.answer)) (same_placed goes o cs rs w.1) in
     λ i. here i ∷ rest i where
-      none : rs ≡ [] → map placed_step rs ≡ placed_marks o [] (map mark_of rs)
-      none e = subst (λ z. map placed_step z ≡ placed_marks o [] (map mark_of z)) (sym e) refl
+      none : rs ≡ [] → map placed_step rs ≡ map (placed_mark o) (map mark_of rs)
+      none e = subst (λ z. map placed_step z ≡ map (placed_mark o) (map mark_of z)) (sym e) refl
 
-      at : (goes r.answer ≡ true) ⊎ (goes r.answer ≡ false) → (IsTrial goes cs rs → map placed_step rs ≡ placed_marks o [] (map mark_of rs)) → map placed_step rs ≡ placed_marks o [] (map mark_of rs)
+      at : (goes r.answer ≡ true) ⊎ (goes r.answer ≡ false) → (IsTrial goes cs rs → map placed_step rs ≡ map (placed_mark o) (map mark_of rs)) → map placed_step rs ≡ map (placed_mark o) (map mark_of rs)
       at (inl q) go = go (rw q at h.1)
       at (inr q) go = none (rw q at h.1)
 
@@ -92,22 +72,22 @@ trial_few goes (c ∷ cs) (r ∷ rs) h = at (cases_Bool (goes r.answer)) (trial_
   at (inr q) go = let none : rs ≡ [] = rw q at h.1 in let e : length rs ≡ 0 = ap length none in omega arith
 
 -- ---- accesses
-each_wants : (o op : Op) (entries : List ℕ) → step_op op ≡ step_op o → AllWant o (map (call op) entries)
-each_wants o op [] h = tt
-each_wants o op (e ∷ es) h = (h, each_wants o op es h)
+both_keep : (o : Op) (cs ds : List Call) → AllKeep o cs → AllKeep o ds → AllKeep o (cs ++ ds)
+both_keep o [] ds h k = k
+both_keep o (c ∷ cs) ds h k = (h.0, both_keep o cs ds h.1 k)
 
-both_want : (o : Op) (cs ds : List Call) → AllWant o cs → AllWant o ds → AllWant o (cs ++ ds)
-both_want o [] ds h k = k
-both_want o (c ∷ cs) ds h k = (h.0, both_want o cs ds h.1 k)
+-- What is kept of each operation of an access.
+abbrev asked : Request → Op
+asked a = line_op (acts.Access a.want a.ea a.user)
 
-walk_wants : (order : ℕ) (seg : Segment) (a : Request) → AllWant (further_op (acts.Access a.want a.ea a.user)) (walk_calls order seg.page (mode_for seg a))
+walk_keeps : (order : ℕ) (seg : Segment) (a : Request) → AllKeep (asked a) (walk_calls order seg.page (mode_for seg a))
 unfolding walk_calls
-walk_wants order seg a =
-    let o = further_op (acts.Access a.want a.ea a.user) in
+walk_keeps order seg a =
+    let o = asked a in
     let mode = mode_for seg a in
-    both_want o (group_calls (access_op seg.page mode false) (group_of seg.page order false)) (group_calls (access_op seg.page mode true) (group_of seg.page order true))
-    (each_wants o (access_op seg.page mode false) (range_with_len (group_of seg.page order false * 8) 8) refl)
-    (each_wants o (access_op seg.page mode true) (range_with_len (group_of seg.page order true * 8) 8) refl)
+    both_keep o (group_calls (access_op seg.page mode false) (group_of seg.page order false)) (group_calls (access_op seg.page mode true) (group_of seg.page order true))
+    (each_keeps o (access_op seg.page mode false) (range_with_len (group_of seg.page order false * 8) 8) refl)
+    (each_keeps o (access_op seg.page mode true) (range_with_len (group_of seg.page order true * 8) 8) refl)
 
 walk_few : (order : ℕ) (seg : Segment) (a : Request) → length (walk_calls order seg.page (mode_for seg a)) ≡ 16
 unfolding walk_calls
@@ -115,20 +95,20 @@ walk_few order seg a = refl
 
 -- what is shown of the receipts of an access
 record Shows (a : Request) (rs : List Receipt) : Type 0 where
-  pub steps : map placed_step rs ≡ placed_marks (further_op (acts.Access a.want a.ea a.user)) [] (map mark_of rs)
+  pub steps : map placed_step rs ≡ map (placed_mark (asked a)) (map mark_of rs)
   pub few : length rs ≤ 16
 
 way_shows : (set : AccessContext) (seg : Segment) (a : Request) (c : Option Line) (way : Option By) (r : AccessReply) → IsByWay set seg a c way r → Shows a r.receipts
 way_shows set seg a (Some line) (Some Hit) r h = record {
-  steps = same_placed is_no_match (further_op (acts.Access a.want a.ea a.user)) (hit_calls seg a line) r.receipts (refl, tt) h.trial;
+  steps = same_placed is_no_match (asked a) (hit_calls seg a line) r.receipts (refl, tt) h.trial;
   few = let few : length r.receipts ≤ 1 = trial_few is_no_match (hit_calls seg a line) r.receipts h.trial in omega arith;
 }
 way_shows set seg a (Some line) (Some Walk) r h = record {
-  steps = same_placed is_no_match (further_op (acts.Access a.want a.ea a.user)) (walk_calls set.order seg.page (mode_for seg a)) r.receipts (walk_wants set.order seg a) h.trial;
+  steps = same_placed is_no_match (asked a) (walk_calls set.order seg.page (mode_for seg a)) r.receipts (walk_keeps set.order seg a) h.trial;
   few = subst (λ n. length r.receipts ≤ n) (walk_few set.order seg a) (trial_few is_no_match (walk_calls set.order seg.page (mode_for seg a)) r.receipts h.trial);
 }
 way_shows set seg a None (Some Walk) r h = record {
-  steps = same_placed is_no_match (further_op (acts.Access a.want a.ea a.user)) (walk_calls set.order seg.page (mode_for seg a)) r.receipts (walk_wants set.order seg a) h.trial;
+  steps = same_placed is_no_match (asked a) (walk_calls set.order seg.page (mode_for seg a)) r.receipts (walk_keeps set.order seg a) h.trial;
   few = subst (λ n. length r.receipts ≤ n) (walk_few set.order seg a) (trial_few is_no_match (walk_calls set.order seg.page (mode_for seg a)) r.receipts h.trial);
 }
 way_shows set seg a None (Some Hit) r h = absurd h
@@ -141,7 +121,7 @@ access_shows set c a (Some seg) r h = way_shows set seg a (c seg.page) r.by r h
 
 -- ---- any line
 pub record LineShows (context : AccessContext) (act : Act) (r : Reply) : Type 0 where
-  pub steps : map placed_step (receipts_in r) ≡ placed_line context act (marks_in r)
+  pub steps : map placed_step (receipts_in r) ≡ placed_line act (marks_in r)
   pub few : (length (marks_in r) ≤ 16) ⊎ (length (marks_in r) ≤ length (named_ops context act))
 
 many : (rs : List Receipt) (n : ℕ) → length rs ≤ n → length (map mark_of rs) ≤ n
@@ -155,7 +135,7 @@ pub line_shows : (context : AccessContext) (p : Processor) (act : Act) (r : Repl
 line_shows context p (acts.Call number args spelt) (replies.Hcall h) n call access =
     let cs = (hcall_plan context (hcall_of number) args).calls in
     record {
-      steps = trial_placed (hcall_plan context (hcall_of number) args).goes_on ops.Read cs h.receipts call.trial;
+      steps = same_placed (hcall_plan context (hcall_of number) args).goes_on (call_op (hcall_of number) args) cs h.receipts (plan_keeps context (hcall_of number) args) call.trial;
       few = inr (many h.receipts (length (ops_of cs)) (subst (λ m. length h.receipts ≤ m) (sym (length-map cs (λ (c : Call). c.op))) (trial_few (hcall_plan context (hcall_of number) args).goes_on cs h.receipts call.trial)));
     }
 line_shows context p (acts.Call number args spelt) (replies.Access r) n call access = absurd call

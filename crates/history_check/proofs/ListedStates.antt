@@ -1,54 +1,25 @@
--- Steps sorted by place and sorted back: each finds the state that is listed for it.
-use Rattle.std.specs.Prelude.{slice_index, IsPermutation}
-use Rattle.std.specs.List.{All, AllByRecursion, IsDistinct, range_with_len}
-use Rattle.std.specs.List.Sorted.{IsNonDecreasing, IsNonDecreasingBy, IsStrictlyIncreasing}
-use Rattle.std.proofs.Common.{◌≡◌, ℕ, zero, suc, ◌+◌, ◌<◌, ◌≤◌, List, [], ◌∷◌, true, false, refl, ap, sym, ◌∙◌, subst, arith, length, map, get_or, eqb, drop, take, ◌++◌, append_assoc, ◌⊎◌, inl, inr}
-use Rattle.std.proofs.lemmas.Bool.{cases_Bool, eqb-true}
-use Rattle.std.proofs.lemmas.List.{length-map, get_or-map, drop_more}
-use Rattle.std.proofs.lemmas.List.FromFn.{length-range_with_len}
+-- Steps sorted by place: each finds the state that is written at its number.
+use Rattle.std.specs.Prelude.{IsPermutation}
+use Rattle.std.specs.List.{AllByRecursion, IsDistinct, range_with_len}
+use Rattle.std.specs.List.Sorted.{IsNonDecreasing, IsNonDecreasingBy}
+use Rattle.std.proofs.Common.{◌≡◌, ℕ, zero, suc, ◌+◌, ◌<◌, ◌≤◌, List, [], ◌∷◌, true, false, refl, ap, sym, ◌∙◌, subst, arith, length, length-set, map, get_or, get_or-set_same, get_or-set_other, set, ◌≢◌, eqb, drop, take, ◌⊎◌, inl, inr}
+use Rattle.std.proofs.lemmas.Bool.{cases_Bool, eqb-true, eq-eqb, false≢true}
+use Rattle.std.proofs.lemmas.List.{length-map, get_or-map}
+use Rattle.std.proofs.lemmas.List.FromFn.{length-range_with_len, fill_by_all}
 use Rattle.std.proofs.lemmas.List.Elements.{All-from_recursion, recursion_from_All}
-use Rattle.std.proofs.lemmas.List.Sorted.{IsPermutation-map, IsPermutation-sym, IsPermutation-trans, All-permutation, length_permutation}
-use Rattle.std.proofs.lemmas.Map.Keys.{IsDistinct-IsPermutation, IsStrictlyIncreasing-from_distinct}
-use Rattle.entry_model.specs.State.{State}
+use Rattle.std.proofs.lemmas.List.Sorted.{IsPermutation-map, IsPermutation-sym, All-permutation, length_permutation}
+use Rattle.std.proofs.lemmas.Map.Keys.{IsDistinct-IsPermutation}
+use Rattle.entry_model.specs.State.{State, empty_state}
 use Rattle.entry_model.specs.Run.{state_at}
 use Rattle.entry_model.specs.declared.operation.Op.TheVariants.{Read}
 use Rattle.entry_model.specs.declared.operation.Answer.TheVariants.{Words}
-use Rattle.history_check.specs.declared.placed.PlacedStep.{PlacedStep}
-use Rattle.history_check.specs.declared.ordering.Numbered.{Numbered}
-use Rattle.history_check.specs.declared.ordering.Found.{Found}
+use Rattle.trace_line.specs.declared.line.TraceLine.{TraceLine}
+use Rattle.history_check.specs.declared.mark_steps.LineStep.{LineStep}
 use Rattle.history_check.specs.Steps.{after_step, found_states, ending_states}
-use Rattle.history_check.specs.PlacedSteps.{FoundStep, with_states_found, FindStates, AreInTable}
-use Rattle.history_check.specs.OrderedSteps.{numbered, IsOrder, found_in_order, ending_in_order, AreListed}
+use Rattle.history_check.specs.PlacedSteps.{PlacedStep, FoundStep, with_states_found, FindStates}
+use Rattle.history_check.specs.OrderedSteps.{Numbered, Found, IsStepOf, numbered, numbered_by, IsOrder, found_in_order, ending_in_order, with_written, AreWritten}
 
--- ---- numbers in order
-abbrev Rising : List ℕ → Type 0
-Rising ys = (k : ℕ) → suc k < length ys → slice_index ys k < slice_index ys (suc k)
-
-rising_from : (ys : List ℕ) → IsStrictlyIncreasing ys → Rising ys
-rising_from ys up k low = subst (λ z. slice_index ys k < slice_index ys z) (let e : k + 1 ≡ suc k = omega arith in e) (up k (omega arith))
-
-rises : (ys : List ℕ) → Rising ys → (j : ℕ) → j < length ys → slice_index ys 0 + j ≤ slice_index ys j
-rises ys up zero low = omega arith
-rises ys up (suc j) low =
-    let before : slice_index ys 0 + j ≤ slice_index ys j = rises ys up j (omega arith) in
-    let here : slice_index ys j < slice_index ys (suc j) = up j low in
-    omega (before, here, arith)
-
--- as many rising numbers as there is room for are all that fit
-all_numbers : (n k : ℕ) (ys : List ℕ) → length ys ≡ n → Rising ys → ((j : ℕ) → j < length ys → k ≤ slice_index ys j) → ((j : ℕ) → j < length ys → slice_index ys j < k + n) → ys ≡ range_with_len k n
-all_numbers zero k [] size up low high = refl
-all_numbers zero k (y ∷ ys) size up low high = absurd (omega arith)
-all_numbers (suc n) k [] size up low high = absurd (omega arith)
-all_numbers (suc n) k (y ∷ ys) size up low high =
-    let least : k ≤ y = low 0 (omega arith) in
-    let top : y + n ≤ slice_index (y ∷ ys) n = rises (y ∷ ys) up n (omega arith) in
-    let most : slice_index (y ∷ ys) n < k + suc n = high n (omega arith) in
-    let here : y ≡ k = omega arith in
-    let above : (j : ℕ) → j < length ys → k + 1 ≤ slice_index ys j = λ j q. let r : y + suc j ≤ slice_index ys j = rises (y ∷ ys) up (suc j) (omega arith) in omega arith in
-    let below : (j : ℕ) → j < length ys → slice_index ys j < k + 1 + n = λ j q. let r : slice_index ys j < k + suc n = high (suc j) (omega arith) in omega arith in
-    let rest : ys ≡ range_with_len (k + 1) n = all_numbers n (k + 1) ys (omega arith) (λ j q. up (suc j) (omega arith)) above below in
-    λ i. here i ∷ rest i
-
+-- ---- numbers
 indices : List Numbered → List ℕ
 indices ns = map (λ (n : Numbered). n.index) ns
 
@@ -84,12 +55,6 @@ range_below : (k n m : ℕ) → k + n ≤ m → AllByRecursion (λ y. y < m) (ra
 range_below k zero m h = tt
 range_below k (suc n) m h = (omega arith, range_below (k + 1) n m (omega arith))
 
--- numbers that were put in order are the numbers from 0 on
-sorted_numbers : (n : ℕ) (ys : List ℕ) → IsPermutation (range_with_len 0 n) ys → IsNonDecreasing ys → ys ≡ range_with_len 0 n
-sorted_numbers n ys same up =
-    let below : All (λ y. y < n) ys = All-permutation (λ y. y < n) (range_with_len 0 n) ys same (All-from_recursion (λ y. y < n) (range_with_len 0 n) (range_below 0 n n (omega arith))) in
-    all_numbers n 0 ys (length_permutation (range_with_len 0 n) ys same ∙ length-range_with_len 0 n) (rising_from ys (IsStrictlyIncreasing-from_distinct ys up (IsDistinct-IsPermutation eqb flips (range_with_len 0 n) ys same (range_distinct 0 n)))) (λ j q. omega arith) (λ j q. let r : slice_index ys j < n = below j 0 q in omega arith)
-
 -- ---- a list in order, and its keys
 pub keys_rise : {X : Type 0} (f : X → ℕ) (xs : List X) → IsNonDecreasingBy f xs → IsNonDecreasing (map f xs)
 keys_rise f [] up i j d le low = absurd (omega arith)
@@ -106,12 +71,6 @@ rise_by_keys f xs up i j d le low =
     subst (λ z. z ≤ f (get_or xs j d)) (get_or-map f xs i d 0 (omega arith)) (subst (λ z. get_or (map f xs) i 0 ≤ z) (get_or-map f xs j d 0 low) keys)
 
 -- ---- loops
--- one more step is numbered
-pub numbered_more : (order : List Numbered) (xs : List PlacedStep) (i : ℕ) (d : PlacedStep) (more : List Numbered) → i < length xs → order ++ numbered i (drop i xs) ≡ numbered 0 xs → more ≡ order ++ record { index = i; placed = get_or xs i d } ∷ [] → more ++ numbered (i + 1) (drop (i + 1) xs) ≡ numbered 0 xs
-numbered_more order xs i d more low told push =
-    let one : List Numbered = record { index = i; placed = get_or xs i d } ∷ [] in
-    ap (λ z. z ++ numbered (i + 1) (drop (i + 1) xs)) push ∙ append_assoc order one (numbered (i + 1) (drop (i + 1) xs)) ∙ ap (λ z. order ++ numbered i z) (sym (drop_more xs i d low)) ∙ told
-
 pub past_end : {X : Type 0} (xs : List X) (i : ℕ) → length xs ≤ i → drop i xs ≡ []
 past_end xs zero h = none_left xs h where
   none_left : {X : Type 0} (xs : List X) → length xs ≤ 0 → xs ≡ []
@@ -127,18 +86,6 @@ to_end [] i h = none i where
   none (suc i) = refl
 to_end (x ∷ xs) zero h = absurd (omega arith)
 to_end (x ∷ xs) (suc i) h = ap (λ l. x ∷ l) (to_end xs i (omega arith))
-
-none_behind : {X : Type 0} (xs : List X) → xs ≡ xs ++ []
-none_behind [] = refl
-none_behind (x ∷ xs) = ap (λ l. x ∷ l) (none_behind xs)
-
--- all steps are numbered
-pub numbered_done : (order : List Numbered) (xs : List PlacedStep) (i : ℕ) → length xs ≤ i → order ++ numbered i (drop i xs) ≡ numbered 0 xs → order ≡ numbered 0 xs
-numbered_done order xs i past told = none_behind order ∙ ap (λ l. order ++ numbered i l) (sym (past_end xs i past)) ∙ told
-
--- all states are listed
-pub states_done : (states : List State) (shown sorted : List Found) (i : ℕ) → length shown ≤ i → states ≡ map (λ (f : Found). f.state) (take i shown) → shown ≡ sorted → states ≡ map (λ (f : Found). f.state) sorted
-states_done states shown sorted i past told same = told ∙ ap (map (λ (f : Found). f.state)) (to_end shown i past ∙ same)
 
 -- ---- steps with the states that they find
 no_step : PlacedStep
@@ -197,36 +144,89 @@ listed_steps all k (x ∷ xs) (f ∷ fs) e h =
     let rest = listed_steps all (k + 1) xs fs both.1 (λ j q. ap (λ z. get_or all z no_step) (let e : k + 1 + j ≡ k + suc j = omega arith in e) ∙ h (suc j) (omega arith)) in
     λ i. record { placed = here i; state = f.state } ∷ rest i
 
--- ---- the whole
-pub states_are_found : (a b : List State) (xs : List PlacedStep) (order : List Numbered) (listed : List State) → IsOrder xs order → AreListed (found_in_order a order) listed → b ≡ ending_in_order a order → FindStates a xs listed b
-unfolding indices
-states_are_found a b xs order listed is told ends =
-    let found = found_in_order a order in
-    let index = λ (f : Found). f.index in
-    let number = λ (n : Numbered). n.index in
-    let numbers : IsPermutation (range_with_len 0 (length xs)) (map index told.sorted) =
-    subst (λ l. IsPermutation l (map index told.sorted)) (numbered_indices 0 xs) (IsPermutation-trans (map number (numbered 0 xs)) (map number order) (map index told.sorted) (IsPermutation-map number (numbered 0 xs) order is.each_once) (subst (λ l. IsPermutation l (map index told.sorted)) (found_indices a order) (IsPermutation-map index found told.sorted told.each_once))) in
-    let in_turn : map index told.sorted ≡ range_with_len 0 (length xs) = sorted_numbers (length xs) (map index told.sorted) numbers (keys_rise index told.sorted told.ascending) in
-    let own : (j : ℕ) → j < length xs → get_or xs (0 + j) no_step ≡ get_or xs j no_step = λ j q. ap (λ z. get_or xs z no_step) (let e : 0 + j ≡ j = omega arith in e) in
-    let each : AllByRecursion (HasNumber xs) order = recursion_from_All (HasNumber xs) order (All-permutation (HasNumber xs) (numbered 0 xs) order is.each_once (All-from_recursion (HasNumber xs) (numbered 0 xs) (each_numbered xs 0 xs own))) in
-    let steps : map (with_step xs) told.sorted ≡ with_states_found xs listed = listed_steps xs 0 xs told.sorted in_turn own ∙ ap (with_states_found xs) (sym told.states) in
-    let made : map (with_step xs) found ≡ made_in_order a order = made_found xs a order each in
-    let moved : IsPermutation (made_in_order a order) (with_states_found xs listed) = subst (λ l. IsPermutation l (with_states_found xs listed)) made (subst (λ l. IsPermutation (map (with_step xs) found) l) steps (IsPermutation-map (with_step xs) found told.sorted told.each_once)) in
+-- ---- states written at their numbers
+kept_at : (states : List State) (fs : List Found) (j : ℕ) (d : State) → AllByRecursion (λ i. eqb j i ≡ false) (map (λ (f : Found). f.index) fs) → get_or (with_written states fs) j d ≡ get_or states j d
+kept_at states [] j d h = refl
+kept_at states (f ∷ fs) j d h =
+    let other : j ≢ f.index = λ e. false≢true (sym h.0 ∙ eq-eqb j f.index e) in
+    kept_at (set states f.index f.state) fs j d h.1 ∙ get_or-set_other states f.index j f.state d other
+
+written_size : (states : List State) (fs : List Found) → length (with_written states fs) ≡ length states
+written_size states [] = refl
+written_size states (f ∷ fs) = written_size (set states f.index f.state) fs ∙ length-set states f.index f.state
+
+-- each state stands at its number, if no number comes twice
+each_written : (states : List State) (fs : List Found) (d : State) → IsDistinct eqb (map (λ (f : Found). f.index) fs) → AllByRecursion (λ i. i < length states) (map (λ (f : Found). f.index) fs) → map (λ i. record { index = i; state = get_or (with_written states fs) i d }) (map (λ (f : Found). f.index) fs) ≡ fs
+unfolding IsDistinct
+each_written states [] d h low = refl
+each_written states (f ∷ fs) d h low =
+    let next = set states f.index f.state in
+    let here : get_or (with_written next fs) f.index d ≡ f.state = kept_at next fs f.index d h.0 ∙ get_or-set_same states f.index f.state d low.0 in
+    let rest = each_written next fs d h.1 (subst (λ n. AllByRecursion (λ i. i < n) (map (λ (f : Found). f.index) fs)) (sym (length-set states f.index f.state)) low.1) in
+    λ i. record { index = f.index; state = here i } ∷ rest i
+
+numbers_of : (states : List State) (d : State) (is : List ℕ) → map (λ (f : Found). f.index) (map (λ i. record { index = i; state = get_or states i d }) is) ≡ is
+numbers_of states d [] = refl
+numbers_of states d (i ∷ is) = ap (λ l. i ∷ l) (numbers_of states d is)
+
+states_of_numbers : (states : List State) (d : State) (is : List ℕ) → map (λ (f : Found). f.state) (map (λ i. record { index = i; state = get_or states i d }) is) ≡ map (λ i. get_or states i d) is
+states_of_numbers states d [] = refl
+states_of_numbers states d (i ∷ is) = ap (λ l. get_or states i d ∷ l) (states_of_numbers states d is)
+
+-- What was found, listed by number.
+record AreListed (found : List Found) (count : ℕ) (listed : List State) : Type 0 where
+  pub sorted : List Found
+  pub each_once : IsPermutation found sorted
+  pub in_turn : map (λ (f : Found). f.index) sorted ≡ range_with_len 0 count
+  pub states : listed ≡ map (λ (f : Found). f.state) sorted
+
+written_listed : (count : ℕ) (fs : List Found) (listed : List State) → IsPermutation (range_with_len 0 count) (map (λ (f : Found). f.index) fs) → AreWritten count fs listed → AreListed fs count listed
+written_listed count fs listed numbers h =
+    let d = empty_state 0 in
+    let states = with_written h.first fs in
+    let at : ℕ → Found = λ i. record { index = i; state = get_or states i d } in
+    let index : Found → ℕ = λ (f : Found). f.index in
+    let low : AllByRecursion (λ i. i < length h.first) (map index fs) = recursion_from_All (λ i. i < length h.first) (map index fs) (All-permutation (λ i. i < length h.first) (range_with_len 0 count) (map index fs) numbers (All-from_recursion (λ i. i < length h.first) (range_with_len 0 count) (range_below 0 count (length h.first) (omega (arith, h.size))))) in
+    let own : map at (map index fs) ≡ fs = each_written h.first fs d (IsDistinct-IsPermutation eqb flips (range_with_len 0 count) (map index fs) numbers (range_distinct 0 count)) low in
     record {
-      size = ap length told.states ∙ length-map told.sorted (λ (f : Found). f.state) ∙ sym (length-map told.sorted index) ∙ ap length in_turn ∙ length-range_with_len 0 (length xs);
-      order = made_in_order a order;
-      each_once = IsPermutation-sym (made_in_order a order) (with_states_found xs listed) moved;
-      ascending = rise_by_keys (λ (x : FoundStep). x.placed.place) (made_in_order a order) (subst IsNonDecreasing (sym (made_places a order)) (keys_rise (λ (n : Numbered). n.placed.place) order is.ascending));
-      found = made_states a order;
-      ends = ends ∙ ap (ending_states a) (sym (made_steps a order));
+      sorted = map at (range_with_len 0 count);
+      each_once = subst (λ l. IsPermutation l (map at (range_with_len 0 count))) own (IsPermutation-map at (map index fs) (range_with_len 0 count) (IsPermutation-sym (range_with_len 0 count) (map index fs) numbers));
+      in_turn = numbers_of states d (range_with_len 0 count);
+      states = h.written ∙ fill_by_all (λ i. get_or states i d) states count d (written_size h.first fs ∙ h.size) (λ k q. refl) ∙ sym (states_of_numbers states d (range_with_len 0 count));
     }
 
--- each step in the order is in the table
-numbered_within : (size i : ℕ) (xs : List PlacedStep) → AreInTable size xs → AllByRecursion (λ (n : Numbered). n.placed.step.entry < size) (numbered i xs)
-numbered_within size i [] h = tt
-numbered_within size i (x ∷ xs) h = (h.0, numbered_within size (i + 1) xs h.1)
+-- ---- the whole
+numbered_places : (ls : List TraceLine) (order : List LineStep) → map (λ (n : Numbered). n.placed.place) (map (numbered_by ls) order) ≡ map (λ (x : LineStep). x.place) order
+numbered_places ls [] = refl
+numbered_places ls (x ∷ xs) = ap (λ l. x.place ∷ l) (numbered_places ls xs)
 
-pub order_within : (size : ℕ) (xs : List PlacedStep) (order : List Numbered) → AreInTable size xs → IsOrder xs order → AllByRecursion (λ (n : Numbered). n.placed.step.entry < size) order
-order_within size xs order h is =
-    let P : Numbered → Type 0 = λ n. n.placed.step.entry < size in
-    recursion_from_All P order (All-permutation P (numbered 0 xs) order is.each_once (All-from_recursion P (numbered 0 xs) (numbered_within size 0 xs h)))
+pub states_are_found : (ls : List TraceLine) (a b : List State) (steps order : List LineStep) (listed : List State) → IsOrder steps order → AreWritten (length order) (found_in_order a (map (numbered_by ls) order)) listed → b ≡ ending_in_order a (map (numbered_by ls) order) → (xs : List PlacedStep) → map (numbered_by ls) steps ≡ numbered 0 xs → FindStates a xs listed b
+unfolding indices
+states_are_found ls a b steps order listed is written ends xs same =
+    let ns = map (numbered_by ls) order in
+    let found = found_in_order a ns in
+    let index = λ (f : Found). f.index in
+    let number = λ (n : Numbered). n.index in
+    let moved : IsPermutation (numbered 0 xs) ns = subst (λ l. IsPermutation l ns) same (IsPermutation-map (numbered_by ls) steps order is.each_once) in
+    let count : length order ≡ length xs = sym (length-map order (numbered_by ls)) ∙ length_permutation (numbered 0 xs) ns moved ∙ sym (length-map (numbered 0 xs) number) ∙ ap length (numbered_indices 0 xs) ∙ length-range_with_len 0 (length xs) in
+    let numbers : IsPermutation (range_with_len 0 (length xs)) (map index found) = subst (λ l. IsPermutation l (map index found)) (numbered_indices 0 xs) (subst (IsPermutation (map number (numbered 0 xs))) (sym (found_indices a ns)) (IsPermutation-map number (numbered 0 xs) ns moved)) in
+    let told = written_listed (length xs) found listed numbers (subst (λ n. AreWritten n found listed) count written) in
+    let own : (j : ℕ) → j < length xs → get_or xs (0 + j) no_step ≡ get_or xs j no_step = λ j q. ap (λ z. get_or xs z no_step) (let e : 0 + j ≡ j = omega arith in e) in
+    let each : AllByRecursion (HasNumber xs) ns = recursion_from_All (HasNumber xs) ns (All-permutation (HasNumber xs) (numbered 0 xs) ns moved (All-from_recursion (HasNumber xs) (numbered 0 xs) (each_numbered xs 0 xs own))) in
+    let listing : map (with_step xs) told.sorted ≡ with_states_found xs listed = listed_steps xs 0 xs told.sorted told.in_turn own ∙ ap (with_states_found xs) (sym told.states) in
+    let made : map (with_step xs) found ≡ made_in_order a ns = made_found xs a ns each in
+    let once : IsPermutation (made_in_order a ns) (with_states_found xs listed) = subst (λ l. IsPermutation l (with_states_found xs listed)) made (subst (λ l. IsPermutation (map (with_step xs) found) l) listing (IsPermutation-map (with_step xs) found told.sorted told.each_once)) in
+    record {
+      size = ap length told.states ∙ length-map told.sorted (λ (f : Found). f.state) ∙ sym (length-map told.sorted index) ∙ ap length told.in_turn ∙ length-range_with_len 0 (length xs);
+      order = made_in_order a ns;
+      each_once = IsPermutation-sym (made_in_order a ns) (with_states_found xs listed) once;
+      ascending = rise_by_keys (λ (x : FoundStep). x.placed.place) (made_in_order a ns) (subst IsNonDecreasing (sym (made_places a ns ∙ numbered_places ls order)) (keys_rise (λ (x : LineStep). x.place) order is.ascending));
+      found = made_states a ns;
+      ends = ends ∙ ap (ending_states a) (sym (made_steps a ns));
+    }
+
+-- each step in the order is one of the table, the lines and the steps
+pub order_within : (size lines : ℕ) (steps order : List LineStep) → AllByRecursion (IsStepOf size lines (length steps)) steps → IsOrder steps order → AllByRecursion (IsStepOf size lines (length order)) order
+order_within size lines steps order h is =
+    let P : LineStep → Type 0 = IsStepOf size lines (length steps) in
+    subst (λ n. AllByRecursion (IsStepOf size lines n) order) (sym (length_permutation steps order is.each_once)) (recursion_from_All P order (All-permutation P steps order is.each_once (All-from_recursion P steps h)))

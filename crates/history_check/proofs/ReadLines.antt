@@ -1,12 +1,9 @@
 -- Reading the marks of one line more of a section.
-use Rattle.std.proofs.Common.{◌≡◌, ℕ, zero, suc, ◌+◌, ◌<◌, ◌≤◌, List, [], ◌∷◌, ◌++◌, true, false, ap, sym, ◌∙◌, refl, subst, map, length, take, drop, get_or, arith, append_assoc, append-nil, length-append, ◌⊎◌, inl, inr}
+use Rattle.std.proofs.Common.{◌*◌, ◌≡◌, ℕ, zero, suc, ◌+◌, ◌<◌, ◌≤◌, List, [], ◌∷◌, ◌++◌, true, false, ap, sym, ◌∙◌, refl, subst, map, length, take, drop, get_or, arith, append_assoc, append-nil, length-append, ◌⊎◌, inl, inr}
 use Rattle.std.specs.List.{AllByRecursion}
 use Rattle.std.proofs.lemmas.List.{take_more, drop_more, drop_all, take_all, length-map, map-append, length-take-le, get_or_default}
 use Rattle.hpt_walk.specs.Access.{AccessContext}
-use Rattle.entry_model.specs.declared.operation.Op.{Op}
-use Rattle.entry_model.specs.declared.receipt.Receipt.{Receipt}
 use Rattle.trace_line.specs.declared.line.TraceLine.{TraceLine}
-use Rattle.trace_line.specs.declared.act.Act.TheVariants as acts
 use Rattle.trace_line.specs.Lines.{is_quiet}
 use Rattle.trace_reply.specs.declared.reply.Reply.{Reply}
 use Rattle.trace_reply.specs.Replies.{lines_with_replies, receipts_in}
@@ -19,12 +16,15 @@ use Rattle.receipt_text.specs.Marks.{HasMarks}
 use Rattle.receipt_text.proofs.Bytes.{lacks_append, lacks_back, lacks_head, cut_at}
 use Rattle.receipt_text.proofs.MarkTexts.{marks_once}
 use Rattle.receipt_text.proofs.ReadBack.{line_has_marks, receipts_lack}
-use Rattle.history_check.specs.declared.placed.PlacedStep.{PlacedStep}
+use Rattle.history_check.specs.declared.mark_steps.LineStep.{LineStep}
 use Rattle.history_check.specs.FoundSection.{lines_text, ArePlain}
-use Rattle.history_check.specs.PlacedSteps.{AreInTable, named_ops, placed_marks, placed_line}
+use Rattle.history_check.specs.PlacedSteps.{named_ops, line_op}
+use Rattle.history_check.specs.OrderedSteps.{IsStepOf, past_lines, numbered_by}
+use Rattle.history_check.specs.MarkSteps.{mark_steps, lines_steps}
 use Rattle.history_check.specs.ReplyMarks.{marks_in}
-use Rattle.history_check.specs.SectionMarks.{section_steps, ShowMarks, MarkEntries, ReadMarks, NoMarks}
+use Rattle.history_check.specs.SectionMarks.{ShowMarks, MarkEntries, ReadMarks, NoMarks}
 use Rattle.history_check.proofs.LineMarks.{IsLine, line_of}
+use Rattle.history_check.proofs.MarkedSteps.{AreOf, steps_more, mark_count, lines_numbered, lines_within, section_within}
 
 -- ---- what was read
 -- What is left of replies to the lines, behind those whose marks were read.
@@ -35,12 +35,13 @@ pub record AreLeft (context : AccessContext) (more : List TraceLine) (rest : Lis
   pub same : map marks_in front ≡ read
   pub show : ShowMarks context more rest back end
 
-pub record AreReadTo (context : AccessContext) (size : ℕ) (ls : List TraceLine) (text : List ℕ) (i : ℕ) (rest : List ℕ) (read : List PlacedStep) (sizes : List ℕ) : Type 0 where
+pub record AreReadTo (context : AccessContext) (size : ℕ) (ls : List TraceLine) (text : List ℕ) (i : ℕ) (rest : List ℕ) (read : List LineStep) (sizes : List ℕ) : Type 0 where
   pub marks : List (List Mark)
   pub each : length marks ≡ i
-  pub steps : read ≡ section_steps context (take i ls) marks
+  pub steps : read ≡ lines_steps 0 0 (take i ls) marks
   pub counts : sizes ≡ map length marks
-  pub in_table : AreInTable size read
+  pub in_table : AllByRecursion (AreOf size) marks
+  pub few : length read ≤ 16 * i
   pub left : (rs : List Reply) (end : List ℕ) → ShowMarks context ls text rs end → AreLeft context (drop i ls) rest marks rs end
 
 pub none_read : (context : AccessContext) (size : ℕ) (ls : List TraceLine) (text : List ℕ) → AreReadTo context size ls text 0 text [] []
@@ -50,6 +51,7 @@ none_read context size ls text = record {
   steps = refl;
   counts = refl;
   in_table = tt;
+  few = omega arith;
   left = λ rs end show. record { front = []; back = rs; all = refl; same = refl; show = show };
 }
 
@@ -97,28 +99,18 @@ next_at context ls i l rest back end within is plain h =
     next_of context l (drop (i + 1) ls) rest back end plain (subst (λ ms. ShowMarks context ms rest back end) here h)
 
 -- ---- one line more
-steps_more : (context : AccessContext) (ls : List TraceLine) (l : TraceLine) (mss : List (List Mark)) (ms : List Mark) → length mss ≡ length ls → section_steps context (ls ++ l ∷ []) (mss ++ ms ∷ []) ≡ section_steps context ls mss ++ placed_line context l.act ms
-steps_more context [] l [] ms e = append-nil (placed_line context l.act ms)
-steps_more context [] l (n ∷ mss) ms e = absurd (omega (arith, e))
-steps_more context (k ∷ ls) l [] ms e = absurd (omega (arith, e))
-steps_more context (k ∷ ls) l (n ∷ mss) ms e = ap (λ z. placed_line context k.act n ++ z) (steps_more context ls l mss ms (omega (arith, e))) ∙ sym (append_assoc (placed_line context k.act n) (section_steps context ls mss) (placed_line context l.act ms))
-
-placed_within : (size : ℕ) (further : Op) (os : List Op) (ms : List Mark) → AllByRecursion (λ (m : Mark). m.entry < size) ms → AreInTable size (placed_marks further os ms)
-placed_within size further os [] h = tt
-placed_within size further [] (m ∷ ms) h = (h.0, placed_within size further [] ms h.1)
-placed_within size further (o ∷ os) (m ∷ ms) h = (h.0, placed_within size further os ms h.1)
-
-module _ (context : AccessContext) (size : ℕ) (ls : List TraceLine) (text : List ℕ) (i : ℕ) (l : TraceLine) (rest : List ℕ) (read : List PlacedStep) (sizes : List ℕ) (h : AreReadTo context size ls text i rest read sizes) (within : i < length ls) (is : get_or ls i l ≡ l) (plain : is_quiet l.act ≡ false) where
+module _ (context : AccessContext) (size : ℕ) (ls : List TraceLine) (text : List ℕ) (i : ℕ) (l : TraceLine) (rest : List ℕ) (read : List LineStep) (sizes : List ℕ) (h : AreReadTo context size ls text i rest read sizes) (within : i < length ls) (is : get_or ls i l ≡ l) (plain : is_quiet l.act ≡ false) where
   next : (rs : List Reply) (end : List ℕ) (s : ShowMarks context ls text rs end) → Next context ls i l rest (h.left rs end s).back end
   next rs end s = next_at context ls i l rest (h.left rs end s).back end within is plain (h.left rs end s).show
 
-  pub read_more : (ms : List Mark) (told others : List ℕ) (read' : List PlacedStep) (sizes' : List ℕ) → length (named_ops context l.act) ≤ 16 → lacks 10 told ≡ true → rest ≡ told ++ 10 ∷ others → HasMarks told ms → AllByRecursion (λ (m : Mark). m.entry < size) ms → read' ≡ read ++ placed_line context l.act ms → sizes' ≡ sizes ++ length ms ∷ [] → AreReadTo context size ls text (i + 1) others read' sizes'
-  read_more ms told others read' sizes' short no_end cut has entries put counted = record {
+  pub read_more : (ms : List Mark) (told others : List ℕ) (read' : List LineStep) (sizes' : List ℕ) → length (named_ops context l.act) ≤ 16 → lacks 10 told ≡ true → rest ≡ told ++ 10 ∷ others → HasMarks told ms → AreOf size ms → length ms ≤ 16 → read' ≡ read ++ mark_steps i (length read) (line_op l.act) ms → sizes' ≡ sizes ++ length ms ∷ [] → AreReadTo context size ls text (i + 1) others read' sizes'
+  read_more ms told others read' sizes' short no_end cut has entries sixteen put counted = record {
     marks = h.marks ++ ms ∷ [];
     each = length-append h.marks (ms ∷ []) ∙ ap (λ n. n + 1) h.each;
-    steps = put ∙ ap (λ z. z ++ placed_line context l.act ms) h.steps ∙ sym (steps_more context (take i ls) l h.marks ms (omega (arith, h.each, taken))) ∙ ap (λ z. section_steps context z (h.marks ++ ms ∷ [])) (sym lines);
+    steps = put ∙ (λ j. h.steps j ++ mark_steps (lines_before j) (steps_before j) (line_op l.act) ms) ∙ sym (steps_more 0 0 (take i ls) l h.marks ms (omega (arith, h.each, taken))) ∙ ap (λ z. lines_steps 0 0 z (h.marks ++ ms ∷ [])) (sym lines);
     counts = counted ∙ ap (λ z. z ++ length ms ∷ []) h.counts ∙ sym (map-append length h.marks (ms ∷ []));
-    in_table = subst (AreInTable size) (sym put) (each_append (λ (x : PlacedStep). x.step.entry < size) read (placed_line context l.act ms) h.in_table (placed_within size _ _ ms entries));
+    in_table = each_append (AreOf size) h.marks (ms ∷ []) h.in_table (entries, tt);
+    few = omega (arith, sixteen, h.few, ap length put, length-append read (mark_steps i (length read) (line_op l.act) ms), mark_count i (length read) (line_op l.act) ms);
     left = λ rs end s.
         let a = h.left rs end s in
         let n = next rs end s in
@@ -138,7 +130,13 @@ module _ (context : AccessContext) (size : ℕ) (ls : List TraceLine) (text : Li
     taken : length (take i ls) ≡ i
     taken = length-take-le i ls (omega (arith, within))
 
-  entries_of : (rs : List Reply) (end : List ℕ) (s : ShowMarks context ls text rs end) → MarkEntries size rs → AllByRecursion (λ (m : Mark). m.entry < size) (marks_in (next rs end s).reply)
+    lines_before : i ≡ 0 + length (take i ls)
+    lines_before = omega (arith, taken)
+
+    steps_before : length read ≡ 0 + length (lines_steps 0 0 (take i ls) h.marks)
+    steps_before = omega (arith, ap length h.steps)
+
+  entries_of : (rs : List Reply) (end : List ℕ) (s : ShowMarks context ls text rs end) → MarkEntries size rs → AreOf size (marks_in (next rs end s).reply)
   entries_of rs end s e =
       let a = h.left rs end s in
       let n = next rs end s in
@@ -159,12 +157,12 @@ module _ (context : AccessContext) (size : ℕ) (ls : List TraceLine) (text : Li
       none (marks_in n.reply) (subst (λ z. HasMarks z (marks_in n.reply)) (sym c.0) (n.marks short))
 
   -- One of its marks is of no entry of the table.
-  pub not_in_table : (ms : List Mark) (told others : List ℕ) → length (named_ops context l.act) ≤ 16 → lacks 10 told ≡ true → rest ≡ told ++ 10 ∷ others → HasMarks told ms → (AllByRecursion (λ (m : Mark). m.entry < size) ms → ⊥) → NoMarks context size ls text
+  pub not_in_table : (ms : List Mark) (told others : List ℕ) → length (named_ops context l.act) ≤ 16 → lacks 10 told ≡ true → rest ≡ told ++ 10 ∷ others → HasMarks told ms → (AreOf size ms → ⊥) → NoMarks context size ls text
   not_in_table ms told others short no_end cut has none rs end s e =
       let n = next rs end s in
       let c = cut_at 10 told n.line others n.behind no_end n.no_end (sym cut ∙ n.cut) in
       let one : marks_in n.reply ≡ ms = marks_once told (marks_in n.reply) ms (subst (λ z. HasMarks z (marks_in n.reply)) (sym c.0) (n.marks short)) has in
-      none (subst (AllByRecursion (λ (m : Mark). m.entry < size)) one (entries_of rs end s e))
+      none (subst (AreOf size) one (entries_of rs end s e))
 
 -- ---- as the loop has them
 pub plain_at : (ls : List TraceLine) (i : ℕ) (d : TraceLine) → i < length ls → ArePlain ls → is_quiet (get_or ls i d).act ≡ false
@@ -172,18 +170,14 @@ plain_at [] i d within h = absurd (omega arith)
 plain_at (l ∷ ls) zero d within h = h.0
 plain_at (l ∷ ls) (suc i) d within h = plain_at ls i d (omega arith) h.1
 
--- What a slice of lines holds past its end.
-abbrev pub past_lines : TraceLine
-past_lines = record { number = 0; cpu = 0; act = acts.Call 0 [] false }
-
-module _ (context : AccessContext) (size : ℕ) (ls : List TraceLine) (text : List ℕ) (i : ℕ) (rest : List ℕ) (read : List PlacedStep) (sizes : List ℕ) (h : AreReadTo context size ls text i rest read sizes) (within : i < length ls) (plain : ArePlain ls) where
+module _ (context : AccessContext) (size : ℕ) (ls : List TraceLine) (text : List ℕ) (i : ℕ) (rest : List ℕ) (read : List LineStep) (sizes : List ℕ) (h : AreReadTo context size ls text i rest read sizes) (within : i < length ls) (plain : ArePlain ls) where
   abbrev line_here : TraceLine
   line_here = get_or ls i past_lines
 
   same_here : get_or ls i line_here ≡ line_here
   same_here = get_or_default ls i line_here past_lines within
 
-  pub line_read : (ms : List Mark) (told others : List ℕ) (read' : List PlacedStep) (sizes' : List ℕ) → length (named_ops context (get_or ls i past_lines).act) ≤ 16 → lacks 10 told ≡ true → rest ≡ told ++ 10 ∷ others → HasMarks told ms → AllByRecursion (λ (m : Mark). m.entry < size) ms → read' ≡ read ++ placed_line context (get_or ls i past_lines).act ms → sizes' ≡ sizes ++ length ms ∷ [] → AreReadTo context size ls text (i + 1) others read' sizes'
+  pub line_read : (ms : List Mark) (told others : List ℕ) (read' : List LineStep) (sizes' : List ℕ) → length (named_ops context (get_or ls i past_lines).act) ≤ 16 → lacks 10 told ≡ true → rest ≡ told ++ 10 ∷ others → HasMarks told ms → AreOf size ms → length ms ≤ 16 → read' ≡ read ++ mark_steps i (length read) (line_op (get_or ls i past_lines).act) ms → sizes' ≡ sizes ++ length ms ∷ [] → AreReadTo context size ls text (i + 1) others read' sizes'
   line_read = read_more context size ls text i line_here rest read sizes h within same_here (plain_at ls i past_lines within plain)
 
   pub no_line_here : lacks 10 rest ≡ true → NoMarks context size ls text
@@ -192,27 +186,26 @@ module _ (context : AccessContext) (size : ℕ) (ls : List TraceLine) (text : Li
   pub no_marks_here : (told others : List ℕ) → length (named_ops context (get_or ls i past_lines).act) ≤ 16 → lacks 10 told ≡ true → rest ≡ told ++ 10 ∷ others → ((ms : List Mark) → HasMarks told ms → ⊥) → NoMarks context size ls text
   no_marks_here = no_marks_there context size ls text i line_here rest read sizes h within same_here (plain_at ls i past_lines within plain)
 
-  pub not_in_table_here : (ms : List Mark) (told others : List ℕ) → length (named_ops context (get_or ls i past_lines).act) ≤ 16 → lacks 10 told ≡ true → rest ≡ told ++ 10 ∷ others → HasMarks told ms → (AllByRecursion (λ (m : Mark). m.entry < size) ms → ⊥) → NoMarks context size ls text
+  pub not_in_table_here : (ms : List Mark) (told others : List ℕ) → length (named_ops context (get_or ls i past_lines).act) ≤ 16 → lacks 10 told ≡ true → rest ≡ told ++ 10 ∷ others → HasMarks told ms → (AreOf size ms → ⊥) → NoMarks context size ls text
   not_in_table_here = not_in_table context size ls text i line_here rest read sizes h within same_here (plain_at ls i past_lines within plain)
-
--- What the receipts of the operations say of their number.
-pub few_named : (rs slice : List Receipt) (os : List Op) → slice ≡ rs → length slice ≤ 16 → map (λ (r : Receipt). r.op) rs ≡ os → length os ≤ 16
-few_named rs slice os value short named = omega (arith, short, ap length value, ap length named, length-map rs (λ (r : Receipt). r.op))
 
 -- ---- all lines
 no_more : (context : AccessContext) (rest : List ℕ) (back : List Reply) (end : List ℕ) → ShowMarks context [] rest back end → back ≡ []
 no_more context rest [] end h = refl
 no_more context rest (r ∷ rs) end h = absurd h.kinds
 
-pub all_read : (context : AccessContext) (size : ℕ) (ls : List TraceLine) (text : List ℕ) (i : ℕ) (rest : List ℕ) (read : List PlacedStep) (sizes : List ℕ) → AreReadTo context size ls text i rest read sizes → i ≡ length ls → ReadMarks context size ls text read sizes
+pub all_read : (context : AccessContext) (size : ℕ) (ls : List TraceLine) (text : List ℕ) (i : ℕ) (rest : List ℕ) (read : List LineStep) (sizes : List ℕ) → AreReadTo context size ls text i rest read sizes → i ≡ length ls → ReadMarks context size ls text read sizes
 all_read context size ls text i rest read sizes h end = record {
   marks = h.marks;
   each = h.each ∙ end;
-  steps = h.steps ∙ ap (λ z. section_steps context z h.marks) (take_all i ls (omega (arith, end)));
+  numbers = ap (map (numbered_by ls)) steps ∙ lines_numbered ls [] 0 ls h.marks refl;
+  within = subst (AllByRecursion (IsStepOf size (length ls) (length read))) (sym steps) (lines_within size (length ls) (length read) 0 0 ls h.marks (omega arith) (omega (arith, ap length steps)) h.in_table);
   counts = h.counts;
-  in_table = h.in_table;
+  in_table = section_within size ls h.marks h.in_table;
   only = λ rs last s.
       let a = h.left rs last s in
       let none : a.back ≡ [] = no_more context rest a.back last (subst (λ ms. ShowMarks context ms rest a.back last) (drop_all i ls (omega (arith, end))) a.show) in
       ap (map marks_in) (a.all ∙ ap (λ z. a.front ++ z) none ∙ append-nil a.front) ∙ a.same;
-}
+} where
+  steps : read ≡ lines_steps 0 0 ls h.marks
+  steps = h.steps ∙ ap (λ z. lines_steps 0 0 z h.marks) (take_all i ls (omega (arith, end)))

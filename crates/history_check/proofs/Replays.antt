@@ -1,5 +1,5 @@
 -- Given each state before, calls have one trial, and a line has one reply.
-use Rattle.std.proofs.Common.{◌≡◌, ℕ, ◌+◌, List, [], ◌∷◌, Bool, true, false, ap, sym, ◌∙◌, refl, ◌⊎◌, inl, inr, map, MatchBool, Option, Some, None}
+use Rattle.std.proofs.Common.{length, arith, ◌≡◌, ℕ, ◌+◌, List, [], ◌∷◌, Bool, true, false, ap, sym, ◌∙◌, refl, ◌⊎◌, inl, inr, map, MatchBool, Option, Some, None}
 use Rattle.std.specs.Prelude.{◌||◌, ◌==◌, drop, if◌then◌else◌, nat_lt, ◌-◌, ◌^◌, slice_index}
 use Rattle.std.specs.List.{AllByRecursion}
 use Rattle.std.proofs.lemmas.Bool.{cases_Bool, cond_both}
@@ -56,6 +56,26 @@ replayed_trial goes (c ∷ cs) a b (x ∷ xs) (y ∷ ys) stops fresh given g h k
     let next : (after_receipt a x).states ≡ before_each ys = ap (λ (l : List State). drop 1 l) given in
     let tail : xs ≡ ys = end_trial goes x y cs xs ys (xs ≡ ys) head h.1 k.1 (λ q h' k'. replayed_trial goes cs (after_receipt a x) b xs ys stops.1 (neither a.decided (is_decided x.answer) fresh (ap is_decided told ∙ stops.0 x.before (ap goes (sym told) ∙ q))) next g.2 h' k') (λ e f. e ∙ sym f) in
     λ i. head i ∷ tail i
+
+-- what was made on as many states as were given was made on these
+none_given : (ss : List State) → length ss ≡ 0 → [] ≡ ss
+none_given [] e = refl
+none_given (s ∷ ss) e = absurd (omega (arith, e))
+
+pub replayed_before : (goes : Answer → Bool) (cs : List Call) (a b : ReplayState) (rs : List Receipt) (ss : List State) → StopsAtDecided goes cs → a.decided ≡ false → a.states ≡ ss → IsReplayed a b rs → IsTrial goes cs rs → length rs ≡ length ss → before_each rs ≡ ss
+replayed_before goes [] a b [] ss stops fresh given g h size = none_given ss (sym size)
+replayed_before goes [] a b (r ∷ rs) ss stops fresh given g h size = absurd h
+replayed_before goes (c ∷ cs) a b [] ss stops fresh given g h size = absurd h
+replayed_before goes (c ∷ cs) a b (r ∷ rs) [] stops fresh given g h size = absurd (omega (arith, size))
+replayed_before goes (c ∷ cs) a b (r ∷ rs) (s ∷ ss) stops fresh given g h size =
+    let before : r.before ≡ s = g.0 fresh ∙ ap (λ l. next_state l r.op) given in
+    let told : r.answer ≡ (reply_of r.before c.op).0 = r.lawful ∙ ap (λ o. (reply_of r.before o).0) h.0.op in
+    let next : (after_receipt a r).states ≡ ss = ap (λ (l : List State). drop 1 l) given in
+    let rest : before_each rs ≡ ss = at (cases_Bool (goes r.answer)) (λ q. replayed_before goes cs (after_receipt a r) b rs ss stops.1 (neither a.decided (is_decided r.answer) fresh (ap is_decided told ∙ stops.0 r.before (ap goes (sym told) ∙ q))) next g.2 (rw q at h.1) (omega (arith, size))) in
+    λ i. before i ∷ rest i where
+      at : (goes r.answer ≡ true) ⊎ (goes r.answer ≡ false) → (goes r.answer ≡ true → before_each rs ≡ ss) → before_each rs ≡ ss
+      at (inl q) go = go q
+      at (inr q) go = let none : rs ≡ [] = rw q at h.1 in ap before_each none ∙ none_given ss (omega (arith, size, ap length none))
 
 -- ---- hypervisor calls
 either_P : (b : Bool) (p q : Answer × State) (P : Answer × State → Type 0) → P p → P q → P (if◌then◌else◌ {A = Answer × State} b p q)
@@ -126,6 +146,11 @@ call_replayed set hcall args a b h k fresh given g x y =
     let e : h.receipts ≡ k.receipts = replayed_trial plan.goes_on plan.calls a b h.receipts k.receipts (no_access_stops plan.goes_on plan.calls (hcall_plain set hcall args)) fresh given g x.trial y.trial in
     let t : (h.rc, h.words) ≡ (k.rc, k.words) = x.told ∙ ap plan.told e ∙ sym y.told in
     λ i. record { rc = (t i).0; words = (t i).1; receipts = e i }
+
+pub call_before : (set : AccessContext) (hcall : Hcall) (args : List ℕ) (a b : ReplayState) (h : HReply) (ss : List State) → a.decided ≡ false → a.states ≡ ss → IsReplayed a b h.receipts → IsReplyOf (hcall_plan set hcall args) h → length h.receipts ≡ length ss → before_each h.receipts ≡ ss
+call_before set hcall args a b h ss fresh given g x size =
+    let plan = hcall_plan set hcall args in
+    replayed_before plan.goes_on plan.calls a b h.receipts ss (no_access_stops plan.goes_on plan.calls (hcall_plain set hcall args)) fresh given g x.trial size
 
 -- ---- walks
 no_match_undecided : (a : Answer) → is_no_match a ≡ true → is_decided a ≡ false

@@ -15,7 +15,7 @@ use Rattle.run_model.proofs.LowStamps.{closed_size}
 use Rattle.run_model.proofs.SectionGood.{closing_is, each_regrouped}
 use Rattle.receipt_text.specs.Receipts.{mark_of}
 use Rattle.history_check.specs.Replay.{before_each}
-use Rattle.history_check.specs.Steps.{step_op, is_unchanged, place_by, step_of, found_states, ending_states}
+use Rattle.history_check.specs.Steps.{step_op, is_store_access, is_unchanged, place_by, step_of, found_states, ending_states}
 use Rattle.history_check.proofs.Alike.{flag_of}
 use Rattle.history_check.proofs.Serialized.{Ascending, sorted_run, run_legal, run_fixes, fixed_run}
 
@@ -53,10 +53,10 @@ digit_second true false = refl
 digit_second false true = refl
 digit_second false false = refl
 
-pub place_is : (r : Receipt) → place r ≡ place_by (mark_of r) (step_op r.op)
+pub place_is : (r : Receipt) → place r ≡ place_by (mark_of r) (is_store_access (step_op r.op))
 unfolding place pair_of place_by
 place_is r =
     let s = r.before in
     let one = digit_first s.referenced s.changed in
     let two = digit_second s.referenced s.changed in
-    λ i. (s.stamp * 4 + ((if sym one i then 1 else 0) + (if sym two i then 1 else 0))) * 2 + (if (flag_of r ∙ (λ j. is_unchanged (step_op r.op) r.answer (sym one j) (sym two j))) i then 0 else 1)
+    λ i. (s.stamp * 4 + ((if sym one i then 1 else 0) + (if sym two i then 1 else 0))) * 2 + (if (flag_of r ∙ (λ j. is_unchanged (is_store_access (step_op r.op)) r.answer (sym one j) (sym two j))) i then 0 else 1)

@@ -1,5 +1,4 @@
 -- The loop over the lines of a section.
-use Rattle.std.specs.HashMap.{HashMap}
 use Rattle.std.specs.List.{AllByRecursion}
 use Rattle.std.proofs.Common.{◌≡◌, ℕ, zero, suc, ◌+◌, ◌-◌, ◌<◌, ◌≤◌, List, [], ◌∷◌, ◌++◌, false, ap, sym, ◌∙◌, refl, subst, append_assoc, arith, length, take, drop, get_or, set}
 use Rattle.std.proofs.lemmas.List.{drop_more, drop-drop, get_or_default, length-drop}
@@ -15,6 +14,7 @@ use Rattle.reply_text.specs.Text.{reply_text}
 use Rattle.run_model.specs.Processors.{processor_at, processor_after, processors_after}
 use Rattle.run_model.specs.Histories.{Event, InOrder, lines_of_processor, events_in, events_by}
 use Rattle.history_check.specs.FoundSection.{lines_text}
+use Rattle.history_check.specs.declared.fronts.Fronts.{Fronts}
 use Rattle.history_check.specs.FrontKeeping.{front_of, fronts_of, LeadsTo, AllLeadTo}
 use Rattle.history_check.specs.LineReply.{StandsOn, HasReply}
 use Rattle.history_check.specs.JudgedLines.{AreReplied}
@@ -70,55 +70,54 @@ over context closing states qs G text [] rest later z = z.stand
 over context closing states qs G text (r ∷ rs) rest later z = absurd z.stand
 
 -- ---- as the loop has them
-module _ {S : Type 0} where
-  abbrev pub Left : AccessContext → List State → List TraceLine → List ℕ → ℕ → List State → List State → List Processor → List Processor → List ℕ → List (HashMap ℕ ℕ S) → List ℕ → List ℕ → Type 0
-  Left context closing ls ns i found states ps qs opening fronts given text = IsLeft context closing ls (drop i ls) ns (drop i ns) found states ps qs (λ cpu e. front_at opening e) (fronts_of fronts opening) given text
+abbrev pub Left : AccessContext → List State → List TraceLine → List ℕ → ℕ → List State → List State → List Processor → List Processor → List ℕ → List Fronts → List ℕ → List ℕ → Type 0
+Left context closing ls ns i found states ps qs opening fronts given text = IsLeft context closing ls (drop i ls) ns (drop i ns) found states ps qs (λ cpu e. front_at opening e) (fronts_of fronts opening) given text
 
-  at_line : (context : AccessContext) (closing : List State) (ls : List TraceLine) (ns : List ℕ) (i : ℕ) (found states : List State) (ps qs : List Processor) (opening : List ℕ) (fronts : List (HashMap ℕ ℕ S)) (given text : List ℕ) (l d : TraceLine) (k : ℕ) → i < length ls → i < length ns → l ≡ get_or ls i d → k ≡ get_or ns i 0 → Left context closing ls ns i found states ps qs opening fronts given text → IsLeft context closing ls (l ∷ drop (i + 1) ls) ns (k ∷ drop (i + 1) ns) found states ps qs (λ cpu e. front_at opening e) (fronts_of fronts opening) given text
-  at_line context closing ls ns i found states ps qs opening fronts given text l d k low low' at at' left =
-      let e : drop i ls ≡ l ∷ drop (i + 1) ls = drop_more ls i d low ∙ ap (λ z. z ∷ drop (i + 1) ls) (sym at) in
-      let f : drop i ns ≡ k ∷ drop (i + 1) ns = drop_more ns i 0 low' ∙ ap (λ z. z ∷ drop (i + 1) ns) (sym at') in
-      subst (λ (z : List TraceLine × List ℕ). IsLeft context closing ls z.0 ns z.1 found states ps qs (λ cpu e. front_at opening e) (fronts_of fronts opening) given text) (λ j. (e j, f j)) left
+at_line : (context : AccessContext) (closing : List State) (ls : List TraceLine) (ns : List ℕ) (i : ℕ) (found states : List State) (ps qs : List Processor) (opening : List ℕ) (fronts : List Fronts) (given text : List ℕ) (l d : TraceLine) (k : ℕ) → i < length ls → i < length ns → l ≡ get_or ls i d → k ≡ get_or ns i 0 → Left context closing ls ns i found states ps qs opening fronts given text → IsLeft context closing ls (l ∷ drop (i + 1) ls) ns (k ∷ drop (i + 1) ns) found states ps qs (λ cpu e. front_at opening e) (fronts_of fronts opening) given text
+at_line context closing ls ns i found states ps qs opening fronts given text l d k low low' at at' left =
+    let e : drop i ls ≡ l ∷ drop (i + 1) ls = drop_more ls i d low ∙ ap (λ z. z ∷ drop (i + 1) ls) (sym at) in
+    let f : drop i ns ≡ k ∷ drop (i + 1) ns = drop_more ns i 0 low' ∙ ap (λ z. z ∷ drop (i + 1) ns) (sym at') in
+    subst (λ (z : List TraceLine × List ℕ). IsLeft context closing ls z.0 ns z.1 found states ps qs (λ cpu e. front_at opening e) (fronts_of fronts opening) given text) (λ j. (e j, f j)) left
 
-  pub step_left : (context : AccessContext) (closing : List State) (ls : List TraceLine) (ns : List ℕ) (i : ℕ) (found states mine others : List State) (ps qs us : List Processor) (opening : List ℕ) (fronts news : List (HashMap ℕ ℕ S)) (given text : List ℕ) (l d : TraceLine) (k b : ℕ) (p q : Processor) (m n : HashMap ℕ ℕ S)
-      → i < length ls → i < length ns → l ≡ get_or ls i d → k ≡ get_or ns i 0 → is_quiet l.act ≡ false → l.cpu < length qs → l.cpu < length fronts → k ≤ length states → mine ≡ take k states → others ≡ drop k states
-      → p ≡ get_or qs l.cpu p → m ≡ get_or fronts l.cpu m → us ≡ set qs l.cpu q → news ≡ set fronts l.cpu n
-      → (h : HasReply context closing p l mine text b) × (q ≡ processor_after p l.act h.reply) × LeadsTo (front_of m opening) (events_in p (record { line = l; reply = h.reply })) (front_of n opening)
-      → Left context closing ls ns i found states ps qs opening fronts given text → Left context closing ls ns (i + 1) found others ps us opening news given (drop b text)
-  step_left context closing ls ns i found states mine others ps qs us opening fronts news given text l d k b p q m n low low' at at' plain cpu cpu' few cut behind own own' set' set'' told left =
-      let here : p ≡ processor_at qs l.cpu = own ∙ get_or_default qs l.cpu p new_processor cpu in
-      let h : HasReply context closing (processor_at qs l.cpu) l (take k states) text b = subst (λ z. HasReply context closing z l (take k states) text b) here (subst (λ z. HasReply context closing p l z text b) cut told.0) in
-      let next : us ≡ processors_after qs (record { line = l; reply = told.0.reply }) = set' ∙ ap (set qs l.cpu) (told.1 ∙ ap (λ z. processor_after z l.act told.0.reply) here) in
-      let leads : AllLeadTo (fronts_of fronts opening) l.cpu (events_in (processor_at qs l.cpu) (record { line = l; reply = told.0.reply })) (fronts_of news opening) = own_lead fronts news opening l.cpu m n (events_in (processor_at qs l.cpu) (record { line = l; reply = told.0.reply })) cpu' own' set'' (subst (λ z. LeadsTo (front_of m opening) (events_in z (record { line = l; reply = told.0.reply })) (front_of n opening)) here told.2) in
-      subst (λ z. IsLeft context closing ls (drop (i + 1) ls) ns (drop (i + 1) ns) found z ps us (λ cpu e. front_at opening e) (fronts_of news opening) given (drop b text)) (sym behind)
-      (left_more context closing ls (drop (i + 1) ls) ns (drop (i + 1) ns) found states ps qs us (λ cpu e. front_at opening e) (fronts_of fronts opening) (fronts_of news opening) given text l k b h plain cpu few next leads (at_line context closing ls ns i found states ps qs opening fronts given text l d k low low' at at' left))
+pub step_left : (context : AccessContext) (closing : List State) (ls : List TraceLine) (ns : List ℕ) (i : ℕ) (found states mine others : List State) (ps qs us : List Processor) (opening : List ℕ) (fronts news : List Fronts) (given text : List ℕ) (l d : TraceLine) (k b : ℕ) (p q : Processor) (m n : Fronts)
+    → i < length ls → i < length ns → l ≡ get_or ls i d → k ≡ get_or ns i 0 → is_quiet l.act ≡ false → l.cpu < length qs → l.cpu < length fronts → k ≤ length states → mine ≡ take k states → others ≡ drop k states
+    → p ≡ get_or qs l.cpu p → m ≡ get_or fronts l.cpu m → us ≡ set qs l.cpu q → news ≡ set fronts l.cpu n
+    → (h : HasReply context closing p l mine text b) × (q ≡ processor_after p l.act h.reply) × LeadsTo (front_of m opening) (events_in p (record { line = l; reply = h.reply })) (front_of n opening)
+    → Left context closing ls ns i found states ps qs opening fronts given text → Left context closing ls ns (i + 1) found others ps us opening news given (drop b text)
+step_left context closing ls ns i found states mine others ps qs us opening fronts news given text l d k b p q m n low low' at at' plain cpu cpu' few cut behind own own' set' set'' told left =
+    let here : p ≡ processor_at qs l.cpu = own ∙ get_or_default qs l.cpu p new_processor cpu in
+    let h : HasReply context closing (processor_at qs l.cpu) l (take k states) text b = subst (λ z. HasReply context closing z l (take k states) text b) here (subst (λ z. HasReply context closing p l z text b) cut told.0) in
+    let next : us ≡ processors_after qs (record { line = l; reply = told.0.reply }) = set' ∙ ap (set qs l.cpu) (told.1 ∙ ap (λ z. processor_after z l.act told.0.reply) here) in
+    let leads : AllLeadTo (fronts_of fronts opening) l.cpu (events_in (processor_at qs l.cpu) (record { line = l; reply = told.0.reply })) (fronts_of news opening) = own_lead fronts news opening l.cpu m n (events_in (processor_at qs l.cpu) (record { line = l; reply = told.0.reply })) cpu' own' set'' (subst (λ z. LeadsTo (front_of m opening) (events_in z (record { line = l; reply = told.0.reply })) (front_of n opening)) here told.2) in
+    subst (λ z. IsLeft context closing ls (drop (i + 1) ls) ns (drop (i + 1) ns) found z ps us (λ cpu e. front_at opening e) (fronts_of news opening) given (drop b text)) (sym behind)
+    (left_more context closing ls (drop (i + 1) ls) ns (drop (i + 1) ns) found states ps qs us (λ cpu e. front_at opening e) (fronts_of fronts opening) (fronts_of news opening) given text l k b h plain cpu few next leads (at_line context closing ls ns i found states ps qs opening fronts given text l d k low low' at at' left))
 
-  pub none_left : (context : AccessContext) (closing : List State) (ls : List TraceLine) (ns : List ℕ) (i : ℕ) (found states mine : List State) (ps qs : List Processor) (opening : List ℕ) (fronts : List (HashMap ℕ ℕ S)) (given text : List ℕ) (l d : TraceLine) (k : ℕ) (p : Processor) (m : HashMap ℕ ℕ S)
-      → i < length ls → i < length ns → l ≡ get_or ls i d → k ≡ get_or ns i 0 → l.cpu < length qs → l.cpu < length fronts → mine ≡ take k states
-      → p ≡ get_or qs l.cpu p → m ≡ get_or fronts l.cpu m
-      → ((r : Reply) (rest : List ℕ) (later : List Event) → StandsOn context closing p l mine r → text ≡ reply_text l r ++ rest → ((e : ℕ) → InOrder e (front_of m opening e) (events_in p (record { line = l; reply = r }) ++ later)) → ⊥)
-      → Left context closing ls ns i found states ps qs opening fronts given text → (rs : List Reply) (rest : List ℕ) (later : List Processor) → AreReplied (judged context closing ls ns found) ps (λ cpu e. front_at opening e) given rs rest later → ⊥
-  none_left context closing ls ns i found states mine ps qs opening fronts given text l d k p m low low' at at' cpu cpu' cut own own' none left rs rest later z =
-      let here : p ≡ processor_at qs l.cpu = own ∙ get_or_default qs l.cpu p new_processor cpu in
-      let k' = (at_line context closing ls ns i found states ps qs opening fronts given text l d k low low' at at' left).back rs rest later z in
-      none_more context closing (drop (i + 1) ls) (drop (i + 1) ns) states qs (fronts_of fronts opening) text l k (λ r x y stands same order. none r x y (subst (λ w. StandsOn context closing w l mine r) (sym here) (subst (λ w. StandsOn context closing (processor_at qs l.cpu) l w r) (sym cut) stands)) same (λ e. subst (λ w. InOrder e (front_of m opening e) (events_in w (record { line = l; reply = r }) ++ y)) (sym here) (subst (λ f. InOrder e f (events_in (processor_at qs l.cpu) (record { line = l; reply = r }) ++ y)) (own_fronts fronts opening l.cpu e m cpu' own') (order e)))) k'.0 rest later k'.1
+pub none_left : (context : AccessContext) (closing : List State) (ls : List TraceLine) (ns : List ℕ) (i : ℕ) (found states mine : List State) (ps qs : List Processor) (opening : List ℕ) (fronts : List Fronts) (given text : List ℕ) (l d : TraceLine) (k : ℕ) (p : Processor) (m : Fronts)
+    → i < length ls → i < length ns → l ≡ get_or ls i d → k ≡ get_or ns i 0 → l.cpu < length qs → l.cpu < length fronts → mine ≡ take k states
+    → p ≡ get_or qs l.cpu p → m ≡ get_or fronts l.cpu m
+    → ((r : Reply) (rest : List ℕ) (later : List Event) → StandsOn context closing p l mine r → text ≡ reply_text l r ++ rest → ((e : ℕ) → InOrder e (front_of m opening e) (events_in p (record { line = l; reply = r }) ++ later)) → ⊥)
+    → Left context closing ls ns i found states ps qs opening fronts given text → (rs : List Reply) (rest : List ℕ) (later : List Processor) → AreReplied (judged context closing ls ns found) ps (λ cpu e. front_at opening e) given rs rest later → ⊥
+none_left context closing ls ns i found states mine ps qs opening fronts given text l d k p m low low' at at' cpu cpu' cut own own' none left rs rest later z =
+    let here : p ≡ processor_at qs l.cpu = own ∙ get_or_default qs l.cpu p new_processor cpu in
+    let k' = (at_line context closing ls ns i found states ps qs opening fronts given text l d k low low' at at' left).back rs rest later z in
+    none_more context closing (drop (i + 1) ls) (drop (i + 1) ns) states qs (fronts_of fronts opening) text l k (λ r x y stands same order. none r x y (subst (λ w. StandsOn context closing w l mine r) (sym here) (subst (λ w. StandsOn context closing (processor_at qs l.cpu) l w r) (sym cut) stands)) same (λ e. subst (λ w. InOrder e (front_of m opening e) (events_in w (record { line = l; reply = r }) ++ y)) (sym here) (subst (λ f. InOrder e f (events_in (processor_at qs l.cpu) (record { line = l; reply = r }) ++ y)) (own_fronts fronts opening l.cpu e m cpu' own') (order e)))) k'.0 rest later k'.1
 
-  pub few_left : (context : AccessContext) (closing : List State) (ls : List TraceLine) (ns : List ℕ) (i : ℕ) (found states : List State) (ps qs : List Processor) (opening : List ℕ) (fronts : List (HashMap ℕ ℕ S)) (given text : List ℕ) (l d : TraceLine) (k : ℕ) → i < length ls → i < length ns → l ≡ get_or ls i d → k ≡ get_or ns i 0 → length states < k → Left context closing ls ns i found states ps qs opening fronts given text → (rs : List Reply) (rest : List ℕ) (later : List Processor) → AreReplied (judged context closing ls ns found) ps (λ cpu e. front_at opening e) given rs rest later → ⊥
-  few_left context closing ls ns i found states ps qs opening fronts given text l d k low low' at at' more left rs rest later z =
-      let k' = (at_line context closing ls ns i found states ps qs opening fronts given text l d k low low' at at' left).back rs rest later z in
-      too_few context closing (drop (i + 1) ls) (drop (i + 1) ns) states qs (fronts_of fronts opening) text l k more k'.0 rest later k'.1
+pub few_left : (context : AccessContext) (closing : List State) (ls : List TraceLine) (ns : List ℕ) (i : ℕ) (found states : List State) (ps qs : List Processor) (opening : List ℕ) (fronts : List Fronts) (given text : List ℕ) (l d : TraceLine) (k : ℕ) → i < length ls → i < length ns → l ≡ get_or ls i d → k ≡ get_or ns i 0 → length states < k → Left context closing ls ns i found states ps qs opening fronts given text → (rs : List Reply) (rest : List ℕ) (later : List Processor) → AreReplied (judged context closing ls ns found) ps (λ cpu e. front_at opening e) given rs rest later → ⊥
+few_left context closing ls ns i found states ps qs opening fronts given text l d k low low' at at' more left rs rest later z =
+    let k' = (at_line context closing ls ns i found states ps qs opening fronts given text l d k low low' at at' left).back rs rest later z in
+    too_few context closing (drop (i + 1) ls) (drop (i + 1) ns) states qs (fronts_of fronts opening) text l k more k'.0 rest later k'.1
 
-  -- ---- the end
-  pub end_left : (context : AccessContext) (closing : List State) (ls : List TraceLine) (ns : List ℕ) (i : ℕ) (found states : List State) (ps qs : List Processor) (opening : List ℕ) (fronts : List (HashMap ℕ ℕ S)) (given text : List ℕ) → length ls ≤ i → length ns ≤ i → states ≡ [] → Left context closing ls ns i found states ps qs opening fronts given text → (rs : List Reply) × AreReplied (judged context closing ls ns found) ps (λ cpu e. front_at opening e) given rs text qs
-  end_left context closing ls ns i found states ps qs opening fronts given text past past' none left =
-      let e = past_end ls i past in
-      let f = past_end ns i past' in
-      let here : AreReplied (judged context closing [] [] states) qs (fronts_of fronts opening) text [] text qs = record { stand = none; in_order = λ cpu e. tt; text = refl; behind = refl } in
-      left.on [] text qs (subst (λ (z : List TraceLine × List ℕ). AreReplied (judged context closing z.0 z.1 states) qs (fronts_of fronts opening) text [] text qs) (λ j. (sym e j, sym f j)) here)
+-- ---- the end
+pub end_left : (context : AccessContext) (closing : List State) (ls : List TraceLine) (ns : List ℕ) (i : ℕ) (found states : List State) (ps qs : List Processor) (opening : List ℕ) (fronts : List Fronts) (given text : List ℕ) → length ls ≤ i → length ns ≤ i → states ≡ [] → Left context closing ls ns i found states ps qs opening fronts given text → (rs : List Reply) × AreReplied (judged context closing ls ns found) ps (λ cpu e. front_at opening e) given rs text qs
+end_left context closing ls ns i found states ps qs opening fronts given text past past' none left =
+    let e = past_end ls i past in
+    let f = past_end ns i past' in
+    let here : AreReplied (judged context closing [] [] states) qs (fronts_of fronts opening) text [] text qs = record { stand = none; in_order = λ cpu e. tt; text = refl; behind = refl } in
+    left.on [] text qs (subst (λ (z : List TraceLine × List ℕ). AreReplied (judged context closing z.0 z.1 states) qs (fronts_of fronts opening) text [] text qs) (λ j. (sym e j, sym f j)) here)
 
-  pub over_left : (context : AccessContext) (closing : List State) (ls : List TraceLine) (ns : List ℕ) (i : ℕ) (found states : List State) (ps qs : List Processor) (opening : List ℕ) (fronts : List (HashMap ℕ ℕ S)) (given text : List ℕ) → length ls ≤ i → length ns ≤ i → (states ≡ [] → ⊥) → Left context closing ls ns i found states ps qs opening fronts given text → (rs : List Reply) (rest : List ℕ) (later : List Processor) → AreReplied (judged context closing ls ns found) ps (λ cpu e. front_at opening e) given rs rest later → ⊥
-  over_left context closing ls ns i found states ps qs opening fronts given text past past' some left rs rest later z =
-      let e = past_end ls i past in
-      let f = past_end ns i past' in
-      let k = left.back rs rest later z in
-      some (over context closing states qs (fronts_of fronts opening) text k.0 rest later (subst (λ (z : List TraceLine × List ℕ). AreReplied (judged context closing z.0 z.1 states) qs (fronts_of fronts opening) text k.0 rest later) (λ j. (e j, f j)) k.1))
+pub over_left : (context : AccessContext) (closing : List State) (ls : List TraceLine) (ns : List ℕ) (i : ℕ) (found states : List State) (ps qs : List Processor) (opening : List ℕ) (fronts : List Fronts) (given text : List ℕ) → length ls ≤ i → length ns ≤ i → (states ≡ [] → ⊥) → Left context closing ls ns i found states ps qs opening fronts given text → (rs : List Reply) (rest : List ℕ) (later : List Processor) → AreReplied (judged context closing ls ns found) ps (λ cpu e. front_at opening e) given rs rest later → ⊥
+over_left context closing ls ns i found states ps qs opening fronts given text past past' some left rs rest later z =
+    let e = past_end ls i past in
+    let f = past_end ns i past' in
+    let k = left.back rs rest later z in
+    some (over context closing states qs (fronts_of fronts opening) text k.0 rest later (subst (λ (z : List TraceLine × List ℕ). AreReplied (judged context closing z.0 z.1 states) qs (fronts_of fronts opening) text k.0 rest later) (λ j. (e j, f j)) k.1))

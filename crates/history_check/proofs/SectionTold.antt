@@ -1,6 +1,6 @@
 -- What a section's function owes, by what its parts tell.
 use Rattle.std.specs.Prelude.{IfSome, IfNone}
-use Rattle.std.proofs.Common.{◌≡◌, ℕ, ◌+◌, ◌<◌, ◌≤◌, ◌^◌, List, [], ◌∷◌, ◌++◌, ap, sym, ◌∙◌, refl, subst, take, drop, get_or, length, Option, Some, None}
+use Rattle.std.proofs.Common.{map, ◌≡◌, ℕ, ◌+◌, ◌<◌, ◌≤◌, ◌^◌, List, [], ◌∷◌, ◌++◌, ap, sym, ◌∙◌, refl, subst, take, drop, get_or, length, Option, Some, None}
 use Rattle.std.proofs.lemmas.List.{take_more}
 use Rattle.entry_model.specs.State.{State}
 use Rattle.entry_model.specs.History.{pair_of}
@@ -8,8 +8,9 @@ use Rattle.entry_model.specs.Fronts.{front_at, opening_fronts}
 use Rattle.tlb_model.specs.Processor.{Processor}
 use Rattle.trace_line.specs.declared.line.TraceLine.{TraceLine}
 use Rattle.trace_reply.specs.declared.reply.Reply.{Reply}
-use Rattle.history_check.specs.declared.placed.PlacedStep.{PlacedStep}
-use Rattle.history_check.specs.PlacedSteps.{FindStates}
+use Rattle.history_check.specs.declared.mark_steps.LineStep.{LineStep}
+use Rattle.history_check.specs.PlacedSteps.{PlacedStep, FindStates}
+use Rattle.history_check.specs.OrderedSteps.{numbered, numbered_by}
 use Rattle.history_check.specs.FoundSection.{ArePlain, AreOnProcessors, Opening, opening_of, HasSection, HasNoSection}
 use Rattle.history_check.specs.JudgedLines.{AreReplied}
 use Rattle.history_check.specs.SectionMarks.{ReadMarks, NoMarks}
@@ -26,21 +27,21 @@ pub record IsOpening (o : Opening) (ls : List TraceLine) : Type 0 where
   pub low : LowStates o.states
 
 -- The marks that were read, and the states that their steps find.
-pub record HasSteps (o : Opening) (ls : List TraceLine) (given : List ℕ) (steps : List PlacedStep) (counts : List ℕ) (listed closing : List State) : Type 0 where
+pub record HasSteps (o : Opening) (ls : List TraceLine) (given : List ℕ) (steps : List LineStep) (counts : List ℕ) (listed closing : List State) : Type 0 where
   pub read : ReadMarks o.context (length o.states) ls given steps counts
-  pub find : FindStates o.states steps listed closing
+  pub find : (xs : List PlacedStep) → map (numbered_by ls) steps ≡ numbered 0 xs → FindStates o.states xs listed closing
 
 abbrev Replied : Opening → List TraceLine → List ℕ → List ℕ → List State → List State → List Reply → List ℕ → List Processor → Type 0
 Replied o ls given counts listed closing rs rest later = AreReplied (judged o.context closing ls counts listed) o.processors (λ cpu e. front_at (opening_fronts o.states) e) given rs rest later
 
-section_has : (o : Opening) (ls : List TraceLine) (given : List ℕ) (steps : List PlacedStep) (counts : List ℕ) (listed closing : List State) (n : ℕ) (later : List Processor) → IsOpening o ls → HasSteps o ls given steps counts listed closing → (rs : List Reply) × Replied o ls given counts listed closing rs (drop n given) later → HasSection o ls given n closing later
+section_has : (o : Opening) (ls : List TraceLine) (given : List ℕ) (steps : List LineStep) (counts : List ℕ) (listed closing : List State) (n : ℕ) (later : List Processor) → IsOpening o ls → HasSteps o ls given steps counts listed closing → (rs : List Reply) × Replied o ls given counts listed closing rs (drop n given) later → HasSection o ls given n closing later
 section_has o ls given steps counts listed closing n later is has told w e =
     let all : Told o ls given n closing later = record { steps = steps; counts = counts; listed = listed; read = has.read; find = has.find; replies = told.0; replied = told.1 } in
     let here : Told (opening_of w) ls given n closing later = subst (λ z. Told z ls given n closing later) (sym e) all in
     let k = told_section w ls given n closing later is.plain (subst (λ z. AreOnProcessors (length z.processors) ls) (sym e) is.cpus) here in
     (here.replies, k.0, k.1)
 
-section_has_not : (o : Opening) (ls : List TraceLine) (given : List ℕ) (steps : List PlacedStep) (counts : List ℕ) (listed closing : List State) → IsOpening o ls → HasSteps o ls given steps counts listed closing → ((rs : List Reply) (rest : List ℕ) (later : List Processor) → Replied o ls given counts listed closing rs rest later → ⊥) → HasNoSection o ls given
+section_has_not : (o : Opening) (ls : List TraceLine) (given : List ℕ) (steps : List LineStep) (counts : List ℕ) (listed closing : List State) → IsOpening o ls → HasSteps o ls given steps counts listed closing → ((rs : List Reply) (rest : List ℕ) (later : List Processor) → Replied o ls given counts listed closing rs rest later → ⊥) → HasNoSection o ls given
 section_has_not o ls given steps counts listed closing is has none w e rs rest h =
     let is' : IsOpening (opening_of w) ls = subst (λ z. IsOpening z ls) (sym e) is in
     let has' : HasSteps (opening_of w) ls given steps counts listed closing = subst (λ z. HasSteps z ls given steps counts listed closing) (sym e) has in
@@ -56,11 +57,11 @@ marks_has_not o ls given is none w e rs rest h =
 abbrev Judges : Opening → List TraceLine → List ℕ → List ℕ → List ℕ → List State → List State → List Reply → List ℕ → List Processor → Type 0
 Judges o ls given counts opening found closed rs rest later = AreReplied (judged o.context closed ls counts found) o.processors (λ cpu e. front_at opening e) given rs rest later
 
-pub some_told : (o : Opening) (ls : List TraceLine) (given : List ℕ) (steps : List PlacedStep) (counts opening : List ℕ) (listed found closing closed : List State) (later : List Processor) (j : Option ℕ) → IsOpening o ls → HasSteps o ls given steps counts listed closing → opening ≡ opening_fronts o.states → found ≡ listed → closed ≡ closing → IfSome j (λ n. (rs : List Reply) × Judges o ls given counts opening found closed rs (drop n given) later) → IfSome j (λ n. HasSection o ls given n closing later)
+pub some_told : (o : Opening) (ls : List TraceLine) (given : List ℕ) (steps : List LineStep) (counts opening : List ℕ) (listed found closing closed : List State) (later : List Processor) (j : Option ℕ) → IsOpening o ls → HasSteps o ls given steps counts listed closing → opening ≡ opening_fronts o.states → found ≡ listed → closed ≡ closing → IfSome j (λ n. (rs : List Reply) × Judges o ls given counts opening found closed rs (drop n given) later) → IfSome j (λ n. HasSection o ls given n closing later)
 some_told o ls given steps counts opening listed found closing closed later None is has pairs f c h = tt
 some_told o ls given steps counts opening listed found closing closed later (Some n) is has pairs f c h = section_has o ls given steps counts listed closing n later is has (h.0, subst (λ (z : List ℕ × List State × List State). Judges o ls given counts z.0 z.1 z.2 h.0 (drop n given) later) (λ i. (pairs i, f i, c i)) h.1)
 
-pub none_told : (o : Opening) (ls : List TraceLine) (given : List ℕ) (steps : List PlacedStep) (counts opening : List ℕ) (listed found closing closed : List State) (j : Option ℕ) → IsOpening o ls → HasSteps o ls given steps counts listed closing → opening ≡ opening_fronts o.states → found ≡ listed → closed ≡ closing → IfNone j ((rs : List Reply) (rest : List ℕ) (later : List Processor) → Judges o ls given counts opening found closed rs rest later → ⊥) → IfNone j (HasNoSection o ls given)
+pub none_told : (o : Opening) (ls : List TraceLine) (given : List ℕ) (steps : List LineStep) (counts opening : List ℕ) (listed found closing closed : List State) (j : Option ℕ) → IsOpening o ls → HasSteps o ls given steps counts listed closing → opening ≡ opening_fronts o.states → found ≡ listed → closed ≡ closing → IfNone j ((rs : List Reply) (rest : List ℕ) (later : List Processor) → Judges o ls given counts opening found closed rs rest later → ⊥) → IfNone j (HasNoSection o ls given)
 none_told o ls given steps counts opening listed found closing closed None is has pairs f c h = section_has_not o ls given steps counts listed closing is has (λ rs rest later k. h rs rest later (subst (λ (z : List ℕ × List State × List State). Judges o ls given counts z.0 z.1 z.2 rs rest later) (λ i. (sym pairs i, sym f i, sym c i)) k))
 none_told o ls given steps counts opening listed found closing closed (Some n) is has pairs f c h = tt
 

@@ -26,10 +26,11 @@ use Rattle.run_model.proofs.SectionGood.{each_regrouped}
 use Rattle.run_model.proofs.LinesByProcessor.{Cpus, InFileOrder, own_lines, file_lines, file_listed, own_processors}
 use Rattle.receipt_text.specs.declared.mark.Mark.{Mark}
 use Rattle.receipt_text.specs.Receipts.{mark_of}
-use Rattle.history_check.specs.declared.placed.PlacedStep.{PlacedStep}
+use Rattle.history_check.specs.declared.mark_steps.LineStep.{LineStep}
 use Rattle.history_check.specs.ReplyMarks.{marks_in}
 use Rattle.history_check.specs.Replay.{before_each}
-use Rattle.history_check.specs.PlacedSteps.{placed_step, placed_line, FindStates, AreInTable}
+use Rattle.history_check.specs.PlacedSteps.{PlacedStep, placed_step, placed_line, FindStates, AreInTable}
+use Rattle.history_check.specs.OrderedSteps.{numbered, numbered_by}
 use Rattle.history_check.specs.FoundSection.{ArePlain, AreOnProcessors, IsFound, Opening, opening_of, run_with}
 use Rattle.history_check.specs.LineReply.{StandsOn}
 use Rattle.history_check.specs.JudgedLines.{processors_behind, AllStand, AllInOrder, AreReplied}
@@ -102,14 +103,14 @@ stand_marks context closing ps (l ∷ ls) (n ∷ ns) found (r ∷ rs) plain h =
     (record { marks = h.1.marks; few = (shown.line_shows context (processor_at ps l.cpu) l.act r plain.0 h.1.reply.call h.1.reply.access).few }, stand_marks context closing (processors_after ps (record { line = l; reply = r })) ls ns (drop n found) rs plain.1 h.2)
 
 -- ---- steps by marks
-steps_by_marks : (context : AccessContext) (ps : List Processor) (ls : List TraceLine) (rs : List Reply) → ArePlain ls → AreReplies ls rs → InFileOrder (λ p t. IsCallReply context t.line.act t.reply) ps (lines_with_replies ls rs) → InFileOrder (λ p t. IsReplyToAccess context p t.line.act t.reply) ps (lines_with_replies ls rs) → section_steps context ls (map marks_in rs) ≡ map placed_step (receipts_by (lines_with_replies ls rs))
+steps_by_marks : (context : AccessContext) (ps : List Processor) (ls : List TraceLine) (rs : List Reply) → ArePlain ls → AreReplies ls rs → InFileOrder (λ p t. IsCallReply context t.line.act t.reply) ps (lines_with_replies ls rs) → InFileOrder (λ p t. IsReplyToAccess context p t.line.act t.reply) ps (lines_with_replies ls rs) → section_steps ls (map marks_in rs) ≡ map placed_step (receipts_by (lines_with_replies ls rs))
 steps_by_marks context ps [] [] plain kinds call access = refl
 steps_by_marks context ps [] (r ∷ rs) plain kinds call access = absurd kinds
 steps_by_marks context ps (l ∷ ls) [] plain kinds call access = absurd kinds
 steps_by_marks context ps (l ∷ ls) (r ∷ rs) plain kinds call access =
     let t : RepliedLine = record { line = l; reply = r } in
     let ts = lines_with_replies ls rs in
-    let here : placed_line context l.act (marks_in r) ≡ map placed_step (receipts_in r) = sym (shown.line_shows context (processor_at ps l.cpu) l.act r plain.0 call.0 access.0).steps in
+    let here : placed_line l.act (marks_in r) ≡ map placed_step (receipts_in r) = sym (shown.line_shows context (processor_at ps l.cpu) l.act r plain.0 call.0 access.0).steps in
     (λ i. here i ++ steps_by_marks context (processors_after ps t) ls rs plain.1 kinds.1 call.1 access.1 i) ∙ sym (placed_append (receipts_in r) (receipts_by ts))
 
 just_access : (context : AccessContext) (closing : List State) (ps : List Processor) (ts : List RepliedLine) → InFileOrder (IsAccessLine context closing) ps ts → InFileOrder (λ p t. IsReplyToAccess context p t.line.act t.reply) ps ts
@@ -119,11 +120,11 @@ just_access context closing ps (t ∷ ts) h = (h.0.reply, just_access context cl
 -- ---- what the parts tell
 -- The steps that were read, the states that they find, and the replies that stand on these.
 pub record Told (o : Opening) (ls : List TraceLine) (given : List ℕ) (n : ℕ) (closing : List State) (later : List Processor) : Type 0 where
-  pub steps : List PlacedStep
+  pub steps : List LineStep
   pub counts : List ℕ
   pub listed : List State
   pub read : ReadMarks o.context (length o.states) ls given steps counts
-  pub find : FindStates o.states steps listed closing
+  pub find : (xs : List PlacedStep) → map (numbered_by ls) steps ≡ numbered 0 xs → FindStates o.states xs listed closing
   pub replies : List Reply
   pub replied : AreReplied (judged o.context closing ls counts listed) o.processors (λ cpu e. front_at (opening_fronts o.states) e) given replies (drop n given) later
 
@@ -149,8 +150,8 @@ told_section w ls given n closing later plain on h =
     let calls = stand_calls context closing ps ls h.counts h.listed rs stand in
     let accesses = stand_accesses context closing ps ls h.counts h.listed rs stand in
     let shows : ShowMarks context ls given rs (drop n given) = record { kinds = kinds; marks = stand_marks context closing ps ls h.counts h.listed rs plain stand; text = h.replied.text } in
-    let steps : h.steps ≡ map placed_step (receipts_by ts) = h.read.steps ∙ ap (section_steps context ls) (sym (h.read.only rs (drop n given) shows)) ∙ steps_by_marks context ps ls rs plain kinds calls (just_access context closing ps ts accesses) in
-    let found = found_section w ts None h.listed closing cpus (subst (AreInTable (length (states_of w))) steps h.read.in_table) (subst (λ z. FindStates (states_of w) z h.listed closing) steps h.find) (stand_before context closing ps ls h.counts h.listed rs stand) in (
+    let steps : section_steps ls h.read.marks ≡ map placed_step (receipts_by ts) = ap (section_steps ls) (sym (h.read.only rs (drop n given) shows)) ∙ steps_by_marks context ps ls rs plain kinds calls (just_access context closing ps ts accesses) in
+    let found = found_section w ts None h.listed closing cpus (subst (AreInTable (length (states_of w))) steps h.read.in_table) (subst (λ z. FindStates (states_of w) z h.listed closing) steps (h.find (section_steps ls h.read.marks) h.read.numbers)) (stand_before context closing ps ls h.counts h.listed rs stand) in (
       record {
         kinds = kinds;
         good = (
@@ -202,7 +203,7 @@ record Good (w : RunState) (ls : List TraceLine) (given : List ℕ) (rs : List R
   pub calls : InFileOrder (λ p t. IsCallReply (context_of w) t.line.act t.reply) w.processors (lines_with_replies ls rs)
   pub accesses : InFileOrder (IsAccessLine (context_of w) (states_of (section_end w (lines_with_replies ls rs)))) w.processors (lines_with_replies ls rs)
   pub shows : ShowMarks (context_of w) ls given rs rest
-  pub steps : section_steps (context_of w) ls (map marks_in rs) ≡ map placed_step (receipts_by (lines_with_replies ls rs))
+  pub steps : section_steps ls (map marks_in rs) ≡ map placed_step (receipts_by (lines_with_replies ls rs))
 
 good_facts : (w : RunState) (ls : List TraceLine) (given : List ℕ) (rs : List Reply) (rest : List ℕ) → ArePlain ls → AreOnProcessors (length w.processors) ls → length (states_of w) ≤ 2 ^ 18 → LowStates (states_of w) → IsFound w ls None given rs rest → Good w ls given rs rest
 good_facts w ls given rs rest plain on few low h =
@@ -244,15 +245,15 @@ map_length [] = refl
 map_length (r ∷ rs) = ap (λ l. length (marks_in r) ∷ l) (map_length rs)
 
 -- no replies stand
-pub no_replies : (w : RunState) (ls : List TraceLine) (given : List ℕ) (steps : List PlacedStep) (counts : List ℕ) (listed closing : List State) → ArePlain ls → AreOnProcessors (length w.processors) ls → length (states_of w) ≤ 2 ^ 18 → LowStates (states_of w) → ReadMarks (context_of w) (length (states_of w)) ls given steps counts → FindStates (states_of w) steps listed closing → ((rs : List Reply) (rest : List ℕ) (later : List Processor) → AreReplied (judged (context_of w) closing ls counts listed) w.processors (λ cpu e. front_at (opening_fronts (states_of w)) e) given rs rest later → ⊥) → (rs : List Reply) (rest : List ℕ) → IsFound w ls None given rs rest → ⊥
+pub no_replies : (w : RunState) (ls : List TraceLine) (given : List ℕ) (steps : List LineStep) (counts : List ℕ) (listed closing : List State) → ArePlain ls → AreOnProcessors (length w.processors) ls → length (states_of w) ≤ 2 ^ 18 → LowStates (states_of w) → ReadMarks (context_of w) (length (states_of w)) ls given steps counts → ((xs : List PlacedStep) → map (numbered_by ls) steps ≡ numbered 0 xs → FindStates (states_of w) xs listed closing) → ((rs : List Reply) (rest : List ℕ) (later : List Processor) → AreReplied (judged (context_of w) closing ls counts listed) w.processors (λ cpu e. front_at (opening_fronts (states_of w)) e) given rs rest later → ⊥) → (rs : List Reply) (rest : List ℕ) → IsFound w ls None given rs rest → ⊥
 no_replies w ls given steps counts listed closing plain on few low read find none rs rest h =
     let g = good_facts w ls given rs rest plain on few low h in
     let ts = lines_with_replies ls rs in
     let context = context_of w in
     let marks : map marks_in rs ≡ read.marks = read.only rs rest g.shows in
-    let placed : steps ≡ map placed_step (receipts_by ts) = read.steps ∙ ap (section_steps context ls) (sym marks) ∙ g.steps in
+    let placed : section_steps ls read.marks ≡ map placed_step (receipts_by ts) = ap (section_steps ls) (sym marks) ∙ g.steps in
     let counted : counts ≡ map (λ (r : Reply). length (marks_in r)) rs = read.counts ∙ ap (map (λ (ms : List Mark). length ms)) (sym marks) ∙ map_length rs in
-    let found = section_finds w ts None listed closing g.cpus h.good.0 (subst (λ z. FindStates (states_of w) z listed closing) placed find) in
+    let found = section_finds w ts None listed closing g.cpus h.good.0 (subst (λ z. FindStates (states_of w) z listed closing) placed (find (section_steps ls read.marks) read.numbers)) in
     let stand : AllStand context (states_of (section_end w ts)) w.processors ls (map (λ (r : Reply). length (marks_in r)) rs) (before_each (receipts_by ts)) rs = good_stand context (states_of (section_end w ts)) w.processors ls rs h.kinds g.short g.calls g.accesses in
     none rs rest (processors_behind w.processors ts) (record {
       stand = subst (λ (z : List State). AllStand context z w.processors ls counts listed rs) found.1 (subst (λ z. AllStand context (states_of (section_end w ts)) w.processors ls z listed rs) (sym counted) (subst (λ z. AllStand context (states_of (section_end w ts)) w.processors ls (map (λ (r : Reply). length (marks_in r)) rs) z rs) found.0 stand));

@@ -8,6 +8,7 @@ pub mod ReplayLaws
 pub mod FoundSection
 pub mod PlacedSteps
 pub mod OrderedSteps
+pub mod MarkSteps
 pub mod LineReply
 pub mod FrontKeeping
 pub mod JudgedLines

@@ -1,8 +1,9 @@
 -- The reply to one line, by the states that its operations found.
-use Rattle.std.specs.Prelude.{◌≡◌, ◌<◌, ◌≤◌, ℕ, List, length, ◌++◌, drop, IfSome}
+use Rattle.std.specs.Prelude.{◌≡◌, ◌<◌, ◌≤◌, ℕ, List, length, ◌++◌, drop, Some, IfSome}
 use Rattle.std.specs.List.{AllByRecursion}
 use Rattle.entry_model.specs.State.{State}
 use Rattle.entry_model.specs.declared.access_reply.AccessReply.{AccessReply}
+use Rattle.entry_model.specs.declared.access_reply.By.TheVariants.{Hit}
 use Rattle.slb_model.specs.Buffer.{segment_of}
 use Rattle.entry_model.specs.Run.{state_at}
 use Rattle.hpt_walk.specs.Access.{AccessContext, IsAccessReply}
@@ -17,7 +18,7 @@ use Rattle.reply_text.specs.Text.{reply_text}
 use Rattle.run_model.specs.Processors.{gone_line_of}
 use Rattle.run_model.specs.LineReplies.{IsCallReply, IsReplyToAccess}
 use Rattle.receipt_text.specs.Marks.{IsMark}
-use Rattle.history_check.specs.ReplyMarks.{marks_in}
+use Rattle.history_check.specs.ReplyMarks.{marks_in, way_of}
 use Rattle.history_check.specs.Replay.{before_each}
 
 -- It is a reply to an access of this processor.
@@ -43,6 +44,10 @@ pub record IsReplyOn
   where
     pub reply : IsReplyTo context p act r
     pub before : before_each (receipts_in r) ≡ found
+
+-- It is the reply to an access by a cached line.
+abbrev pub IsHitReply : Reply → Type 0
+IsHitReply r = way_of r ≡ Some Hit
 
 -- Its receipts are on the states found and have marks, and the text begins with its text, which has n bytes.
 pub record FitsText

@@ -1,22 +1,63 @@
--- Steps with their numbers, sorted by place, and sorted back.
-use Rattle.std.specs.Prelude.{◌≡◌, ℕ, ◌+◌, List, [], ◌∷◌, map, IsPermutation}
+-- Steps with their numbers, sorted by place, and the states that they find written at their numbers.
+use Rattle.std.specs.Prelude.{◌≡◌, ℕ, ◌+◌, ◌<◌, false, List, [], ◌∷◌, length, map, slice_index_or, slice_set, IsPermutation}
 use Rattle.std.specs.List.Sorted.{IsNonDecreasingBy}
 use Rattle.entry_model.specs.State.{State}
 use Rattle.entry_model.specs.Run.{state_at}
-use Rattle.history_check.specs.declared.placed.PlacedStep.{PlacedStep}
-use Rattle.history_check.specs.declared.ordering.Numbered.{Numbered}
-use Rattle.history_check.specs.declared.ordering.Found.{Found}
+use Rattle.trace_line.specs.declared.line.TraceLine.{TraceLine}
+use Rattle.trace_line.specs.declared.act.Act.{Act}
+use Rattle.trace_line.specs.declared.act.Act.TheVariants.{Call}
+use Rattle.history_check.specs.declared.mark_steps.LineStep.{LineStep}
 use Rattle.history_check.specs.Steps.{after_step, ending_states}
+use Rattle.history_check.specs.PlacedSteps.{PlacedStep, line_op}
+
+-- ---- numbers
+-- A step, and which of the steps it is.
+pub record Numbered : Type 0 where
+  pub index : ℕ
+  pub placed : PlacedStep
 
 -- Each step with its number, counted from the given one.
 abbrev pub numbered : ℕ → List PlacedStep → List Numbered
 numbered i [] = []
 numbered i (x ∷ xs) = record { index = i; placed = x } ∷ numbered (i + 1) xs
 
--- The numbered steps, in an order of their places.
-pub record IsOrder (xs : List PlacedStep) (order : List Numbered) : Type 0 where
-  pub each_once : IsPermutation (numbered 0 xs) order
-  pub ascending : IsNonDecreasingBy (λ (n : Numbered). n.placed.place) order
+-- ---- steps of lines
+-- What lines hold past their end.
+abbrev pub past_lines : TraceLine
+past_lines = record { number = 0; cpu = 0; act = Call 0 [] false }
+
+-- What the line of this number asks.
+abbrev pub act_at : List TraceLine → ℕ → Act
+act_at ls i = (slice_index_or ls i past_lines).act
+
+-- The numbered step that the step of a line is.
+abbrev pub numbered_by : List TraceLine → LineStep → Numbered
+numbered_by ls x = record {
+  index = x.index;
+  placed =
+      record {
+        place = x.place;
+        step =
+            record { entry = x.entry; op = line_op (act_at ls x.line); answer = x.answer };
+      };
+}
+
+-- It is on an entry of a table of this size, of one of so many lines, and one of so many steps.
+pub record IsStepOf (size lines steps : ℕ) (x : LineStep) : Type 0 where
+  pub entry : x.entry < size
+  pub line : x.line < lines
+  pub index : x.index < steps
+
+-- The steps of lines, in an order of their places.
+pub record IsOrder (steps order : List LineStep) : Type 0 where
+  pub each_once : IsPermutation steps order
+  pub ascending : IsNonDecreasingBy (λ (x : LineStep). x.place) order
+
+-- ---- made in an order
+-- A state, and the number of the step that found it.
+pub record Found : Type 0 where
+  pub index : ℕ
+  pub state : State
 
 -- The state that each step finds, made in this order, with the step's number.
 abbrev pub found_in_order : List State → List Numbered → List Found
@@ -29,9 +70,13 @@ found_in_order a (n ∷ ns) =
 abbrev pub ending_in_order : List State → List Numbered → List State
 ending_in_order a ns = ending_states a (map (λ (n : Numbered). n.placed.step) ns)
 
--- The states found, in the order of their numbers.
-pub record AreListed (found : List Found) (listed : List State) : Type 0 where
-  pub sorted : List Found
-  pub each_once : IsPermutation found sorted
-  pub ascending : IsNonDecreasingBy (λ (f : Found). f.index) sorted
-  pub states : listed ≡ map (λ (f : Found). f.state) sorted
+-- A list with each state written at its number.
+abbrev pub with_written : List State → List Found → List State
+with_written states [] = states
+with_written states (f ∷ fs) = with_written (slice_set states f.index f.state) fs
+
+-- A list of so many states, each of which was written at its number.
+pub record AreWritten (count : ℕ) (found : List Found) (states : List State) : Type 0 where
+  pub first : List State
+  pub size : length first ≡ count
+  pub written : states ≡ with_written first found

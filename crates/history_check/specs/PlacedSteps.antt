@@ -1,5 +1,5 @@
 -- Steps with their places: the states that they find when they are made in the order of their places.
-use Rattle.std.specs.Prelude.{◌≡◌, ℕ, ◌<◌, false, List, [], ◌∷◌, length, map, IsPermutation}
+use Rattle.std.specs.Prelude.{◌≡◌, ℕ, ◌<◌, false, List, [], ◌∷◌, length, map, slice_index, IsPermutation, Option, Some, None}
 use Rattle.std.specs.List.{AllByRecursion}
 use Rattle.std.specs.List.Sorted.{IsNonDecreasingBy}
 use Rattle.entry_model.specs.State.{State}
@@ -8,46 +8,64 @@ use Rattle.entry_model.specs.declared.operation.Op.TheVariants as ops
 use Rattle.entry_model.specs.declared.receipt.Receipt.{Receipt}
 use Rattle.entry_model.specs.History.{place}
 use Rattle.hpt_walk.specs.Access.{AccessContext}
+use Rattle.hpte_fields.specs.Fields.{normal_words}
 use Rattle.papr_codes.specs.Hcalls.{hcall_of}
+use Rattle.papr_codes.specs.declared.calls.Hcall.{Hcall}
+use Rattle.papr_codes.specs.declared.calls.Hcall.TheVariants as calls
 use Rattle.trace_line.specs.declared.act.Act.{Act}
 use Rattle.trace_line.specs.declared.act.Act.TheVariants as acts
 use Rattle.run_model.specs.LineReplies.{hcall_plan}
 use Rattle.receipt_text.specs.declared.mark.Mark.{Mark}
-use Rattle.history_check.specs.declared.placed.PlacedStep.{PlacedStep}
-use Rattle.history_check.specs.Steps.{step_op, step_of, place_by, ops_of, found_states, ending_states}
+use Rattle.history_check.specs.Steps.{Step, no_test, step_of, is_store_access, place_by, ops_of, found_states, ending_states}
 
--- ---- from receipts, and from what their text shows
--- A receipt's step and place.
-abbrev pub placed_step : Receipt → PlacedStep
-placed_step r = record { place = place r; step = step_of r }
-
--- The step of a receipt with this mark, of this operation, and its place.
-abbrev pub placed_mark : Mark → Op → PlacedStep
-placed_mark m op = record {
-  place = place_by m (step_op op);
-  step = record { entry = m.entry; op = step_op op; answer = m.answer };
-}
-
--- The steps of marks and these operations, in turn; further marks are of one operation.
-abbrev pub placed_marks : Op → List Op → List Mark → List PlacedStep
-placed_marks further os [] = []
-placed_marks further [] (m ∷ ms) = placed_mark m further ∷ placed_marks further [] ms
-placed_marks further (o ∷ os) (m ∷ ms) = placed_mark m o ∷ placed_marks further os ms
-
+-- ---- operations of lines
 -- The operations that a line names one by one: those of a hypervisor call.
 abbrev pub named_ops : AccessContext → Act → List Op
 named_ops context (acts.Call number args spelt) =
     ops_of (hcall_plan context (hcall_of number) args).calls
 named_ops context other = []
 
--- The operation of all others: an access makes one, on one entry after the other.
-abbrev pub further_op : Act → Op
-further_op (acts.Access want ea user) = ops.Access 0 0 false false want
-further_op other = ops.Read
+-- What is kept of each operation that enters these words.
+abbrev pub enter_op : Option (ℕ × ℕ) → Op
+enter_op None = ops.Read
+enter_op (Some w) = ops.Enter w.0 w.1
+
+-- What is kept of each operation of a hypervisor call with these arguments.
+abbrev pub call_op : Hcall → List ℕ → Op
+call_op calls.Enter args = enter_op (normal_words (slice_index args 2) (slice_index args 3))
+call_op calls.Remove args = ops.Remove no_test
+call_op calls.Protect args = ops.Protect no_test (slice_index args 0)
+call_op calls.ClearRef args = ops.ClearRef
+call_op calls.ClearMod args = ops.ClearMod
+call_op calls.BulkRemove args = ops.Remove no_test
+call_op other args = ops.Read
+
+-- What is kept of each operation of a line: in that they are alike.
+abbrev pub line_op : Act → Op
+line_op (acts.Call number args spelt) = call_op (hcall_of number) args
+line_op (acts.Access want ea user) = ops.Access 0 0 false false want
+line_op other = ops.Read
+
+-- ---- from receipts, and from what their text shows
+-- A step, and its place in its entry's history.
+pub record PlacedStep : Type 0 where
+  pub place : ℕ
+  pub step : Step
+
+-- A receipt's step and place.
+abbrev pub placed_step : Receipt → PlacedStep
+placed_step r = record { place = place r; step = step_of r }
+
+-- The step of a receipt with this mark, where this is kept of its operation, and its place.
+abbrev pub placed_mark : Op → Mark → PlacedStep
+placed_mark op m = record {
+  place = place_by m (is_store_access op);
+  step = record { entry = m.entry; op = op; answer = m.answer };
+}
 
 -- The steps of a line whose reply shows these marks.
-abbrev pub placed_line : AccessContext → Act → List Mark → List PlacedStep
-placed_line context act ms = placed_marks (further_op act) (named_ops context act) ms
+abbrev pub placed_line : Act → List Mark → List PlacedStep
+placed_line act ms = map (placed_mark (line_op act)) ms
 
 -- ---- in the order of places
 -- A step, and the state that it found.

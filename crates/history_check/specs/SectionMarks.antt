@@ -7,17 +7,17 @@ use Rattle.trace_reply.specs.declared.reply.Reply.{Reply}
 use Rattle.trace_reply.specs.Replies.{RepliedLine, AreReplies, lines_with_replies}
 use Rattle.receipt_text.specs.declared.mark.Mark.{Mark}
 use Rattle.receipt_text.specs.Marks.{IsMark}
-use Rattle.history_check.specs.declared.placed.PlacedStep.{PlacedStep}
+use Rattle.history_check.specs.declared.mark_steps.LineStep.{LineStep}
 use Rattle.history_check.specs.FoundSection.{lines_text}
-use Rattle.history_check.specs.PlacedSteps.{AreInTable, named_ops, placed_line}
+use Rattle.history_check.specs.OrderedSteps.{IsStepOf, numbered, numbered_by}
+use Rattle.history_check.specs.PlacedSteps.{PlacedStep, AreInTable, named_ops, placed_line}
 use Rattle.history_check.specs.ReplyMarks.{marks_in}
 
 -- The steps of lines whose replies show these marks, one line after the other.
-abbrev pub section_steps : AccessContext → List TraceLine → List (List Mark) → List PlacedStep
-section_steps context [] mss = []
-section_steps context (l ∷ ls) [] = []
-section_steps context (l ∷ ls) (ms ∷ mss) =
-    placed_line context l.act ms ++ section_steps context ls mss
+abbrev pub section_steps : List TraceLine → List (List Mark) → List PlacedStep
+section_steps [] mss = []
+section_steps (l ∷ ls) [] = []
+section_steps (l ∷ ls) (ms ∷ mss) = placed_line l.act ms ++ section_steps ls mss
 
 -- The reply's marks are in their ranges, and no more than its line's operations: an access has sixteen.
 pub record HasItsMarks (context : AccessContext) (t : RepliedLine) : Type 0 where
@@ -50,15 +50,16 @@ pub record ReadMarks
     (size : ℕ)
     (ls : List TraceLine)
     (given : List ℕ)
-    (placed : List PlacedStep)
+    (steps : List LineStep)
     (counted : List ℕ)
     : Type 0
   where
     pub marks : List (List Mark)
     pub each : length marks ≡ length ls
-    pub steps : placed ≡ section_steps context ls marks
+    pub numbers : map (numbered_by ls) steps ≡ numbered 0 (section_steps ls marks)
+    pub within : AllByRecursion (IsStepOf size (length ls) (length steps)) steps
     pub counts : counted ≡ map length marks
-    pub in_table : AreInTable size placed
+    pub in_table : AreInTable size (section_steps ls marks)
     pub only :
         (rs : List Reply) (rest : List ℕ)
         → ShowMarks context ls given rs rest

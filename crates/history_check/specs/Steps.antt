@@ -1,9 +1,10 @@
 -- Receipts without their states before: what they make of states that nobody else changes.
-use Rattle.std.specs.Prelude.{ℕ, ◌+◌, ◌*◌, ◌==◌, ◌&&◌, ◌||◌, List, [], ◌∷◌, map, Bool, true, false, if◌then◌else◌, nat_le, slice_set}
+use Rattle.std.specs.Prelude.{ℕ, ◌+◌, ◌*◌, ◌==◌, ◌&&◌, ◌||◌, List, [], ◌∷◌, map, Bool, true, false, None, if◌then◌else◌, nat_le, slice_set}
 use Rattle.basics.specs.Words.{bool_eq}
 use Rattle.entry_model.specs.State.{State}
 use Rattle.entry_model.specs.declared.operation.Op.{Op}
-use Rattle.entry_model.specs.declared.operation.Op.TheVariants.{Access}
+use Rattle.entry_model.specs.declared.operation.Op.TheVariants.{Access, Remove, Protect}
+use Rattle.entry_model.specs.declared.operation.Test.{Test}
 use Rattle.entry_model.specs.declared.operation.Answer.{Answer}
 use Rattle.entry_model.specs.declared.operation.Answer.TheVariants.{Entered, Removed, Protected, Was}
 use Rattle.entry_model.specs.declared.receipt.Receipt.{Receipt}
@@ -12,22 +13,41 @@ use Rattle.entry_model.specs.Reply.{reply_of, touched_state, is_store}
 use Rattle.entry_model.specs.Run.{state_at}
 use Rattle.entry_model.specs.Trial.{Call}
 use Rattle.receipt_text.specs.declared.mark.Mark.{Mark}
-use Rattle.history_check.specs.declared.steps.Step.{Step}
 
 -- ---- operations of steps
--- Of an access no more is kept than what it wants: by which segment and which entry it was made isn't known before the processor's lines are run.
+-- Every entry passes that is valid.
+abbrev pub no_test : Test
+no_test = record { avpn = None; andcond = None }
+
+-- What is kept of an operation. No test, since the answer says whether the entry passed. Of an access what it wants: by which segment and which entry it was made isn't known before the processor's lines are run.
 abbrev pub step_op : Op → Op
 step_op (Access tag base key no_execute want) = Access 0 0 false false want
+step_op (Remove test) = Remove no_test
+step_op (Protect test flags) = Protect no_test flags
 step_op other = other
 
--- The state after, where this was the answer. An access that was allowed was on a valid state, and sets R, and a store C; any other changes nothing.
+-- The answer says that the stamp was raised.
+abbrev pub raises_stamp : Answer → Bool
+raises_stamp Entered = true
+raises_stamp Removed = true
+raises_stamp Protected = true
+raises_stamp Was = true
+raises_stamp other = false
+
+-- The state after, where this was the answer. An access that was allowed was on a valid state, and sets R, and a store C; any other operation made its change if the answer says that the stamp was raised.
 unfoldable pub next_by : Op → Answer → State → State
 next_by (Access tag base key no_execute want) answer s =
     if is_at answer && s.valid then touched_state s want else s
-next_by other answer s = (reply_of s other).1
+next_by other answer s = if raises_stamp answer then (reply_of s other).1 else s
 
 -- ---- steps
 -- A receipt without its state before.
+pub record Step : Type 0 where
+  pub entry : ℕ
+  pub op : Op
+  pub answer : Answer
+
+-- That of a receipt.
 abbrev pub step_of : Receipt → Step
 step_of r = record { entry = r.entry; op = step_op r.op; answer = r.answer }
 
@@ -46,27 +66,19 @@ ending_states a [] = a
 ending_states a (x ∷ xs) = ending_states (after_step a x) xs
 
 -- ---- places
--- The answer says that the stamp was raised.
-abbrev pub raises_stamp : Answer → Bool
-raises_stamp Entered = true
-raises_stamp Removed = true
-raises_stamp Protected = true
-raises_stamp Was = true
-raises_stamp other = false
-
 -- The operation is a store of a processor.
 abbrev pub is_store_access : Op → Bool
 is_store_access (Access tag base key no_execute want) = is_store want
 is_store_access other = false
 
--- Nothing was changed, as the answer and R and C before tell.
-abbrev pub is_unchanged : Op → Answer → Bool → Bool → Bool
-is_unchanged op answer r c =
+-- Nothing was changed by an operation, a store of a processor or none, as the answer and R and C before tell.
+abbrev pub is_unchanged : Bool → Answer → Bool → Bool → Bool
+is_unchanged store answer r c =
     if raises_stamp answer
     then false
     else
     if is_at answer
-    then bool_eq true r && bool_eq (c || is_store_access op) c
+    then bool_eq true r && bool_eq (c || store) c
     else true
 
 -- How many of R and C the digit has.
@@ -74,11 +86,11 @@ abbrev pub bit_count : ℕ → ℕ
 bit_count digit =
     (if nat_le 2 digit then 1 else 0) + (if (digit == 1) || (digit == 3) then 1 else 0)
 
--- The place of a receipt with this mark and this operation of a step.
-unfoldable pub place_by : Mark → Op → ℕ
-place_by m op =
+-- The place of a receipt with this mark, of an operation that is a store of a processor or none.
+unfoldable pub place_by : Mark → Bool → ℕ
+place_by m store =
     (m.stamp * 4 + bit_count m.bits) * 2
-    + (if is_unchanged op m.answer (nat_le 2 m.bits) ((m.bits == 1) || (m.bits == 3))
+    + (if is_unchanged store m.answer (nat_le 2 m.bits) ((m.bits == 1) || (m.bits == 3))
     then 0
     else 1)
 

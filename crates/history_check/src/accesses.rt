@@ -1,7 +1,8 @@
-ghost use Rattle.std.specs.Prelude.{◌≡◌, ◌≤◌, List, Some, IfSome, IfNone};
+ghost use Rattle.std.specs.Prelude.{◌≡◌, ◌≤◌, length, List, Some, IfSome, IfNone};
 ghost use Rattle.entry_model.specs.declared.receipt.Receipt.{Receipt};
 ghost use Rattle.entry_model.specs.Receipt.{is_no_match, found_of};
 ghost use Rattle.entry_model.specs.Reply.{access_mode};
+ghost use Rattle.entry_model.specs.Replies.{access_reply_with};
 ghost use Rattle.entry_model.specs.Trial.{IsTrial};
 ghost use Rattle.hpt_walk.specs.Walk.{walk_calls};
 ghost use Rattle.history_check.specs.Replay.{before_each};
@@ -12,16 +13,17 @@ ghost use Rattle.history_check.specs.Hits.{IsHitBy};
 
 use crate::context::Context;
 use crate::replay::Replay;
-use entry_model::{AccessReply, Answer, By, EntryState, Line, Op, Receipt, Receipts, reply};
-use hpt_walk::{Request, WalkAnswer, walk};
+use entry_model::{AccessEnd, Answer, By, EntryState, Line, Op, Receipt, Receipts, reply};
+use hpt_walk::{Request, walk_into};
 use hpte_fields::secondary;
 use power_addr::Page;
 use slb_model::Segment;
 use storage_prot::Want;
 use vcpu::{key, operation, outcome, outcome_at};
 
-/// The walk of a page whose operations found these states, one after the other, on a table of
-/// `2^order` bytes. There is no other.
+/// The receipt that the walk of a page gives back, whose operations found these states, one after
+/// the other, on a table of `2^order` bytes. Its receipts take the place of what is in `receipts`.
+/// There is no other such walk.
 pub fn walk_on(
     states: &[EntryState],
     order: u8,
@@ -29,21 +31,24 @@ pub fn walk_on(
     want: Want,
     key: bool,
     no_execute: bool,
-) -> WalkAnswer
+    receipts: &mut Receipts,
+) -> Option<Receipt>
     requires low { 18 ≤ order }
     requires high { order ≤ 22 }
     ensures trial { IsTrial
         is_no_match
         (walk_calls order page.now (access_mode key no_execute want))
-        result.receipts }
-    ensures found { result.found ≡ found_of result.receipts }
+        receipts.new }
+    ensures found { result ≡ found_of receipts.new }
+    ensures before { length receipts.new ≡ length states.now
+        → before_each receipts.new ≡ states.now }
     ensures only { (rs : List Receipt)
         → IsTrial is_no_match (walk_calls order page.now (access_mode key no_execute want)) rs
         → before_each rs ≡ states.now
-        → result.receipts ≡ rs }
+        → receipts.new ≡ rs }
 {
     let mut store = Replay::new(states, order);
-    walk(&mut store, page, want, key, no_execute)
+    walk_into(&mut store, page, want, key, no_execute, receipts)
 }
 
 fn is_current(line: &Line, state: &EntryState) -> bool
@@ -76,25 +81,28 @@ pub fn hit_on(state: &EntryState, line: &Line, op: Op) -> Option<Receipt>
     }
 }
 
-/// The reply to an access by the line of its page that is cached, by an operation that found these
-/// states. `None` where there is none.
-pub fn hit_reply(
+/// How an access by the line of its page that is cached ends, by an operation that found these
+/// states. Its receipt takes the place of what is in `receipts`. `None` where there is no such
+/// reply.
+pub fn hit_end(
     context: &Context,
     segment: &Segment,
     request: &Request,
     line: &Line,
     found: &[EntryState],
-) -> Option<AccessReply>
+    receipts: &mut Receipts,
+) -> Option<AccessEnd>
     ensures some { IfSome
         result
-        (λ r.
-        (r.by ≡ Some Hit)
-        × IsHit context.now segment.now request.now line.now r
+        (λ end.
+        (end.by ≡ Some Hit)
+        × (before_each receipts.new ≡ found.now)
+        × IsHit context.now segment.now request.now line.now (access_reply_with end receipts.new)
         × ((q : AccessReply)
         → q.by ≡ Some Hit
         → IsHit context.now segment.now request.now line.now q
         → before_each q.receipts ≡ found.now
-        → r ≡ q)) }
+        → access_reply_with end receipts.new ≡ q)) }
     ensures none { IfNone
         result
         ((q : AccessReply)
@@ -108,30 +116,37 @@ pub fn hit_reply(
     let op = operation(segment, request, secondary(line.dword0));
     let receipt = hit_on(&found[0], line, op)?;
     let outcome = outcome_at(context.grants, request.ea, &receipt);
-    let mut receipts = Receipts::new();
+    receipts.clear();
     receipts.push(receipt);
-    Some(AccessReply {
+    Some(AccessEnd {
         outcome,
         by: Some(By::Hit),
-        receipts,
     })
 }
 
-/// The reply to an access by a walk, by operations that found these states, one after the other.
+/// How an access by a walk ends, by operations that found these states, one after the other. Its
+/// receipts take the place of what is in `receipts`.
 #[tactic(auto, unfolding(hpt_walk::specs::Access::outcome_of))]
-pub fn walk_reply(
+pub fn walk_end(
     context: &Context,
     segment: &Segment,
     request: &Request,
     found: &[EntryState],
-) -> AccessReply
+    receipts: &mut Receipts,
+) -> AccessEnd
     ensures by { result.by ≡ Some Walk }
-    ensures walk { IsWalk context.now segment.now request.now result }
+    ensures walk { IsWalk
+        context.now
+        segment.now
+        request.now
+        (access_reply_with result receipts.new) }
+    ensures before { length receipts.new ≡ length found.now
+        → before_each receipts.new ≡ found.now }
     ensures only { (q : AccessReply)
         → q.by ≡ Some Walk
         → IsWalk context.now segment.now request.now q
         → before_each q.receipts ≡ found.now
-        → result ≡ q }
+        → access_reply_with result receipts.new ≡ q }
 {
     let walked = walk_on(
         found,
@@ -140,11 +155,11 @@ pub fn walk_reply(
         request.want,
         key(segment, request.user),
         segment.no_execute,
+        receipts,
     );
-    let outcome = outcome(context.grants, request.ea, &walked.found);
-    AccessReply {
+    let outcome = outcome(context.grants, request.ea, &walked);
+    AccessEnd {
         outcome,
         by: Some(By::Walk),
-        receipts: walked.receipts,
     }
 }

@@ -1,7 +1,7 @@
-ghost use Rattle.std.specs.Prelude.{◌≡◌, ◌≤◌, ◌++◌, true, false, drop, length, map, List, ℕ, IfOk, IfSome, IfNone};
+ghost use Rattle.std.specs.Prelude.{◌≡◌, ◌≤◌, ◌++◌, drop, length, map, List, ℕ, IfOk, IfSome, IfNone};
 ghost use Rattle.std.specs.List.{AllByRecursion};
-ghost use Rattle.entry_model.specs.History.{state_eq};
 ghost use Rattle.trace_reply.specs.Replies.{receipts_in};
+ghost use Rattle.trace_reply.specs.Places.{reply_in};
 ghost use Rattle.reply_text.specs.Text.{reply_text};
 ghost use Rattle.receipt_text.specs.Marks.{IsMark};
 ghost use Rattle.receipt_text.specs.Receipts.{mark_of};
@@ -9,23 +9,10 @@ ghost use Rattle.history_check.specs.Replay.{before_each};
 ghost use Rattle.history_check.specs.LineReply.{FitsText};
 
 use entry_model::{EntryState, Receipt};
-use reply_text::put_reply;
+use reply_text::put_place;
 use std::alloc::AllocError;
 use trace_line::TraceLine;
-use trace_reply::Reply;
-
-/// Whether the two states have the same parts.
-#[tactic(auto, unfolding(entry_model::specs::History::state_eq))]
-fn is_same(one: &EntryState, other: &EntryState) -> bool
-    ensures { result ≡ state_eq one.now other.now }
-{
-    one.valid == other.valid
-        && one.dword0 == other.dword0
-        && one.dword1 == other.dword1
-        && one.referenced == other.referenced
-        && one.changed == other.changed
-        && one.stamp == other.stamp
-}
+use trace_reply::{ReplyEnd, ReplyPlace};
 
 /// Tells that entry and stamp of a receipt fit into a mark, and does nothing else.
 fn has_mark(receipt: &Receipt)
@@ -35,34 +22,22 @@ fn has_mark(receipt: &Receipt)
     let _stamp = receipt.before.stamp;
 }
 
-/// Whether the receipts are on these states, one after the other.
-fn are_on(receipts: &[Receipt], found: &[EntryState]) -> bool
-    ensures yes { result ≡ true
-        → (before_each receipts.now ≡ found.now)
-        × AllByRecursion IsMark (map mark_of receipts.now) }
-    ensures no { result ≡ false → before_each receipts.now ≡ found.now → ⊥ }
+/// Tells the same of each of the receipts, and does nothing else.
+fn have_marks(receipts: &[Receipt])
+    ensures { AllByRecursion IsMark (map mark_of receipts.now) }
 {
-    if receipts.len() != found.len() {
-        return false;
-    }
-    for i in 0..receipts.len() {
-        let receipt = &receipts[i];
+    for receipt in receipts {
         has_mark(receipt);
-        if !is_same(&receipt.before, &found[i]) {
-            return false;
-        }
     }
-    true
 }
 
-/// The receipts of a reply.
-pub fn receipts_of(reply: &Reply) -> &[Receipt]
-    ensures { result.now ≡ receipts_in reply.now }
+/// The receipts of the reply that has the place.
+pub fn receipts_of(place: &ReplyPlace) -> &[Receipt]
+    ensures { result.now ≡ receipts_in (reply_in place.now) }
 {
-    match reply {
-        Reply::Hcall(reply) => reply.receipts.as_slice(),
-        Reply::Access(reply) => reply.receipts.as_slice(),
-        Reply::Segment(_) | Reply::Dump(_) => &[],
+    match &place.end {
+        ReplyEnd::Hcall(_) | ReplyEnd::Access(_) => place.receipts.as_slice(),
+        ReplyEnd::Segment(_) | ReplyEnd::Dump(_) => &[],
     }
 }
 
@@ -79,36 +54,36 @@ fn begins_with(given: &[u8], text: &[u8]) -> Option<usize>
     }
 }
 
-/// The reply, and how many bytes its text has, if its receipts are on these states, and the given
-/// text begins with its text. `out` is room to write in.
+/// How many bytes the text of the reply that has the place has, if it has as many receipts as these
+/// states, and the given text begins with its text. `out` is room to write in.
 pub fn fitting(
     out: &mut String,
     line: &TraceLine,
-    reply: Reply,
+    place: &ReplyPlace,
     found: &[EntryState],
     given: &[u8],
-) -> Result<Option<(Reply, usize)>, AllocError>
+) -> Result<Option<usize>, AllocError>
+    requires { length (receipts_in (reply_in place.now)) ≡ length found.now
+        → before_each (receipts_in (reply_in place.now)) ≡ found.now }
     ensures some { IfOk
         result
-        (λ o.
-        IfSome o (λ x. (x.0 ≡ reply) × FitsText line.now found.now given.now reply x.1)) }
+        (λ o. IfSome o (FitsText line.now found.now given.now (reply_in place.now))) }
     ensures none { IfOk
         result
         (λ o.
         IfNone
         o
         ((rest : List ℕ)
-        → before_each (receipts_in reply) ≡ found.now
-        → given.now ≡ reply_text line.now reply ++ rest
+        → before_each (receipts_in (reply_in place.now)) ≡ found.now
+        → given.now ≡ reply_text line.now (reply_in place.now) ++ rest
         → ⊥)) }
 {
-    if !are_on(receipts_of(&reply), found) {
+    let receipts = receipts_of(place);
+    if receipts.len() != found.len() {
         return Ok(None);
     }
+    have_marks(receipts);
     out.clear();
-    put_reply(out, line, &reply)?;
-    match begins_with(given, out.as_bytes()) {
-        Some(count) => Ok(Some((reply, count))),
-        None => Ok(None),
-    }
+    put_place(out, line, place)?;
+    Ok(begins_with(given, out.as_bytes()))
 }

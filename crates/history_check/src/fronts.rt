@@ -1,17 +1,54 @@
-ghost use Rattle.std.specs.Prelude.{◌≡◌, ◌<◌, ◌^◌, ◌++◌, true, false, map, List, [], ◌∷◌, IfOk, OnOk};
+ghost use Rattle.std.specs.Prelude.{◌≡◌, ℕ, ◌<◌, ◌^◌, ◌++◌, true, false, map, List, [], ◌∷◌, IfOk, OnOk};
 ghost use Rattle.entry_model.specs.declared.receipt.Receipt.{Receipt};
+ghost use Rattle.entry_model.specs.Receipt.{after_of};
 ghost use Rattle.entry_model.specs.History as history;
 ghost use Rattle.entry_model.specs.Fronts as entry_fronts;
 ghost use Rattle.run_model.specs.Histories.{Event, made, gone, gone_events};
-ghost use Rattle.history_check.specs.FrontKeeping.{front_of, SetsFront, LeadsTo, LeadsNowhere};
+ghost use Rattle.entry_model.specs.Fronts.{front_at};
+ghost use Rattle.history_check.specs.FrontKeeping.{kept_front, front_of, SetsKept, SetsFront, LeadsTo, LeadsNowhere};
 
+use crate::steps::may_change;
 use entry_model::{EntryState, Line, Receipt};
-use std::alloc::AllocError;
+use std::alloc::{AllocError, Global};
 use std::collections::HashMap;
 
-/// The fronts of one processor: of each entry that it has seen in a section, the pair of stamp and
-/// number of bits that it has come to.
-pub type Fronts = HashMap<u32, u64>;
+/// The fronts of one processor: of each entry, the pair of stamp and number of bits that it has come
+/// to in a section.
+#[derive(Drop)]
+pub struct Fronts {
+    /// Those of all entries, or of none where that takes too much room.
+    list: Vec<u64>,
+    /// Where they aren't listed, those of the entries that it has seen.
+    kept: HashMap<u32, u64>,
+}
+
+fn list_of(alloc: Global, opening: &[u64]) -> Result<Vec<u64>, AllocError>
+    ensures { IfOk result (λ list. list.items ≡ opening.now) }
+{
+    opening.to_vec(alloc)
+}
+
+impl Fronts {
+    /// Fronts that haven't left the states on which a section opened, which have these pairs. They
+    /// are listed if they are no more than `most`.
+    pub fn new(alloc: Global, opening: &[u64], most: usize) -> Result<Fronts, AllocError>
+        ensures { IfOk
+            result
+            (λ fronts. (e : ℕ) → front_of fronts opening.now e ≡ front_at opening.now e) }
+    {
+        if opening.len() > most {
+            return Ok(Fronts {
+                list: Vec::new(alloc),
+                kept: HashMap::new(alloc),
+            });
+        }
+        let list = list_of(alloc, opening)?;
+        Ok(Fronts {
+            list,
+            kept: HashMap::new(alloc),
+        })
+    }
+}
 
 /// Stamp and number of bits, as one number that compares as the two do from the left.
 #[tactic(auto, unfolding(entry_model::specs::History::pair_of))]
@@ -36,21 +73,55 @@ fn pair_beyond(line: &Line) -> u64
     (u64::from(stamp) + 1) * 4
 }
 
-/// The front of an entry. `opening` has the pairs of the states on which the section opened.
-fn front_of(fronts: &Fronts, opening: &[u64], entry: u32) -> u64
-    ensures { result ≡ front_of fronts.now opening.now entry }
+/// The front of an entry, if it was kept, or else that of the state on which the section opened.
+fn kept_front(kept: &HashMap<u32, u64>, opening: &[u64], entry: u32) -> u64
+    ensures { result ≡ kept_front kept.now opening.now entry }
 {
-    match fronts.get(&entry) {
+    match kept.get(&entry) {
         Some(front) => *front,
         None => opening.get(entry as usize).copied().unwrap_or(0),
     }
 }
 
+fn keep_front(kept: &mut HashMap<u32, u64>, entry: u32, front: u64) -> Result<(), AllocError>
+    ensures { OnOk result (SetsKept kept.old kept.new entry front) }
+{
+    kept.insert(entry, front)?;
+    Ok(())
+}
+
+/// The front of an entry. `opening` has the pairs of the states on which the section opened.
+fn front_of(fronts: &Fronts, opening: &[u64], entry: u32) -> u64
+    ensures { result ≡ front_of fronts.now opening.now entry }
+{
+    let place = entry as usize;
+    if place < fronts.list.len() {
+        return fronts.list[place];
+    }
+    kept_front(&fronts.kept, opening, entry)
+}
+
 fn set_front(fronts: &mut Fronts, entry: u32, front: u64) -> Result<(), AllocError>
     ensures { OnOk result (SetsFront fronts.old fronts.new entry front) }
 {
-    fronts.insert(entry, front)?;
+    let place = entry as usize;
+    if place < fronts.list.len() {
+        fronts.list[place] = front;
+        return Ok(());
+    }
+    keep_front(&mut fronts.kept, entry, front)?;
     Ok(())
+}
+
+/// The pair of the state after a receipt.
+fn pair_after(receipt: &Receipt) -> u64
+    ensures { result ≡ history.pair_of (after_of receipt.now) }
+{
+    if may_change(receipt.answer) {
+        pair_of(&receipt.after())
+    } else {
+        pair_of(&receipt.before)
+    }
 }
 
 /// A cached line was found gone: the front of its entry is raised.
@@ -98,10 +169,15 @@ fn keep_receipt(fronts: &mut Fronts, opening: &[u64], receipt: &Receipt) -> Resu
         → (later : List Event)
         → LeadsNowhere (front_of fronts.old opening.now) (made receipt.now ∷ later)) }
 {
-    if front_of(fronts, opening, receipt.entry) > pair_of(&receipt.before) {
+    let front = front_of(fronts, opening, receipt.entry);
+    if front > pair_of(&receipt.before) {
         return Ok(false);
     }
-    set_front(fronts, receipt.entry, pair_of(&receipt.after()))?;
+    let after = pair_after(receipt);
+    if after == front {
+        return Ok(true);
+    }
+    set_front(fronts, receipt.entry, after)?;
     Ok(true)
 }
 

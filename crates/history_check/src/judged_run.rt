@@ -83,6 +83,7 @@ impl JudgedRun {
     ) -> Result<Option<usize>, AllocError>
         requires plain { ArePlain lines.now }
         requires cpus { AreOnProcessors (length self.old.processors) lines.now }
+        requires few { length lines.now ≤ 2 ^ 17 }
         ensures within { IfOk result (λ found. IfSome found (λ count. count ≤ length text.now)) }
         ensures some { IfOk
             result

@@ -16,6 +16,7 @@ use crate::processor::Processor;
 use entry_model::{EntryState, Line};
 use std::alloc::AllocError;
 use trace_line::TraceLine;
+use trace_reply::ReplyPlace;
 
 /// Whether the entry of a cached line that was gone, if there was one, has left the line's stamp in
 /// these states.
@@ -38,7 +39,7 @@ fn has_left(closing: &[EntryState], gone: &Option<Line>) -> bool
 /// Judges a line that isn't quiet by the states that its operations found, on a section that opened
 /// on states with these pairs and closes on these states. Gives how many bytes of the given text
 /// its reply has, and leaves its processor and the processor's fronts as they are behind it. `None`
-/// where no reply stands. `out` is room to write in.
+/// where no reply stands. `out` is room to write in, and `place` for the reply.
 pub fn judge_line(
     context: &Context,
     opening: &[u64],
@@ -49,6 +50,7 @@ pub fn judge_line(
     found: &[EntryState],
     given: &[u8],
     out: &mut String,
+    place: &mut ReplyPlace,
 ) -> Result<Option<usize>, AllocError>
     requires { is_quiet line.now.act ≡ false }
     ensures some { IfOk
@@ -85,16 +87,16 @@ pub fn judge_line(
         (events_in processor.old (record { line = line.now; reply = r }) ++ later))
         → ⊥)) }
 {
-    let Some((reply, count)) = line_reply(context, processor, line, found, given, out)? else {
+    let Some(count) = line_reply(context, processor, line, found, given, out, place)? else {
         return Ok(None);
     };
-    let gone = processor.gone_line(&line.act, &reply);
+    let gone = processor.gone_line(&line.act, place);
     if !has_left(closing, &gone) {
         return Ok(None);
     }
-    if !keep_fronts(fronts, opening, &gone, receipts_of(&reply))? {
+    if !keep_fronts(fronts, opening, &gone, receipts_of(place))? {
         return Ok(None);
     }
-    processor.after(&line.act, &reply);
+    processor.after(&line.act, place);
     Ok(Some(count))
 }

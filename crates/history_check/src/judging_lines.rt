@@ -12,21 +12,25 @@ use crate::judging::judge_line;
 use crate::processor::Processor;
 use entry_model::EntryState;
 use std::alloc::{AllocError, Global};
-use std::collections::HashMap;
 use trace_line::TraceLine;
+use trace_reply::ReplyPlace;
 
-/// So many processors' fronts, none of which has left the states on which a section opened.
-fn opening_fronts(alloc: Global, count: usize) -> Result<Vec<Fronts>, AllocError>
+/// How many fronts of all processors may be listed, in 2 MB.
+const MOST_LISTED: usize = 0x4_0000;
+
+/// So many processors' fronts, none of which has left the states on which a section opened, which
+/// have these pairs.
+fn opening_fronts(alloc: Global, opening: &[u64], count: usize) -> Result<Vec<Fronts>, AllocError>
     ensures size { IfOk result (λ fronts. length fronts.items ≡ count) }
     ensures fronts { IfOk
         result
         (λ fronts.
-        (opening : List ℕ) (cpu e : ℕ)
-        → fronts_of fronts.items opening cpu e ≡ front_at opening e) }
+        (cpu e : ℕ) → fronts_of fronts.items opening.now cpu e ≡ front_at opening.now e) }
 {
+    let most = MOST_LISTED / count.max(1);
     let mut fronts = Vec::with_capacity(alloc, count)?;
     for _ in 0..count {
-        fronts.push(HashMap::new(alloc))?;
+        fronts.push(Fronts::new(alloc, opening, most)?)?;
     }
     Ok(fronts)
 }
@@ -94,8 +98,9 @@ pub fn judge_lines(
         → ⊥)) }
     ensures processors { length processors.new.items ≡ length processors.old.items }
 {
-    let mut fronts = opening_fronts(alloc, processors.len())?;
+    let mut fronts = opening_fronts(alloc, opening, processors.len())?;
     let mut out = String::new(alloc);
+    let mut place = ReplyPlace::new();
     let mut states = found;
     let mut text = given;
     for i in 0..lines.len() {
@@ -109,7 +114,7 @@ pub fn judge_lines(
         let processor = &mut processors[cpu];
         let own = &mut fronts[cpu];
         let judged = judge_line(
-            context, opening, closing, processor, own, line, mine, text, &mut out,
+            context, opening, closing, processor, own, line, mine, text, &mut out, &mut place,
         )?;
         match judged {
             None => return Ok(None),

@@ -1,27 +1,29 @@
-ghost use Rattle.std.specs.Prelude.{◌≡◌, ◌⊎◌, false, is_none, Some, IfOk, IfSome, IfNone};
-ghost use Rattle.std.specs.Option.{option_map};
+ghost use Rattle.std.specs.Prelude.{◌≡◌, length, true, false, is_none, Some, IsSomeAnd, IfOk, IfSome, IfNone};
 ghost use Rattle.slb_model.specs.Refusals.{mte_refusal};
 ghost use Rattle.entry_model.specs.declared.access_reply.AccessReply.{AccessReply};
 ghost use Rattle.entry_model.specs.declared.access_reply.By.TheVariants.{Hit};
+ghost use Rattle.entry_model.specs.Replies.{access_reply_with};
 ghost use Rattle.tlb_model.specs.Cache.{cached_line};
 ghost use Rattle.hpt_walk.specs.Access.{IsByWay};
 ghost use Rattle.trace_line.specs.Lines.{is_quiet};
 ghost use Rattle.trace_reply.specs.declared.reply.Reply.{Reply};
+ghost use Rattle.trace_reply.specs.Places.{reply_in};
+ghost use Rattle.trace_reply.specs.Replies.{receipts_in};
 ghost use Rattle.history_check.specs.Replay.{before_each};
-ghost use Rattle.history_check.specs.LineReply.{IsAccessOn, IsReplyTo, IsReplyOn, FitsText, FitsNoReply};
+ghost use Rattle.history_check.specs.LineReply.{IsAccessOn, IsHitReply, IsReplyTo, IsReplyOn, FitsText, FitsNoReply};
 
-use crate::accesses::{hit_reply, walk_reply};
+use crate::accesses::{hit_end, walk_end};
 use crate::calls::call_on;
 use crate::context::Context;
 use crate::fitting::fitting;
 use crate::processor::Processor;
-use entry_model::{AccessReply, EntryState, Outcome, Receipts};
+use entry_model::{AccessEnd, EntryState, Outcome, Receipts};
 use hpt_walk::Request;
 use papr_codes::Hcall;
 use slb_model::{Segment, Slb};
 use std::alloc::AllocError;
 use trace_line::{Act, TraceLine};
-use trace_reply::Reply;
+use trace_reply::{ReplyEnd, ReplyPlace};
 
 /// Whether an `slbmte` of these words is accepted.
 fn is_accepted(rb: u64, rs: u64) -> bool
@@ -30,36 +32,29 @@ fn is_accepted(rb: u64, rs: u64) -> bool
     Slb::new().mte(rb, rs).is_ok()
 }
 
-/// The reply to an access whose address no segment has.
-fn no_segment_reply() -> AccessReply
-    ensures { result ≡ Rattle.hpt_walk.specs.Access.no_segment_reply }
-{
-    AccessReply {
-        outcome: Outcome::NoSegment,
-        by: None,
-        receipts: Receipts::new(),
-    }
-}
-
-/// The reply to an access by the line of its page, if one is cached.
-fn cached_reply(
+/// How an access ends by the line of its page, if one is cached, by an operation that found these
+/// states. Its receipt takes the place of what is in `receipts`. `None` where there is no such
+/// reply.
+fn cached_end(
     context: &Context,
     processor: &Processor,
     segment: &Segment,
     request: &Request,
     found: &[EntryState],
-) -> Option<AccessReply>
+    receipts: &mut Receipts,
+) -> Option<AccessEnd>
     ensures some { IfSome
         result
-        (λ r.
-        (r.by ≡ Some Hit)
+        (λ end.
+        (end.by ≡ Some Hit)
+        × (before_each receipts.new ≡ found.now)
         × IsByWay
         context.now
         segment.now
         request.now
         (cached_line processor.now.cache segment.now.page)
         (Some Hit)
-        r) }
+        (access_reply_with end receipts.new)) }
     ensures only { (q : AccessReply)
         → q.by ≡ Some Hit
         → IsByWay
@@ -70,80 +65,119 @@ fn cached_reply(
         (Some Hit)
         q
         → before_each q.receipts ≡ found.now
-        → result ≡ Some q }
+        → IsSomeAnd result (λ end. access_reply_with end receipts.new ≡ q) }
 {
     let line = processor.cached(&segment.page)?;
-    hit_reply(context, segment, request, &line, found)
+    hit_end(context, segment, request, &line, found, receipts)
 }
 
-/// The replies that an access may have by operations that found these states: by the cached line of
-/// its page, and by a walk or without a segment.
-fn access_replies(
+/// How an access of a segment's address ends past its cache, or without a segment, by operations
+/// that found these states, one after the other. Its receipts take the place of what is in
+/// `receipts`.
+fn uncached_end(
     context: &Context,
     processor: &Processor,
     request: &Request,
     found: &[EntryState],
-) -> (Option<AccessReply>, AccessReply)
-    ensures cached { IfSome result.0 (IsAccessOn context.now processor.now request.now) }
-    ensures other { IsAccessOn context.now processor.now request.now result.1 }
+    receipts: &mut Receipts,
+) -> AccessEnd
+    ensures reply { IsAccessOn
+        context.now
+        processor.now
+        request.now
+        (access_reply_with result receipts.new) }
+    ensures before { length receipts.new ≡ length found.now
+        → before_each receipts.new ≡ found.now }
     ensures only { (q : AccessReply)
         → IsAccessOn context.now processor.now request.now q
+        → (q.by ≡ Some Hit → ⊥)
         → before_each q.receipts ≡ found.now
-        → (result.0 ≡ Some q) ⊎ (result.1 ≡ q) }
+        → access_reply_with result receipts.new ≡ q }
 {
     match processor.segment(request.ea) {
-        None => (None, no_segment_reply()),
-        Some(segment) => (
-            cached_reply(context, processor, &segment, request, found),
-            walk_reply(context, &segment, request, found),
-        ),
+        None => {
+            receipts.clear();
+            AccessEnd {
+                outcome: Outcome::NoSegment,
+                by: None,
+            }
+        }
+        Some(segment) => walk_end(context, &segment, request, found, receipts),
     }
 }
 
-fn as_reply(reply: Option<AccessReply>) -> Option<Reply>
-    ensures { result ≡ option_map Reply.Access reply }
-{
-    match reply {
-        None => None,
-        Some(reply) => Some(Reply::Access(reply)),
-    }
-}
-
-/// The replies that a line which isn't quiet may have, by operations that found these states: one
-/// or two.
-fn replies_on(
+/// The reply to an access by the line of its page takes the place, if that line is cached and the
+/// access can have found these states by it. Answers whether there is such a reply.
+fn put_hit(
     context: &Context,
     processor: &Processor,
     act: &Act,
     found: &[EntryState],
-) -> (Option<Reply>, Reply)
-    requires { is_quiet act.now ≡ false }
-    ensures first { IfSome result.0 (IsReplyTo context.now processor.now act.now) }
-    ensures second { IsReplyTo context.now processor.now act.now result.1 }
+    place: &mut ReplyPlace,
+) -> bool
+    ensures yes { result ≡ true → IsReplyOn context.now processor.now act.now found.now (reply_in place.new) }
     ensures only { (q : Reply)
         → IsReplyOn context.now processor.now act.now found.now q
-        → (result.0 ≡ Some q) ⊎ (result.1 ≡ q) }
+        → IsHitReply q
+        → (result ≡ true) × (reply_in place.new ≡ q) }
 {
-    match *act {
-        Act::Call { number, args, .. } => {
-            let hcall = Hcall::of_number(number);
-            let reply = call_on(found, context.order, context.grants, hcall, &args);
-            (None, Reply::Hcall(reply))
+    let Act::Access { want, ea, user } = *act else {
+        return false;
+    };
+    let Some(segment) = processor.segment(ea) else {
+        return false;
+    };
+    let request = Request { want, ea, user };
+    let receipts = &mut place.receipts;
+    match cached_end(context, processor, &segment, &request, found, receipts) {
+        None => false,
+        Some(end) => {
+            place.end = ReplyEnd::Access(end);
+            true
         }
-        Act::Access { want, ea, user } => {
-            let request = Request { want, ea, user };
-            let (cached, other) = access_replies(context, processor, &request, found);
-            (as_reply(cached), Reply::Access(other))
-        }
-        Act::SlbMte { rb, rs } => (None, Reply::Segment(is_accepted(rb, rs))),
-        Act::SlbClear => (None, Reply::Segment(true)),
-        // Not reached: a dump is quiet.
-        Act::Dump => (None, Reply::Segment(true)),
     }
 }
 
-/// The reply to a line that isn't quiet by operations that found these states, and how many bytes
-/// its text has, if the given text begins with it. `out` is room to write in.
+/// The reply to a line that isn't quiet, by operations that found these states and past the cache,
+/// takes the place.
+fn put_other(
+    context: &Context,
+    processor: &Processor,
+    act: &Act,
+    found: &[EntryState],
+    place: &mut ReplyPlace,
+)
+    requires { is_quiet act.now ≡ false }
+    ensures reply { IsReplyTo context.now processor.now act.now (reply_in place.new) }
+    ensures before { length (receipts_in (reply_in place.new)) ≡ length found.now
+        → before_each (receipts_in (reply_in place.new)) ≡ found.now }
+    ensures only { (q : Reply)
+        → IsReplyOn context.now processor.now act.now found.now q
+        → (IsHitReply q → ⊥)
+        → reply_in place.new ≡ q }
+{
+    let receipts = &mut place.receipts;
+    match *act {
+        Act::Call { number, args, .. } => {
+            let hcall = Hcall::of_number(number);
+            let registers = call_on(found, context.order, context.grants, hcall, &args, receipts);
+            place.end = ReplyEnd::Hcall(registers);
+        }
+        Act::Access { want, ea, user } => {
+            let request = Request { want, ea, user };
+            let end = uncached_end(context, processor, &request, found, receipts);
+            place.end = ReplyEnd::Access(end);
+        }
+        Act::SlbMte { rb, rs } => place.end = ReplyEnd::Segment(is_accepted(rb, rs)),
+        Act::SlbClear => place.end = ReplyEnd::Segment(true),
+        // Not reached: a dump is quiet.
+        Act::Dump => place.end = ReplyEnd::Segment(true),
+    }
+}
+
+/// The reply to a line that isn't quiet, by operations that found these states, takes the place.
+/// Gives how many bytes its text has, if the given text begins with it, and `None` where that
+/// begins with the text of no such reply. `out` is room to write in.
 pub fn line_reply(
     context: &Context,
     processor: &Processor,
@@ -151,25 +185,26 @@ pub fn line_reply(
     found: &[EntryState],
     given: &[u8],
     out: &mut String,
-) -> Result<Option<(Reply, usize)>, AllocError>
+    place: &mut ReplyPlace,
+) -> Result<Option<usize>, AllocError>
     requires { is_quiet line.now.act ≡ false }
     ensures some { IfOk
         result
         (λ o.
         IfSome
         o
-        (λ x.
-        IsReplyTo context.now processor.now line.now.act x.0
-        × FitsText line.now found.now given.now x.0 x.1)) }
+        (λ n.
+        IsReplyTo context.now processor.now line.now.act (reply_in place.new)
+        × FitsText line.now found.now given.now (reply_in place.new) n)) }
     ensures none { IfOk
         result
         (λ o. IfNone o (FitsNoReply context.now processor.now line.now found.now given.now)) }
 {
-    let (first, second) = replies_on(context, processor, &line.act, found);
-    if let Some(reply) = first {
-        if let Some(told) = fitting(out, line, reply, found, given)? {
-            return Ok(Some(told));
+    if put_hit(context, processor, &line.act, found, place) {
+        if let Some(count) = fitting(out, line, place, found, given)? {
+            return Ok(Some(count));
         }
     }
-    fitting(out, line, second, found, given)
+    put_other(context, processor, &line.act, found, place);
+    fitting(out, line, place, found, given)
 }

@@ -1,59 +1,45 @@
-ghost use Rattle.std.specs.Prelude.{◌≡◌, ◌++◌, map, nat_le, OnOk, ◌==◌, ◌||◌};
-ghost use Rattle.entry_model.specs.declared.receipt.Receipt.{Receipt};
+ghost use Rattle.std.specs.Prelude.{◌≡◌, ◌≤◌, ◌<◌, ◌+◌, ◌^◌, ◌++◌, length, OnOk};
 ghost use Rattle.history_check.specs.Steps as steps_of;
-ghost use Rattle.history_check.specs.PlacedSteps as placed_of;
+ghost use Rattle.history_check.specs.PlacedSteps.{line_op};
+ghost use Rattle.history_check.specs.MarkSteps as steps_by;
 
-use crate::calls::all_calls;
-use crate::context::Context;
-use crate::placed::PlacedStep;
-use crate::steps::Step;
-use entry_model::{Answer, Op, Receipt, Receipts};
-use papr_codes::Hcall;
+use crate::steps::raises_stamp;
+use entry_model::Answer;
 use receipt_text::Mark;
 use std::alloc::AllocError;
 use storage_prot::Want;
 use trace_line::Act;
 
-/// What is kept of an operation: of an access only what it wants.
-fn step_op(op: &Op) -> Op
-    ensures { result ≡ steps_of.step_op op.now }
-{
-    match *op {
-        Op::Access { want, .. } => Op::Access {
-            tag: 0,
-            base: 0,
-            key: false,
-            no_execute: false,
-            want,
-        },
-        other => other,
-    }
+/// A receipt of a section's line as its mark shows it, and its place in its entry's history.
+#[derive(Clone, Copy)]
+pub struct LineStep {
+    // Fields lie in memory in this order, in 24 bytes: a section may have millions of steps.
+    pub place: u64,
+    /// Which of the section's receipts it is.
+    pub index: u32,
+    /// Which of the section's lines made it.
+    pub line: u32,
+    /// The entry's index.
+    pub entry: u32,
+    pub answer: Answer,
 }
 
-fn raises_stamp(answer: Answer) -> bool
-    ensures { result ≡ steps_of.raises_stamp answer }
+/// Whether the operations of a line are stores of a processor.
+fn is_store(act: &Act) -> bool
+    ensures { result ≡ steps_of.is_store_access (line_op act.now) }
 {
     matches!(
-        answer,
-        Answer::Entered | Answer::Removed | Answer::Protected | Answer::Was
-    )
-}
-
-fn is_store(op: &Op) -> bool
-    ensures { result ≡ steps_of.is_store_access op.now }
-{
-    matches!(
-        op,
-        Op::Access {
+        act,
+        Act::Access {
             want: Want::Store,
             ..
         }
     )
 }
 
-/// Whether an operation changed nothing, as its answer and R and C before it tell.
-fn is_unchanged(op: &Op, answer: Answer, referenced: bool, changed: bool) -> bool
-    ensures { result ≡ steps_of.is_unchanged op.now answer referenced changed }
+/// Whether an operation, a store or none, changed nothing, as its answer and R and C before it tell.
+fn is_unchanged(store: bool, answer: Answer, referenced: bool, changed: bool) -> bool
+    ensures { result ≡ steps_of.is_unchanged store answer referenced changed }
 {
     if raises_stamp(answer) {
         return false;
@@ -61,7 +47,7 @@ fn is_unchanged(op: &Op, answer: Answer, referenced: bool, changed: bool) -> boo
     if !matches!(answer, Answer::At) {
         return true;
     }
-    referenced && (changed || !is_store(op))
+    referenced && (changed || !store)
 }
 
 /// How many of R and C a mark's digit has.
@@ -71,81 +57,42 @@ fn bit_count(bits: u8) -> u64
     u64::from(bits >= 2) + u64::from(bits == 1 || bits == 3)
 }
 
-/// The step of a receipt with this mark, of this operation, and its place.
+/// The place of a receipt with this mark, of an operation that is a store or none.
 #[tactic(auto, unfolding(crate::specs::Steps::place_by))]
-fn placed_mark(mark: &Mark, op: &Op) -> PlacedStep
-    ensures { result ≡ placed_of.placed_mark mark.now op.now }
+fn place(mark: &Mark, store: bool) -> u64
+    ensures { result ≡ steps_of.place_by mark.now store }
 {
-    let op = step_op(op);
     let bits = mark.bits;
-    let still = is_unchanged(&op, mark.answer, bits >= 2, bits == 1 || bits == 3);
+    let still = is_unchanged(store, mark.answer, bits >= 2, bits == 1 || bits == 3);
     let before = u64::from(mark.stamp) * 4 + bit_count(bits);
-    PlacedStep {
-        place: before * 2 + u64::from(!still),
-        step: Step {
-            entry: mark.entry,
-            op,
-            answer: mark.answer,
-        },
-    }
+    before * 2 + u64::from(!still)
 }
 
-/// Receipts of the operations that a line names one by one, in turn: those of a hypervisor call.
-pub fn named_receipts(context: &Context, act: &Act) -> Receipts
-    ensures { map (λ (r : Receipt). r.op) result ≡ placed_of.named_ops context.now act.now }
-{
-    match *act {
-        Act::Call { number, args, .. } => all_calls(
-            context.order,
-            context.grants,
-            Hcall::of_number(number),
-            &args,
-        ),
-        _ => Receipts::new(),
-    }
-}
-
-/// The operation of all others that a line makes.
-fn further_op(act: &Act) -> Op
-    ensures { result ≡ placed_of.further_op act.now }
-{
-    match *act {
-        Act::Access { want, .. } => Op::Access {
-            tag: 0,
-            base: 0,
-            key: false,
-            no_execute: false,
-            want,
-        },
-        _ => Op::Read,
-    }
-}
-
-/// Appends the steps of a line whose reply shows these marks, and that names the operations of
-/// these receipts.
+/// Appends the steps of a line whose reply shows these marks; `line` says which of the section's it
+/// is.
 pub fn put_steps(
-    steps: &mut Vec<PlacedStep>,
+    steps: &mut Vec<LineStep>,
+    line: u32,
     act: &Act,
-    named: &[Receipt],
     marks: &[Mark],
 ) -> Result<(), AllocError>
+    requires { length steps.old.items + length marks.now ≤ 2 ^ 32 }
     ensures { OnOk
         result
         (steps.new.items
         ≡ steps.old.items
-        ++ placed_of.placed_marks
-        (placed_of.further_op act.now)
-        (map (λ (r : Receipt). r.op) named.now)
-        marks.now) }
+        ++ steps_by.mark_steps line (length steps.old.items) (line_op act.now) marks.now) }
 {
-    let further = further_op(act);
-    for i in 0..marks.len() {
-        let op = if i < named.len() {
-            named[i].op
-        } else {
-            further
+    let store = is_store(act);
+    for mark in marks {
+        let step = LineStep {
+            place: place(mark, store),
+            index: steps.len() as u32,
+            line,
+            entry: mark.entry,
+            answer: mark.answer,
         };
-        steps.push(placed_mark(&marks[i], &op))?;
+        steps.push(step)?;
     }
     Ok(())
 }

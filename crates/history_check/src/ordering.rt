@@ -1,82 +1,54 @@
-ghost use Rattle.std.specs.Prelude.{◌≡◌, ◌<◌, length, IfOk, OnOk};
+ghost use Rattle.std.specs.Prelude.{◌≡◌, length, map, IfOk, OnOk};
 ghost use Rattle.std.specs.List.{AllByRecursion};
-ghost use Rattle.history_check.specs.declared.ordering.Numbered.{Numbered};
-ghost use Rattle.history_check.specs.OrderedSteps.{IsOrder, found_in_order, ending_in_order, AreListed};
+ghost use Rattle.history_check.specs.OrderedSteps.{IsOrder, IsStepOf, AreWritten, numbered_by, found_in_order, ending_in_order};
 
-use crate::placed::PlacedStep;
-use crate::steps::next_state;
+use crate::mark_steps::LineStep;
+use crate::steps::{may_change, next_state};
 use entry_model::EntryState;
 use std::alloc::{AllocError, Global};
-
-/// A step, and which of the steps it is.
-#[derive(Clone, Copy)]
-pub struct Numbered {
-    pub index: usize,
-    pub placed: PlacedStep,
-}
-
-/// A state, and which of the steps found it.
-#[derive(Clone, Copy)]
-pub struct Found {
-    pub index: usize,
-    pub state: EntryState,
-}
+use trace_line::TraceLine;
 
 /// The steps in an order of their places.
-pub fn in_order(alloc: Global, steps: &[PlacedStep]) -> Result<Vec<Numbered>, AllocError>
-    ensures { IfOk result (λ order. IsOrder steps.now order.items) }
+pub fn in_order(steps: Vec<LineStep>) -> Vec<LineStep>
+    ensures { IsOrder steps.items result.items }
 {
-    let mut order = Vec::with_capacity(alloc, steps.len())?;
-    for index in 0..steps.len() {
-        order.push(Numbered {
-            index,
-            placed: steps[index],
-        })?;
-    }
-    order.sort_unstable_by_key(|numbered: &Numbered| numbered.placed.place);
-    Ok(order)
+    let mut order = steps;
+    order.sort_unstable_by_key(|step: &LineStep| step.place);
+    order
 }
 
-/// Makes the steps in this order, and gives the state that each found.
+/// Makes the steps of these lines in this order, and gives the state that each found, at its index.
 pub fn make_steps(
     alloc: Global,
     states: &mut Vec<EntryState>,
-    order: &[Numbered],
-) -> Result<Vec<Found>, AllocError>
+    lines: &[TraceLine],
+    order: &[LineStep],
+) -> Result<Vec<EntryState>, AllocError>
     requires { AllByRecursion
-        (λ (n : Numbered). n.placed.step.entry < length states.old.items)
+        (IsStepOf (length states.old.items) (length lines.now) (length order.now))
         order.now }
     ensures found { IfOk
         result
-        (λ found. found.items ≡ found_in_order states.old.items order.now) }
+        (λ found.
+        AreWritten
+        (length order.now)
+        (found_in_order states.old.items (map (numbered_by lines.now) order.now))
+        found.items) }
     ensures ending { OnOk
         result
-        (states.new.items ≡ ending_in_order states.old.items order.now) }
+        (states.new.items
+        ≡ ending_in_order states.old.items (map (numbered_by lines.now) order.now)) }
     ensures size { length states.new.items ≡ length states.old.items }
 {
-    let mut found = Vec::with_capacity(alloc, order.len())?;
-    for numbered in order {
-        let step = numbered.placed.step;
+    let mut found = vec![in alloc; EntryState::empty(0); order.len()]?;
+    for step in order {
+        let line = &lines[step.line as usize];
         let entry = step.entry as usize;
         let state = states[entry];
-        found.push(Found {
-            index: numbered.index,
-            state,
-        })?;
-        states[entry] = next_state(&step.op, step.answer, &state);
+        found[step.index as usize] = state;
+        if may_change(step.answer) {
+            states[entry] = next_state(&line.act, step.answer, &state);
+        }
     }
     Ok(found)
-}
-
-/// The states in the order of the steps that found them.
-pub fn listed(alloc: Global, found: Vec<Found>) -> Result<Vec<EntryState>, AllocError>
-    ensures { IfOk result (λ states. AreListed found.items states.items) }
-{
-    let mut sorted = found;
-    sorted.sort_unstable_by_key(|found: &Found| found.index);
-    let mut states = Vec::with_capacity(alloc, sorted.len())?;
-    for found in &sorted {
-        states.push(found.state)?;
-    }
-    Ok(states)
 }

@@ -1,34 +1,35 @@
-ghost use Rattle.std.specs.Prelude.{◌≡◌, ◌<◌, length, IfOk};
-ghost use Rattle.history_check.specs.PlacedSteps.{FindStates, AreInTable};
+ghost use Rattle.std.specs.Prelude.{◌≡◌, List, length, map, IfOk};
+ghost use Rattle.std.specs.List.{AllByRecursion};
+ghost use Rattle.history_check.specs.OrderedSteps.{IsStepOf, numbered, numbered_by};
+ghost use Rattle.history_check.specs.PlacedSteps.{PlacedStep, FindStates};
 
-use crate::ordering::{in_order, listed, make_steps};
-use crate::steps::Step;
+use crate::mark_steps::LineStep;
+use crate::ordering::{in_order, make_steps};
 use entry_model::EntryState;
 use std::alloc::{AllocError, Global};
+use trace_line::TraceLine;
 
-/// A step, and its place in its entry's history.
-#[derive(Clone, Copy, PartialEq, Eq, Debug)]
-pub struct PlacedStep {
-    pub place: u64,
-    pub step: Step,
-}
-
-/// Makes the steps in an order of their places, as if nobody else were at the table. Gives the
-/// state that each step found, in the order in which the steps are given, and leaves the states on
-/// which they end.
+/// Makes the steps of these lines in an order of their places, as if nobody else were at the table.
+/// Gives the state that each step found, at the step's index, and leaves the states on which they
+/// end.
 pub fn find_states(
     alloc: Global,
     states: &mut Vec<EntryState>,
-    steps: &[PlacedStep],
+    lines: &[TraceLine],
+    steps: Vec<LineStep>,
 ) -> Result<Vec<EntryState>, AllocError>
-    requires { AreInTable (length states.old.items) steps.now }
+    requires { AllByRecursion
+        (IsStepOf (length states.old.items) (length lines.now) (length steps.items))
+        steps.items }
     ensures found { IfOk
         result
-        (λ found. FindStates states.old.items steps.now found.items states.new.items) }
+        (λ found.
+        (xs : List PlacedStep)
+        → map (numbered_by lines.now) steps.items ≡ numbered 0 xs
+        → FindStates states.old.items xs found.items states.new.items) }
     ensures size { length states.new.items ≡ length states.old.items }
 {
-    let order = in_order(alloc, steps)?;
-    let found = make_steps(alloc, states, order.as_slice())?;
-    let listed = listed(alloc, found)?;
-    Ok(listed)
+    let order = in_order(steps);
+    let found = make_steps(alloc, states, lines, order.as_slice())?;
+    Ok(found)
 }

@@ -1,18 +1,21 @@
-ghost use Rattle.std.specs.Prelude.{◌≡◌, Some};
+ghost use Rattle.std.specs.Prelude.{◌≡◌, List, Some};
+ghost use Rattle.entry_model.specs.declared.receipt.Receipt.{Receipt};
 ghost use Rattle.entry_model.specs.Receipt as receipts;
+ghost use Rattle.entry_model.specs.Replies.{access_reply_with};
 ghost use Rattle.entry_model.specs.declared.access_reply.By.TheVariants.{Walk};
 ghost use Rattle.slb_model.specs.Buffer.{no_slots, segment_of};
 ghost use Rattle.tlb_model.specs.Cache.{cached_line, empty_cache};
 ghost use Rattle.tlb_model.specs.CacheAfter.{cache_after, gone_line};
 ghost use Rattle.run_model.specs.Processors.{processor_after, gone_line_of};
+ghost use Rattle.trace_reply.specs.Places.{reply_in};
 
-use entry_model::{AccessReply, Answer, By, Line, Receipt};
+use entry_model::{AccessEnd, Answer, By, Line, Receipt};
 use power_addr::Page;
 use slb_model::{Segment, Slb};
 use std::marker::Model;
 use tlb_model::Tlb;
 use trace_line::Act;
-use trace_reply::Reply;
+use trace_reply::{ReplyEnd, ReplyPlace};
 use vcpu::{kept_line, refill};
 
 /// A processor as its replies tell of it: its segments, and the translations that it has cached.
@@ -72,68 +75,80 @@ impl Processor {
         self.tlb.find(page)
     }
 
-    // After a walk with this reply.
-    fn walked(&mut self, segment: &Segment, reply: &AccessReply)
-        requires { reply.now.by ≡ Some Walk }
+    // After a walk that ended so, with these receipts.
+    fn walked(&mut self, segment: &Segment, end: &AccessEnd, receipts: &[Receipt])
+        requires { end.now.by ≡ Some Walk }
         ensures { self.new
             ≡ record self.old {
-              cache = cache_after self.old.cache (Some segment.now) reply.now.by reply.now;
+              cache =
+                  cache_after
+                  self.old.cache
+                  (Some segment.now)
+                  end.now.by
+                  (access_reply_with end.now receipts.now);
             } }
     {
-        let found = found_of(reply.receipts.as_slice());
-        let kept = kept_line(&segment.page, reply.outcome, &found);
+        let found = found_of(receipts);
+        let kept = kept_line(&segment.page, end.outcome, &found);
         self.tlb.drop_line(&segment.page);
         refill(&mut self.tlb, kept);
     }
 
-    // After an access with this reply.
-    fn accessed(&mut self, ea: u64, reply: &AccessReply)
+    // After an access that ended so, with these receipts.
+    fn accessed(&mut self, ea: u64, end: &AccessEnd, receipts: &[Receipt])
         ensures { self.new
             ≡ record self.old {
               cache =
                   cache_after
                   self.old.cache
                   (segment_of self.old.slots ea)
-                  reply.now.by
-                  reply.now;
+                  end.now.by
+                  (access_reply_with end.now receipts.now);
             } }
     {
-        if let (Some(segment), Some(By::Walk)) = (self.segment(ea), reply.by) {
-            self.walked(&segment, reply);
+        if let (Some(segment), Some(By::Walk)) = (self.segment(ea), end.by) {
+            self.walked(&segment, end, receipts);
         }
     }
 
     // The cached line of the page that an access walked.
-    fn passed(&self, ea: u64, reply: &AccessReply) -> Option<Line>
-        ensures { result ≡ gone_line self.now.cache (segment_of self.now.slots ea) reply.now }
+    fn passed(&self, ea: u64, end: &AccessEnd) -> Option<Line>
+        ensures { (rs : List Receipt)
+            → result
+            ≡ gone_line
+            self.now.cache
+            (segment_of self.now.slots ea)
+            (access_reply_with end.now rs) }
     {
-        match (self.segment(ea), reply.by) {
+        match (self.segment(ea), end.by) {
             (Some(segment), Some(By::Walk)) => self.cached(&segment.page),
             _ => None,
         }
     }
 
-    /// The cached line that is gone, if this is the reply to a line: that of the page that it
+    /// The cached line that is gone, if the reply to a line has the place: that of the page that it
     /// walked.
-    pub fn gone_line(&self, act: &Act, reply: &Reply) -> Option<Line>
-        ensures { result ≡ gone_line_of self.now act.now reply.now }
+    pub fn gone_line(&self, act: &Act, place: &ReplyPlace) -> Option<Line>
+        ensures { result ≡ gone_line_of self.now act.now (reply_in place.now) }
     {
-        match (*act, reply) {
-            (Act::Access { ea, .. }, Reply::Access(reply)) => self.passed(ea, reply),
+        match (*act, &place.end) {
+            (Act::Access { ea, .. }, ReplyEnd::Access(end)) => self.passed(ea, end),
             _ => None,
         }
     }
 
-    /// The processor after one of its lines, which had this reply.
-    pub fn after(&mut self, act: &Act, reply: &Reply)
-        ensures { self.new ≡ processor_after self.old act.now reply.now }
+    /// The processor after one of its lines, whose reply has the place.
+    pub fn after(&mut self, act: &Act, place: &ReplyPlace)
+        ensures { self.new ≡ processor_after self.old act.now (reply_in place.now) }
     {
-        match (*act, reply) {
+        match (*act, &place.end) {
             (Act::SlbMte { rb, rs }, _) => {
                 let _refused = self.slb.mte(rb, rs);
             }
             (Act::SlbClear, _) => self.slb.clear(),
-            (Act::Access { ea, .. }, Reply::Access(reply)) => self.accessed(ea, reply),
+            (Act::Access { ea, .. }, ReplyEnd::Access(end)) => {
+                self.accessed(ea, end, place.receipts.as_slice());
+            }
             _ => {}
         }
     }

@@ -1,21 +1,35 @@
-ghost use Rattle.std.specs.Prelude.{◌<◌, ◌↔◌, IsTrue, IfOk, IfSome, IfNone};
+ghost use Rattle.std.specs.Prelude.{◌≡◌, ◌<◌, ◌≤◌, ◌^◌, ◌++◌, ◌∷◌, ◌↔◌, true, length, IsTrue, IfOk, IfSome, IfNone};
 ghost use Rattle.std.specs.List.{AllByRecursion};
+ghost use Rattle.receipt_text.specs.Cuts.{lacks};
 ghost use Rattle.receipt_text.specs.declared.mark.Mark.{Mark};
 ghost use Rattle.history_check.specs.FoundSection.{ArePlain};
 ghost use Rattle.history_check.specs.SectionMarks.{NoMarks, ReadMarks};
 
+use crate::calls::names_few;
 use crate::context::Context;
-use crate::mark_steps::{named_receipts, put_steps};
-use crate::placed::PlacedStep;
-use receipt_text::{Mark, marks_of, split_at};
+use crate::mark_steps::{LineStep, put_steps};
+use memchr::memchr;
+use receipt_text::{Mark, marks_of};
 use std::alloc::{AllocError, Global};
 use trace_line::TraceLine;
 
 /// The steps that the marks of a section's lines tell, and how many each line has.
 #[derive(Drop)]
 pub struct SectionSteps {
-    pub steps: Vec<PlacedStep>,
+    pub steps: Vec<LineStep>,
     pub counts: Vec<usize>,
+}
+
+/// What stands before the first LF, and what stands behind it.
+fn first_line(text: &[u8]) -> Option<(&[u8], &[u8])>
+    ensures lacks { IfSome result (λ parts. lacks 10 parts.0.now ≡ true) }
+    ensures parts { IfSome result (λ parts. text.now ≡ parts.0.now ++ 10 ∷ parts.1.now) }
+    ensures none { IfNone result (lacks 10 text.now ≡ true) }
+{
+    match memchr(b'\n', text) {
+        None => None,
+        Some(end) => Some((&text[..end], &text[end + 1..])),
+    }
 }
 
 /// Whether the marks are of entries of a table of this size.
@@ -40,6 +54,7 @@ pub fn read_section(
     text: &[u8],
 ) -> Result<Option<SectionSteps>, AllocError>
     requires plain { ArePlain lines.now }
+    requires few { length lines.now ≤ 2 ^ 17 }
     ensures some { IfOk
         result
         (λ read.
@@ -54,20 +69,20 @@ pub fn read_section(
     let mut steps = Vec::new(alloc);
     let mut counts = Vec::with_capacity(alloc, lines.len())?;
     let mut rest = text;
-    for line in lines {
-        let receipts = named_receipts(context, &line.act);
-        let named = receipts.as_slice();
-        let Some((told, others)) = split_at(rest, b'\n') else {
+    for (i, line) in lines.iter().enumerate() {
+        names_few(context, &line.act);
+        let Some((told, others)) = first_line(rest) else {
             return Ok(None);
         };
-        let Some(marks) = marks_of(told) else {
+        let shown = marks_of(told);
+        let Some(marks) = &shown else {
             return Ok(None);
         };
         let marks = marks.as_slice();
         if !are_in_table(marks, size) {
             return Ok(None);
         }
-        put_steps(&mut steps, &line.act, named, marks)?;
+        put_steps(&mut steps, i as u32, &line.act, marks)?;
         counts.push(marks.len())?;
         rest = others;
     }

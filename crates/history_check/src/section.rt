@@ -8,9 +8,10 @@ ghost use Rattle.history_check.specs.SectionMarks.{ReadMarks};
 use crate::context::Context;
 use crate::fronts::pair_of;
 use crate::judging_lines::judge_lines;
-use crate::placed::{PlacedStep, find_states};
+use crate::mark_steps::LineStep;
+use crate::placed::find_states;
 use crate::processor::Processor;
-use crate::reading::read_section;
+use crate::reading::{SectionSteps, read_section};
 use entry_model::EntryState;
 use std::alloc::{AllocError, Global};
 use trace_line::TraceLine;
@@ -40,7 +41,7 @@ fn section_by_steps(
     states: &mut Vec<EntryState>,
     processors: &mut Vec<Processor>,
     lines: &[TraceLine],
-    steps: &[PlacedStep],
+    steps: Vec<LineStep>,
     counts: &[usize],
     text: &[u8],
 ) -> Result<Option<usize>, AllocError>
@@ -54,7 +55,7 @@ fn section_by_steps(
         (length states.old.items)
         lines.now
         text.now
-        steps.now
+        steps.items
         counts.now }
     ensures some { IfOk
         result
@@ -90,7 +91,7 @@ fn section_by_steps(
     ensures states { length states.new.items ≡ length states.old.items }
     ensures processors { length processors.new.items ≡ length processors.old.items }
 {
-    let found = find_states(alloc, states, steps)?;
+    let found = find_states(alloc, states, lines, steps)?;
     let judged = judge_lines(
         alloc,
         context,
@@ -120,6 +121,7 @@ pub fn section_found(
     requires plain { ArePlain lines.now }
     requires cpus { AreOnProcessors (length processors.old.items) lines.now }
     requires few { length states.old.items ≤ 2 ^ 18 }
+    requires few_lines { length lines.now ≤ 2 ^ 17 }
     ensures some { IfOk
         result
         (λ found.
@@ -158,6 +160,7 @@ pub fn section_found(
     let Some(read) = read_section(alloc, context, states.len(), lines, text)? else {
         return Ok(None);
     };
+    let SectionSteps { steps, counts } = read;
     section_by_steps(
         alloc,
         context,
@@ -165,8 +168,8 @@ pub fn section_found(
         states,
         processors,
         lines,
-        read.steps.as_slice(),
-        read.counts.as_slice(),
+        steps,
+        counts.as_slice(),
         text,
     )
 }

@@ -1,17 +1,66 @@
-ghost use Rattle.std.specs.Prelude.{◌≡◌, true};
+ghost use Rattle.std.specs.Prelude.{◌≡◌, ◌||◌, true};
+ghost use Rattle.entry_model.specs.Receipt.{is_at};
 ghost use Rattle.entry_model.specs.Reply.{touched_state};
-ghost use Rattle.history_check.specs.Steps.{next_by};
+ghost use Rattle.history_check.specs.Steps as steps_of;
+ghost use Rattle.history_check.specs.PlacedSteps as placed_of;
 
-use entry_model::{Answer, EntryState, Op, reply};
+use entry_model::{Answer, EntryState, Op, Test, reply};
+use hpte_fields::normal;
+use papr_codes::Hcall;
 use storage_prot::Want;
+use trace_line::Act;
 
-/// A receipt without its state before. Of an access only what it wants counts.
-#[derive(Clone, Copy, PartialEq, Eq, Debug)]
-pub struct Step {
-    /// The entry's index.
-    pub entry: u32,
-    pub op: Op,
-    pub answer: Answer,
+/// Every valid entry passes it.
+const NO_TEST: Test = Test {
+    avpn: None,
+    andcond: None,
+};
+
+/// What is kept of each operation of a hypervisor call with these arguments.
+fn call_op(hcall: Hcall, args: &[u64; 8]) -> Op
+    ensures { result ≡ placed_of.call_op hcall args.now }
+{
+    match hcall {
+        Hcall::Enter => match normal(args[2], args[3]) {
+            Some((dword0, dword1)) => Op::Enter { dword0, dword1 },
+            None => Op::Read,
+        },
+        Hcall::Remove | Hcall::BulkRemove => Op::Remove { test: NO_TEST },
+        Hcall::Protect => Op::Protect {
+            test: NO_TEST,
+            flags: args[0],
+        },
+        Hcall::ClearRef => Op::ClearRef,
+        Hcall::ClearMod => Op::ClearMod,
+        _ => Op::Read,
+    }
+}
+
+/// What is kept of each operation of a line: its test and the segment of an access are not.
+fn line_op(act: &Act) -> Op
+    ensures { result ≡ placed_of.line_op act.now }
+{
+    match act {
+        Act::Call { number, args, .. } => call_op(Hcall::of_number(*number), args),
+        Act::Access { want, .. } => Op::Access {
+            tag: 0,
+            base: 0,
+            key: false,
+            no_execute: false,
+            want: *want,
+        },
+        _ => Op::Read,
+    }
+}
+
+/// Whether the answer says that the stamp was raised.
+pub fn raises_stamp(answer: Answer) -> bool
+    ensures { result ≡ steps_of.raises_stamp answer }
+{
+    matches!(
+        answer,
+        Answer::Entered | Answer::Removed | Answer::Protected | Answer::Was
+    )
 }
 
 /// The state after an access that is allowed on it.
@@ -25,10 +74,10 @@ fn touched(state: &EntryState, want: Want) -> EntryState
     next
 }
 
-/// The state after an operation on this state that was answered so.
+/// The state after an operation of which this is kept, and which was answered so on this state.
 #[tactic(auto, unfolding(crate::specs::Steps::next_by))]
-pub fn next_state(op: &Op, answer: Answer, state: &EntryState) -> EntryState
-    ensures { result ≡ next_by op.now answer state.now }
+fn state_after(op: &Op, answer: Answer, state: &EntryState) -> EntryState
+    ensures { result ≡ steps_of.next_by op.now answer state.now }
 {
     match op {
         Op::Access { want, .. } => {
@@ -38,6 +87,33 @@ pub fn next_state(op: &Op, answer: Answer, state: &EntryState) -> EntryState
                 *state
             }
         }
-        _ => reply(state, op).1,
+        _ => {
+            if raises_stamp(answer) {
+                reply(state, op).1
+            } else {
+                *state
+            }
+        }
+    }
+}
+
+/// Whether an operation that was answered so may have changed its entry.
+pub fn may_change(answer: Answer) -> bool
+    ensures { result ≡ (steps_of.raises_stamp answer || is_at answer) }
+{
+    matches!(
+        answer,
+        Answer::Entered | Answer::Removed | Answer::Protected | Answer::Was | Answer::At
+    )
+}
+
+/// The state after an operation of a line, which was answered so on this state.
+pub fn next_state(act: &Act, answer: Answer, state: &EntryState) -> EntryState
+    ensures { result ≡ steps_of.next_by (placed_of.line_op act.now) answer state.now }
+{
+    if may_change(answer) {
+        state_after(&line_op(act), answer, state)
+    } else {
+        *state
     }
 }

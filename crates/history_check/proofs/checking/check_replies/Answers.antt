@@ -1,7 +1,7 @@
 use Rattle.std.proofs.Common.{◌≡◌, ◌∙◌, ◌-◌, ◌≤◌, [], ap, sym, arith, drop, take, length, length-drop, List, ℕ}
 use Rattle.std.proofs.lemmas.List.{take_all, drop_all}
 use Rattle.run_model.specs.RunState.{opening_run}
-use Rattle.history_check.proofs.JudgedSections.{at_first, at_next, front_cpus, few_standing, number_stays, first_number, no_section, no_reply, no_last, last_ends, last_goes_on}
+use Rattle.history_check.proofs.JudgedSections.{at_first, at_next, front_cpus, front_few, few_standing, number_stays, first_number, no_section, no_reply, no_last, last_ends, last_goes_on}
 use Rattle.history_check.proofs.checking.check_replies.Goals as goal
 
 pub loop-plain-init : goal.loop-plain-init
@@ -15,6 +15,12 @@ loop-plain-init c =
 
 pub section-requires-clause-cpus : goal.section-requires-clause-cpus
 section-requires-clause-cpus c = front_cpus _ _ _ _ _ _ _ _ (rw c.in-Some.ensures.parts at c.loop-plain.invariant.reached)
+
+pub section-requires-clause-few : goal.section-requires-clause-few
+section-requires-clause-few c = front_few _ _ _ _ _ _ _ _ (rw c.in-Some.ensures.parts at c.loop-plain.invariant.reached)
+
+pub section-requires-2-clause-few : goal.section-requires-2-clause-few
+section-requires-2-clause-few c = c.loop-plain.invariant.reached.few
 
 pub returns-in_default-2 : goal.returns-in_default-2
 returns-in_default-2 c = no_section _ _ _ _ _ _ _ _ (rw c.in-Some.ensures.parts at c.loop-plain.invariant.reached) c.in-Some.ensures.plain c.in-Some.ensures.quiet (rw c.in_default-2.is at c.in_ok-count.ensures.none)

@@ -16,7 +16,7 @@ no_line = record { number = 0; cpu = 0; act = acts.Call 0 [] false }
 
 pub loop-i-init : goal.loop-i-init
 loop-i-init c = record {
-  left = first_left c.args.context.now c.args.closing.now c.args.lines.now c.args.counts.now c.args.found.now c.args.processors.now.items (λ cpu e. front_at c.args.opening.now e) (fronts_of c.in_ok-fronts.fronts.items c.args.opening.now) c.args.given.now (c.in_ok-fronts.ensures.fronts c.args.opening.now);
+  left = first_left c.args.context.now c.args.closing.now c.args.lines.now c.args.counts.now c.args.found.now c.args.processors.now.items (λ cpu e. front_at c.args.opening.now e) (fronts_of c.in_ok-fronts.fronts.items c.args.opening.now) c.args.given.now c.in_ok-fronts.ensures.fronts;
   processors = refl;
   fronts = grind (arith, common_steps, c.in_ok-fronts.ensures.size, c.len.ensures);
   within = omega arith;

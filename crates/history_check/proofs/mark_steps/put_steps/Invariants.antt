@@ -1,8 +1,11 @@
-use Rattle.std.proofs.Common.{◌≡◌, ◌++◌, drop, map}
-use Rattle.entry_model.specs.declared.receipt.Receipt.{Receipt}
-use Rattle.history_check.specs.PlacedSteps.{placed_marks}
+use Rattle.std.proofs.Common.{◌≡◌, ◌+◌, ◌++◌, drop, length}
+use Rattle.history_check.specs.PlacedSteps.{line_op}
+use Rattle.history_check.specs.MarkSteps.{mark_steps}
 use Rattle.history_check.proofs.mark_steps.put_steps.Given as goal
 
 -- The steps so far, and those of the marks that are left.
-abbrev pub invariant-loop-i : goal.invariant-loop-i
-invariant-loop-i l = l.steps.items ++ placed_marks l.further (map (λ (r : Receipt). r.op) (drop l.i l.named)) (drop l.i l.marks) ≡ l.fn.steps.items ++ placed_marks l.further (map (λ (r : Receipt). r.op) l.named) l.marks
+abbrev pub invariant-loop-mark : goal.invariant-loop-mark
+invariant-loop-mark l = record {
+  told : l.steps.items ++ mark_steps l.line (length l.steps.items) (line_op l.act) (drop l.mark-index l.marks) ≡ l.fn.steps.items ++ mark_steps l.line (length l.fn.steps.items) (line_op l.act) l.marks;
+  size : length l.steps.items ≡ length l.fn.steps.items + l.mark-index;
+}

@@ -1,0 +1,129 @@
+-- The operations of a hypervisor call: what is kept of each of them, and how many there are.
+use Rattle.std.proofs.Common.{◌≡◌, ℕ, ◌≤◌, ◌+◌, List, [], ◌∷◌, refl, map, length, arith, Option, Some, None}
+use Rattle.std.specs.Prelude.{nat_lt, ◌*◌, ◌/◌, ◌==◌, ◌&&◌, slice_index}
+use Rattle.std.specs.List.{AllByRecursion, range_with_len}
+use Rattle.std.proofs.lemmas.Bool.{cond_both}
+use Rattle.std.proofs.lemmas.List.{length-map}
+use Rattle.papr_codes.specs.FlagBits.{has_flag, h_exact, h_read_4}
+use Rattle.papr_codes.specs.declared.calls.Hcall.{Hcall}
+use Rattle.papr_codes.specs.declared.calls.Hcall.TheVariants as calls
+use Rattle.papr_codes.specs.declared.codes.Rc.TheVariants as rc
+use Rattle.entry_model.specs.declared.operation.Op.{Op}
+use Rattle.entry_model.specs.declared.operation.Op.TheVariants as ops
+use Rattle.entry_model.specs.declared.operation.Test.{Test}
+use Rattle.entry_model.specs.declared.receipt.Receipt.{Receipt}
+use Rattle.entry_model.specs.Trial.{Call, call, Plan, plan_of_code}
+use Rattle.hpte_fields.specs.Fields.{normal_words}
+use Rattle.hpte_fields.specs.TableSize.{entry_count, group_size}
+use Rattle.frame_grants.specs.declared.grant.Grant.{Grant}
+use Rattle.h_enter.specs.Enter.{candidates, enter_plan}
+use Rattle.page_grants.specs.Suited.{suits_grants, suited_words, entered_words}
+use Rattle.h_enter.specs.Checks.{words_plan, h_enter_plan}
+use Rattle.h_update.proofs.Tame.{h_bulk_remove_each}
+use Rattle.h_update.specs.Single.{single_plan, h_remove_plan, h_protect_plan, h_clear_ref_plan, h_clear_mod_plan, read_entries, h_read_plan}
+use Rattle.h_update.specs.Bulk.{Pair, pairs_of, type_of, flags_of, index_of, test_by, removes_under, asked_by, calls_before, bulk_calls, h_bulk_remove_plan}
+use Rattle.hpt_walk.specs.Access.{AccessContext}
+use Rattle.run_model.specs.LineReplies.{hcall_plan}
+use Rattle.history_check.specs.Steps.{no_test, step_op, ops_of}
+use Rattle.history_check.specs.PlacedSteps.{enter_op, call_op}
+
+-- ---- what is kept
+-- This is kept of each operation.
+abbrev pub AllKeep : Op → List Call → Type 0
+AllKeep o cs = AllByRecursion (λ (c : Call). step_op c.op ≡ o) cs
+
+pub each_keeps : (o op : Op) (entries : List ℕ) → step_op op ≡ o → AllKeep o (map (call op) entries)
+each_keeps o op [] h = tt
+each_keeps o op (e ∷ es) h = (h, each_keeps o op es h)
+
+single_keeps : (o : Op) (order ptex : ℕ) (op : Op) (words : Receipt → List ℕ) → step_op op ≡ o → AllKeep o (single_plan order ptex op words).calls
+single_keeps o order ptex op words h = cond_both (nat_lt ptex (entry_count order)) _ (plan_of_code rc.Parameter) (λ (p : Plan). AllKeep o p.calls) (λ _. (h, tt)) (λ _. tt)
+
+words_keep : (grants : List Grant) (flags ptex : ℕ) (w : Option (ℕ × ℕ)) → AllKeep (enter_op w) (words_plan flags ptex (suited_words grants w)).calls
+words_keep grants flags ptex None = tt
+words_keep grants flags ptex (Some w) = cond_both (suits_grants grants w.0 w.1) (Some w) None (λ (o : Option (ℕ × ℕ)). AllKeep (ops.Enter w.0 w.1) (words_plan flags ptex o).calls) (λ _. each_keeps (ops.Enter w.0 w.1) (ops.Enter w.0 w.1) (candidates flags ptex) refl) (λ _. tt)
+
+enter_keeps : (order : ℕ) (grants : List Grant) (flags ptex pteh ptel : ℕ) → AllKeep (enter_op (normal_words pteh ptel)) (h_enter_plan order grants flags ptex pteh ptel).calls
+unfolding h_enter_plan
+enter_keeps order grants flags ptex pteh ptel = cond_both (nat_lt ptex (entry_count order)) (words_plan flags ptex (entered_words grants pteh ptel)) (plan_of_code rc.Parameter) (λ (p : Plan). AllKeep (enter_op (normal_words pteh ptel)) p.calls) (λ _. words_keep grants flags ptex (normal_words pteh ptel)) (λ _. tt)
+
+read_keeps : (order flags ptex : ℕ) → AllKeep ops.Read (h_read_plan order flags ptex).calls
+unfolding h_read_plan
+read_keeps order flags ptex = cond_both (nat_lt ptex (entry_count order)) _ (plan_of_code rc.Parameter) (λ (p : Plan). AllKeep ops.Read p.calls) (λ _. each_keeps ops.Read ops.Read (read_entries flags ptex) refl) (λ _. tt)
+
+pub plan_keeps : (set : AccessContext) (hcall : Hcall) (args : List ℕ) → AllKeep (call_op hcall args) (hcall_plan set hcall args).calls
+unfolding hcall_plan h_remove_plan h_protect_plan h_clear_ref_plan h_clear_mod_plan
+plan_keeps set calls.Enter args = enter_keeps set.order set.grants (slice_index args 0) (slice_index args 1) (slice_index args 2) (slice_index args 3)
+plan_keeps set calls.Remove args = single_keeps _ set.order (slice_index args 1) _ _ refl
+plan_keeps set calls.Protect args = single_keeps _ set.order (slice_index args 1) _ _ refl
+plan_keeps set calls.Read args = read_keeps set.order (slice_index args 0) (slice_index args 1)
+plan_keeps set calls.ClearRef args = single_keeps _ set.order (slice_index args 1) _ _ refl
+plan_keeps set calls.ClearMod args = single_keeps _ set.order (slice_index args 1) _ _ refl
+plan_keeps set calls.BulkRemove args = h_bulk_remove_each (λ op. step_op op ≡ ops.Remove no_test) set.order args (λ test. refl)
+plan_keeps set other args = tt
+
+-- ---- how many
+abbrev Few : Plan → Type 0
+Few p = length p.calls ≤ 16
+
+single_few : (order ptex : ℕ) (op : Op) (words : Receipt → List ℕ) → Few (single_plan order ptex op words)
+single_few order ptex op words = cond_both (nat_lt ptex (entry_count order)) _ (plan_of_code rc.Parameter) Few (λ _. omega arith) (λ _. omega arith)
+
+entries_few : (op : Op) (entries : List ℕ) → length entries ≤ 16 → length (map (call op) entries) ≤ 16
+entries_few op entries h = omega (arith, length-map entries (call op), h)
+
+candidates_few : (flags ptex : ℕ) → length (candidates flags ptex) ≤ 16
+unfolding candidates
+candidates_few flags ptex = cond_both (has_flag flags h_exact) (range_with_len ptex 1) (range_with_len (ptex / group_size * group_size) group_size) (λ (l : List ℕ). length l ≤ 16) (λ _. omega arith) (λ _. omega arith)
+
+words_few : (flags ptex : ℕ) (w : Option (ℕ × ℕ)) → Few (words_plan flags ptex w)
+words_few flags ptex None = omega arith
+words_few flags ptex (Some w) = entries_few (ops.Enter w.0 w.1) (candidates flags ptex) (candidates_few flags ptex)
+
+enter_few : (order : ℕ) (grants : List Grant) (flags ptex pteh ptel : ℕ) → Few (h_enter_plan order grants flags ptex pteh ptel)
+unfolding h_enter_plan
+enter_few order grants flags ptex pteh ptel = cond_both (nat_lt ptex (entry_count order)) (words_plan flags ptex (entered_words grants pteh ptel)) (plan_of_code rc.Parameter) Few (λ _. words_few flags ptex (entered_words grants pteh ptel)) (λ _. omega arith)
+
+read_few : (order flags ptex : ℕ) → Few (h_read_plan order flags ptex)
+unfolding h_read_plan
+read_few order flags ptex = cond_both (nat_lt ptex (entry_count order)) _ (plan_of_code rc.Parameter) Few (λ _. entries_few ops.Read (read_entries flags ptex) four) (λ _. omega arith) where
+  four : length (read_entries flags ptex) ≤ 16
+  four = cond_both (has_flag flags h_read_4) (range_with_len (ptex / 4 * 4) 4) (range_with_len ptex 1) (λ (l : List ℕ). length l ≤ 16) (λ _. omega arith) (λ _. omega arith)
+
+under_few : (entry : ℕ) (test : Option Test) (rest : List Call) → length (calls_before (removes_under entry test) rest) ≤ length rest + 1
+under_few entry None rest = omega arith
+under_few entry (Some test) rest = omega arith
+
+before_few : (order : ℕ) (p : Pair) (rest : List Call) → length (calls_before (asked_by order p) rest) ≤ length rest + 1
+unfolding asked_by
+before_few order p rest =
+    cond_both (type_of p.request == 3) _ _ (λ asks. length (calls_before asks rest) ≤ length rest + 1) (λ _. omega arith) (λ _. cond_both ((type_of p.request == 1) && nat_lt (index_of p.request) (entry_count order)) _ _ (λ asks. length (calls_before asks rest) ≤ length rest + 1) (λ _. under_few (index_of p.request) (test_by (flags_of p.request) p.word) rest) (λ _. omega arith))
+
+bulk_few : (order : ℕ) (ps : List Pair) → length (bulk_calls order ps) ≤ length ps
+unfolding bulk_calls
+bulk_few order [] = omega arith
+bulk_few order (p ∷ ps) = omega (arith, before_few order p (bulk_calls order ps), bulk_few order ps)
+
+pairs_few : (words : List ℕ) → length (pairs_of words) ≤ length words
+pairs_few [] = omega arith
+pairs_few (a ∷ []) = omega arith
+pairs_few (a ∷ b ∷ words) = omega (arith, pairs_few words)
+
+remove_few : (order : ℕ) (words : List ℕ) → length words ≤ 16 → Few (h_bulk_remove_plan order words)
+unfolding h_bulk_remove_plan
+remove_few order words h = omega (arith, h, bulk_few order (pairs_of words), pairs_few words)
+
+plan_few : (set : AccessContext) (hcall : Hcall) (args : List ℕ) → length args ≤ 16 → Few (hcall_plan set hcall args)
+unfolding hcall_plan h_remove_plan h_protect_plan h_clear_ref_plan h_clear_mod_plan
+plan_few set calls.Enter args h = enter_few set.order set.grants (slice_index args 0) (slice_index args 1) (slice_index args 2) (slice_index args 3)
+plan_few set calls.Remove args h = single_few set.order (slice_index args 1) _ _
+plan_few set calls.Protect args h = single_few set.order (slice_index args 1) _ _
+plan_few set calls.Read args h = read_few set.order (slice_index args 0) (slice_index args 1)
+plan_few set calls.ClearRef args h = single_few set.order (slice_index args 1) _ _
+plan_few set calls.ClearMod args h = single_few set.order (slice_index args 1) _ _
+plan_few set calls.BulkRemove args h = remove_few set.order args h
+plan_few set other args h = omega arith
+
+-- A hypervisor call has at most sixteen operations.
+pub few_ops : (set : AccessContext) (hcall : Hcall) (args : List ℕ) → length args ≤ 16 → length (ops_of (hcall_plan set hcall args).calls) ≤ 16
+few_ops set hcall args h = omega (arith, length-map (hcall_plan set hcall args).calls (λ (c : Call). c.op), plan_few set hcall args h)

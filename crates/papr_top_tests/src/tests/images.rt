@@ -1,14 +1,13 @@
 //! Images of tables that were worked out by hand.
 
 use super::faults::faulty;
-use super::resizing::RESIZED;
 use super::{BASIS, push_lines};
 use papr_top::Status;
 use std::alloc::Global;
 use std::test::Fail;
 
 /// The lines behind `begin`, a layout, and what is written.
-struct Imaged {
+struct ImageRow {
     name: &'static str,
     lines: &'static [&'static str],
     layout: &'static str,
@@ -24,57 +23,57 @@ const OF_A_TERABYTE: &[&str] = &["0 H_ENTER 0x0 0x20 0x4000000001000001 0x3012"]
 /// A bit below B is set.
 const BELOW_B: &[&str] = &["0 H_ENTER 0x0 0x20 0x0010000000001001 0x3012"];
 
-const IMAGES: &[Imaged] = &[
-    Imaged {
+const IMAGES: &[ImageRow] = &[
+    ImageRow {
         name: "an empty table",
         lines: &[],
         layout: "old",
         status: Status::Done,
         written: "image old order 18 entries 0\n",
     },
-    Imaged {
+    ImageRow {
         name: "an empty table in the newer layout",
         lines: &[],
         layout: "new",
         status: Status::Done,
         written: "image new order 18 entries 0\n",
     },
-    Imaged {
+    ImageRow {
         name: "an entry",
         lines: ENTERED,
         layout: "old",
         status: Status::Done,
         written: "image old order 18 entries 1\n0x20 00000000000010010000000000003012\n",
     },
-    Imaged {
+    ImageRow {
         name: "a segment of a terabyte",
         lines: OF_A_TERABYTE,
         layout: "old",
         status: Status::Done,
         written: "image old order 18 entries 1\n0x20 40000000010000010000000000003012\n",
     },
-    Imaged {
+    ImageRow {
         name: "a segment of a terabyte in the newer layout",
         lines: OF_A_TERABYTE,
         layout: "new",
         status: Status::Done,
         written: "image new order 18 entries 1\n0x20 00000000010000010400000000003012\n",
     },
-    Imaged {
+    ImageRow {
         name: "a bit that the newer layout has no place for",
         lines: BELOW_B,
         layout: "new",
         status: Status::Refused,
         written: "papr: entry 0x20: layout\n",
     },
-    Imaged {
+    ImageRow {
         name: "the same in the older layout",
         lines: BELOW_B,
         layout: "old",
         status: Status::Done,
         written: "image old order 18 entries 1\n0x20 00100000000010010000000000003012\n",
     },
-    Imaged {
+    ImageRow {
         name: "the first of two entries that can't be held",
         lines: &[
             "0 H_ENTER 0x8000000000 0x400 0x0010000000001001 0x3012",
@@ -85,7 +84,7 @@ const IMAGES: &[Imaged] = &[
         status: Status::Refused,
         written: "papr: entry 0x30: layout\n",
     },
-    Imaged {
+    ImageRow {
         name: "R behind a load, in the entry that it tried",
         lines: &[
             "0 slbmte 0x8000000 0x1000",
@@ -97,7 +96,7 @@ const IMAGES: &[Imaged] = &[
         status: Status::Done,
         written: "image old order 18 entries 2\n0x20 00000000000010010000000000003112\n0x80 00000000000010010000000000003012\n",
     },
-    Imaged {
+    ImageRow {
         name: "R and C behind a store",
         lines: &[
             "0 slbmte 0x8000000 0x1000",
@@ -108,7 +107,7 @@ const IMAGES: &[Imaged] = &[
         status: Status::Done,
         written: "image new order 18 entries 1\n0x20 00000000000010010000000000003192\n",
     },
-    Imaged {
+    ImageRow {
         name: "no entry behind a removal",
         lines: &[
             "0 H_ENTER 0x0 0x20 0x1001 0x3012",
@@ -118,9 +117,15 @@ const IMAGES: &[Imaged] = &[
         status: Status::Done,
         written: "image old order 18 entries 0\n",
     },
-    Imaged {
+    ImageRow {
         name: "the new table behind a committed resize",
-        lines: RESIZED[0].lines,
+        lines: &[
+            "0 H_ENTER 0x8000000000 0x20 0x801011 0x3012",
+            "0 H_ENTER 0x8000000000 0x21 0x1001 0x4012",
+            "0 H_RESIZE_HPT_PREPARE 0x0 19",
+            "0 H_RESIZE_HPT_PREPARE 0x0 19",
+            "0 H_RESIZE_HPT_COMMIT 0x0 19",
+        ],
         layout: "old",
         status: Status::Done,
         written: "image old order 19 entries 1\n0x4020 00000000008010110000000000003012\n",

@@ -39,4 +39,5 @@ mod HistoryRows
 mod SectionRows
 mod ParallelRows
 mod RefusedRows
+mod OpeningAgainRows
 pub mod ProcessorLists

@@ -1,15 +1,16 @@
 -- What an image holds of a table that a serial run reaches opens again.
 use Rattle.std.specs.Prelude.{if◌then◌else◌, slice_index_or}
-use Rattle.std.proofs.Common.{◌≡◌, ℕ, zero, suc, ◌+◌, ◌^◌, ◌<◌, List, [], ◌∷◌, ◌++◌, true, false, Bool, length, Some, refl, ap, sym, subst, ◌∙◌, bit_and, arith}
+use Rattle.std.proofs.Common.{◌≡◌, ◌≢◌, ℕ, zero, suc, ◌+◌, ◌^◌, ◌<◌, List, [], ◌∷◌, true, false, Bool, length, Some, refl, ap, sym, subst, ◌∙◌, bit_and, arith}
 use Rattle.std.specs.Int.Bits.{and_zero_r}
 use Rattle.std.specs.List.{AllByRecursion}
-use Rattle.std.proofs.lemmas.List.{get_or-set_same}
+use Rattle.std.proofs.lemmas.List.{get_or-set_other, get_or-set_same}
 use Rattle.std.proofs.lemmas.Nat.{and_le_r}
 use Rattle.hpte_fields.specs.TableSize.{entry_count}
 use Rattle.hpte_fields.proofs.Masks.{masks_join}
 use Rattle.frame_grants.specs.declared.grant.Grant.{Grant}
 use Rattle.page_grants.specs.Suited.{entered_words}
 use Rattle.h_enter.proofs.Suited.{entered_suited}
+use Rattle.table_image.specs.declared.entry.ImageEntry.{ImageEntry}
 use Rattle.table_image.specs.declared.layout.Layout.{Layout}
 use Rattle.table_image.specs.Layouts.{cleared_bit, entry_digits, entry_words}
 use Rattle.table_image.proofs.DigitTexts.{is_read_back}
@@ -23,10 +24,10 @@ use Rattle.hpt_resize.proofs.OpeningStates.{opening-length, entries-more}
 use Rattle.hpt_resize.proofs.StateBack.{state_back}
 use Rattle.run_model.specs.EnteredEntries.{CanBeEntered}
 use Rattle.run_model.specs.Laws.{ImagesOpenAgain}
-use Rattle.run_model.specs.OpeningAgain.{memory_after}
-use Rattle.run_model.specs.RunState.{states_of, opening_run, valid_from, shown_of}
+use Rattle.run_model.specs.OpeningAgain.{image_entry, memory_after, opening_states, with_image_entry}
+use Rattle.run_model.specs.RunState.{opening_run, valid_from, shown_of}
 use Rattle.run_model.proofs.EnteredEntries.{entries_can_be_entered}
-use Rattle.run_model.proofs.ReadAgain.{entry_at_index, line_read}
+use Rattle.run_model.proofs.ReadAgain.{line_read}
 use Rattle.run_model.proofs.TableSizes.{small_index, serial_sized}
 
 -- ---- the entry
@@ -82,12 +83,21 @@ digits_back grants layout w digits stored held =
     is_read_back.words layout w.0 w.1 digits (entered_suited grants w.0 w.1 w stored).fits low clear held
 
 -- ---- the table
-opened_state : (c : Configuration) (index : ℕ) (w : ℕ × ℕ) → index < entry_count c.order → state_at (states_of (opening_run (record c { entries = c.entries ++ entry_at_index index w ∷ [] }))) index ≡ entered_state w.0 w.1
-unfolding opening_run opening_memory
-opened_state c index w inside =
-    let states = with_entries (empty_states c.order) c.entries in
-    ap (λ (states : List State). state_at states index) (entries-more (empty_states c.order) c.entries (entry_at_index index w))
-    ∙ get_or-set_same states index (entered_state w.0 w.1) (empty_state 0) (subst (λ n. index < n) (sym (opening-length c.order c.entries)) inside)
+-- One more entry takes its place, and leaves the others.
+module _ (c : Configuration) (e : ImageEntry) where
+  now_there : e.index < entry_count c.order → state_at (opening_states (with_image_entry c e)) e.index ≡ entered_state e.dword0 e.dword1
+  unfolding opening_run opening_memory
+  now_there inside =
+      let states = with_entries (empty_states c.order) c.entries in
+      ap (λ (ss : List State). state_at ss e.index) (entries-more (empty_states c.order) c.entries e)
+      ∙ get_or-set_same states e.index (entered_state e.dword0 e.dword1) (empty_state 0) (subst (λ n. e.index < n) (sym (opening-length c.order c.entries)) inside)
+
+  as_before : (other : ℕ) → other ≢ e.index → state_at (opening_states (with_image_entry c e)) other ≡ state_at (opening_states c) other
+  unfolding opening_run opening_memory
+  as_before other apart =
+      let states = with_entries (empty_states c.order) c.entries in
+      ap (λ (ss : List State). state_at ss other) (entries-more (empty_states c.order) c.entries e)
+      ∙ get_or-set_other states e.index other (entered_state e.dword0 e.dword1) (empty_state 0) apart
 
 pub images_open_again : ImagesOpenAgain
 unfolding shown_of
@@ -102,7 +112,7 @@ images_open_again t lines layout index s digits c is shown held order grants ris
     let stored : entered_words allowed (words_of s).0 (words_of s).1 ≡ Some (words_of s) = stored_whole allowed (words_of s).0 (words_of s).1 (put_stored allowed s.dword0 s.dword1 s.referenced s.changed parts) in
     let again : entered_words c.granted.grants (words_of s).0 (words_of s).1 ≡ Some (words_of s) = subst (λ (gs : List Grant). entered_words gs (words_of s).0 (words_of s).1 ≡ Some (words_of s)) (sym grants) stored in
     record {
-      opened = _;
       accepted = line_read c layout index digits (words_of s) (small_index memory index sized within) inside rises (digits_back allowed layout (words_of s) digits stored held) again;
-      state = opened_state c index (words_of s) inside ∙ state_back s at.holds.canonical at.valid parts.second;
+      state = now_there c (image_entry index s) inside ∙ state_back s at.holds.canonical at.valid parts.second;
+      others = as_before c (image_entry index s);
     }

@@ -1,6 +1,6 @@
 -- A line that names an entry as an image does gives that entry.
 use Rattle.std.specs.Prelude.{◌&&◌, ◌==◌}
-use Rattle.std.proofs.Common.{◌≡◌, ℕ, ◌^◌, ◌<◌, ◌≤◌, List, [], ◌∷◌, ◌++◌, true, false, length, Option, Some, Ok, refl, ap, ◌∙◌, arith}
+use Rattle.std.proofs.Common.{◌≡◌, ℕ, ◌^◌, ◌<◌, ◌≤◌, List, [], ◌∷◌, true, false, length, Option, Some, Ok, refl, ap, ◌∙◌, arith}
 use Rattle.std.specs.List.{AllByRecursion}
 use Rattle.std.specs.Option.{option_map_or}
 use Rattle.std.specs.Char.{digit_value}
@@ -22,7 +22,7 @@ use Rattle.trace_read.specs.Acts.{number_at}
 use Rattle.trace_read.specs.Configuration.{Configuration}
 use Rattle.trace_read.specs.Entries.{layout_named, is_above, is_stored, entry_named, with_entry}
 use Rattle.trace_read.specs.Numbers.{all_digits, digits_number, has_hex_prefix, number_of}
-use Rattle.run_model.specs.OpeningAgain.{entry_line_words}
+use Rattle.run_model.specs.OpeningAgain.{entry_line_words, with_image_entry}
 
 -- ---- the index
 all_read : (base : ℕ) (ds : List ℕ) → AllDigits base ds → all_digits base ds ≡ true
@@ -59,11 +59,7 @@ stored_read grants w stored =
     ap (λ (o : Option (ℕ × ℕ)). option_map_or (λ (stored : ℕ × ℕ). (stored.0 == w.0) && (stored.1 == w.1)) o false) stored
     ∙ rw (eq-eqb w.0 w.0 refl, eq-eqb w.1 w.1 refl) refl
 
--- The entry of these words.
-abbrev pub entry_at_index : ℕ → ℕ × ℕ → ImageEntry
-entry_at_index index w = record { index = index; dword0 = w.0; dword1 = w.1 }
-
-pub line_read : (c : Configuration) (layout : Layout) (index : ℕ) (digits : List ℕ) (w : ℕ × ℕ) → index < 2 ^ 32 → index < entry_count c.order → AllByRecursion (λ (e : ImageEntry). e.index < index) c.entries → entry_words layout digits ≡ Some w → entered_words c.granted.grants w.0 w.1 ≡ Some w → with_entry c (entry_line_words layout index digits) ≡ Ok (record c { entries = c.entries ++ entry_at_index index w ∷ [] })
+pub line_read : (c : Configuration) (layout : Layout) (index : ℕ) (digits : List ℕ) (w : ℕ × ℕ) → index < 2 ^ 32 → index < entry_count c.order → AllByRecursion (λ (e : ImageEntry). e.index < index) c.entries → entry_words layout digits ≡ Some w → entered_words c.granted.grants w.0 w.1 ≡ Some w → with_entry c (entry_line_words layout index digits) ≡ Ok (with_image_entry c (record { index = index; dword0 = w.0; dword1 = w.1 }))
 unfolding with_entry entry_named number_at
 line_read c layout index digits w small inside rises words stored =
     rw (hex_read index small, layout_read layout, lt-ltb index (entry_count c.order) inside, above_read c.entries index rises, words, stored_read c.granted.grants w stored) refl

@@ -1,7 +1,7 @@
 -- The words of an entry, with R and C put back, open as its state at stamp 0.
 use Rattle.std.proofs.Common.{◌≡◌, true, ◌∙◌, refl}
 use Rattle.hpte_fields.specs.Fields.{is_changed, is_referenced, stored_second, with_rc, without_rc}
-use Rattle.hpte_fields.proofs.PutBack.{put_off, read_changed, read_referenced, without_none}
+use Rattle.table_image.proofs.PutBack.{put_off, read_changed, read_referenced, without_none}
 use Rattle.entry_model.specs.State.{State, IsCanonicalState}
 use Rattle.entry_model.specs.Reply.{entered_state, words_of}
 use Rattle.hpt_resize.specs.Rehash.{at_stamp_0}

@@ -1,3 +1,4 @@
+pub mod PutBack
 pub mod BitFields
 pub mod DigitTexts
 pub mod Lengths

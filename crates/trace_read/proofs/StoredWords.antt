@@ -9,7 +9,7 @@ use Rattle.hpte_fields.specs.Fields.{page_bits, wimg_of, segment_code, stored_fi
 use Rattle.hpte_fields.proofs.Again.{normal_again}
 use Rattle.hpte_fields.proofs.Masks.{field_stays}
 use Rattle.hpte_fields.proofs.PageBits.{same_size, same_frame}
-use Rattle.hpte_fields.proofs.PutBack.{put_off, put_second}
+use Rattle.table_image.proofs.PutBack.{put_off, put_second}
 use Rattle.frame_grants.specs.declared.grant.Grant.{Grant}
 use Rattle.page_grants.specs.Suited.{suits_size, suits_grants, suited_words, entered_words}
 

@@ -1,4 +1,5 @@
 pub mod Filling
+pub mod SoFar
 pub mod Outcomes
 pub mod Makings
 pub mod Searching

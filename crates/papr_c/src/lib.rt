@@ -14,4 +14,5 @@ mod receipts;
 mod rehashing;
 mod reply;
 mod single;
+mod trying;
 mod walking;

@@ -1,9 +1,9 @@
 -- Places that are filled one after the other from the first on.
-use Rattle.std.proofs.Common.{◌≡◌, ℕ, zero, suc, ◌+◌, ◌<◌, ◌≤◌, List, [], ◌∷◌, ◌++◌, length, take, drop, set, get_or, min, refl, ap, ◌⊎◌, inl, inr, arith}
+use Rattle.std.proofs.Common.{◌≡◌, ℕ, zero, suc, ◌+◌, ◌<◌, ◌≤◌, List, [], ◌∷◌, ◌++◌, length, take, drop, set, get_or, min, refl, ap, sym, ◌∙◌, ◌⊎◌, inl, inr, arith}
 use Rattle.std.proofs.lemmas.List.{take_all, drop_all}
 use Rattle.std.proofs.Math.Numerals.{add-one}
 use Rattle.std.proofs.lemmas.Bool.{cases_lt}
-use Rattle.papr_c.specs.Places.{filled}
+use Rattle.papr_c.specs.Places.{filled, placed}
 
 -- One more place: the next item.
 fill_next : {X : Type 0} (items old : List X) (i : ℕ) (d : X) → i < length items → i < length old → set (take i items ++ drop i old) i (get_or items i d) ≡ take (suc i) items ++ drop (suc i) old
@@ -31,3 +31,23 @@ fill_whole items old i all = at (cases_lt (length items) (length old)) where
       let none : drop (length items) old ≡ [] = drop_all (length items) old short in
       let gone : drop (length old) old ≡ [] = drop_all (length old) old (omega arith) in
       rw (i_is, none, gone) refl
+
+-- ---- the same, put one after the other
+placed-shift : {X : Type 0} (items old : List X) (o : X) (i : ℕ) → placed (o ∷ old) (suc i) items ≡ o ∷ placed old i items
+placed-shift [] old o i = refl
+placed-shift (x ∷ items) old o i =
+    let next : suc i + 1 ≡ suc (i + 1) = omega arith in
+    ap (λ k. placed (o ∷ set old i x) k items) next ∙ placed-shift items (set old i x) o (i + 1)
+
+placed-none : {X : Type 0} (items : List X) (i : ℕ) → placed [] i items ≡ []
+placed-none [] i = refl
+placed-none (x ∷ items) i = placed-none items (i + 1)
+
+pub filled-nil : {X : Type 0} (old : List X) → filled old [] ≡ old
+filled-nil [] = refl
+filled-nil (o ∷ old) = refl
+
+pub placed_filled : {X : Type 0} (items old : List X) → placed old 0 items ≡ filled old items
+placed_filled [] old = sym (filled-nil old)
+placed_filled (x ∷ items) [] = placed-none items 1
+placed_filled (x ∷ items) (o ∷ old) = placed-shift items old x 0 ∙ ap (λ rest. x ∷ rest) (placed_filled items old)

@@ -1,14 +1,14 @@
 -- A trial on lent entries, one entry after the other.
 use Rattle.std.specs.Prelude.{map, if◌then◌else◌}
-use Rattle.std.proofs.Common.{◌≡◌, ℕ, zero, suc, ◌+◌, ◌-◌, ◌<◌, ◌≤◌, List, [], ◌∷◌, ◌++◌, length, set, Bool, true, false, Option, Some, None, arith, subst, sym, ap, ◌∙◌, refl, append_assoc, append-nil, add-zero, ◌⊎◌, inl, inr, length-set}
+use Rattle.std.proofs.Common.{◌≡◌, ℕ, zero, suc, ◌+◌, ◌-◌, ◌<◌, ◌≤◌, List, [], ◌∷◌, ◌++◌, length, get_or, set, Bool, true, false, Option, Some, None, arith, subst, sym, ap, ◌∙◌, refl, append_assoc, append-nil, add-zero, ◌⊎◌, inl, inr, length-set}
 use Rattle.std.proofs.lemmas.Bool.{cases_Bool}
-use Rattle.entry_model.specs.Receipt.{after_of}
+use Rattle.entry_model.specs.Receipt.{after_of, blank_receipt, IsReceiptOf}
 use Rattle.std.specs.List.{range_with_len}
 use Rattle.entry_model.specs.State.{State}
 use Rattle.entry_model.specs.declared.operation.Op.{Op}
 use Rattle.entry_model.specs.declared.operation.Answer.{Answer}
 use Rattle.entry_model.specs.declared.receipt.Receipt.{Receipt}
-use Rattle.entry_model.specs.Run.{states_after}
+use Rattle.entry_model.specs.Run.{states_after, IsRun}
 use Rattle.entry_model.specs.Trial.{Call, call, ending_of, receipt_at, trial_run}
 use Rattle.entry_model.proofs.TrialSteps.{calls_from, ending-on, ending-off}
 use Rattle.papr_c.specs.declared.receipts.PaprReceipt.{PaprReceipt}
@@ -67,7 +67,7 @@ map-more : (rs : List Receipt) (r : Receipt) → map shown_receipt (rs ++ r ∷ 
 map-more [] r = refl
 map-more (x ∷ rs) r = ap (λ z. shown_receipt x ∷ z) (map-more rs r)
 
-length-map_shown : (rs : List Receipt) → length (map shown_receipt rs) ≡ length rs
+pub length-map_shown : (rs : List Receipt) → length (map shown_receipt rs) ≡ length rs
 length-map_shown [] = refl
 length-map_shown (x ∷ rs) = ap suc (length-map_shown rs)
 
@@ -146,3 +146,23 @@ ends goes op first count place i a b c old new next rs r more is after put end h
       let none : count - (i + 1) ≡ 0 = omega (arith, last) in
       let whole : rest_of goes op first count a ≡ before_rest (rs ++ r ∷ []) (rest_of goes op (first + (i + 1)) 0 (states_after b r)) = rw none at (goes_whole goes op first count i a b rs r more is on h.whole) in
       whole ∙ ap (before_rest (rs ++ r ∷ [])) (no_more goes (states_after b r)) ∙ ap (λ z. (z, states_after b r)) (append-nil (rs ++ r ∷ []))
+
+-- ---- one entry
+-- Its receipt is the one that the states give.
+pub alone_last : (op : Op) (entry : ℕ) (a : List State) (last : Receipt) → (rest_of (λ answer. true) op entry 1 a).0 ≡ last ∷ [] → last ≡ receipt_at a (call op entry)
+unfolding trial_run
+alone_last op entry a last alone = sym (ap (λ (rs : List Receipt). get_or rs 0 blank_receipt) alone)
+
+-- And only that entry has another state.
+pub alone_after : (op : Op) (entry : ℕ) (a : List State) → (rest_of (λ answer. true) op entry 1 a).1 ≡ states_after a (receipt_at a (call op entry))
+unfolding trial_run
+alone_after op entry a = refl
+
+-- As a run.
+pub alone_run : (op : Op) (entry : ℕ) (a b : List State) (last : Receipt) → entry < length a → (rest_of (λ answer. true) op entry 1 a).0 ≡ last ∷ [] → b ≡ (rest_of (λ answer. true) op entry 1 a).1 → IsRun a (last ∷ []) b
+alone_run op entry a b last inside alone after =
+    let is : last ≡ receipt_at a (call op entry) = alone_last op entry a last alone in
+    rw is (states_after a (receipt_at a (call op entry)), record { in_table = inside; before = refl; after = refl }, after ∙ alone_after op entry a)
+
+pub alone_of : (op : Op) (entry : ℕ) (a : List State) (last : Receipt) → (rest_of (λ answer. true) op entry 1 a).0 ≡ last ∷ [] → IsReceiptOf entry op last
+alone_of op entry a last alone = rw (alone_last op entry a last alone) (record { entry = refl; op = refl })

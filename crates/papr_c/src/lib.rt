@@ -10,6 +10,7 @@ mod enter;
 mod granting;
 mod grants;
 mod lent;
+mod read;
 mod receipts;
 mod rehashing;
 mod reply;

@@ -17,6 +17,23 @@ pub struct Tried {
     pub count: u32,
 }
 
+impl Tried {
+    /// The receipt after which the trial didn't go on, if there was one.
+    #[inline]
+    pub fn ending(&self, goes_on: GoesOn) -> Option<Receipt>
+        ensures { result
+            ≡ (if Rattle.entry_model.specs.Trial.goes_after goes_on self.now.last.answer
+            then None
+            else Some self.now.last) }
+    {
+        if goes_after(goes_on, self.last.answer) {
+            None
+        } else {
+            Some(self.last)
+        }
+    }
+}
+
 /// Makes an operation on an entry, and puts the receipt into the caller's place, where there is
 /// one.
 #[inline]
@@ -80,6 +97,7 @@ pub fn try_lent(
         receipts.old
         place
         (map shown_receipt (tried goes_on op.now first count entries.old).0) }
+    ensures few { result.count ≤ count }
     ensures count { result.count ≡ length (tried goes_on op.now first count entries.old).0 }
     ensures ending { let goes = Rattle.entry_model.specs.Trial.goes_after goes_on in
         ending_of goes (tried goes_on op.now first count entries.old).0

@@ -11,7 +11,8 @@ use Rattle.entry_model.proofs.TrialSteps.{calls_from}
 use Rattle.h_update.specs.Single.{both_words}
 use Rattle.papr_c.specs.Places.{placed}
 use Rattle.papr_c.specs.Tried.{words_of_entries}
-use Rattle.papr_c.proofs.SoFar.{placed-append, rest_of}
+use Rattle.papr_c.proofs.Filling.{placed-append}
+use Rattle.papr_c.proofs.SoFar.{rest_of}
 
 -- Both doublewords of an entry.
 abbrev pair_at : List State → ℕ → List ℕ

@@ -13,6 +13,7 @@ use Rattle.entry_model.specs.Trial.{Call, call, ending_of, receipt_at, trial_run
 use Rattle.entry_model.proofs.TrialSteps.{calls_from, ending-on, ending-off}
 use Rattle.papr_c.specs.declared.receipts.PaprReceipt.{PaprReceipt}
 use Rattle.papr_c.specs.Places.{placed, shown_receipt}
+use Rattle.papr_c.proofs.Filling.{placed-append}
 
 -- The rest of the entries begins with this one.
 calls_step : (op : Op) (first i count : ℕ) → i < count → calls_from op (first + i) (count - i) ≡ call op (first + i) ∷ calls_from op (first + (i + 1)) (count - (i + 1))
@@ -55,13 +56,6 @@ pub record IsSoFar (goes : Answer → Bool) (op : Op) (first count place i : ℕ
   pub put : new ≡ placed old place (map shown_receipt rs)
   pub tried : length rs ≡ i
   pub same : length b ≡ length a
-
--- More items are put behind the first ones.
-pub placed-append : {X : Type 0} (xs ys old : List X) (i : ℕ) → placed old i (xs ++ ys) ≡ placed (placed old i xs) (i + length xs) ys
-placed-append [] ys old i = rw add-zero refl
-placed-append (x ∷ xs) ys old i =
-    let next : (i + 1) + length xs ≡ i + length (x ∷ xs) = omega arith in
-    placed-append xs ys (set old i x) (i + 1) ∙ ap (λ k. placed (placed (set old i x) (i + 1) xs) k ys) next
 
 map-more : (rs : List Receipt) (r : Receipt) → map shown_receipt (rs ++ r ∷ []) ≡ map shown_receipt rs ++ shown_receipt r ∷ []
 map-more [] r = refl

@@ -28,8 +28,8 @@ use Rattle.papr_c.specs.Lent.{is_table}
 use Rattle.papr_c.specs.Places.{filled, placed, shown_receipt}
 use Rattle.papr_c.specs.Tried.{tried}
 use Rattle.papr_c.specs.Walks.{WalkMemory, walk_memory, page_of, want_of, walk_end, outcome_of_walk}
-use Rattle.papr_c.proofs.Filling.{placed_filled}
-use Rattle.papr_c.proofs.SoFar.{placed-append, length-map_shown}
+use Rattle.papr_c.proofs.Filling.{placed_filled, placed-append}
+use Rattle.papr_c.proofs.SoFar.{length-map_shown}
 use Rattle.papr_c.proofs.Outcomes.{walk_is}
 
 -- A table has all its entries.

@@ -1,4 +1,4 @@
-ghost use Rattle.std.specs.Prelude.{◌≡◌, ◌≤◌, ◌+◌, ◌*◌, ◌^◌, ◌<◌, length, min, set};
+ghost use Rattle.std.specs.Prelude.{◌≡◌, ◌≤◌, ◌+◌, ◌*◌, ◌^◌, ◌<◌, length, min};
 ghost use Rattle.h_update.specs.Single.{h_read_plan};
 ghost use Rattle.papr_c.specs.Calls.{memory, outcome_of_call};
 ghost use Rattle.papr_c.specs.Places.{placed};
@@ -6,22 +6,12 @@ ghost use Rattle.papr_c.specs.Tried.{words_of_entries};
 
 use crate::lent::is_table;
 use crate::receipts::PaprReceipt;
-use crate::reply::{PaprReply, filled_count};
+use crate::reply::{PaprReply, filled_count, put_word};
 use crate::trying::try_lent;
 use entry_model::{EntryState, GoesOn, Op};
 use h_update::read_range;
 use hpte_fields::entry_count;
 use papr_codes::Rc;
-
-/// Puts a word into the caller's place, where there is one.
-#[inline]
-fn put_word(word: u64, places: &mut [u64], place: usize)
-    ensures { places.new ≡ set places.old place word }
-{
-    if place < places.len() {
-        places[place] = word;
-    }
-}
 
 /// Puts both doublewords of each of these entries into the caller's places, as far as these go, and
 /// gives how many it put.

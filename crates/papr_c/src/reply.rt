@@ -1,4 +1,4 @@
-ghost use Rattle.std.specs.Prelude.{◌≡◌, ◌≤◌, length, min};
+ghost use Rattle.std.specs.Prelude.{◌≡◌, ◌≤◌, length, min, set};
 ghost use Rattle.papr_codes.specs.ReturnCodes.{rc_code};
 ghost use Rattle.papr_c.specs.Places.{filled};
 ghost use Rattle.papr_c.specs.Calls.{refused_reply};
@@ -46,17 +46,28 @@ impl PaprReply {
     }
 }
 
+/// Puts a word into the caller's place, where there is one.
+#[inline]
+pub fn put_word(word: u64, places: &mut [u64], place: usize)
+    ensures { places.new ≡ set places.old place word }
+{
+    if place < places.len() {
+        places[place] = word;
+    }
+}
+
 /// Puts words into the caller's places, as far as these go, and gives how many it put.
+// Each is tested against the room, so that two words take no call of memcpy.
+#[inline]
 fn put_words(made: &[u64], places: &mut [u64]) -> u32
     requires { length made.now ≤ 8 }
     ensures filled { places.new ≡ filled places.old made.now }
     ensures count { result ≡ min (length places.old) (length made.now) }
 {
-    let count = made.len().min(places.len());
-    for i in 0..count {
-        places[i] = made[i];
+    for i in 0..made.len() {
+        put_word(made[i], places, i);
     }
-    count as u32
+    filled_count(places.len(), made.len() as u32)
 }
 
 /// Puts what a call left in registers into the caller's places, as far as these go. The receipts

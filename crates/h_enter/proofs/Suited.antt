@@ -15,7 +15,7 @@ use Rattle.entry_model.specs.Receipt.{is_taken, is_worn}
 use Rattle.entry_model.specs.Trial.{plan_of_code, call}
 use Rattle.entry_model.proofs.Heights.{calls_cost}
 use Rattle.entry_model.proofs.PlanBounds.{EntersOnly, IsTame, NoneWorn, answered_tame, each_call, entries_cost}
-use Rattle.h_enter.specs.Enter.{candidates, enter_told, enter_plan}
+use Rattle.h_enter.specs.Enter.{candidates, enter_told}
 use Rattle.page_grants.specs.Suited.{suits_grants, suited_words, entered_words}
 use Rattle.h_enter.specs.Checks.{h_enter_plan, words_plan}
 

@@ -1,16 +1,15 @@
 -- A trial on lent entries, one entry after the other.
 use Rattle.std.specs.Prelude.{map, if◌then◌else◌}
-use Rattle.std.proofs.Common.{◌≡◌, ℕ, zero, suc, ◌+◌, ◌-◌, ◌<◌, ◌≤◌, List, [], ◌∷◌, ◌++◌, length, get_or, set, Bool, true, false, Option, Some, None, arith, subst, sym, ap, ◌∙◌, refl, append_assoc, append-nil, add-zero, ◌⊎◌, inl, inr, length-set}
+use Rattle.std.proofs.Common.{◌≡◌, ℕ, suc, ◌+◌, ◌-◌, ◌<◌, List, [], ◌∷◌, ◌++◌, length, get_or, set, Bool, true, false, Some, None, arith, sym, ap, ◌∙◌, refl, append_assoc, append-nil, ◌⊎◌, inl, inr, length-set}
 use Rattle.std.proofs.lemmas.Bool.{cases_Bool}
 use Rattle.entry_model.specs.Receipt.{after_of, blank_receipt, IsReceiptOf}
-use Rattle.std.specs.List.{range_with_len}
 use Rattle.entry_model.specs.State.{State}
 use Rattle.entry_model.specs.declared.operation.Op.{Op}
 use Rattle.entry_model.specs.declared.operation.Answer.{Answer}
 use Rattle.entry_model.specs.declared.receipt.Receipt.{Receipt}
 use Rattle.entry_model.specs.Run.{states_after, IsRun}
 use Rattle.entry_model.specs.Trial.{Call, call, ending_of, receipt_at, trial_run}
-use Rattle.entry_model.proofs.TrialSteps.{calls_from, ending-on, ending-off}
+use Rattle.entry_model.proofs.TrialSteps.{calls_from, ending-on}
 use Rattle.papr_c.specs.declared.receipts.PaprReceipt.{PaprReceipt}
 use Rattle.papr_c.specs.Places.{placed, shown_receipt}
 use Rattle.papr_c.proofs.Filling.{placed-append}
@@ -132,14 +131,14 @@ ending_alone goes r = at (cases_Bool (goes r.answer)) where
 pub ends : (goes : Answer → Bool) (op : Op) (first count place i : ℕ) (a b c : List State) (old new next : List PaprReceipt) (rs : List Receipt) (r : Receipt) → i < count → r ≡ receipt_at b (call op (first + i)) → c ≡ states_after b r → next ≡ set new (place + i) (shown_receipt r) → (goes r.answer ≡ false) ⊎ (i + 1 ≡ count) → IsSoFar goes op first count place i a b old new rs → IsTold goes op first count place (i + 1) a c old next r
 ends goes op first count place i a b c old new next rs r more is after put end h =
     told_by goes op first count place i a b c old new next rs r more after put (at end (cases_Bool (goes r.answer))) h (ending_alone goes r) where
-  at : (goes r.answer ≡ false) ⊎ (i + 1 ≡ count) → (goes r.answer ≡ true) ⊎ (goes r.answer ≡ false) → rest_of goes op first count a ≡ (rs ++ r ∷ [], states_after b r)
-  at end (inr off) =
-      h.whole ∙ ap (before_rest rs) (ap (trial_run goes b) (calls_step op first i count more) ∙ step_off goes b (call op (first + i)) (calls_from op (first + (i + 1)) (count - (i + 1))) r is off)
-  at (inl off) (inl on) = let e : false ≡ true = sym off ∙ on in cc
-  at (inr last) (inl on) =
-      let none : count - (i + 1) ≡ 0 = omega (arith, last) in
-      let whole : rest_of goes op first count a ≡ before_rest (rs ++ r ∷ []) (rest_of goes op (first + (i + 1)) 0 (states_after b r)) = rw none at (goes_whole goes op first count i a b rs r more is on h.whole) in
-      whole ∙ ap (before_rest (rs ++ r ∷ [])) (no_more goes (states_after b r)) ∙ ap (λ z. (z, states_after b r)) (append-nil (rs ++ r ∷ []))
+      at : (goes r.answer ≡ false) ⊎ (i + 1 ≡ count) → (goes r.answer ≡ true) ⊎ (goes r.answer ≡ false) → rest_of goes op first count a ≡ (rs ++ r ∷ [], states_after b r)
+      at end (inr off) =
+          h.whole ∙ ap (before_rest rs) (ap (trial_run goes b) (calls_step op first i count more) ∙ step_off goes b (call op (first + i)) (calls_from op (first + (i + 1)) (count - (i + 1))) r is off)
+      at (inl off) (inl on) = let e : false ≡ true = sym off ∙ on in cc
+      at (inr last) (inl on) =
+          let none : count - (i + 1) ≡ 0 = omega (arith, last) in
+          let whole : rest_of goes op first count a ≡ before_rest (rs ++ r ∷ []) (rest_of goes op (first + (i + 1)) 0 (states_after b r)) = rw none at (goes_whole goes op first count i a b rs r more is on h.whole) in
+          whole ∙ ap (before_rest (rs ++ r ∷ [])) (no_more goes (states_after b r)) ∙ ap (λ z. (z, states_after b r)) (append-nil (rs ++ r ∷ []))
 
 -- ---- one entry
 -- Its receipt is the one that the states give.

@@ -1,14 +1,13 @@
 -- A walk's trials of its two groups.
 use Rattle.std.specs.Prelude.{◌==◌, ◌&&◌, nat_le}
-use Rattle.std.proofs.Common.{◌≡◌, ℕ, ◌+◌, ◌*◌, ◌<◌, ◌≤◌, ◌^◌, ◌-◌, min, List, [], ◌∷◌, ◌++◌, Bool, true, false, length, map, Option, Some, None, refl, ap, sym, subst, arith, ◌∙◌, ◌⊎◌, inl, inr}
+use Rattle.std.proofs.Common.{◌≡◌, ℕ, ◌+◌, ◌*◌, ◌≤◌, min, List, [], ◌∷◌, ◌++◌, Bool, true, false, length, map, Option, Some, None, refl, ap, sym, subst, arith, ◌∙◌}
 use Rattle.std.proofs.lemmas.Bool.{eqb-true}
-use Rattle.hpte_fields.specs.TableSize.{entry_count, group_count}
+use Rattle.hpte_fields.specs.TableSize.{entry_count}
 use Rattle.hpt_hash.specs.Hash.{group_of}
 use Rattle.entry_model.specs.State.{State}
 use Rattle.entry_model.specs.Run.{IsRun}
-use Rattle.entry_model.specs.Reply.{AccessMode, access_mode}
+use Rattle.entry_model.specs.Reply.{access_mode}
 use Rattle.entry_model.specs.Receipt.{is_no_match, found_of}
-use Rattle.entry_model.specs.Trial.{IsTrial}
 use Rattle.entry_model.specs.declared.operation.Op.{Op}
 use Rattle.entry_model.specs.declared.receipt.Receipt.{Receipt}
 use Rattle.entry_model.specs.declared.trial.GoesOn.TheVariants.{WhileNoMatch}
@@ -18,14 +17,14 @@ use Rattle.entry_model.proofs.TrialSteps.{calls_from}
 use Rattle.h_enter.proofs.InTable.{trials_within}
 use Rattle.power_addr.specs.Pages.{VirtualPage}
 use Rattle.storage_prot.specs.declared.want.Want.{Want}
-use Rattle.hpt_walk.specs.Walk.{access_op, walk_calls}
+use Rattle.hpt_walk.specs.Walk.{access_op}
 use Rattle.hpt_walk.proofs.Found.{found_joined}
-use Rattle.hpt_walk.proofs.Walks.{group_in_table, walk_ends, walk_joined}
+use Rattle.hpt_walk.proofs.Walks.{walk_ends, walk_joined}
 use Rattle.papr_c.specs.declared.receipts.PaprReceipt.{PaprReceipt}
 use Rattle.papr_c.specs.declared.walking.PaprAccess.{PaprAccess}
 use Rattle.papr_c.specs.declared.walking.PaprWalk.{PaprWalk}
 use Rattle.papr_c.specs.Lent.{is_table}
-use Rattle.papr_c.specs.Places.{filled, placed, shown_receipt}
+use Rattle.papr_c.specs.Places.{placed, shown_receipt}
 use Rattle.papr_c.specs.Tried.{tried}
 use Rattle.papr_c.specs.Walks.{WalkMemory, walk_memory, page_of, want_of, walk_end, outcome_of_walk}
 use Rattle.papr_c.proofs.Filling.{placed_filled, placed-append}

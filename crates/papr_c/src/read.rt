@@ -51,7 +51,15 @@ pub extern "C" fn papr_h_read(
         return PaprReply::refused();
     }
     let (first, count) = read_range(flags, ptex as u32);
-    let tried = try_lent(entries, &Op::Read, first, count, GoesOn::Always, receipts, 0);
+    let tried = try_lent(
+        entries,
+        &Op::Read,
+        first,
+        count,
+        GoesOn::Always,
+        receipts,
+        0,
+    );
     let shown = put_entries(entries, first, count, words);
     let filled = filled_count(receipts.len(), tried.count);
     PaprReply::told(Rc::Success, shown, filled)

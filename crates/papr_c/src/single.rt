@@ -8,9 +8,7 @@ use crate::receipts::PaprReceipt;
 use crate::reply::{PaprReply, hand_over};
 use crate::trying::try_lent;
 use entry_model::{EntryState, GoesOn};
-use h_update::{
-    SingleCall, clear_mod_call, clear_ref_call, protect_call, registers, remove_call,
-};
+use h_update::{SingleCall, clear_mod_call, clear_ref_call, protect_call, registers, remove_call};
 use hpte_fields::entry_count;
 
 /// A call on the entry that the index names.
@@ -32,7 +30,15 @@ fn single(
     if !is_table(entries, order) || ptex >= u64::from(entry_count(order)) {
         return PaprReply::refused();
     }
-    let tried = try_lent(entries, &call.op, ptex as u32, 1, GoesOn::Always, receipts, 0);
+    let tried = try_lent(
+        entries,
+        &call.op,
+        ptex as u32,
+        1,
+        GoesOn::Always,
+        receipts,
+        0,
+    );
     let told = registers(&tried.last, call.shown);
     hand_over(&told, tried.count, words, receipts.len())
 }
@@ -55,7 +61,14 @@ pub extern "C" fn papr_h_remove(
         (h_remove_plan order flags ptex avpn)
         (memory entries.old words.old receipts.old) }
 {
-    single(entries, order, ptex, remove_call(flags, avpn), words, receipts)
+    single(
+        entries,
+        order,
+        ptex,
+        remove_call(flags, avpn),
+        words,
+        receipts,
+    )
 }
 
 /// H_PROTECT (LoPAR): gives the entry `ptex` the protection in `flags`, where it passes the test by
@@ -76,7 +89,14 @@ pub extern "C" fn papr_h_protect(
         (h_protect_plan order flags ptex avpn)
         (memory entries.old words.old receipts.old) }
 {
-    single(entries, order, ptex, protect_call(flags, avpn), words, receipts)
+    single(
+        entries,
+        order,
+        ptex,
+        protect_call(flags, avpn),
+        words,
+        receipts,
+    )
 }
 
 /// H_CLEAR_REF (LoPAR): clears R of the entry `ptex`. The word is its doubleword 1 before. `flags`

@@ -145,7 +145,15 @@ pub extern "C" fn papr_walk(
     }
     let op = access_op(&page, key, no_execute, want, true);
     let first = secondary as u32 * GROUP_SIZE;
-    let late = try_lent(entries, &op, first, GROUP_SIZE, goes_on, receipts, early.count);
+    let late = try_lent(
+        entries,
+        &op,
+        first,
+        GROUP_SIZE,
+        goes_on,
+        receipts,
+        early.count,
+    );
     let found = late.ending(goes_on);
     let count = filled_count(receipts.len(), early.count + late.count);
     PaprWalk::end(access.ea, &found, count)

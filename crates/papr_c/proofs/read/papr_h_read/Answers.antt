@@ -1,5 +1,5 @@
 use Rattle.std.specs.Prelude.{map}
-use Rattle.std.proofs.Common.{◌≡◌, ◌<◌, ◌≤◌, false, ◌⊎◌, inl, inr, min, length, arith, rules, ap, sym, ◌∙◌}
+use Rattle.std.proofs.Common.{◌≡◌, ◌<◌, false, ◌⊎◌, inl, inr, min, length, arith, rules, ap, sym, ◌∙◌}
 use Rattle.hpte_fields.specs.TableSize.{entry_count}
 use Rattle.papr_codes.specs.ReturnCodes.{rc_code}
 use Rattle.papr_codes.specs.declared.codes.Rc.TheVariants.{Success, Parameter}
@@ -18,9 +18,9 @@ use Rattle.papr_c.proofs.read.papr_h_read.Goals as goal
 
 why : (c : goal.After-refused) → (is_table c.args.order c.args.entries.now ≡ false) ⊎ (h_read_plan c.args.order c.args.flags c.args.ptex ≡ plan_of_code Parameter)
 why c = elim c.then-not-is_table.branch [
-    then-not-is_table-via-then-not-is_table w ↦ inl (let e = w.if-not-is_table.ensures in let f = c.is_table.ensures in cc)
+  | then-not-is_table-via-then-not-is_table w ↦ inl (let e = w.if-not-is_table.ensures in let f = c.is_table.ensures in cc)
   | then-not-is_table-via-else-not-is_table+then-ptex-from w ↦ inr (read_past c.args.order c.args.flags c.args.ptex (let e = w.entry_count.ensures in let f = w.from.ensures in omega (arith, e, f, w.if-ptex-from.true)))
-  ]
+]
 
 pub returns-then-not-is_table : goal.returns-then-not-is_table
 returns-then-not-is_table c = rw c.refused.ensures (refused_where _ _ _ (why c))

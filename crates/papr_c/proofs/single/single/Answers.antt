@@ -12,9 +12,9 @@ use Rattle.papr_c.proofs.single.single.Goals as goal
 
 why : (c : goal.After-refused) → (is_table c.args.order c.args.entries.now ≡ false) ⊎ (single_plan c.args.order c.args.ptex c.args.call.op (words_shown c.args.call.shown) ≡ plan_of_code Parameter)
 why c = elim c.then-not-is_table.branch [
-    then-not-is_table-via-then-not-is_table w ↦ inl (let e = w.if-not-is_table.ensures in let f = c.is_table.ensures in cc)
+  | then-not-is_table-via-then-not-is_table w ↦ inl (let e = w.if-not-is_table.ensures in let f = c.is_table.ensures in cc)
   | then-not-is_table-via-else-not-is_table+then-ptex-from w ↦ inr (single_past c.args.order c.args.ptex _ _ (let e = w.entry_count.ensures in let f = w.from.ensures in omega (arith, e, f, w.if-ptex-from.true)))
-  ]
+]
 
 pub returns-then-not-is_table : goal.returns-then-not-is_table
 returns-then-not-is_table c = rw c.refused.ensures (refused_where _ _ _ (why c))

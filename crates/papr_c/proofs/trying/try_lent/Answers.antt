@@ -1,4 +1,4 @@
-use Rattle.std.proofs.Common.{◌≡◌, ◌+◌, ◌++◌, [], ◌∷◌, true, false, ◌⊎◌, inl, inr, arith, refl}
+use Rattle.std.proofs.Common.{◌≡◌, ◌+◌, ◌++◌, [], ◌∷◌, true, false, ◌⊎◌, inl, inr, arith}
 use Rattle.entry_model.specs.Trial.{goes_after}
 use Rattle.papr_c.proofs.SoFar.{IsTold, starts, so_far_goes, ends}
 use Rattle.papr_c.proofs.trying.try_lent.Goals.{then-tried-count-via-then-tried-count, then-tried-count-via-else-tried-count+then-not-goes_after}
@@ -9,9 +9,9 @@ loop-tried-init c = record { more = omega (arith, c.requires.some); so_far = ([]
 
 ended : (c : goal.Joined-then-tried-count) → (goes_after c.args.goes_on c.make-last.result.answer ≡ false) ⊎ (c.loop-tried.tried + 1 ≡ c.args.count)
 ended c = elim c.then-tried-count.branch [
-    then-tried-count-via-then-tried-count w ↦ inr w.if-tried-count.true
+  | then-tried-count-via-then-tried-count w ↦ inr w.if-tried-count.true
   | then-tried-count-via-else-tried-count+then-not-goes_after w ↦ inl (let e = w.if-not-goes_after.ensures in let f = w.goes_after.ensures in cc)
-  ]
+]
 
 told : (c : goal.Joined-then-tried-count) → IsTold (goes_after c.args.goes_on) c.args.op.now c.args.first c.args.count c.args.place (c.loop-tried.tried + 1) c.args.entries.now c.make-last.new.entries c.args.receipts.now c.make-last.new.receipts c.make-last.result
 told c =
@@ -39,6 +39,8 @@ loop-tried-preserved c =
     let other = c.if-tried-count.false in
     record {
       more = omega (arith, other, c.loop-tried.invariant.more);
-      so_far = (c.loop-tried.invariant.so_far.0 ++ r ∷ [],
-          so_far_goes _ _ _ _ _ _ _ c.loop-tried.entries _ _ c.loop-tried.receipts _ c.loop-tried.invariant.so_far.0 r c.loop-tried.invariant.more c.make-last.ensures.receipt c.make-last.ensures.entries c.make-last.ensures.receipts on c.loop-tried.invariant.so_far.1);
+      so_far = (
+        c.loop-tried.invariant.so_far.0 ++ r ∷ [],
+        so_far_goes _ _ _ _ _ _ _ c.loop-tried.entries _ _ c.loop-tried.receipts _ c.loop-tried.invariant.so_far.0 r c.loop-tried.invariant.more c.make-last.ensures.receipt c.make-last.ensures.entries c.make-last.ensures.receipts on c.loop-tried.invariant.so_far.1,
+      );
     }

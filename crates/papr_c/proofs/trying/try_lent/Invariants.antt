@@ -1,4 +1,4 @@
-use Rattle.std.proofs.Common.{◌≡◌, ◌<◌, ◌-◌, List}
+use Rattle.std.proofs.Common.{◌<◌, ◌-◌, List}
 use Rattle.entry_model.specs.declared.receipt.Receipt.{Receipt}
 use Rattle.entry_model.specs.Trial.{goes_after}
 use Rattle.papr_c.proofs.SoFar.{IsSoFar}

@@ -1,6 +1,5 @@
-use Rattle.std.proofs.Common.{◌≡◌, ◌+◌, ◌*◌, ◌≤◌, min, length, None, Some, true, arith, rules, ap, sym, ◌∙◌}
+use Rattle.std.proofs.Common.{◌≡◌, ◌+◌, ◌*◌, ◌≤◌, min, length, true, arith, rules, sym, ◌∙◌}
 use Rattle.hpte_fields.specs.TableSize.{entry_count}
-use Rattle.entry_model.specs.Receipt.{found_of}
 use Rattle.hpt_walk.proofs.Walks.{group_in_table}
 use Rattle.papr_c.specs.Lent.{is_table}
 use Rattle.papr_c.proofs.TwoGroups.{of_group, table_whole, walk_early, walk_late}

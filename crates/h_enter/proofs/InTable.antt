@@ -14,7 +14,7 @@ use Rattle.h_enter.specs.Checks.{h_enter_plan, words_plan}
 use Rattle.entry_model.proofs.TrialSteps.{calls_from}
 use Rattle.h_enter.proofs.Search.{groups_of_eight}
 
-trials_within : (n : ℕ) (op : Op) (first count : ℕ) → first + count ≤ n → Within n (calls_from op first count)
+pub trials_within : (n : ℕ) (op : Op) (first count : ℕ) → first + count ≤ n → Within n (calls_from op first count)
 trials_within n op first zero h = tt
 trials_within n op first (suc count) h = (omega arith, trials_within n op (first + 1) count (omega arith))
 

@@ -8,4 +8,4 @@ mod checks;
 mod words;
 
 pub use checks::{h_enter, h_enter_granted_into, h_enter_into};
-pub use words::{enter_words, enter_words_into};
+pub use words::{candidates, enter_words, enter_words_into, registers};

@@ -1,4 +1,4 @@
-ghost use Rattle.std.specs.Prelude.{◌≡◌, ◌≤◌, ◌<◌, ◌-◌, ◌+◌, ◌^◌, Some, map, []};
+ghost use Rattle.std.specs.Prelude.{◌≡◌, ◌≤◌, ◌<◌, ◌-◌, ◌+◌, ◌^◌, ℕ, Some, map, []};
 ghost use Rattle.hpte_fields.specs.TableSize.{entry_count};
 ghost use Rattle.std.specs.List.{range_with_len};
 ghost use Rattle.hpte_fields.specs.Fields.{normal_words};
@@ -33,13 +33,28 @@ pub fn enter_words_into<T: EntryStore>(
 {
     let _order = store.order();
     let op = Op::Enter { dword0, dword1 };
-    let index = ptex as u32;
+    let (first, count) = candidates(flags, ptex as u32);
     receipts.clear();
+    search(store, first, count, op, receipts)
+}
+
+/// The entries that H_ENTER tries, as the first and their count: under H_EXACT the one that the
+/// index names, else the eight of its group.
+#[tactic(auto, unfolding(crate::specs::Enter::candidates))]
+pub fn candidates(flags: u64, index: u32) -> (u32, u32)
+    ensures entries { range_with_len result.0 result.1
+        ≡ Rattle.h_enter.specs.Enter.candidates flags index }
+    ensures some { 1 ≤ result.1 }
+    ensures few { result.1 ≤ 8 }
+    ensures in_table { (order : ℕ)
+        → 18 ≤ order
+        → index < entry_count order
+        → result.0 + result.1 ≤ entry_count order }
+{
     if CallFlags::of(flags).has(CallFlags::EXACT) {
-        search(store, index, 1, op, receipts)
+        (index, 1)
     } else {
-        let group = index / GROUP_SIZE * GROUP_SIZE;
-        search(store, group, GROUP_SIZE, op, receipts)
+        (index / GROUP_SIZE * GROUP_SIZE, GROUP_SIZE)
     }
 }
 
@@ -65,7 +80,8 @@ fn search<T: EntryStore>(
 }
 
 /// The code, and the words, by the receipt of the entry that wasn't taken, if there was one.
-fn registers(ending: &Option<Receipt>) -> Registers
+#[inline]
+pub fn registers(ending: &Option<Receipt>) -> Registers
     ensures { (result.rc, result.words) ≡ told_by_ending ending.now }
 {
     match ending {

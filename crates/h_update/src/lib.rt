@@ -10,8 +10,9 @@ mod read;
 mod single;
 
 pub use bulk::{h_bulk_remove, h_bulk_remove_into};
-pub use read::{h_read, h_read_into};
+pub use read::{h_read, h_read_into, read_range};
 pub use single::{
-    h_clear_mod, h_clear_mod_into, h_clear_ref, h_clear_ref_into, h_protect, h_protect_into,
-    h_remove, h_remove_into,
+    ShownWords, SingleCall, clear_mod_call, clear_ref_call, h_clear_mod, h_clear_mod_into,
+    h_clear_ref, h_clear_ref_into, h_protect, h_protect_into, h_remove, h_remove_into,
+    protect_call, registers, remove_call,
 };

@@ -1,4 +1,4 @@
-ghost use Rattle.std.specs.Prelude.{◌≡◌, ◌≤◌, ◌-◌, ◌+◌, ◌^◌, length, true, map, flat_map, []};
+ghost use Rattle.std.specs.Prelude.{◌≡◌, ◌≤◌, ◌<◌, ◌-◌, ◌+◌, ◌^◌, ℕ, length, true, map, flat_map, []};
 ghost use Rattle.hpte_fields.specs.TableSize as table;
 ghost use Rattle.std.specs.List.{range_with_len};
 ghost use Rattle.entry_model.specs.Replies.{reply_with};
@@ -50,6 +50,25 @@ fn read_from<T: EntryStore>(
     }
 }
 
+/// The entries that H_READ reads, as the first and their count: the one that the index names, and
+/// under H_READ_4 the four that it lies among.
+pub fn read_range(flags: u64, index: u32) -> (u32, u32)
+    ensures entries { range_with_len result.0 result.1
+        ≡ Rattle.h_update.specs.Single.read_entries flags index }
+    ensures some { 1 ≤ result.1 }
+    ensures few { result.1 ≤ 4 }
+    ensures in_table { (order : ℕ)
+        → 18 ≤ order
+        → index < table.entry_count order
+        → result.0 + result.1 ≤ table.entry_count order }
+{
+    if CallFlags::of(flags).has(CallFlags::READ_4) {
+        (index / 4 * 4, 4)
+    } else {
+        (index, 1)
+    }
+}
+
 /// [`h_read`] with its receipts put into `receipts`, in place of what was there.
 // Out of line: docs/PERFORMANCE.md says why.
 #[inline(never)]
@@ -69,12 +88,8 @@ pub fn h_read_into<T: EntryStore>(
     if ptex >= u64::from(entry_count(store.order())) {
         return Registers::with_code(Rc::Parameter);
     }
-    let index = ptex as u32;
-    if CallFlags::of(flags).has(CallFlags::READ_4) {
-        read_from(store, index / 4 * 4, 4, receipts)
-    } else {
-        read_from(store, index, 1, receipts)
-    }
+    let (first, count) = read_range(flags, ptex as u32);
+    read_from(store, first, count, receipts)
 }
 
 /// H_READ: both doublewords of the entry, with R and C; under H_READ_4 those of the four entries that

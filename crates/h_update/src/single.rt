@@ -11,10 +11,17 @@ use papr_codes::{CallFlags, Rc};
 
 /// The doublewords of the entry as it was that a reply shows.
 #[derive(Clone, Copy)]
-enum ShownWords {
+pub enum ShownWords {
     Neither,
     Second,
     Both,
+}
+
+/// A call on one entry: its operation, and the doublewords that its reply shows.
+#[derive(Clone, Copy)]
+pub struct SingleCall {
+    pub op: Op,
+    pub shown: ShownWords,
 }
 
 impl ShownWords {
@@ -35,8 +42,9 @@ impl ShownWords {
     }
 }
 
-/// The return code of an answer, and the words of a call that shows these.
-fn registers(receipt: &Receipt, shown: ShownWords) -> Registers
+/// The return code of the receipt's answer, and the words of a call that shows these.
+#[inline]
+pub fn registers(receipt: &Receipt, shown: ShownWords) -> Registers
     ensures { (result.rc, result.words)
         ≡ plans.code_and_words receipt.now.answer (words_shown shown receipt.now) }
 {
@@ -54,24 +62,23 @@ fn registers(receipt: &Receipt, shown: ShownWords) -> Registers
 fn single<T: EntryStore>(
     store: &mut T,
     ptex: u64,
-    op: Op,
-    shown: ShownWords,
+    call: SingleCall,
     receipts: &mut Receipts,
 ) -> Registers
-    requires { IsNormal op }
+    requires { IsNormal call.op }
     ensures made { T.made store.old store.new receipts.new }
     ensures reply { let order = T.table_order store.old in
         IsReplyOf
-        (plans.single_plan order ptex op (words_shown shown))
+        (plans.single_plan order ptex call.op (words_shown call.shown))
         (reply_with result receipts.new) }
 {
     receipts.clear();
     if ptex >= u64::from(entry_count(store.order())) {
         return Registers::with_code(Rc::Parameter);
     }
-    let receipt = store.apply(ptex as u32, op);
+    let receipt = store.apply(ptex as u32, call.op);
     receipts.push(receipt);
-    registers(&receipt, shown)
+    registers(&receipt, call.shown)
 }
 
 /// The word, where the call has the flag.
@@ -79,6 +86,60 @@ fn where_flag(flags: CallFlags, flag: CallFlags, word: u64) -> Option<u64>
     ensures { result ≡ plans.where_flag flags.0 flag.0 word }
 {
     flags.has(flag).then_some(word)
+}
+
+/// What H_REMOVE makes on its entry.
+pub fn remove_call(flags: u64, avpn: u64) -> SingleCall
+    ensures { result
+        ≡ record { op = Op.Remove (plans.remove_test flags avpn); shown = ShownWords.Both } }
+{
+    let known = CallFlags::of(flags);
+    let test = Test {
+        avpn: where_flag(known, CallFlags::AVPN, avpn),
+        andcond: where_flag(known, CallFlags::AND_COND, avpn),
+    };
+    SingleCall {
+        op: Op::Remove { test },
+        shown: ShownWords::Both,
+    }
+}
+
+/// What H_PROTECT makes on its entry.
+pub fn protect_call(flags: u64, avpn: u64) -> SingleCall
+    ensures { result
+        ≡ record {
+          op = Op.Protect (plans.protect_test flags avpn) flags;
+          shown = ShownWords.Neither;
+        } }
+{
+    let test = Test {
+        avpn: where_flag(CallFlags::of(flags), CallFlags::AVPN, avpn),
+        andcond: None,
+    };
+    SingleCall {
+        op: Op::Protect { test, flags },
+        shown: ShownWords::Neither,
+    }
+}
+
+/// What H_CLEAR_REF makes on its entry.
+pub fn clear_ref_call() -> SingleCall
+    ensures { result ≡ record { op = Op.ClearRef; shown = ShownWords.Second } }
+{
+    SingleCall {
+        op: Op::ClearRef,
+        shown: ShownWords::Second,
+    }
+}
+
+/// What H_CLEAR_MOD makes on its entry.
+pub fn clear_mod_call() -> SingleCall
+    ensures { result ≡ record { op = Op.ClearMod; shown = ShownWords.Second } }
+{
+    SingleCall {
+        op: Op::ClearMod,
+        shown: ShownWords::Second,
+    }
 }
 
 /// [`h_remove`] with its receipts put into `receipts`, in place of what was there.
@@ -97,12 +158,7 @@ pub fn h_remove_into<T: EntryStore>(
         (plans.h_remove_plan (T.table_order store.old) flags ptex avpn)
         (reply_with result receipts.new) }
 {
-    let known = CallFlags::of(flags);
-    let test = Test {
-        avpn: where_flag(known, CallFlags::AVPN, avpn),
-        andcond: where_flag(known, CallFlags::AND_COND, avpn),
-    };
-    single(store, ptex, Op::Remove { test }, ShownWords::Both, receipts)
+    single(store, ptex, remove_call(flags, avpn), receipts)
 }
 
 /// [`h_protect`] with its receipts put into `receipts`, in place of what was there.
@@ -121,17 +177,7 @@ pub fn h_protect_into<T: EntryStore>(
         (plans.h_protect_plan (T.table_order store.old) flags ptex avpn)
         (reply_with result receipts.new) }
 {
-    let test = Test {
-        avpn: where_flag(CallFlags::of(flags), CallFlags::AVPN, avpn),
-        andcond: None,
-    };
-    single(
-        store,
-        ptex,
-        Op::Protect { test, flags },
-        ShownWords::Neither,
-        receipts,
-    )
+    single(store, ptex, protect_call(flags, avpn), receipts)
 }
 
 /// [`h_clear_ref`] with its receipts put into `receipts`, in place of what was there.
@@ -149,7 +195,7 @@ pub fn h_clear_ref_into<T: EntryStore>(
         (plans.h_clear_ref_plan (T.table_order store.old) ptex)
         (reply_with result receipts.new) }
 {
-    single(store, ptex, Op::ClearRef, ShownWords::Second, receipts)
+    single(store, ptex, clear_ref_call(), receipts)
 }
 
 /// [`h_clear_mod`] with its receipts put into `receipts`, in place of what was there.
@@ -167,7 +213,7 @@ pub fn h_clear_mod_into<T: EntryStore>(
         (plans.h_clear_mod_plan (T.table_order store.old) ptex)
         (reply_with result receipts.new) }
 {
-    single(store, ptex, Op::ClearMod, ShownWords::Second, receipts)
+    single(store, ptex, clear_mod_call(), receipts)
 }
 
 /// H_REMOVE: empties the entry and gives both its doublewords, with R and C. Under H_AVPN `avpn` has

@@ -1,5 +1,8 @@
 pub mod Filling
+pub mod SoFar
 pub mod Outcomes
+pub mod Reading
+pub mod TwoGroups
 pub mod Makings
 pub mod Searching
 mod Rows

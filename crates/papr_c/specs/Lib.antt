@@ -1,5 +1,6 @@
 pub mod Lent
 pub mod Places
+pub mod Tried
 pub mod Calls
 pub mod Grants
 pub mod Walks

@@ -1,5 +1,5 @@
 -- Places that the caller of a call has for what it tells: words and receipts.
-use Rattle.std.specs.Prelude.{ℕ, ◌+◌, if◌then◌else◌, List, ◌++◌, length, take, drop}
+use Rattle.std.specs.Prelude.{ℕ, ◌+◌, if◌then◌else◌, List, [], ◌∷◌, ◌++◌, length, take, drop, set}
 use Rattle.entry_model.specs.State.{State}
 use Rattle.entry_model.specs.Reply.{words_of}
 use Rattle.entry_model.specs.declared.operation.Answer.{Answer}
@@ -11,6 +11,12 @@ use Rattle.papr_c.specs.declared.receipts.PaprReceipt.{PaprReceipt}
 -- they were.
 abbrev pub filled : {X : Type 0} → List X → List X → List X
 filled places items = take (length places) items ++ drop (length items) places
+
+-- The places after items were put into them one behind the other from a place on. What has no place
+-- is left out.
+abbrev pub placed : {X : Type 0} → List X → ℕ → List X → List X
+placed places place [] = places
+placed places place (item ∷ items) = placed (set places place item) (place + 1) items
 
 -- ---- receipts as C has them
 -- The number of an answer.

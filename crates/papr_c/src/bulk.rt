@@ -3,7 +3,7 @@ ghost use Rattle.h_update.specs.Bulk.{h_bulk_remove_plan};
 ghost use Rattle.papr_c.specs.Calls.{memory, outcome_of_bulk};
 
 use crate::lent::{LentTable, is_table};
-use crate::receipts::PaprReceipt;
+use crate::receipts::{PaprReceipt, put_receipts};
 use crate::reply::{PaprReply, hand_over};
 use entry_model::{EntryState, Receipts};
 use h_update::h_bulk_remove_into;
@@ -35,5 +35,7 @@ pub extern "C" fn papr_h_bulk_remove(
     let mut made = Receipts::new();
     let mut table = LentTable::lend(entries, order);
     let registers = h_bulk_remove_into(&mut table, pairs, &mut made);
-    hand_over(&registers, &made, words, receipts)
+    let _put = put_receipts(made.as_slice(), receipts);
+    let tried = made.as_slice().len() as u32;
+    hand_over(&registers, tried, words, receipts.len())
 }

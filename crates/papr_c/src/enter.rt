@@ -4,11 +4,14 @@ ghost use Rattle.papr_c.specs.Calls.{memory, outcome_of_call};
 ghost use Rattle.papr_c.specs.Grants.{listed};
 
 use crate::grants::PaprGrants;
-use crate::lent::{LentTable, is_table};
+use crate::lent::is_table;
 use crate::receipts::PaprReceipt;
 use crate::reply::{PaprReply, hand_over};
-use entry_model::{EntryState, Receipts};
-use h_enter::h_enter_granted_into;
+use crate::trying::try_lent;
+use entry_model::{EntryState, GoesOn, Op};
+use h_enter::{candidates, registers};
+use hpte_fields::entry_count;
+use page_grants::entered_words;
 
 /// H_ENTER (LoPAR): puts the translation of a page into the table. `ptex` names the group, or under
 /// H_EXACT the entry, `pteh` and `ptel` are the two doublewords, and `grants` is a list that
@@ -34,8 +37,15 @@ pub extern "C" fn papr_h_enter(
     if !is_table(entries, order) {
         return PaprReply::refused();
     }
-    let mut made = Receipts::new();
-    let mut table = LentTable::lend(entries, order);
-    let registers = h_enter_granted_into(&mut table, grants, flags, ptex, pteh, ptel, &mut made);
-    hand_over(&registers, &made, words, receipts)
+    if ptex >= u64::from(entry_count(order)) {
+        return PaprReply::refused();
+    }
+    let Some((dword0, dword1)) = entered_words(grants, pteh, ptel) else {
+        return PaprReply::refused();
+    };
+    let (first, count) = candidates(flags, ptex as u32);
+    let op = Op::Enter { dword0, dword1 };
+    let tried = try_lent(entries, &op, first, count, GoesOn::WhileTaken, receipts, 0);
+    let told = registers(&tried.ending(GoesOn::WhileTaken));
+    hand_over(&told, tried.count, words, receipts.len())
 }

@@ -1,4 +1,4 @@
-ghost use Rattle.std.specs.Prelude.{◌≡◌, ◌≤◌, length, map, min};
+ghost use Rattle.std.specs.Prelude.{◌≡◌, ◌≤◌, length, map, min, set};
 ghost use Rattle.papr_c.specs.Places.{filled, answer_number, bits_number, shown_receipt};
 
 use entry_model::{Answer, EntryState, Receipt};
@@ -48,6 +48,7 @@ fn bits_number(state: &EntryState) -> u8
     referenced + changed
 }
 
+/// The receipt as C has it.
 fn shown(receipt: &Receipt) -> PaprReceipt
     ensures { result ≡ shown_receipt receipt.now }
 {
@@ -59,6 +60,15 @@ fn shown(receipt: &Receipt) -> PaprReceipt
         stamp: receipt.before.stamp,
         bits: bits_number(&receipt.before),
         answer: answer_number(receipt.answer),
+    }
+}
+
+/// Puts a receipt into the caller's place, where there is one.
+pub fn put_receipt(receipt: &Receipt, places: &mut [PaprReceipt], place: u32)
+    ensures { places.new ≡ set places.old place (shown_receipt receipt.now) }
+{
+    if (place as usize) < places.len() {
+        places[place as usize] = shown(receipt);
     }
 }
 

@@ -1,10 +1,9 @@
-ghost use Rattle.std.specs.Prelude.{◌≡◌, ◌≤◌, length, map, min};
-ghost use Rattle.entry_model.specs.Replies.{reply_with};
-ghost use Rattle.papr_c.specs.Places.{filled, shown_receipt};
-ghost use Rattle.papr_c.specs.Calls.{refused_reply, reply_told};
+ghost use Rattle.std.specs.Prelude.{◌≡◌, ◌≤◌, length, min, set};
+ghost use Rattle.papr_codes.specs.ReturnCodes.{rc_code};
+ghost use Rattle.papr_c.specs.Places.{filled};
+ghost use Rattle.papr_c.specs.Calls.{refused_reply};
 
-use crate::receipts::{PaprReceipt, put_receipts};
-use entry_model::{Receipts, Registers};
+use entry_model::Registers;
 use papr_codes::Rc;
 
 /// What a hypervisor call answers: its return code, as register 3 has it, and how many of the
@@ -28,36 +27,72 @@ impl PaprReply {
             receipts: 0,
         }
     }
+
+    /// A code, and how many of the caller's places are filled.
+    #[inline]
+    pub fn told(rc: Rc, words: u32, receipts: u32) -> PaprReply
+        ensures { result
+            ≡ record {
+              rc = rc_code rc;
+              words = words;
+              receipts = receipts;
+            } }
+    {
+        PaprReply {
+            rc: rc.code(),
+            words,
+            receipts,
+        }
+    }
+}
+
+/// Puts a word into the caller's place, where there is one.
+#[inline]
+pub fn put_word(word: u64, places: &mut [u64], place: usize)
+    ensures { places.new ≡ set places.old place word }
+{
+    if place < places.len() {
+        places[place] = word;
+    }
 }
 
 /// Puts words into the caller's places, as far as these go, and gives how many it put.
+// Each is tested against the room, so that two words take no call of memcpy.
+#[inline]
 fn put_words(made: &[u64], places: &mut [u64]) -> u32
     requires { length made.now ≤ 8 }
     ensures filled { places.new ≡ filled places.old made.now }
     ensures count { result ≡ min (length places.old) (length made.now) }
 {
-    let count = made.len().min(places.len());
-    for i in 0..count {
-        places[i] = made[i];
+    for i in 0..made.len() {
+        put_word(made[i], places, i);
     }
-    count as u32
+    filled_count(places.len(), made.len() as u32)
 }
 
-/// Puts what a call left in registers, and its receipts, into the caller's places, as far as these
-/// go.
-pub fn hand_over(
-    registers: &Registers,
-    made: &Receipts,
-    words: &mut [u64],
-    receipts: &mut [PaprReceipt],
-) -> PaprReply
-    ensures reply { result ≡ reply_told (reply_with registers.now made.now) words.old receipts.old }
+/// Puts what a call left in registers into the caller's places, as far as these go. The receipts
+/// of the entries that it tried were put already.
+#[inline]
+pub fn hand_over(registers: &Registers, tried: u32, words: &mut [u64], room: usize) -> PaprReply
+    ensures reply { result
+        ≡ record {
+          rc = rc_code registers.now.rc;
+          words = min (length words.old) (length registers.now.words);
+          receipts = min room tried;
+        } }
     ensures words { words.new ≡ filled words.old registers.now.words }
-    ensures receipts { receipts.new ≡ filled receipts.old (map shown_receipt made.now) }
 {
     PaprReply {
         rc: registers.rc.code(),
         words: put_words(registers.words.as_slice(), words),
-        receipts: put_receipts(made.as_slice(), receipts),
+        receipts: filled_count(room, tried),
     }
+}
+
+/// How many of the caller's places are filled.
+#[inline]
+pub fn filled_count(room: usize, made: u32) -> u32
+    ensures { result ≡ min room made }
+{
+    room.min(made as usize) as u32
 }

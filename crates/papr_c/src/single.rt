@@ -1,12 +1,47 @@
 ghost use Rattle.std.specs.Prelude.{◌≡◌};
-ghost use Rattle.h_update.specs.Single.{h_remove_plan, h_protect_plan, h_read_plan, h_clear_ref_plan, h_clear_mod_plan};
+ghost use Rattle.h_update.specs.ShownWords.{words_shown};
+ghost use Rattle.h_update.specs.Single.{single_plan, h_remove_plan, h_protect_plan, h_clear_ref_plan, h_clear_mod_plan};
 ghost use Rattle.papr_c.specs.Calls.{memory, outcome_of_call};
 
-use crate::lent::{LentTable, is_table};
+use crate::lent::is_table;
 use crate::receipts::PaprReceipt;
 use crate::reply::{PaprReply, hand_over};
-use entry_model::{EntryState, Receipts};
-use h_update::{h_clear_mod_into, h_clear_ref_into, h_protect_into, h_read_into, h_remove_into};
+use crate::trying::try_lent;
+use entry_model::{EntryState, GoesOn};
+use h_update::{SingleCall, clear_mod_call, clear_ref_call, protect_call, registers, remove_call};
+use hpte_fields::entry_count;
+
+/// A call on the entry that the index names.
+#[inline(always)]
+fn single(
+    entries: &mut [EntryState],
+    order: u8,
+    ptex: u64,
+    call: SingleCall,
+    words: &mut [u64],
+    receipts: &mut [PaprReceipt],
+) -> PaprReply
+    ensures { (result, memory entries.new words.new receipts.new)
+        ≡ outcome_of_call
+        order
+        (single_plan order ptex call.op (words_shown call.shown))
+        (memory entries.old words.old receipts.old) }
+{
+    if !is_table(entries, order) || ptex >= u64::from(entry_count(order)) {
+        return PaprReply::refused();
+    }
+    let tried = try_lent(
+        entries,
+        &call.op,
+        ptex as u32,
+        1,
+        GoesOn::Always,
+        receipts,
+        0,
+    );
+    let told = registers(&tried.last, call.shown);
+    hand_over(&told, tried.count, words, receipts.len())
+}
 
 /// H_REMOVE (LoPAR): empties the entry `ptex` where it passes the test that `flags` ask for, by
 /// `avpn`. The words are its two doublewords before.
@@ -26,13 +61,14 @@ pub extern "C" fn papr_h_remove(
         (h_remove_plan order flags ptex avpn)
         (memory entries.old words.old receipts.old) }
 {
-    if !is_table(entries, order) {
-        return PaprReply::refused();
-    }
-    let mut made = Receipts::new();
-    let mut table = LentTable::lend(entries, order);
-    let registers = h_remove_into(&mut table, flags, ptex, avpn, &mut made);
-    hand_over(&registers, &made, words, receipts)
+    single(
+        entries,
+        order,
+        ptex,
+        remove_call(flags, avpn),
+        words,
+        receipts,
+    )
 }
 
 /// H_PROTECT (LoPAR): gives the entry `ptex` the protection in `flags`, where it passes the test by
@@ -53,39 +89,14 @@ pub extern "C" fn papr_h_protect(
         (h_protect_plan order flags ptex avpn)
         (memory entries.old words.old receipts.old) }
 {
-    if !is_table(entries, order) {
-        return PaprReply::refused();
-    }
-    let mut made = Receipts::new();
-    let mut table = LentTable::lend(entries, order);
-    let registers = h_protect_into(&mut table, flags, ptex, avpn, &mut made);
-    hand_over(&registers, &made, words, receipts)
-}
-
-/// H_READ (LoPAR): the words are the two doublewords of the entry `ptex`, or under H_READ_4 those
-/// of the four entries that it lies among.
-#[unsafe(no_mangle)]
-pub extern "C" fn papr_h_read(
-    entries: &mut [EntryState],
-    order: u8,
-    flags: u64,
-    ptex: u64,
-    words: &mut [u64],
-    receipts: &mut [PaprReceipt],
-) -> PaprReply
-    ensures { (result, memory entries.new words.new receipts.new)
-        ≡ outcome_of_call
-        order
-        (h_read_plan order flags ptex)
-        (memory entries.old words.old receipts.old) }
-{
-    if !is_table(entries, order) {
-        return PaprReply::refused();
-    }
-    let mut made = Receipts::new();
-    let mut table = LentTable::lend(entries, order);
-    let registers = h_read_into(&mut table, flags, ptex, &mut made);
-    hand_over(&registers, &made, words, receipts)
+    single(
+        entries,
+        order,
+        ptex,
+        protect_call(flags, avpn),
+        words,
+        receipts,
+    )
 }
 
 /// H_CLEAR_REF (LoPAR): clears R of the entry `ptex`. The word is its doubleword 1 before. `flags`
@@ -94,7 +105,7 @@ pub extern "C" fn papr_h_read(
 pub extern "C" fn papr_h_clear_ref(
     entries: &mut [EntryState],
     order: u8,
-    flags: u64,
+    _flags: u64,
     ptex: u64,
     words: &mut [u64],
     receipts: &mut [PaprReceipt],
@@ -105,13 +116,7 @@ pub extern "C" fn papr_h_clear_ref(
         (h_clear_ref_plan order ptex)
         (memory entries.old words.old receipts.old) }
 {
-    if !is_table(entries, order) {
-        return PaprReply::refused();
-    }
-    let mut made = Receipts::new();
-    let mut table = LentTable::lend(entries, order);
-    let registers = h_clear_ref_into(&mut table, flags, ptex, &mut made);
-    hand_over(&registers, &made, words, receipts)
+    single(entries, order, ptex, clear_ref_call(), words, receipts)
 }
 
 /// H_CLEAR_MOD (LoPAR): clears C of the entry `ptex`. The word is its doubleword 1 before. `flags`
@@ -120,7 +125,7 @@ pub extern "C" fn papr_h_clear_ref(
 pub extern "C" fn papr_h_clear_mod(
     entries: &mut [EntryState],
     order: u8,
-    flags: u64,
+    _flags: u64,
     ptex: u64,
     words: &mut [u64],
     receipts: &mut [PaprReceipt],
@@ -131,11 +136,5 @@ pub extern "C" fn papr_h_clear_mod(
         (h_clear_mod_plan order ptex)
         (memory entries.old words.old receipts.old) }
 {
-    if !is_table(entries, order) {
-        return PaprReply::refused();
-    }
-    let mut made = Receipts::new();
-    let mut table = LentTable::lend(entries, order);
-    let registers = h_clear_mod_into(&mut table, flags, ptex, &mut made);
-    hand_over(&registers, &made, words, receipts)
+    single(entries, order, ptex, clear_mod_call(), words, receipts)
 }

@@ -1,10 +1,14 @@
 ghost use Rattle.std.specs.Prelude.{◌≡◌};
 ghost use Rattle.papr_c.specs.Walks.{WalkMemory, want_of, walk_memory, refused_walk, walk_end, walk_told, outcome_of_walk};
 
-use crate::lent::{LentTable, is_table};
-use crate::receipts::{PaprReceipt, put_receipts};
-use entry_model::{Answer, EntryState, Receipt, Receipts};
-use hpt_walk::{logical_of, walk_into};
+use crate::lent::is_table;
+use crate::receipts::PaprReceipt;
+use crate::reply::filled_count;
+use crate::trying::try_lent;
+use entry_model::{Answer, EntryState, GoesOn, Receipt};
+use hpt_hash::groups;
+use hpt_walk::{access_op, logical_of};
+use hpte_fields::GROUP_SIZE;
 use power_addr::Page;
 use storage_prot::Want;
 
@@ -129,10 +133,28 @@ pub extern "C" fn papr_walk(
     if !is_table(entries, order) {
         return PaprWalk::refused();
     }
-    let mut made = Receipts::new();
-    let mut table = LentTable::lend(entries, order);
+    let (primary, secondary) = groups(&page, order);
     let (key, no_execute) = (access.key, access.no_execute);
-    let found = walk_into(&mut table, &page, want, key, no_execute, &mut made);
-    let count = put_receipts(made.as_slice(), receipts);
+    let op = access_op(&page, key, no_execute, want, false);
+    let goes_on = GoesOn::WhileNoMatch;
+    let first = primary as u32 * GROUP_SIZE;
+    let early = try_lent(entries, &op, first, GROUP_SIZE, goes_on, receipts, 0);
+    if let Some(receipt) = early.ending(goes_on) {
+        let count = filled_count(receipts.len(), early.count);
+        return PaprWalk::end(access.ea, &Some(receipt), count);
+    }
+    let op = access_op(&page, key, no_execute, want, true);
+    let first = secondary as u32 * GROUP_SIZE;
+    let late = try_lent(
+        entries,
+        &op,
+        first,
+        GROUP_SIZE,
+        goes_on,
+        receipts,
+        early.count,
+    );
+    let found = late.ending(goes_on);
+    let count = filled_count(receipts.len(), early.count + late.count);
     PaprWalk::end(access.ea, &found, count)
 }

@@ -2,14 +2,13 @@ use Rattle.std.proofs.Common.{arith}
 use Rattle.h_enter.proofs.Search.{whole_groups}
 use Rattle.h_enter.proofs.words.enter_words_into.Goals as goal
 
+pub search-requires-clause-in_table : goal.search-requires-clause-in_table
+search-requires-clause-in_table g c =
+    c.candidates-first.ensures.in_table (g.T.EntryStore.table_order c.args.store.now) (omega arith) c.requires.in_table
+
 pub search-requires-clause-small : goal.search-requires-clause-small
 search-requires-clause-small g c =
-    let size = whole_groups (g.T.EntryStore.table_order c.args.store.now) (omega arith) (omega arith) in omega arith
-
-pub search-requires-else-has-clause-in_table : goal.search-requires-else-has-clause-in_table
-search-requires-else-has-clause-in_table g c =
-    let size = whole_groups (g.T.EntryStore.table_order c.args.store.now) (omega arith) (omega arith) in omega arith
-
-pub search-requires-else-has-clause-small : goal.search-requires-else-has-clause-small
-search-requires-else-has-clause-small g c =
-    let size = whole_groups (g.T.EntryStore.table_order c.args.store.now) (omega arith) (omega arith) in omega arith
+    let order = g.T.EntryStore.table_order c.args.store.now in
+    let size = whole_groups order (omega arith) (omega arith) in
+    let inside = c.candidates-first.ensures.in_table order (omega arith) c.requires.in_table in
+    omega arith

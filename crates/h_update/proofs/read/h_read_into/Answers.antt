@@ -1,16 +1,13 @@
 use Rattle.std.proofs.Common.{arith}
-use Rattle.h_update.proofs.ReadSteps.{fours_in_table, few_entries}
+use Rattle.h_update.proofs.ReadSteps.{few_entries}
 use Rattle.h_update.proofs.read.h_read_into.Goals as goal
 
 pub read_from-requires-clause-in_table : goal.read_from-requires-clause-in_table
 read_from-requires-clause-in_table g c =
-    let four = rw c.order.ensures.value at (fours_in_table c.order.result c.args.ptex c.order.ensures.low (omega arith)) in omega arith
+    rw c.order.ensures.value at (c.read_range-first.ensures.in_table c.order.result c.order.ensures.low (omega arith))
 
 pub read_from-requires-clause-small : goal.read_from-requires-clause-small
 read_from-requires-clause-small g c =
     let few = few_entries c.order.result c.order.ensures.high in
-    let four = fours_in_table c.order.result c.args.ptex c.order.ensures.low (omega arith) in
+    let inside = c.read_range-first.ensures.in_table c.order.result c.order.ensures.low (omega arith) in
     omega arith
-
-pub read_from-requires-else-has-clause-small : goal.read_from-requires-else-has-clause-small
-read_from-requires-else-has-clause-small g c = let few = few_entries c.order.result c.order.ensures.high in omega arith

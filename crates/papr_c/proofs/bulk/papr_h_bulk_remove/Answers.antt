@@ -5,10 +5,14 @@ use Rattle.papr_c.proofs.bulk.papr_h_bulk_remove.Goals as goal
 pub returns : goal.returns
 returns c =
     let same : c.in-Some.pairs.now ≡ c.args.pairs.now = search rules in
-    call_is _ _ _ c.h_bulk_remove_into-registers.result c.h_bulk_remove_into-registers.new.receipts c.hand_over.result c.hand_over.new.words c.hand_over.new.receipts c.lend-table.result.entries.now c.h_bulk_remove_into-registers.new.store.entries.now _
+    call_is _ _ _ c.h_bulk_remove_into-registers.result c.h_bulk_remove_into-registers.new.receipts c.hand_over.result c.hand_over.new.words c.put_receipts-put.new.places c.lend-table.result.entries.now c.h_bulk_remove_into-registers.new.store.entries.now _
     (search rules)
     (rw (c.lend-table.ensures.order, same) at c.h_bulk_remove_into-registers.ensures.reply)
     c.h_bulk_remove_into-registers.ensures.made.made.run
     c.lend-table.ensures.entries
-    (record { reply = c.hand_over.ensures.reply; in_words = c.hand_over.ensures.words; in_receipts = c.hand_over.ensures.receipts })
+    (record {
+      reply = rw (c.put_receipts-put.auto.places, c.as_slice-2.ensures.value) at c.hand_over.ensures.reply;
+      in_words = c.hand_over.ensures.words;
+      in_receipts = rw c.as_slice.ensures.value at c.put_receipts-put.ensures.filled;
+    })
     (search (rules, c.lend-table.ensures.name, c.h_bulk_remove_into-registers.ensures.made.name))

@@ -1,5 +1,6 @@
-use Rattle.std.proofs.Common.{◌≡◌, ◌++◌, take, drop}
+use Rattle.std.proofs.Common.{◌≡◌, take}
+use Rattle.papr_c.specs.Places.{placed}
 use Rattle.papr_c.proofs.reply.put_words.Given as goal
 
 abbrev pub invariant-loop-i : goal.invariant-loop-i
-invariant-loop-i l = l.places ≡ take l.i l.made ++ drop l.i l.initial.places
+invariant-loop-i l = l.places ≡ placed l.initial.places 0 (take l.i l.made)

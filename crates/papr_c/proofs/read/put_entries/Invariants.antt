@@ -1,0 +1,7 @@
+use Rattle.std.proofs.Common.{◌≡◌}
+use Rattle.papr_c.specs.Places.{placed}
+use Rattle.papr_c.specs.Tried.{words_of_entries}
+use Rattle.papr_c.proofs.read.put_entries.Given as goal
+
+abbrev pub invariant-loop-i : goal.invariant-loop-i
+invariant-loop-i l = l.places ≡ placed l.initial.places 0 (words_of_entries l.entries l.first l.i)

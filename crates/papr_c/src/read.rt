@@ -1,0 +1,66 @@
+ghost use Rattle.std.specs.Prelude.{◌≡◌, ◌≤◌, ◌+◌, ◌*◌, ◌^◌, ◌<◌, length, min};
+ghost use Rattle.h_update.specs.Single.{h_read_plan};
+ghost use Rattle.papr_c.specs.Calls.{memory, outcome_of_call};
+ghost use Rattle.papr_c.specs.Places.{placed};
+ghost use Rattle.papr_c.specs.Tried.{words_of_entries};
+
+use crate::lent::is_table;
+use crate::receipts::PaprReceipt;
+use crate::reply::{PaprReply, filled_count, put_word};
+use crate::trying::try_lent;
+use entry_model::{EntryState, GoesOn, Op};
+use h_update::read_range;
+use hpte_fields::entry_count;
+use papr_codes::Rc;
+
+/// Puts both doublewords of each of these entries into the caller's places, as far as these go, and
+/// gives how many it put.
+fn put_entries(entries: &[EntryState], first: u32, count: u32, places: &mut [u64]) -> u32
+    requires few { count ≤ 4 }
+    requires in_table { first + count ≤ length entries.now }
+    requires small { first + count < 2 ^ 32 }
+    ensures put { places.new ≡ placed places.old 0 (words_of_entries entries.now first count) }
+    ensures count { result ≡ min (length places.old) (2 * count) }
+{
+    for i in 0..count {
+        let (dword0, dword1) = entries[(first + i) as usize].words();
+        put_word(dword0, places, 2 * i as usize);
+        put_word(dword1, places, 2 * i as usize + 1);
+    }
+    filled_count(places.len(), 2 * count)
+}
+
+/// H_READ (LoPAR): the words are the two doublewords of the entry `ptex`, or under H_READ_4 those
+/// of the four entries that it lies among.
+#[unsafe(no_mangle)]
+pub extern "C" fn papr_h_read(
+    entries: &mut [EntryState],
+    order: u8,
+    flags: u64,
+    ptex: u64,
+    words: &mut [u64],
+    receipts: &mut [PaprReceipt],
+) -> PaprReply
+    ensures { (result, memory entries.new words.new receipts.new)
+        ≡ outcome_of_call
+        order
+        (h_read_plan order flags ptex)
+        (memory entries.old words.old receipts.old) }
+{
+    if !is_table(entries, order) || ptex >= u64::from(entry_count(order)) {
+        return PaprReply::refused();
+    }
+    let (first, count) = read_range(flags, ptex as u32);
+    let tried = try_lent(
+        entries,
+        &Op::Read,
+        first,
+        count,
+        GoesOn::Always,
+        receipts,
+        0,
+    );
+    let shown = put_entries(entries, first, count, words);
+    let filled = filled_count(receipts.len(), tried.count);
+    PaprReply::told(Rc::Success, shown, filled)
+}

@@ -1,0 +1,116 @@
+ghost use Rattle.std.specs.Prelude.{◌≡◌, ◌≤◌, ◌<◌, ◌+◌, ◌^◌, [], ◌∷◌, length, map, set, if◌then◌else◌, Some, None};
+ghost use Rattle.entry_model.specs.Receipt.{receipt_of};
+ghost use Rattle.entry_model.specs.Run.{state_at, states_after};
+ghost use Rattle.entry_model.specs.Trial.{ending_of};
+ghost use Rattle.papr_c.specs.Places.{placed, shown_receipt};
+ghost use Rattle.papr_c.specs.Tried.{tried};
+
+use crate::receipts::{PaprReceipt, put_receipt};
+use entry_model::{Answer, EntryState, GoesOn, Op, Receipt, reply};
+
+/// How a trial ended.
+#[derive(Clone, Copy)]
+pub struct Tried {
+    /// The receipt of the last entry that was tried.
+    pub last: Receipt,
+    /// How many entries were tried.
+    pub count: u32,
+}
+
+impl Tried {
+    /// The receipt after which the trial didn't go on, if there was one.
+    #[inline]
+    pub fn ending(&self, goes_on: GoesOn) -> Option<Receipt>
+        ensures { result
+            ≡ (if Rattle.entry_model.specs.Trial.goes_after goes_on self.now.last.answer
+            then None
+            else Some self.now.last) }
+    {
+        if goes_after(goes_on, self.last.answer) {
+            None
+        } else {
+            Some(self.last)
+        }
+    }
+}
+
+/// Makes an operation on an entry, and puts the receipt into the caller's place, where there is
+/// one.
+#[inline]
+fn make(
+    entries: &mut [EntryState],
+    op: &Op,
+    entry: u32,
+    receipts: &mut [PaprReceipt],
+    place: u32,
+) -> Receipt
+    requires { entry < length entries.old }
+    ensures receipt { result ≡ receipt_of entry (state_at entries.old entry) op.now }
+    ensures entries { entries.new ≡ states_after entries.old result }
+    ensures receipts { receipts.new ≡ set receipts.old place (shown_receipt result) }
+{
+    let before = entries[entry as usize];
+    let (answer, after) = reply(&before, op);
+    entries[entry as usize] = after;
+    let receipt = Receipt {
+        entry,
+        before,
+        op: *op,
+        answer,
+    };
+    put_receipt(&receipt, receipts, place);
+    receipt
+}
+
+/// Whether a trial goes on after this answer.
+fn goes_after(goes_on: GoesOn, answer: Answer) -> bool
+    ensures { result ≡ Rattle.entry_model.specs.Trial.goes_after goes_on answer }
+{
+    match goes_on {
+        GoesOn::WhileTaken => answer == Answer::Taken,
+        GoesOn::WhileNoMatch => answer == Answer::NoMatch,
+        GoesOn::Always => true,
+    }
+}
+
+/// Makes an operation on `count` entries, one behind the other from `first` on, as long as the
+/// answers go on. The receipts are put into the caller's places from `place` on, as far as these
+/// go.
+// Out of line, and the only one that calls `reply`, so that this is compiled into it.
+#[inline(never)]
+pub fn try_lent(
+    entries: &mut [EntryState],
+    op: &Op,
+    first: u32,
+    count: u32,
+    goes_on: GoesOn,
+    receipts: &mut [PaprReceipt],
+    place: u32,
+) -> Tried
+    requires some { 1 ≤ count }
+    requires in_table { first + count ≤ length entries.old }
+    requires small { first + count < 2 ^ 32 }
+    requires near { place + count < 2 ^ 32 }
+    ensures entries { entries.new ≡ (tried goes_on op.now first count entries.old).1 }
+    ensures receipts { receipts.new
+        ≡ placed
+        receipts.old
+        place
+        (map shown_receipt (tried goes_on op.now first count entries.old).0) }
+    ensures few { result.count ≤ count }
+    ensures count { result.count ≡ length (tried goes_on op.now first count entries.old).0 }
+    ensures ending { let goes = Rattle.entry_model.specs.Trial.goes_after goes_on in
+        ending_of goes (tried goes_on op.now first count entries.old).0
+        ≡ (if goes result.last.answer then None else Some result.last) }
+    ensures alone { count ≡ 1
+        → (tried goes_on op.now first count entries.old).0 ≡ result.last ∷ [] }
+{
+    let mut tried = 0;
+    loop {
+        let last = make(entries, op, first + tried, receipts, place + tried);
+        tried += 1;
+        if tried == count || !goes_after(goes_on, last.answer) {
+            return Tried { last, count: tried };
+        }
+    }
+}

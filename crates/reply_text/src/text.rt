@@ -8,8 +8,8 @@ ghost use Rattle.number_text.specs.Room.{TakesAtMost};
 ghost use Rattle.reply_text.specs.Text.{want_word, name_of, head_text, word_text, code_text, hcall_text, outcome_text, way_text, access_text, verdict_text, entry_text, dump_head, table_text, dump_text, reply_text, text_from};
 
 use entry_model::{By, EntryState, Outcome, Receipts, ReplyWords};
-use papr_codes::{Hcall, Rc};
 use number_text::{put_decimal, put_hexadecimal, put_signed};
+use papr_codes::{Hcall, Rc};
 use receipt_text::put_receipts;
 use std::alloc::{AllocError, Global};
 use storage_prot::Want;

@@ -15,7 +15,7 @@ use Rattle.papr_edge.specs.declared.status.Status.TheVariants.{Done}
 use Rattle.papr_edge.specs.Inputs.{trace_input, with_reason}
 use Rattle.papr_edge.specs.Reading.{Reads}
 use Rattle.papr_edge.specs.Ends.{Run, Answers, WithDone, IsAnswered}
-use Rattle.papr_top.specs.Top.{IsSerialText}
+use Rattle.papr_top.specs.Texts.{IsSerialText}
 use Rattle.papr_uses.specs.RunText.{PutsTextOfBytes}
 
 -- A count that stays at 0 didn't rise.

@@ -6,7 +6,7 @@ use Rattle.papr_edge.specs.declared.status.Status.{Status}
 use Rattle.papr_edge.specs.declared.status.Status.TheVariants.{Done, Memory}
 use Rattle.papr_edge.specs.Inputs.{trace_input}
 use Rattle.papr_edge.specs.Ends.{Run, EndsReading, WithDone, IsAnswered}
-use Rattle.papr_top.specs.Top.{IsSerialText}
+use Rattle.papr_top.specs.Texts.{IsSerialText}
 use Rattle.papr_uses.proofs.WholeRuns.{run_word, never_rose, answered, run_done, trace_accepted, trace_refused}
 use Rattle.papr_uses.proofs.programs.run_program.Goals as goal
 

@@ -243,8 +243,8 @@ static bool same(void)
     struct papr_walk walks[2] = {{0, 0, 0, 0}, {0, 0, 0, 0}};
     uint64_t pteh = draw(4) << 12 | draw(8) | (draw(20) ? 0 : draw(4) << 62);
     uint64_t ptel = lows[draw(7)] | draw(16) << 28 | (draw(4) ? 0x10 : draw(0x1000)) | draw(2) << 63 | draw(4);
-    struct papr_access a = {draw(0x40000), draw(3), (uint8_t)(draw(4) ? 12 : draw(40)), (uint8_t)draw(4), !draw(6),
-                            draw(2), !draw(4)};
+    struct papr_access a = {draw(0x40000), draw(3), draw(3) ? 0 : draw(4) << 62, draw(3) ? 0 : draw(4) << 62,
+                            (uint8_t)(draw(4) ? 12 : draw(40)), (uint8_t)draw(4), !draw(6), draw(2), !draw(4)};
     for (int i = 0; i < 8; i++)
         pairs[i] = i & 1 ? draw(3) << 12 : (draw(9) ? UINT64_C(1) : draw(4)) << 62 | draw(4) << 56 | draw(60);
     memset(r, 0, sizeof r);

@@ -272,6 +272,15 @@ static bool is_allowed(const struct papr_entry *e, const struct papr_access *a)
     return a->want == 1 ? pp == 2 : pp == 1 || pp == 2 || pp == 3;
 }
 
+/* The mask that refuses an access that protection allows, as an outcome; PAPR_WALK_AT where none does. */
+static uint32_t by_masks(const struct papr_entry *e, const struct papr_access *a)
+{
+    unsigned key = (unsigned)(e->dword1 >> 60 & 3) << 3 | (unsigned)(e->dword1 >> 9 & 7), shift = 62 - 2 * key;
+    if (a->want == 2)
+        return a->iamr >> shift & 1 ? PAPR_WALK_IAMR : PAPR_WALK_AT;
+    return a->amr >> shift & (a->want == 1 ? 2 : 1) ? PAPR_WALK_AMR : PAPR_WALK_AT;
+}
+
 struct papr_walk plain_walk(struct papr_entry *entries, size_t count, uint8_t order,
                             const struct papr_access *a, struct papr_receipt *receipts, size_t receipts_room)
 {
@@ -294,10 +303,11 @@ struct papr_walk plain_walk(struct papr_entry *entries, size_t count, uint8_t or
                 continue;
             }
             walk.entry = (uint32_t)i;
-            walk.outcome = is_allowed(e, a) ? PAPR_WALK_AT : PAPR_WALK_DENIED;
+            walk.outcome = is_allowed(e, a) ? by_masks(e, a) : PAPR_WALK_DENIED;
             walk.receipts = put(receipts, receipts_room, walk.receipts, e, (uint32_t)i,
-                                walk.outcome == PAPR_WALK_AT ? PAPR_AT : PAPR_DENIED);
-            if (walk.outcome == PAPR_WALK_DENIED)
+                                walk.outcome == PAPR_WALK_AT ? PAPR_AT
+                                : walk.outcome == PAPR_WALK_DENIED ? PAPR_DENIED : PAPR_MASKED);
+            if (walk.outcome != PAPR_WALK_AT)
                 return walk;
             e->referenced = true;
             e->changed = e->changed || a->want == 1;

@@ -68,9 +68,10 @@ enum papr_answer {
     PAPR_READ = 5,
     PAPR_NOTFOUND = 6,          /* it is empty, or fails the test */
     PAPR_NOMATCH = 7,           /* it doesn't translate the page of the access */
-    PAPR_DENIED = 8,            /* it translates the page, and refuses the access */
+    PAPR_DENIED = 8,            /* it translates the page, and its protection refuses the access */
     PAPR_AT = 9,                /* the access is allowed, and recorded in R and C */
-    PAPR_WORN = 10              /* its stamp is at its last value */
+    PAPR_WORN = 10,             /* its stamp is at its last value */
+    PAPR_MASKED = 11            /* its protection allows the access, and AMR or IAMR refuses it */
 };
 
 /* One operation that was made on one entry. The doublewords are those from before it, so that an
@@ -201,6 +202,8 @@ struct papr_reply papr_h_bulk_remove(struct papr_entry *entries, size_t count, u
 struct papr_access {
     uint64_t ea;                /* the effective address */
     uint64_t vsid;              /* the segment's number: 50 bits, or 38 in a segment of 1 TB */
+    uint64_t amr;               /* the processor's mask for loads and stores; 0 refuses nothing */
+    uint64_t iamr;              /* its mask for instruction fetches; 0 refuses nothing */
     uint8_t shift;              /* log2 of its base page: 12, 16, 24, or in one of 1 TB also 34 */
     uint8_t want;               /* 0 load, 1 store, 2 fetch */
     bool one_tb;                /* a segment of 1 TB, and not of 256 MB */
@@ -212,7 +215,9 @@ enum papr_outcome {
     PAPR_WALK_AT = 0,
     PAPR_WALK_DENIED = 1,       /* the entry's protection refuses the access */
     PAPR_WALK_NO_PAGE = 2,      /* no entry translates the page */
-    PAPR_WALK_PARAMETER = 3     /* arguments out of range, another order or count; nothing changed */
+    PAPR_WALK_PARAMETER = 3,    /* arguments out of range, another order or count; nothing changed */
+    PAPR_WALK_AMR = 4,          /* AMR refuses it, for the entry's key */
+    PAPR_WALK_IAMR = 5          /* IAMR refuses it, for the entry's key */
 };
 
 struct papr_walk {

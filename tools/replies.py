@@ -48,7 +48,7 @@ class Receipt:
     @property
     def is_valid_after(self) -> Optional[bool]:
         """Whether the entry is valid after, or nothing where this receipt alone doesn't tell."""
-        if self.answer in ("entered", "taken", "protected", "was", "at", "denied"):
+        if self.answer in ("entered", "taken", "protected", "was", "at", "denied", "masked"):
             return True
         return False if self.answer == "removed" else None
 
@@ -72,7 +72,7 @@ class Reply:
     line: int
     cpu: Optional[int]  # none of a dump
     call: str
-    ending: str  # a code, or `at`, `denied`, `nopage`, `nosegment`, `ok`, `refused`
+    ending: str  # a code, or `at`, `denied`, `masked`, `nopage`, `nosegment`, `ok`, `refused`
     words: list[str]
     receipts: list[Receipt] = field(default_factory=list)
 

@@ -18,7 +18,7 @@
 #include <string.h>
 
 static const char *const answers[] = {"entered", "taken", "removed", "protected", "was", "read",
-                                      "notfound", "nomatch", "denied", "at", "worn"};
+                                      "notfound", "nomatch", "denied", "at", "worn", "masked"};
 
 /* What a run carries from line to line. */
 static struct guest guest = {.current = {.order = 18}, .limit = 22, .pool_base = UINT64_C(1) << 36,
@@ -97,6 +97,16 @@ static void put_dump(void)
 
 /* ---- the lines */
 
+static const char *refusal_word(uint32_t outcome)
+{
+    switch (outcome) {
+    case PAPR_WALK_DENIED: return "denied";
+    case PAPR_WALK_AMR: return "masked amr";
+    case PAPR_WALK_IAMR: return "masked iamr";
+    default: return "nopage";
+    }
+}
+
 static void access_line(uint64_t cpu, const char *want, uint64_t ea, bool problem)
 {
     struct papr_receipt made[16];
@@ -105,6 +115,8 @@ static void access_line(uint64_t cpu, const char *want, uint64_t ea, bool proble
         puts("nosegment");
         return;
     }
+    access.amr = guest.amr[cpu];
+    access.iamr = guest.iamr[cpu];
     access.want = want[0] == 'l' ? 0 : want[0] == 's' ? 1 : 2;
     struct table *t = &guest.current;
     struct papr_walk w = papr_walk(t->entries, t->count, t->order, &access, made, 16);
@@ -114,7 +126,7 @@ static void access_line(uint64_t cpu, const char *want, uint64_t ea, bool proble
     else if (w.outcome == PAPR_WALK_AT)
         printf("ungranted 0x%" PRIx64 " walk", w.logical);
     else
-        printf("%s walk", w.outcome == PAPR_WALK_DENIED ? "denied" : "nopage");
+        printf("%s walk", refusal_word(w.outcome));
     put_receipts(made, w.receipts);
 }
 
@@ -196,6 +208,10 @@ static void run_line(unsigned long n, const struct line *l)
         puts(slbmte(&guest.slb[cpu], l->value[2], l->value[3]) ? "ok" : "refused");
     else if (!strcmp(name, "slbclear"))
         memset(&guest.slb[cpu], 0, sizeof guest.slb[cpu]), puts("ok");
+    else if (!strcmp(name, "amr"))
+        guest.amr[cpu] = l->value[2], puts("ok");
+    else if (!strcmp(name, "iamr"))
+        guest.iamr[cpu] = l->value[2], puts("ok");
     else if (!strcmp(name, "load") || !strcmp(name, "store") || !strcmp(name, "fetch"))
         access_line(cpu, name, l->value[2], !strcmp(l->word[3], "user"));
     else if (!strcmp(name, "hcall"))

@@ -38,12 +38,14 @@ struct guest {
     size_t given_count;
     struct papr_grants grants;
     struct slb slb[64];
+    uint64_t amr[64], iamr[64]; /* the processors' authority masks */
 };
 
 /* slbmte: false where the words are refused, and then nothing changes. */
 bool slbmte(struct slb *slb, uint64_t rb, uint64_t rs);
 
-/* What the library has to know of an access; false where no segment has the address. */
+/* What the library has to know of an access, but for what it wants and the masks; false where no segment
+ * has the address. */
 bool segment_access(const struct slb *slb, uint64_t ea, bool problem, struct papr_access *access);
 
 /* An empty table at the lowest place that the pool has; false where there is none, or no memory. */

@@ -119,7 +119,7 @@ want_self Fetch = refl
 
 access_self : (op : Op) → is_access op ≡ true → same_access op op ≡ true
 unfolding same_access
-access_self (Access tag base key no_execute want) h = λ i. eq-eqb tag tag refl i && eq-eqb base base refl i && bool_self key i && bool_self no_execute i && want_self want i
+access_self (Access tag base key no_execute want masks) h = λ i. eq-eqb tag tag refl i && eq-eqb base base refl i && bool_self key i && bool_self no_execute i && want_self want i && (eq-eqb masks.amr masks.amr refl i && eq-eqb masks.iamr masks.iamr refl i)
 access_self (Enter dword0 dword1) h = absurd (false≢true h)
 access_self (Remove test) h = absurd (false≢true h)
 access_self (Protect test flags) h = absurd (false≢true h)

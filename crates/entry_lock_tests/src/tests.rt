@@ -9,6 +9,7 @@ mod pauses;
 mod shares;
 mod threads;
 
+use authority_mask::Masks;
 use entry_lock::{LockTable, Pass};
 use entry_model::{EntryState, Op, Test};
 use std::alloc::{AllocError, Global};
@@ -49,6 +50,7 @@ fn access(want: Want) -> Op
         key: false,
         no_execute: false,
         want,
+        masks: Masks::default(),
     }
 }
 

@@ -3,14 +3,13 @@ use Rattle.std.specs.Prelude.{◌≡◌, ◌+◌, ◌<◌, ◌⊎◌, Bool, true
 use Rattle.std.proofs.Common.{arith, inl, inr, refl, ◌∙◌}
 use Rattle.entry_model.specs.State.{State, empty_state, OnlyRaisesBits}
 use Rattle.entry_model.specs.declared.operation.Answer.{Answer}
-use Rattle.entry_model.specs.declared.operation.Answer.TheVariants.{Entered, Taken, Removed, Protected, Was, NotFound, NoMatch, Denied, At, Worn}
+use Rattle.entry_model.specs.declared.operation.Answer.TheVariants.{Entered, Taken, Removed, Protected, Was, NotFound, NoMatch, Denied, Masked, At, Worn}
 use Rattle.entry_model.specs.declared.operation.Op.{Op}
 use Rattle.entry_model.specs.declared.operation.Op.TheVariants.{Enter, Remove, Protect, Read, ClearRef, ClearMod, Access}
-use Rattle.entry_model.specs.Reply.{reply_of, change_to, change_where, entered_state, is_found, is_match, answer_of_match, touched_state, is_store, access_mode}
+use Rattle.entry_model.specs.Reply.{reply_of, change_to, change_where, entered_state, is_found, is_match, answer_of_match, answer_of_allowed, masks_refuse, is_allowed, touched_state, is_store, access_mode}
 use Rattle.entry_model.specs.History.{bits}
-use Rattle.hpte_fields.specs.Fields.{protected_word, pp_of, is_no_execute}
+use Rattle.hpte_fields.specs.Fields.{protected_word}
 use Rattle.storage_prot.specs.declared.want.Want.{Want}
-use Rattle.storage_prot.specs.Protection.{allowed}
 
 abbrev pub Follows : State → State → Type 0
 Follows s t = OnlyRaisesBits s t ⊎ (s.stamp < t.stamp)
@@ -95,5 +94,5 @@ reply_follows s (Protect test flags) = where_follows (is_found s test) s Protect
 reply_follows s Read = stays s
 reply_follows s ClearRef = where_follows s.valid s Was (record s { referenced = false })
 reply_follows s ClearMod = where_follows s.valid s Was (record s { changed = false })
-reply_follows s (Access tag base key no_execute want) =
-    either_follows (is_match s tag base) s (answer_of_match s (access_mode key no_execute want)) (NoMatch, s) (either_follows (allowed (pp_of s.dword1) key (no_execute || is_no_execute s.dword1) want) s (At, touched_state s want) (Denied, s) (inl (touched_further s want)) (stays s)) (stays s)
+reply_follows s (Access tag base key no_execute want masks) =
+    either_follows (is_match s tag base) s (answer_of_match s (access_mode key no_execute want masks)) (NoMatch, s) (either_follows (is_allowed s (access_mode key no_execute want masks)) s (answer_of_allowed s (access_mode key no_execute want masks)) (Denied, s) (either_follows (masks_refuse s (access_mode key no_execute want masks)) s (Masked, s) (At, touched_state s want) (stays s) (inl (touched_further s want))) (stays s)) (stays s)

@@ -1,16 +1,15 @@
 -- How far receipts raise an entry's stamp. A removal pays with the entry that it empties, so that only other receipts count.
-use Rattle.std.specs.Prelude.{if◌then◌else◌, ◌==◌, ◌||◌, filter, MatchBool}
+use Rattle.std.specs.Prelude.{if◌then◌else◌, ◌==◌, filter, MatchBool}
 use Rattle.std.proofs.Common.{◌≡◌, ℕ, ◌+◌, ◌≤◌, List, [], ◌∷◌, ◌++◌, Bool, true, false, cond, ap, ◌∙◌, refl, arith}
 use Rattle.std.proofs.lemmas.Bool.{and_parts, eqb-true}
-use Rattle.storage_prot.specs.Protection.{allowed}
-use Rattle.hpte_fields.specs.Fields.{protected_word, pp_of, is_no_execute}
+use Rattle.hpte_fields.specs.Fields.{protected_word}
 use Rattle.entry_model.specs.State.{State, empty_state}
 use Rattle.entry_model.specs.declared.operation.Answer.{Answer}
 use Rattle.entry_model.specs.declared.operation.Op.{Op}
 use Rattle.entry_model.specs.declared.operation.Test.{Test}
 use Rattle.entry_model.specs.declared.receipt.Receipt.{Receipt}
 use Rattle.entry_model.specs.Receipt.{is_worn, is_at}
-use Rattle.entry_model.specs.Reply.{reply_of, change_to, change_where, entered_state, is_found, is_match, answer_of_match, touched_state, access_mode}
+use Rattle.entry_model.specs.Reply.{reply_of, change_to, change_where, entered_state, is_found, is_match, answer_of_match, answer_of_allowed, masks_refuse, is_allowed, touched_state, access_mode}
 use Rattle.entry_model.specs.History.{history, Regrouped, nothing, kept, swapped, twice}
 use Rattle.entry_model.specs.Trial.{Call, IsTrial}
 use Rattle.entry_model.proofs.Regroup.{sort_regroups}
@@ -62,7 +61,7 @@ reply_raises s (ops.Protect test flags) = where_raises (is_found s test) 2 s ans
 reply_raises s ops.Read = stays_low 2 s answers.Words
 reply_raises s ops.ClearRef = where_raises s.valid 2 s answers.Was (record s { referenced = false }) (λ _. omega arith)
 reply_raises s ops.ClearMod = where_raises s.valid 2 s answers.Was (record s { changed = false }) (λ _. omega arith)
-reply_raises s (ops.Access tag base key no_execute want) = either_raises (is_match s tag base) 2 s (answer_of_match s (access_mode key no_execute want)) (answers.NoMatch, s) (λ _. either_raises (allowed (pp_of s.dword1) key (no_execute || is_no_execute s.dword1) want) 2 s (answers.At, touched_state s want) (answers.Denied, s) (λ _. omega arith) (λ _. stays_low 2 s answers.Denied)) (λ _. stays_low 2 s answers.NoMatch)
+reply_raises s (ops.Access tag base key no_execute want masks) = either_raises (is_match s tag base) 2 s (answer_of_match s (access_mode key no_execute want masks)) (answers.NoMatch, s) (λ _. either_raises (is_allowed s (access_mode key no_execute want masks)) 2 s (answer_of_allowed s (access_mode key no_execute want masks)) (answers.Denied, s) (λ _. either_raises (masks_refuse s (access_mode key no_execute want masks)) 2 s (answers.Masked, s) (answers.At, touched_state s want) (λ _. stays_low 2 s answers.Masked) (λ _. omega arith)) (λ _. stays_low 2 s answers.Denied)) (λ _. stays_low 2 s answers.NoMatch)
 
 -- ---- several receipts
 abbrev pub weight : List Receipt → ℕ
@@ -140,7 +139,7 @@ worn_last s (ops.Protect test flags) = where_worn (is_found s test) s answers.Pr
 worn_last s ops.Read = λ h. cc
 worn_last s ops.ClearRef = where_worn s.valid s answers.Was (record s { referenced = false }) refl
 worn_last s ops.ClearMod = where_worn s.valid s answers.Was (record s { changed = false }) refl
-worn_last s (ops.Access tag base key no_execute want) = either_tells (is_match s tag base) is_worn (s.stamp ≡ 0xFFFFFFFF) (answer_of_match s (access_mode key no_execute want)) (answers.NoMatch, s) (λ _. either_tells (allowed (pp_of s.dword1) key (no_execute || is_no_execute s.dword1) want) is_worn (s.stamp ≡ 0xFFFFFFFF) (answers.At, touched_state s want) (answers.Denied, s) (λ _ h. cc) (λ _ h. cc)) (λ _ h. cc)
+worn_last s (ops.Access tag base key no_execute want masks) = either_tells (is_match s tag base) is_worn (s.stamp ≡ 0xFFFFFFFF) (answer_of_match s (access_mode key no_execute want masks)) (answers.NoMatch, s) (λ _. either_tells (is_allowed s (access_mode key no_execute want masks)) is_worn (s.stamp ≡ 0xFFFFFFFF) (answer_of_allowed s (access_mode key no_execute want masks)) (answers.Denied, s) (λ _. either_tells (masks_refuse s (access_mode key no_execute want masks)) is_worn (s.stamp ≡ 0xFFFFFFFF) (answers.Masked, s) (answers.At, touched_state s want) (λ _ h. cc) (λ _ h. cc)) (λ _ h. cc)) (λ _ h. cc)
 
 changed_at : (s : State) (answer : Answer) (next : State) → is_at answer ≡ false → Tells is_at (s.valid ≡ true) (change_to s answer next)
 changed_at s answer next other = either_tells (s.stamp == 0xFFFFFFFF) is_at (s.valid ≡ true) (answers.Worn, s) (answer, record next { stamp = s.stamp + 1 }) (λ _ h. cc) (λ _ h. cc)
@@ -156,4 +155,4 @@ at_valid s (ops.Protect test flags) = where_at (is_found s test) s answers.Prote
 at_valid s ops.Read = λ h. cc
 at_valid s ops.ClearRef = where_at s.valid s answers.Was (record s { referenced = false }) refl
 at_valid s ops.ClearMod = where_at s.valid s answers.Was (record s { changed = false }) refl
-at_valid s (ops.Access tag base key no_execute want) = either_tells (is_match s tag base) is_at (s.valid ≡ true) (answer_of_match s (access_mode key no_execute want)) (answers.NoMatch, s) (λ e _. (and_parts s.valid _ e).0) (λ _ h. cc)
+at_valid s (ops.Access tag base key no_execute want masks) = either_tells (is_match s tag base) is_at (s.valid ≡ true) (answer_of_match s (access_mode key no_execute want masks)) (answers.NoMatch, s) (λ e _. (and_parts s.valid _ e).0) (λ _ h. cc)

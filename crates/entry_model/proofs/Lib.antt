@@ -4,6 +4,7 @@ pub mod Follows
 pub mod RunFollows
 pub mod OperationLaws
 pub mod LineLaws
+pub mod MaskLaws
 pub mod Sorted
 pub mod Places
 pub mod RunHistory

@@ -26,7 +26,7 @@ holds_on line s t (inr more) (inr now) = inl (omega (arith, now.stamp))
 pub run_holds : (a b : List State) (rs : List Receipt) (line : Line) → IsRun a rs b → Holds line (state_at a line.entry) → Holds line (state_at b line.entry)
 run_holds a b rs line run h = holds_on line _ _ (run_follows a b rs line.entry run) h
 
--- The line of an entry that answered At or Denied holds of the state that the receipt leaves.
+-- The line of an entry that answered At, Masked or Denied holds of the state that the receipt leaves.
 shown_here : (a b : List State) (r : Receipt) (line : Line) → IsStep a r b → IsTrue (is_decided r.answer) → IsLineAt line r.entry r.before → Holds line (state_at b line.entry)
 shown_here a b r line step decided at =
     let valid : r.before.valid ≡ true = decided_valid r.before r.op (ap is_decided (sym r.lawful) ∙ decided) in
@@ -69,9 +69,9 @@ match_by_line line s tag base same fits now =
     let sizes : has_base s.dword0 s.dword1 base ≡ true = rw (now.dword0, now.dword1) fits in
     rw (valid, tags, sizes) refl
 
--- On a state at which the line is current it answers At or Denied, never NoMatch.
+-- On a state at which the line is current it answers At, Masked or Denied, never NoMatch.
 pub known_is_decided : (line : Line) (s : State) (op : Op) → IsAccessOf line op → IsCurrent line s → is_decided (reply_of s op).0 ≡ true
-known_is_decided line s (Access tag base key no_execute want) h now = decided_match s tag base (access_mode key no_execute want) (match_by_line line s tag base h.0 h.1 now)
+known_is_decided line s (Access tag base key no_execute want masks) h now = decided_match s tag base (access_mode key no_execute want masks) (match_by_line line s tag base h.0 h.1 now)
 known_is_decided line s (Enter dword0 dword1) h now = absurd h
 known_is_decided line s (Remove test) h now = absurd h
 known_is_decided line s (Protect test flags) h now = absurd h

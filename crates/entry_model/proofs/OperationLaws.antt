@@ -3,17 +3,17 @@ use Rattle.std.specs.Prelude.{◌≡◌, ℕ, ◌+◌, ◌<◌, ◌^◌, ◌⊎�
 use Rattle.std.proofs.Common.{arith, inl, inr, refl, ◌∙◌, ap, sym, subst}
 use Rattle.std.specs.Int.Bits.{and_zero_r}
 use Rattle.std.proofs.lemmas.Bool.{and_parts, false≢true, eqb-false}
-use Rattle.hpte_fields.specs.Fields.{protected_word, pp_of, is_no_execute}
+use Rattle.hpte_fields.specs.Fields.{protected_word}
 use Rattle.hpte_fields.proofs.KeptBits.{protected_keeps_rc}
 use Rattle.hpte_fields.proofs.Masks.{masks_join}
 use Rattle.storage_prot.specs.declared.want.Want.{Want}
-use Rattle.storage_prot.specs.Protection.{allowed}
+use Rattle.authority_mask.specs.declared.masks.Masks.{Masks}
 use Rattle.entry_model.specs.State.{State, empty_state, IsCanonicalState, OnlyRaisesBits}
 use Rattle.entry_model.specs.declared.operation.Answer.{Answer}
-use Rattle.entry_model.specs.declared.operation.Answer.TheVariants.{Entered, Taken, Removed, Protected, Was, NotFound, NoMatch, Denied, At, Worn}
+use Rattle.entry_model.specs.declared.operation.Answer.TheVariants.{Entered, Taken, Removed, Protected, Was, NotFound, NoMatch, Denied, Masked, At, Worn}
 use Rattle.entry_model.specs.declared.operation.Op.{Op}
 use Rattle.entry_model.specs.declared.operation.Op.TheVariants.{Enter, Remove, Protect, Read, ClearRef, ClearMod, Access}
-use Rattle.entry_model.specs.Reply.{reply_of, change_to, change_where, entered_state, is_found, is_match, answer_of_match, answer_of_access, touched_state, is_store, access_mode, AccessMode, is_allowed}
+use Rattle.entry_model.specs.Reply.{reply_of, change_to, change_where, entered_state, is_found, is_match, answer_of_match, answer_of_access, answer_of_allowed, touched_state, is_store, access_mode, AccessMode, is_allowed, masks_refuse}
 use Rattle.entry_model.specs.Receipt.{is_access, is_decided, is_at}
 use Rattle.entry_model.proofs.Follows.{no_further, with_bits, with_its_bits, touched_further}
 
@@ -25,12 +25,14 @@ either_has : (P : Answer × State → Type 0) (b : Bool) (p q : Answer × State)
 either_has P true p q h k = h refl
 either_has P false p q h k = k refl
 
--- What holds of an access's reply where it holds of the three that it can be.
-accessed_has : (P : Answer × State → Type 0) (s : State) (tag base : ℕ) (key no_execute : Bool) (want : Want) → (s.valid ≡ true → P (At, touched_state s want)) → (s.valid ≡ true → P (Denied, s)) → P (NoMatch, s) → P (answer_of_access s tag base (access_mode key no_execute want))
-accessed_has P s tag base key no_execute want at denied other =
-    either_has P (is_match s tag base) (answer_of_match s (access_mode key no_execute want)) (NoMatch, s)
+-- What holds of an access's reply where it holds of the four that it can be.
+accessed_has : (P : Answer × State → Type 0) (s : State) (tag base : ℕ) (key no_execute : Bool) (want : Want) (masks : Masks) → (s.valid ≡ true → P (At, touched_state s want)) → (s.valid ≡ true → P (Masked, s)) → (s.valid ≡ true → P (Denied, s)) → P (NoMatch, s) → P (answer_of_access s tag base (access_mode key no_execute want masks))
+accessed_has P s tag base key no_execute want masks at masked denied other =
+    either_has P (is_match s tag base) (answer_of_match s (access_mode key no_execute want masks)) (NoMatch, s)
     (λ e. let valid : s.valid ≡ true = (and_parts _ _ e).0 in
-    either_has P (allowed (pp_of s.dword1) key (no_execute || is_no_execute s.dword1) want) (At, touched_state s want) (Denied, s) (λ _. at valid) (λ _. denied valid))
+    either_has P (is_allowed s (access_mode key no_execute want masks)) (answer_of_allowed s (access_mode key no_execute want masks)) (Denied, s)
+    (λ _. either_has P (masks_refuse s (access_mode key no_execute want masks)) (Masked, s) (At, touched_state s want) (λ _. masked valid) (λ _. at valid))
+    (λ _. denied valid))
     (λ _. other)
 
 -- What holds of the reply of a change.
@@ -45,8 +47,8 @@ where_has P found s answer next none worn done =
 -- ---- accesses
 -- An access leaves valid, the doublewords and the stamp, and lowers no bit.
 pub access_further : (s : State) (op : Op) → is_access op ≡ true → OnlyRaisesBits s (reply_of s op).1
-access_further s (Access tag base key no_execute want) e =
-    accessed_has (λ p. OnlyRaisesBits s p.1) s tag base key no_execute want (λ _. touched_further s want) (λ _. no_further s) (no_further s)
+access_further s (Access tag base key no_execute want masks) e =
+    accessed_has (λ p. OnlyRaisesBits s p.1) s tag base key no_execute want masks (λ _. touched_further s want) (λ _. no_further s) (λ _. no_further s) (no_further s)
 access_further s (Enter dword0 dword1) e = cc
 access_further s (Remove test) e = cc
 access_further s (Protect test flags) e = cc
@@ -56,8 +58,8 @@ access_further s ClearMod e = cc
 
 -- One that isn't At changes nothing.
 pub access_undone : (s : State) (op : Op) → is_access op ≡ true → is_at (reply_of s op).0 ≡ false → (reply_of s op).1 ≡ s
-access_undone s (Access tag base key no_execute want) e h =
-    accessed_has (λ p. is_at p.0 ≡ false → p.1 ≡ s) s tag base key no_execute want (λ _ h. absurd (false≢true (sym h))) (λ _ _. refl) (λ _. refl) h
+access_undone s (Access tag base key no_execute want masks) e h =
+    accessed_has (λ p. is_at p.0 ≡ false → p.1 ≡ s) s tag base key no_execute want masks (λ _ h. absurd (false≢true (sym h))) (λ _ _. refl) (λ _ _. refl) (λ _. refl) h
 access_undone s (Enter dword0 dword1) e h = cc
 access_undone s (Remove test) e h = cc
 access_undone s (Protect test flags) e h = cc
@@ -66,14 +68,14 @@ access_undone s ClearRef e h = cc
 access_undone s ClearMod e h = cc
 
 -- One that is At sets R, and for a store C.
-pub access_touches : (s : State) (tag base : ℕ) (key no_execute : Bool) (want : Want) → is_at (answer_of_access s tag base (access_mode key no_execute want)).0 ≡ true → (answer_of_access s tag base (access_mode key no_execute want)).1 ≡ touched_state s want
-access_touches s tag base key no_execute want =
-    accessed_has (λ p. is_at p.0 ≡ true → p.1 ≡ touched_state s want) s tag base key no_execute want (λ _ _. refl) (λ _ h. absurd (false≢true h)) (λ h. absurd (false≢true h))
+pub access_touches : (s : State) (tag base : ℕ) (key no_execute : Bool) (want : Want) (masks : Masks) → is_at (answer_of_access s tag base (access_mode key no_execute want masks)).0 ≡ true → (answer_of_access s tag base (access_mode key no_execute want masks)).1 ≡ touched_state s want
+access_touches s tag base key no_execute want masks =
+    accessed_has (λ p. is_at p.0 ≡ true → p.1 ≡ touched_state s want) s tag base key no_execute want masks (λ _ _. refl) (λ _ h. absurd (false≢true h)) (λ _ h. absurd (false≢true h)) (λ h. absurd (false≢true h))
 
--- At and Denied come only on a valid entry, whatever the operation.
+-- At, Masked and Denied come only on a valid entry, whatever the operation.
 pub decided_valid : (s : State) (op : Op) → is_decided (reply_of s op).0 ≡ true → s.valid ≡ true
-decided_valid s (Access tag base key no_execute want) h =
-    accessed_has (λ p. is_decided p.0 ≡ true → s.valid ≡ true) s tag base key no_execute want (λ v _. v) (λ v _. v) (λ f. absurd (false≢true f)) h
+decided_valid s (Access tag base key no_execute want masks) h =
+    accessed_has (λ p. is_decided p.0 ≡ true → s.valid ≡ true) s tag base key no_execute want masks (λ v _. v) (λ v _. v) (λ v _. v) (λ f. absurd (false≢true f)) h
 decided_valid s (Enter dword0 dword1) h =
     either_has (λ p. is_decided p.0 ≡ true → s.valid ≡ true) s.valid (Taken, s) (change_to s Entered (entered_state dword0 dword1)) (λ v _. v) (λ _. changed_has (λ p. is_decided p.0 ≡ true → s.valid ≡ true) s Entered (entered_state dword0 dword1) (λ f. absurd (false≢true f)) (λ _ f. absurd (false≢true f))) h
 decided_valid s (Remove test) h =
@@ -86,15 +88,17 @@ decided_valid s ClearRef h =
 decided_valid s ClearMod h =
     where_has (λ p. is_decided p.0 ≡ true → s.valid ≡ true) s.valid s Was (record s { changed = false }) (λ f. absurd (false≢true f)) (λ f. absurd (false≢true f)) (λ _ _ f. absurd (false≢true f)) h
 
--- An access of an entry that translates its page is At or Denied.
+-- An access of an entry that translates its page is At, Masked or Denied.
 pub decided_match : (s : State) (tag base : ℕ) (mode : AccessMode) → is_match s tag base ≡ true → is_decided (answer_of_access s tag base mode).0 ≡ true
 decided_match s tag base mode match =
-    rw match (either_has (λ p. is_decided p.0 ≡ true) (is_allowed s mode) (At, touched_state s mode.want) (Denied, s) (λ _. refl) (λ _. refl))
+    rw match (either_has (λ p. is_decided p.0 ≡ true) (is_allowed s mode) (answer_of_allowed s mode) (Denied, s)
+    (λ _. either_has (λ p. is_decided p.0 ≡ true) (masks_refuse s mode) (Masked, s) (At, touched_state s mode.want) (λ _. refl) (λ _. refl))
+    (λ _. refl))
 
 -- An access finds nothing in an entry that isn't valid.
-pub access_of_empty : (s : State) (tag base : ℕ) (key no_execute : Bool) (want : Want) → s.valid ≡ false → answer_of_access s tag base (access_mode key no_execute want) ≡ (NoMatch, s)
-access_of_empty s tag base key no_execute want empty =
-    accessed_has (λ p. p ≡ (NoMatch, s)) s tag base key no_execute want (λ v. absurd (false≢true (sym empty ∙ v))) (λ v. absurd (false≢true (sym empty ∙ v))) refl
+pub access_of_empty : (s : State) (tag base : ℕ) (key no_execute : Bool) (want : Want) (masks : Masks) → s.valid ≡ false → answer_of_access s tag base (access_mode key no_execute want masks) ≡ (NoMatch, s)
+access_of_empty s tag base key no_execute want masks empty =
+    accessed_has (λ p. p ≡ (NoMatch, s)) s tag base key no_execute want masks (λ v. absurd (false≢true (sym empty ∙ v))) (λ v. absurd (false≢true (sym empty ∙ v))) (λ v. absurd (false≢true (sym empty ∙ v))) refl
 
 -- ---- the same access on the same entry with further bits
 -- What holds of both replies where it holds of each pair that they can be.
@@ -118,17 +122,19 @@ touched_still s r c want f g e =
     let changed : (c || is_store want) ≡ c = or_absorbs s.changed c (is_store want) (ap (λ (t : State). t.changed) e) g in
     λ i. with_bits s (referenced i) (changed i)
 
-still_with_bits : (s : State) (r c : Bool) (tag base : ℕ) (key no_execute : Bool) (want : Want) → (s.referenced ≡ true → r ≡ true) → (s.changed ≡ true → c ≡ true) → StaysStill s (with_bits s r c) (answer_of_access s tag base (access_mode key no_execute want)) (answer_of_access (with_bits s r c) tag base (access_mode key no_execute want))
-still_with_bits s r c tag base key no_execute want f g =
+still_with_bits : (s : State) (r c : Bool) (tag base : ℕ) (key no_execute : Bool) (want : Want) (masks : Masks) → (s.referenced ≡ true → r ≡ true) → (s.changed ≡ true → c ≡ true) → StaysStill s (with_bits s r c) (answer_of_access s tag base (access_mode key no_execute want masks)) (answer_of_access (with_bits s r c) tag base (access_mode key no_execute want masks))
+still_with_bits s r c tag base key no_execute want masks f g =
     let t : State = with_bits s r c in
-    both_have (StaysStill s t) (is_match s tag base) (answer_of_match s (access_mode key no_execute want)) (NoMatch, s) (answer_of_match t (access_mode key no_execute want)) (NoMatch, t)
-    (both_have (StaysStill s t) (allowed (pp_of s.dword1) key (no_execute || is_no_execute s.dword1) want) (At, touched_state s want) (Denied, s) (At, touched_state t want) (Denied, t) (λ e. (touched_still s r c want f g e, refl)) (λ e. (refl, refl)))
+    both_have (StaysStill s t) (is_match s tag base) (answer_of_match s (access_mode key no_execute want masks)) (NoMatch, s) (answer_of_match t (access_mode key no_execute want masks)) (NoMatch, t)
+    (both_have (StaysStill s t) (is_allowed s (access_mode key no_execute want masks)) (answer_of_allowed s (access_mode key no_execute want masks)) (Denied, s) (answer_of_allowed t (access_mode key no_execute want masks)) (Denied, t)
+    (both_have (StaysStill s t) (masks_refuse s (access_mode key no_execute want masks)) (Masked, s) (At, touched_state s want) (Masked, t) (At, touched_state t want) (λ e. (refl, refl)) (λ e. (touched_still s r c want f g e, refl)))
+    (λ e. (refl, refl)))
     (λ e. (refl, refl))
 
 -- An access that changes nothing on a state changes nothing, with the same answer, on the same entry with further bits.
 pub access_still : (s t : State) (op : Op) → is_access op ≡ true → OnlyRaisesBits s t → (reply_of s op).1 ≡ s → ((reply_of t op).1 ≡ t) × ((reply_of t op).0 ≡ (reply_of s op).0)
-access_still s t (Access tag base key no_execute want) e h =
-    subst (λ u. StaysStill s u (answer_of_access s tag base (access_mode key no_execute want)) (answer_of_access u tag base (access_mode key no_execute want))) (sym (with_its_bits s t h)) (still_with_bits s t.referenced t.changed tag base key no_execute want h.referenced h.changed)
+access_still s t (Access tag base key no_execute want masks) e h =
+    subst (λ u. StaysStill s u (answer_of_access s tag base (access_mode key no_execute want masks)) (answer_of_access u tag base (access_mode key no_execute want masks))) (sym (with_its_bits s t h)) (still_with_bits s t.referenced t.changed tag base key no_execute want masks h.referenced h.changed)
 access_still s t (Enter dword0 dword1) e h = cc
 access_still s t (Remove test) e h = cc
 access_still s t (Protect test flags) e h = cc
@@ -155,7 +161,7 @@ other_rises s (Protect test flags) e = where_rises (is_found s test) s Protected
 other_rises s Read e = inl refl
 other_rises s ClearRef e = where_rises s.valid s Was (record s { referenced = false })
 other_rises s ClearMod e = where_rises s.valid s Was (record s { changed = false })
-other_rises s (Access tag base key no_execute want) e = cc
+other_rises s (Access tag base key no_execute want masks) e = cc
 
 -- Their answer and the stamp after don't depend on R and C.
 abbrev Alike : Answer × State → Answer × State → Type 0
@@ -182,7 +188,7 @@ other_alike s r c (Protect test flags) e =
 other_alike s r c Read e = (refl, refl)
 other_alike s r c ClearRef e = where_alike s.valid s r c Was (record (with_bits s r c) { referenced = false }) (record s { referenced = false })
 other_alike s r c ClearMod e = where_alike s.valid s r c Was (record (with_bits s r c) { changed = false }) (record s { changed = false })
-other_alike s r c (Access tag base key no_execute want) e = cc
+other_alike s r c (Access tag base key no_execute want masks) e = cc
 
 -- So whether one changes the entry doesn't either.
 pub other_still : (s : State) (r c : Bool) (op : Op) → is_access op ≡ false → (reply_of s op).1 ≡ s → (reply_of (with_bits s r c) op).1 ≡ with_bits s r c
@@ -223,8 +229,8 @@ reply_canonical s (Protect test flags) h =
 reply_canonical s Read h = h
 reply_canonical s ClearRef h = kept_canonical s.valid s Was (record s { referenced = false }) h (λ e. e) h.apart
 reply_canonical s ClearMod h = kept_canonical s.valid s Was (record s { changed = false }) h (λ e. e) h.apart
-reply_canonical s (Access tag base key no_execute want) h =
-    accessed_has Canonical s tag base key no_execute want (λ v. canonical_if_valid (touched_state s want) v h.apart) (λ _. h) h
+reply_canonical s (Access tag base key no_execute want masks) h =
+    accessed_has Canonical s tag base key no_execute want masks (λ v. canonical_if_valid (touched_state s want) v h.apart) (λ _. h) (λ _. h) h
 
 -- Stamps stay below 2 ^ 32.
 abbrev Fits : Answer × State → Type 0
@@ -244,4 +250,4 @@ stamp_fits s (Protect test flags) h = where_fits (is_found s test) s Protected (
 stamp_fits s Read h = h
 stamp_fits s ClearRef h = where_fits s.valid s Was (record s { referenced = false }) h
 stamp_fits s ClearMod h = where_fits s.valid s Was (record s { changed = false }) h
-stamp_fits s (Access tag base key no_execute want) h = accessed_has Fits s tag base key no_execute want (λ _. h) (λ _. h) h
+stamp_fits s (Access tag base key no_execute want masks) h = accessed_has Fits s tag base key no_execute want masks (λ _. h) (λ _. h) (λ _. h) h

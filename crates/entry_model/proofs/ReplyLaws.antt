@@ -16,7 +16,7 @@ pub still_accesses : (s t : State) (op : Op) → is_access op ≡ true → OnlyR
 still_accesses s t op access more = access_still s t op access more
 
 pub empty_untouched : (s : State) (op : Op) → is_access op ≡ true → s.valid ≡ false → (reply_of s op).1 ≡ s
-empty_untouched s (Access tag base key no_execute want) access none = ap (λ (p : Answer × State). p.1) (access_of_empty s tag base key no_execute want none)
+empty_untouched s (Access tag base key no_execute want masks) access none = ap (λ (p : Answer × State). p.1) (access_of_empty s tag base key no_execute want masks none)
 empty_untouched s (Enter dword0 dword1) access none = absurd (false≢true access)
 empty_untouched s (Remove test) access none = absurd (false≢true access)
 empty_untouched s (Protect test flags) access none = absurd (false≢true access)

@@ -30,7 +30,7 @@ Holds line s = (line.stamp < s.stamp) ⊎ IsCurrent line s
 -- ---- a line and an access
 -- The operation is an access that the line's doublewords match.
 abbrev pub IsAccessOf : Line → Op → Type 0
-IsAccessOf line (Access tag base key no_execute want) =
+IsAccessOf line (Access tag base key no_execute want masks) =
     (tag ≡ compared_bits line.dword0) × IsTrue (has_base line.dword0 line.dword1 base)
 IsAccessOf line other = ⊥
 

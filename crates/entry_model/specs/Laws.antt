@@ -1,9 +1,13 @@
 -- The laws of replies, of histories and of fronts. Whoever changes the words of an entry one at a time rests on these, and on nothing else of the table of operations.
-use Rattle.std.specs.Prelude.{ℕ, ◌==◌, ◌&&◌, ◌||◌, nat_lt, nat_le, if◌then◌else◌, List, filter, ◌≡◌, ◌+◌, ◌*◌, ◌≤◌, max, [], ◌∷◌, ◌++◌, length, map, slice_set, slice_index_or, ◌⊎◌, ◌<◌, ◌^◌, Bool, true, false}
+use Rattle.std.specs.Prelude.{ℕ, ◌==◌, ◌&&◌, ◌||◌, nat_lt, nat_le, if◌then◌else◌, List, filter, ◌≡◌, ◌+◌, ◌++◌, ◌⊎◌, ◌<◌, ◌^◌, ◌↔◌, Bool, true, false, IsTrue}
 use Rattle.entry_model.specs.CachedLines.{AllLater}
 use Rattle.entry_model.specs.History.{IsLegal, bits, state_eq, precedes, history, Regrouped}
 use Rattle.entry_model.specs.Receipt.{is_access, is_decided, is_at, after_of}
-use Rattle.entry_model.specs.Reply.{reply_of}
+use Rattle.authority_mask.specs.Authority.{no_masks}
+use Rattle.storage_prot.specs.declared.want.Want.{Want}
+use Rattle.entry_model.specs.declared.operation.Answer.{Answer}
+use Rattle.entry_model.specs.declared.operation.Answer.TheVariants.{NoMatch, Denied, Masked, At}
+use Rattle.entry_model.specs.Reply.{reply_of, AccessMode, access_mode, is_match, is_allowed, masks_refuse, answer_of_access, touched_state}
 use Rattle.entry_model.specs.State.{State, IsCanonicalState, OnlyRaisesBits, with_these_bits}
 use Rattle.entry_model.specs.declared.line.Line.{Line}
 use Rattle.entry_model.specs.declared.operation.Op.{Op}
@@ -54,8 +58,36 @@ OthersIgnoreBits =
     → (reply_of s op).1 ≡ s
     → (reply_of (with_these_bits s referenced changed) op).1 ≡ with_these_bits s referenced changed
 
+-- ---- masks
+-- The entry translates the page, its protection allows the access, and a mask refuses it for the entry's key.
+abbrev pub IsForbidden : State → ℕ → ℕ → AccessMode → Type 0
+IsForbidden s tag base mode =
+    IsTrue (is_match s tag base)
+    × IsTrue (is_allowed s mode)
+    × IsTrue (masks_refuse s mode)
+
+-- An access is answered Masked exactly there.
+abbrev pub MaskedExactlyWhere : Type 0
+MaskedExactlyWhere =
+    (s : State) (tag base : ℕ) (mode : AccessMode)
+    → ((answer_of_access s tag base mode).0 ≡ Masked) ↔ IsForbidden s tag base mode
+
+-- What an entry answers by its protection alone.
+abbrev pub answer_by_protection : State → ℕ → ℕ → AccessMode → Answer × State
+answer_by_protection s tag base mode =
+    if is_match s tag base
+    then (if is_allowed s mode then (At, touched_state s mode.want) else (Denied, s))
+    else (NoMatch, s)
+
+-- Masks of 0 change no answer.
+abbrev pub ZeroMasksChangeNothing : Type 0
+ZeroMasksChangeNothing =
+    (s : State) (tag base : ℕ) (key no_execute : Bool) (want : Want)
+    → (let mode = access_mode key no_execute want no_masks in
+    answer_of_access s tag base mode ≡ answer_by_protection s tag base mode)
+
 -- ---- all operations
--- At and Denied come only on a valid state.
+-- At, Masked and Denied come only on a valid state.
 abbrev pub DecidedIsValid : Type 0
 DecidedIsValid = (s : State) (op : Op) → is_decided (reply_of s op).0 ≡ true → s.valid ≡ true
 

@@ -1,12 +1,13 @@
 -- Receipts: one operation that was made on one entry.
-use Rattle.std.specs.Prelude.{refl, ◌≡◌, ℕ, Some, Bool, true, false, List, Option, find, not}
+use Rattle.std.specs.Prelude.{refl, ◌≡◌, ℕ, Some, Bool, true, false, List, Option, find, not, None}
 use Rattle.entry_model.specs.State.{State, empty_state}
 use Rattle.entry_model.specs.declared.operation.Answer.{Answer}
-use Rattle.entry_model.specs.declared.operation.Answer.TheVariants.{Entered, Taken, Worn, NotFound, NoMatch, Denied, At}
+use Rattle.entry_model.specs.declared.operation.Answer.TheVariants.{Taken, Worn, NoMatch, Denied, Masked, At}
 use Rattle.entry_model.specs.declared.operation.Op.{Op}
 use Rattle.entry_model.specs.declared.operation.Op.TheVariants.{Enter, Read, Access}
 use Rattle.entry_model.specs.declared.receipt.Receipt.{Receipt}
-use Rattle.entry_model.specs.Reply.{reply_of}
+use Rattle.entry_model.specs.Reply.{reply_of, mask_against}
+use Rattle.authority_mask.specs.declared.masks.MaskName.{MaskName}
 use Rattle.hpte_fields.specs.Fields.{normal_words}
 
 -- The state after a receipt.
@@ -56,6 +57,7 @@ is_no_match other = false
 -- The answer used the entry's translation.
 abbrev pub is_decided : Answer → Bool
 is_decided Denied = true
+is_decided Masked = true
 is_decided At = true
 is_decided other = false
 
@@ -64,11 +66,25 @@ abbrev pub is_at : Answer → Bool
 is_at At = true
 is_at other = false
 
+-- The access was allowed by protection, and a mask refuses it.
+abbrev pub is_masked : Answer → Bool
+is_masked Masked = true
+is_masked other = false
+
 -- ---- tests of operations
 -- The operation is an access of a processor.
 abbrev pub is_access : Op → Bool
-is_access (Access tag base key no_execute want) = true
+is_access (Access tag base key no_execute want masks) = true
 is_access other = false
+
+-- The mask that refuses this operation for an entry in this state, where it is an access that a mask refuses.
+abbrev pub mask_against_op : State → Op → Option MaskName
+mask_against_op s (Access tag base key no_execute want masks) = mask_against s masks want
+mask_against_op s other = None
+
+-- So of a receipt's operation.
+abbrev pub mask_of : Receipt → Option MaskName
+mask_of r = mask_against_op r.before r.op
 
 -- ---- searches
 -- The receipt that was found: the first that doesn't say NoMatch.

@@ -1,18 +1,21 @@
 -- One entry by itself: what it answers to an operation, and its next state.
-use Rattle.std.specs.Prelude.{◌&&◌, ◌||◌, ℕ, ◌+◌, ◌==◌, Bool, true, false, if◌then◌else◌, bit_and, Option, Some, None}
+use Rattle.std.specs.Prelude.{◌&&◌, ◌||◌, ℕ, ◌+◌, ◌==◌, Bool, true, false, if◌then◌else◌, bit_and, Option, Some, None, is_some}
 use Rattle.std.specs.Option.{option_map_or}
 use Rattle.entry_model.specs.State.{State, empty_state}
 use Rattle.entry_model.specs.declared.operation.Op.{Op}
 use Rattle.entry_model.specs.declared.operation.Op.TheVariants.{Enter, Remove, Protect, Read, ClearRef, ClearMod, Access}
 use Rattle.entry_model.specs.declared.operation.Test.{Test}
 use Rattle.entry_model.specs.declared.operation.Answer.{Answer}
-use Rattle.entry_model.specs.declared.operation.Answer.TheVariants.{Entered, Taken, Removed, Protected, Was, Words, NotFound, NoMatch, Denied, At, Worn}
-use Rattle.hpte_fields.specs.Fields.{is_referenced, is_changed, without_rc, with_rc, protected_word, pp_of, is_no_execute, tag_field}
+use Rattle.entry_model.specs.declared.operation.Answer.TheVariants.{Entered, Taken, Removed, Protected, Was, Words, NotFound, NoMatch, Denied, Masked, At, Worn}
+use Rattle.hpte_fields.specs.Fields.{is_referenced, is_changed, without_rc, with_rc, protected_word, pp_of, key_of, is_no_execute, tag_field}
 use Rattle.page_sizes.specs.Sizes.{size_of}
 use Rattle.page_sizes.specs.declared.size.PageSize.{PageSize}
 use Rattle.storage_prot.specs.declared.want.Want.{Want}
 use Rattle.storage_prot.specs.declared.want.Want.TheVariants.{Load, Store, Fetch}
 use Rattle.storage_prot.specs.Protection.{allowed}
+use Rattle.authority_mask.specs.declared.masks.MaskName.{MaskName}
+use Rattle.authority_mask.specs.declared.masks.Masks.{Masks}
+use Rattle.authority_mask.specs.Authority.{forbidden}
 
 -- The doublewords with R and C put back.
 abbrev pub words_of : State → ℕ × ℕ
@@ -55,15 +58,21 @@ entered_state dword0 dword1 = record {
 }
 
 -- ---- accesses
--- What an access asks of protection: what it wants, by which key, and whether its segment refuses fetches.
+-- What an access asks of protection: what it wants, by which key, whether its segment refuses fetches, and with which masks of its processor.
 pub record AccessMode : Type 0 where
   pub want : Want
   pub key : Bool
   pub no_execute : Bool
+  pub masks : Masks
 
 -- The mode of these parts, in the order in which an access has them.
-abbrev pub access_mode : Bool → Bool → Want → AccessMode
-access_mode key no_execute want = record { want = want; key = key; no_execute = no_execute }
+abbrev pub access_mode : Bool → Bool → Want → Masks → AccessMode
+access_mode key no_execute want masks = record {
+  want = want;
+  key = key;
+  no_execute = no_execute;
+  masks = masks;
+}
 
 -- What an access compares of doubleword 0: B, the abbreviated virtual page number, H and V.
 abbrev pub compared_bits : ℕ → ℕ
@@ -94,9 +103,22 @@ abbrev pub is_allowed : State → AccessMode → Bool
 is_allowed s mode =
     allowed (pp_of s.dword1) mode.key (mode.no_execute || is_no_execute s.dword1) mode.want
 
--- What an entry that translates the page answers.
+-- The mask that refuses the access for the entry's key, if one does.
+abbrev pub mask_against : State → Masks → Want → Option MaskName
+mask_against s masks want = forbidden masks (key_of s.dword1) want
+
+-- One does.
+abbrev pub masks_refuse : State → AccessMode → Bool
+masks_refuse s mode = is_some (mask_against s mode.masks mode.want)
+
+-- What an entry answers whose protection allows the access.
+abbrev pub answer_of_allowed : State → AccessMode → Answer × State
+answer_of_allowed s mode =
+    if masks_refuse s mode then (Masked, s) else (At, touched_state s mode.want)
+
+-- What an entry that translates the page answers: its protection is asked first.
 abbrev pub answer_of_match : State → AccessMode → Answer × State
-answer_of_match s mode = if is_allowed s mode then (At, touched_state s mode.want) else (Denied, s)
+answer_of_match s mode = if is_allowed s mode then answer_of_allowed s mode else (Denied, s)
 
 -- What an entry answers to an access of the pages with this tag and base size.
 abbrev pub answer_of_access : State → ℕ → ℕ → AccessMode → Answer × State
@@ -114,5 +136,5 @@ reply_of s (Protect test flags) =
 reply_of s Read = (Words, s)
 reply_of s ClearRef = change_where s.valid s Was (record s { referenced = false })
 reply_of s ClearMod = change_where s.valid s Was (record s { changed = false })
-reply_of s (Access tag base key no_execute want) =
-    answer_of_access s tag base (access_mode key no_execute want)
+reply_of s (Access tag base key no_execute want masks) =
+    answer_of_access s tag base (access_mode key no_execute want masks)

@@ -1,5 +1,5 @@
 -- Trials: the calls on entries that a hypervisor call names, made in turn as long as the answers go on, and the reply that their receipts give.
-use Rattle.std.specs.Prelude.{◌≡◌, ℕ, zero, suc, ◌+◌, List, [], ◌∷◌, Bool, true, if◌then◌else◌, MatchBool, Option, not, find, drop, length}
+use Rattle.std.specs.Prelude.{◌≡◌, ℕ, List, [], ◌∷◌, Bool, true, if◌then◌else◌, MatchBool, Option, not, find, drop, length}
 use Rattle.entry_model.specs.State.{State}
 use Rattle.entry_model.specs.declared.operation.Op.{Op}
 use Rattle.entry_model.specs.declared.operation.Answer.{Answer}

@@ -1,6 +1,7 @@
 ghost use Rattle.std.specs.Prelude.{◌≡◌};
 
 use crate::lists::Receipts;
+use authority_mask::MaskName;
 
 /// How an access of the processor ended.
 #[derive(Clone, Copy, PartialEq, Eq, Debug)]
@@ -9,6 +10,8 @@ pub enum Outcome {
     At(u64),
     /// The entry's protection refuses the access.
     Denied,
+    /// The entry's protection allows the access, and this mask of the processor refuses it.
+    Masked(MaskName),
     /// No entry translates the page.
     NoPage,
     /// No segment has the effective address.

@@ -10,6 +10,7 @@ use crate::state::EntryState;
 use hpte_fields::{CHANGED, REFERENCED, tag_of};
 
 /// Whether there is an entry and it passes the test.
+#[inline]
 fn is_found(state: &EntryState, test: &Test) -> bool
     ensures { result ≡ table.is_found state.now test.now }
 {
@@ -25,6 +26,7 @@ fn is_found(state: &EntryState, test: &Test) -> bool
 }
 
 /// Changes an entry, unless its stamp is at its last value.
+#[inline(always)]
 fn changed_to(before: &EntryState, answer: Answer, next: EntryState) -> (Answer, EntryState)
     ensures { result ≡ table.change_to before.now answer next }
 {
@@ -61,6 +63,8 @@ fn protected(before: &EntryState, flags: u64) -> EntryState
 }
 
 /// What an entry in this state answers to an operation, and its next state.
+// In line, so that a caller that knows the operation keeps its part alone.
+#[inline(always)]
 pub fn reply(before: &EntryState, op: &Op) -> (Answer, EntryState)
     ensures { result ≡ table.reply_of before.now op.now }
 {
@@ -92,11 +96,13 @@ pub fn reply(before: &EntryState, op: &Op) -> (Answer, EntryState)
             key,
             no_execute,
             want,
-        } => accessed(before, tag, base, key, no_execute, want),
+            masks,
+        } => accessed(before, tag, base, key, no_execute, want, masks),
     }
 }
 
 /// Clears C (`change`) or R.
+#[inline(always)]
 fn cleared(before: &EntryState, change: bool) -> (Answer, EntryState)
     ensures { result
         ≡ table.change_where

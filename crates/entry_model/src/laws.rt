@@ -1,7 +1,7 @@
 //! Laws of replies, and of receipts in histories. Each function does nothing, and its contract is the
 //! law.
 
-ghost use Rattle.entry_model.specs.Laws.{AccessesOnlyRaiseBits, OnlyAtTouches, EmptyStaysEmpty, StillAccessesStayStill, OthersRaiseStamps, OthersIgnoreBits, DecidedIsValid, RepliesStayCanonical, StampsStayLow, PlacesCompareFromTheLeft, LoggedHistoriesAreLegal, FrontsCompose, FrontsNeverFall, ReceiptsOfGoneLinesAreLater};
+ghost use Rattle.entry_model.specs.Laws.{AccessesOnlyRaiseBits, OnlyAtTouches, EmptyStaysEmpty, StillAccessesStayStill, OthersRaiseStamps, OthersIgnoreBits, DecidedIsValid, MaskedExactlyWhere, ZeroMasksChangeNothing, RepliesStayCanonical, StampsStayLow, PlacesCompareFromTheLeft, LoggedHistoriesAreLegal, FrontsCompose, FrontsNeverFall, ReceiptsOfGoneLinesAreLater};
 
 /// An access leaves an entry's doublewords and its stamp, and lowers no bit.
 pub fn accesses_only_raise_bits()
@@ -34,9 +34,20 @@ pub fn others_ignore_bits()
     ensures { OthersIgnoreBits }
 {}
 
-/// At and Denied come only on a valid entry.
+/// At, Masked and Denied come only on a valid entry.
 pub fn decided_is_valid()
     ensures { DecidedIsValid }
+{}
+
+/// An access is answered Masked exactly where the entry translates its page, protection allows it,
+/// and a mask of its processor refuses it for the entry's key.
+pub fn masked_exactly_where()
+    ensures { MaskedExactlyWhere }
+{}
+
+/// Where both masks are 0, the answer is the one of protection alone.
+pub fn zero_masks_change_nothing()
+    ensures { ZeroMasksChangeNothing }
 {}
 
 /// Every operation keeps R and C apart, and an entry that isn't valid without words and bits.

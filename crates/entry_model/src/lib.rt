@@ -25,9 +25,10 @@ pub use answering::reply;
 pub use hreply::{HReply, Registers};
 pub use laws::{
     accesses_only_raise_bits, decided_is_valid, empty_stays_empty, fronts_compose,
-    fronts_never_fall, logged_histories_are_legal, only_at_touches, others_ignore_bits,
-    others_raise_stamps, places_compare_from_the_left, receipts_of_gone_lines_are_later,
-    replies_stay_canonical, stamps_stay_low, still_accesses_stay_still,
+    fronts_never_fall, logged_histories_are_legal, masked_exactly_where, only_at_touches,
+    others_ignore_bits, others_raise_stamps, places_compare_from_the_left,
+    receipts_of_gone_lines_are_later, replies_stay_canonical, stamps_stay_low,
+    still_accesses_stay_still, zero_masks_change_nothing,
 };
 pub use line::Line;
 pub use lists::{Receipts, ReplyWords};

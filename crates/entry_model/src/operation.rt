@@ -1,3 +1,4 @@
+use authority_mask::Masks;
 use storage_prot::Want;
 
 /// What a hypervisor call demands of doubleword 0 before it touches an entry.
@@ -43,6 +44,8 @@ pub enum Op {
         /// Whether the segment refuses instruction fetches.
         no_execute: bool,
         want: Want,
+        /// The processor's authority masks.
+        masks: Masks,
     },
 }
 
@@ -65,6 +68,9 @@ pub enum Answer {
     NoMatch,
     /// The entry translates the page, and its protection refuses the access.
     Denied,
+    /// The entry translates the page and its protection allows the access, and a mask of the
+    /// processor refuses it for the entry's key.
+    Masked,
     /// The access is allowed, and R, and for a store C, is set.
     At,
     /// The entry's stamp is at its last value, so that it can't change.

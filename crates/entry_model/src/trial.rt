@@ -21,7 +21,9 @@ pub enum GoesOn {
 }
 
 impl GoesOn {
-    fn after(self, answer: Answer) -> bool
+    /// Whether a trial goes on to the next entry after this answer.
+    #[inline]
+    pub fn after(self, answer: Answer) -> bool
         ensures { result ≡ goes_after self answer }
     {
         match self {

@@ -1,5 +1,6 @@
 ghost use Rattle.std.specs.Prelude.{◌≡◌, bit_and};
 
+use authority_mask::Masks;
 use entry_model::*;
 use power_addr::Page;
 use std::process::Abort;
@@ -172,6 +173,7 @@ fn access(tag: u64, base: u8, key: bool, no_execute: bool, want: Want) -> Op {
         key,
         no_execute,
         want,
+        masks: Masks::default(),
     }
 }
 

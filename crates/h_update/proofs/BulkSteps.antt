@@ -6,7 +6,7 @@ use Rattle.papr_codes.specs.declared.codes.Rc.{Rc}
 use Rattle.entry_model.specs.declared.operation.Test.{Test}
 use Rattle.entry_model.specs.declared.operation.Answer.{Answer}
 use Rattle.entry_model.specs.contracts.operation.Answer.{the_type}
-use Rattle.entry_model.specs.declared.operation.Answer.TheVariants.{Entered, Taken, Removed, Protected, Was, Words, NotFound, NoMatch, Denied, At, Worn}
+use Rattle.entry_model.specs.declared.operation.Answer.TheVariants.{Entered, Taken, Removed, Protected, Was, Words, NotFound, NoMatch, Denied, Masked, At, Worn}
 use Rattle.entry_model.specs.declared.receipt.Receipt.{Receipt}
 use Rattle.entry_model.specs.Receipt.{IsReceiptOf, is_worn}
 use Rattle.entry_model.specs.Trial.{Call, IsTrial, IsReplyOf}
@@ -189,5 +189,6 @@ same_worn Words = refl
 same_worn NotFound = refl
 same_worn NoMatch = refl
 same_worn Denied = refl
+same_worn Masked = refl
 same_worn At = refl
 same_worn Worn = refl

@@ -12,12 +12,13 @@ use Rattle.entry_model.specs.declared.operation.Answer.{Answer}
 use Rattle.entry_model.specs.declared.operation.Answer.TheVariants as answers
 use Rattle.entry_model.specs.declared.receipt.Receipt.{Receipt}
 use Rattle.entry_model.specs.Receipt.{after_of, is_at}
-use Rattle.entry_model.specs.Reply.{reply_of, change_to, change_where, entered_state, is_found, is_match, is_allowed, access_mode, answer_of_match, touched_state, is_store}
+use Rattle.entry_model.specs.Reply.{reply_of, change_to, change_where, entered_state, is_found, is_match, is_allowed, masks_refuse, access_mode, answer_of_match, answer_of_allowed, touched_state, is_store}
 use Rattle.entry_model.specs.History.{IsLegal, history, by_place, put_in, precedes, place, pair_of, state_eq}
 use Rattle.basics.specs.Words.{bool_eq}
 use Rattle.entry_model.proofs.Sorted.{state_self}
 use Rattle.receipt_text.specs.Receipts.{mark_of}
 use Rattle.history_check.specs.Steps.{step_op, raises_stamp, is_store_access, is_unchanged}
+use Rattle.authority_mask.specs.Authority.{no_masks}
 
 pub record Alike (x y : Receipt) : Type 0 where
   pub mark : mark_of x ≡ mark_of y
@@ -53,7 +54,7 @@ next_by (ops.Protect test flags) s = record s { dword1 = protected_word s.dword1
 next_by ops.Read s = s
 next_by ops.ClearRef s = record s { referenced = false }
 next_by ops.ClearMod s = record s { changed = false }
-next_by (ops.Access tag base key no_execute want) s = touched_state s want
+next_by (ops.Access tag base key no_execute want masks) s = touched_state s want
 
 abbrev after_by : Op → Answer → State → State
 after_by op answer s = if raises_stamp answer then record (next_by op s) { stamp = s.stamp + 1 } else if is_at answer then next_by op s else s
@@ -78,8 +79,8 @@ after_is s (ops.Protect test flags) = where_after (is_found s test) s answers.Pr
 after_is s ops.Read = refl
 after_is s ops.ClearRef = where_after s.valid s answers.Was (record s { referenced = false }) (IsAfter ops.ClearRef s) refl refl refl
 after_is s ops.ClearMod = where_after s.valid s answers.Was (record s { changed = false }) (IsAfter ops.ClearMod s) refl refl refl
-after_is s (ops.Access t b k n w) =
-    either_P (is_match s t b) (answer_of_match s (access_mode k n w)) (answers.NoMatch, s) (IsAfter (ops.Access 0 0 false false w) s) (either_P (is_allowed s (access_mode k n w)) (answers.At, touched_state s w) (answers.Denied, s) (IsAfter (ops.Access 0 0 false false w) s) refl refl) refl
+after_is s (ops.Access t b k n w masks) =
+    either_P (is_match s t b) (answer_of_match s (access_mode k n w masks)) (answers.NoMatch, s) (IsAfter (ops.Access 0 0 false false w no_masks) s) (either_P (is_allowed s (access_mode k n w masks)) (answer_of_allowed s (access_mode k n w masks)) (answers.Denied, s) (IsAfter (ops.Access 0 0 false false w no_masks) s) (either_P (masks_refuse s (access_mode k n w masks)) (answers.Masked, s) (answers.At, touched_state s w) (IsAfter (ops.Access 0 0 false false w no_masks) s) refl refl) refl) refl
 
 alike_after : (x y : Receipt) → Alike x y → x.before ≡ y.before → after_of x ≡ after_of y
 alike_after x y h e =
@@ -120,8 +121,8 @@ unchanged_is s (ops.Protect test flags) = where_after (is_found s test) s answer
 unchanged_is s ops.Read = state_self s
 unchanged_is s ops.ClearRef = where_after s.valid s answers.Was (record s { referenced = false }) (IsUnchanged ops.ClearRef s) (state_self s) (state_self s) (above_stamp s (record s { referenced = false; stamp = s.stamp + 1 }) refl)
 unchanged_is s ops.ClearMod = where_after s.valid s answers.Was (record s { changed = false }) (IsUnchanged ops.ClearMod s) (state_self s) (state_self s) (above_stamp s (record s { changed = false; stamp = s.stamp + 1 }) refl)
-unchanged_is s (ops.Access t b k n w) =
-    either_P (is_match s t b) (answer_of_match s (access_mode k n w)) (answers.NoMatch, s) (IsUnchanged (ops.Access 0 0 false false w) s) (either_P (is_allowed s (access_mode k n w)) (answers.At, touched_state s w) (answers.Denied, s) (IsUnchanged (ops.Access 0 0 false false w) s) (touched_eq s w) (state_self s)) (state_self s)
+unchanged_is s (ops.Access t b k n w masks) =
+    either_P (is_match s t b) (answer_of_match s (access_mode k n w masks)) (answers.NoMatch, s) (IsUnchanged (ops.Access 0 0 false false w no_masks) s) (either_P (is_allowed s (access_mode k n w masks)) (answer_of_allowed s (access_mode k n w masks)) (answers.Denied, s) (IsUnchanged (ops.Access 0 0 false false w no_masks) s) (either_P (masks_refuse s (access_mode k n w masks)) (answers.Masked, s) (answers.At, touched_state s w) (IsUnchanged (ops.Access 0 0 false false w no_masks) s) (state_self s) (touched_eq s w)) (state_self s)) (state_self s)
 
 pub flag_of : (r : Receipt) → state_eq (after_of r) r.before ≡ is_unchanged (is_store_access (step_op r.op)) r.answer r.before.referenced r.before.changed
 flag_of r = unchanged_is r.before r.op ∙ ap (λ a. is_unchanged (is_store_access (step_op r.op)) a r.before.referenced r.before.changed) (sym r.lawful)

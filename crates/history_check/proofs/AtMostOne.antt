@@ -23,6 +23,9 @@ use Rattle.hpt_walk.specs.Walk.{walk_calls}
 use Rattle.hpt_walk.specs.Access.{AccessContext, mode_for, outcome_of, hit_calls, IsWalk, IsByWay, IsAccessReply, request}
 use Rattle.hpt_walk.specs.declared.request.Request.{Request}
 use Rattle.tlb_model.specs.Processor.{Processor}
+use Rattle.authority_mask.specs.declared.masks.Masks.{Masks}
+use Rattle.authority_mask.specs.Authority.{with_mask}
+use Rattle.slb_model.specs.declared.slot.Slot.{Slot}
 use Rattle.trace_line.specs.declared.act.Act.{Act}
 use Rattle.trace_line.specs.declared.act.Act.TheVariants as acts
 use Rattle.trace_line.specs.Lines.{is_quiet}
@@ -104,7 +107,11 @@ trial_same goes (c ∷ cs) (x ∷ xs) (y ∷ ys) h k m b =
     let tail : xs ≡ ys = rest_trial goes x y cs cs xs ys (xs ≡ ys) (head_mark x y xs ys m) h.1 k.1 (λ h' k'. trial_same goes cs xs ys h' k' (tail_marks x y xs ys m) b.1) (λ e f. e ∙ sym f) in
     λ i. head i ∷ tail i
 
--- ---- one line: the same segments
+-- ---- one line: the same segments and masks
+-- What a processor keeps beside its cache.
+abbrev pub segments_and_masks : Processor → List (Option Slot) × Masks
+segments_and_masks s = (s.slots, s.masks)
+
 abbrev LinePairs : Reply → Reply → List Pair
 LinePairs r q = zip (receipts_in r) (receipts_in q)
 
@@ -136,13 +143,15 @@ segment_alike : (set : AccessContext) (s s' : VirtualPage → Option Line) (a : 
 segment_alike set s s' a None r q h k w m = subst (λ (x : AccessReply). AllAlike (zip x.receipts q.receipts)) (sym h) tt
 segment_alike set s s' a (Some seg) r q h k w m = way_alike set seg a (s seg.page) (s' seg.page) r.by q.by r q h k w m
 
-reach_alike : (set : AccessContext) (s s' : Processor) (want : Want) (ea : ℕ) (user : Bool) (r q : Reply) → s.slots ≡ s'.slots → IsReplyToAccess set s (acts.Access want ea user) r → IsReplyToAccess set s' (acts.Access want ea user) q → ShowsSame r q → AllAlike (LinePairs r q)
-reach_alike set s s' want ea user (replies.Access r) (replies.Access q) e h k m = segment_alike set (cached_line s.cache) (cached_line s'.cache) (request want ea user) (segment_of s.slots ea) r q h (subst (λ l. IsAccessReply set (cached_line s'.cache) (request want ea user) (segment_of l ea) q) (sym e) k) m.way m.marks
+reach_alike : (set : AccessContext) (s s' : Processor) (want : Want) (ea : ℕ) (user : Bool) (r q : Reply) → segments_and_masks s ≡ segments_and_masks s' → IsReplyToAccess set s (acts.Access want ea user) r → IsReplyToAccess set s' (acts.Access want ea user) q → ShowsSame r q → AllAlike (LinePairs r q)
+reach_alike set s s' want ea user (replies.Access r) (replies.Access q) e h k m = segment_alike set (cached_line s.cache) (cached_line s'.cache) (request want ea user s.masks) (segment_of s.slots ea) r q h (subst (λ l. IsAccessReply set (cached_line s'.cache) (request want ea user l.1) (segment_of l.0 ea) q) (sym e) k) m.way m.marks
 reach_alike set s s' want ea user (replies.Access r) (replies.Hcall q) e h k m = absurd k
 reach_alike set s s' want ea user (replies.Access r) (replies.Segment q) e h k m = absurd k
+reach_alike set s s' want ea user (replies.Access r) replies.MaskSet e h k m = absurd k
 reach_alike set s s' want ea user (replies.Access r) (replies.Dump q) e h k m = absurd k
 reach_alike set s s' want ea user (replies.Hcall r) q e h k m = absurd h
 reach_alike set s s' want ea user (replies.Segment r) q e h k m = absurd h
+reach_alike set s s' want ea user replies.MaskSet q e h k m = absurd h
 reach_alike set s s' want ea user (replies.Dump r) q e h k m = absurd h
 
 call_alike : (set : AccessContext) (number : ℕ) (args : List ℕ) (spelt : Bool) (r q : Reply) → IsCallReply set (acts.Call number args spelt) r → IsCallReply set (acts.Call number args spelt) q → ShowsSame r q → AllAlike (LinePairs r q)
@@ -151,34 +160,39 @@ call_alike set number args spelt (replies.Hcall h) (replies.Hcall k) a b s =
     trial_alike plan.goes_on plan.calls plan.calls h.receipts k.receipts (self_calls plan.calls) a.trial b.trial s.marks
 call_alike set number args spelt (replies.Hcall h) (replies.Access k) a b s = absurd b
 call_alike set number args spelt (replies.Hcall h) (replies.Segment k) a b s = absurd b
+call_alike set number args spelt (replies.Hcall h) replies.MaskSet a b s = absurd b
 call_alike set number args spelt (replies.Hcall h) (replies.Dump k) a b s = absurd b
 call_alike set number args spelt (replies.Access h) q a b s = absurd a
 call_alike set number args spelt (replies.Segment h) q a b s = absurd a
+call_alike set number args spelt replies.MaskSet q a b s = absurd a
 call_alike set number args spelt (replies.Dump h) q a b s = absurd a
 
 dump_is_quiet : is_quiet acts.Dump ≡ false → ⊥
 unfolding is_quiet
 dump_is_quiet h = cc
 
-pub line_alike : (set : AccessContext) (s s' : Processor) (act : Act) (r q : Reply) → is_quiet act ≡ false → s.slots ≡ s'.slots → IsCallReply set act r → IsReplyToAccess set s act r → IsCallReply set act q → IsReplyToAccess set s' act q → ShowsSame r q → AllAlike (LinePairs r q)
+pub line_alike : (set : AccessContext) (s s' : Processor) (act : Act) (r q : Reply) → is_quiet act ≡ false → segments_and_masks s ≡ segments_and_masks s' → IsCallReply set act r → IsReplyToAccess set s act r → IsCallReply set act q → IsReplyToAccess set s' act q → ShowsSame r q → AllAlike (LinePairs r q)
 line_alike set s s' (acts.Call number args spelt) r q n e h h' k k' m = call_alike set number args spelt r q h k m
 line_alike set s s' (acts.Access want ea user) r q n e h h' k k' m = reach_alike set s s' want ea user r q e h' k' m
 line_alike set s s' (acts.SlbMte rb rs) r q n e h h' k k' m = subst (λ x. AllAlike (LinePairs x q)) (sym h) tt
 line_alike set s s' acts.SlbClear r q n e h h' k k' m = subst (λ x. AllAlike (LinePairs x q)) (sym h) tt
+line_alike set s s' (acts.SetMask name value) r q n e h h' k k' m = subst (λ x. AllAlike (LinePairs x q)) (sym h) tt
 line_alike set s s' acts.Dump r q n e h h' k k' m = absurd (dump_is_quiet n)
 
-access_slots : (s : Processor) (want : Want) (ea : ℕ) (user : Bool) (r : Reply) → (processor_after s (acts.Access want ea user) r).slots ≡ s.slots
-access_slots s want ea user (replies.Access r) = refl
-access_slots s want ea user (replies.Hcall r) = refl
-access_slots s want ea user (replies.Segment r) = refl
-access_slots s want ea user (replies.Dump r) = refl
+access_keeps : (s : Processor) (want : Want) (ea : ℕ) (user : Bool) (r : Reply) → segments_and_masks (processor_after s (acts.Access want ea user) r) ≡ segments_and_masks s
+access_keeps s want ea user (replies.Access r) = refl
+access_keeps s want ea user (replies.Hcall r) = refl
+access_keeps s want ea user (replies.Segment r) = refl
+access_keeps s want ea user replies.MaskSet = refl
+access_keeps s want ea user (replies.Dump r) = refl
 
-pub slots_after : (s s' : Processor) (act : Act) (r q : Reply) → s.slots ≡ s'.slots → (processor_after s act r).slots ≡ (processor_after s' act q).slots
-slots_after s s' (acts.Call number args spelt) r q e = e
-slots_after s s' (acts.Access want ea user) r q e = access_slots s want ea user r ∙ e ∙ sym (access_slots s' want ea user q)
-slots_after s s' (acts.SlbMte rb rs) r q e = ap (λ l. slots_or (mte_refusal rb rs) (buffer.slots_after l rb rs) l) e
-slots_after s s' acts.SlbClear r q e = refl
-slots_after s s' acts.Dump r q e = e
+pub kept_after : (s s' : Processor) (act : Act) (r q : Reply) → segments_and_masks s ≡ segments_and_masks s' → segments_and_masks (processor_after s act r) ≡ segments_and_masks (processor_after s' act q)
+kept_after s s' (acts.Call number args spelt) r q e = e
+kept_after s s' (acts.Access want ea user) r q e = access_keeps s want ea user r ∙ e ∙ sym (access_keeps s' want ea user q)
+kept_after s s' (acts.SlbMte rb rs) r q e = λ i. (slots_or (mte_refusal rb rs) (buffer.slots_after (e i).0 rb rs) (e i).0, (e i).1)
+kept_after s s' acts.SlbClear r q e = λ i. (buffer.no_slots, (e i).1)
+kept_after s s' (acts.SetMask name value) r q e = λ i. ((e i).0, with_mask (e i).1 name value)
+kept_after s s' acts.Dump r q e = e
 
 -- ---- one line: the same processor and the same states before
 hcall_same : (plan : Plan) (h k : HReply) → IsReplyOf plan h → IsReplyOf plan k → SameMarks h.receipts k.receipts → AllBefore (zip h.receipts k.receipts) → h ≡ k
@@ -191,9 +205,11 @@ call_same : (set : AccessContext) (number : ℕ) (args : List ℕ) (spelt : Bool
 call_same set number args spelt (replies.Hcall h) (replies.Hcall k) a b s z = ap replies.Hcall (hcall_same (hcall_plan set (hcall_of number) args) h k a b s.marks z)
 call_same set number args spelt (replies.Hcall h) (replies.Access k) a b s z = absurd b
 call_same set number args spelt (replies.Hcall h) (replies.Segment k) a b s z = absurd b
+call_same set number args spelt (replies.Hcall h) replies.MaskSet a b s z = absurd b
 call_same set number args spelt (replies.Hcall h) (replies.Dump k) a b s z = absurd b
 call_same set number args spelt (replies.Access h) q a b s z = absurd a
 call_same set number args spelt (replies.Segment h) q a b s z = absurd a
+call_same set number args spelt replies.MaskSet q a b s z = absurd a
 call_same set number args spelt (replies.Dump h) q a b s z = absurd a
 
 access_same : (r q : AccessReply) → r.outcome ≡ q.outcome → r.by ≡ q.by → r.receipts ≡ q.receipts → r ≡ q
@@ -216,12 +232,14 @@ segment_same set s a None r q h k w m z = h ∙ sym k
 segment_same set s a (Some seg) r q h k w m z = way_same set seg a (s seg.page) r.by q.by r q refl refl h k w m z
 
 reach_same : (set : AccessContext) (s : Processor) (want : Want) (ea : ℕ) (user : Bool) (r q : Reply) → IsReplyToAccess set s (acts.Access want ea user) r → IsReplyToAccess set s (acts.Access want ea user) q → ShowsSame r q → AllBefore (LinePairs r q) → r ≡ q
-reach_same set s want ea user (replies.Access r) (replies.Access q) h k m z = ap replies.Access (segment_same set (cached_line s.cache) (request want ea user) (segment_of s.slots ea) r q h k m.way m.marks z)
+reach_same set s want ea user (replies.Access r) (replies.Access q) h k m z = ap replies.Access (segment_same set (cached_line s.cache) (request want ea user s.masks) (segment_of s.slots ea) r q h k m.way m.marks z)
 reach_same set s want ea user (replies.Access r) (replies.Hcall q) h k m z = absurd k
 reach_same set s want ea user (replies.Access r) (replies.Segment q) h k m z = absurd k
+reach_same set s want ea user (replies.Access r) replies.MaskSet h k m z = absurd k
 reach_same set s want ea user (replies.Access r) (replies.Dump q) h k m z = absurd k
 reach_same set s want ea user (replies.Hcall r) q h k m z = absurd h
 reach_same set s want ea user (replies.Segment r) q h k m z = absurd h
+reach_same set s want ea user replies.MaskSet q h k m z = absurd h
 reach_same set s want ea user (replies.Dump r) q h k m z = absurd h
 
 pub line_same : (set : AccessContext) (s : Processor) (act : Act) (r q : Reply) → is_quiet act ≡ false → IsCallReply set act r → IsReplyToAccess set s act r → IsCallReply set act q → IsReplyToAccess set s act q → ShowsSame r q → AllBefore (LinePairs r q) → r ≡ q
@@ -229,4 +247,5 @@ line_same set s (acts.Call number args spelt) r q n h h' k k' m z = call_same se
 line_same set s (acts.Access want ea user) r q n h h' k k' m z = reach_same set s want ea user r q h' k' m z
 line_same set s (acts.SlbMte rb rs) r q n h h' k k' m z = h ∙ sym k
 line_same set s acts.SlbClear r q n h h' k k' m z = h ∙ sym k
+line_same set s (acts.SetMask name value) r q n h h' k k' m z = h ∙ sym k
 line_same set s acts.Dump r q n h h' k k' m z = absurd (dump_is_quiet n)

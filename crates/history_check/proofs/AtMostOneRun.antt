@@ -25,7 +25,7 @@ use Rattle.run_model.proofs.SerialGood.{opening_processors}
 use Rattle.run_model.proofs.OneProcessor.{together}
 use Rattle.history_check.specs.ReplyMarks.{ShowsSame, AllShowSame}
 use Rattle.history_check.proofs.Alike.{Alike, Pair, firsts, seconds, AllAlike, AllBefore, same_states}
-use Rattle.history_check.proofs.AtMostOne.{zip, zip_firsts, zip_seconds, line_alike, line_same, slots_after}
+use Rattle.history_check.proofs.AtMostOne.{zip, zip_firsts, zip_seconds, line_alike, line_same, segments_and_masks, kept_after}
 
 -- ---- a line with two replies
 pub record Twice : Type 0 where
@@ -110,9 +110,9 @@ from_seconds (suc n) c ps h = seconds_append (pairs_by (own c ps)) (pairs_from n
 abbrev Calls : AccessContext → Processor → RepliedLine → Type 0
 Calls set processor t = IsCallReply set t.line.act t.reply
 
-own_alike : (set : AccessContext) (a b : List State) (s s' : Processor) (ps : List Twice) → s.slots ≡ s'.slots → Plain ps → Shown ps → EachLineOfProcessor (Calls set) s (ones ps) → EachLineOfProcessor (IsAccessLine set a) s (ones ps) → EachLineOfProcessor (Calls set) s' (twos ps) → EachLineOfProcessor (IsAccessLine set b) s' (twos ps) → AllAlike (pairs_by ps)
+own_alike : (set : AccessContext) (a b : List State) (s s' : Processor) (ps : List Twice) → segments_and_masks s ≡ segments_and_masks s' → Plain ps → Shown ps → EachLineOfProcessor (Calls set) s (ones ps) → EachLineOfProcessor (IsAccessLine set a) s (ones ps) → EachLineOfProcessor (Calls set) s' (twos ps) → EachLineOfProcessor (IsAccessLine set b) s' (twos ps) → AllAlike (pairs_by ps)
 own_alike set a b s s' [] e n m h h' k k' = tt
-own_alike set a b s s' (p ∷ ps) e n m h h' k k' = each_append (λ z. Alike z.first z.second) (zip (receipts_in p.one) (receipts_in p.two)) (pairs_by ps) (line_alike set s s' p.line.act p.one p.two n.0 e h.0 h'.0.reply k.0 k'.0.reply m.0) (own_alike set a b (processor_after s p.line.act p.one) (processor_after s' p.line.act p.two) ps (slots_after s s' p.line.act p.one p.two e) n.1 m.1 h.1 h'.1 k.1 k'.1)
+own_alike set a b s s' (p ∷ ps) e n m h h' k k' = each_append (λ z. Alike z.first z.second) (zip (receipts_in p.one) (receipts_in p.two)) (pairs_by ps) (line_alike set s s' p.line.act p.one p.two n.0 e h.0 h'.0.reply k.0 k'.0.reply m.0) (own_alike set a b (processor_after s p.line.act p.one) (processor_after s' p.line.act p.two) ps (kept_after s s' p.line.act p.one p.two e) n.1 m.1 h.1 h'.1 k.1 k'.1)
 
 own_same : (set : AccessContext) (a b : List State) (s s' : Processor) (ps : List Twice) → s ≡ s' → Plain ps → Shown ps → EachLineOfProcessor (Calls set) s (ones ps) → EachLineOfProcessor (IsAccessLine set a) s (ones ps) → EachLineOfProcessor (Calls set) s' (twos ps) → EachLineOfProcessor (IsAccessLine set b) s' (twos ps) → AllBefore (pairs_by ps) → AllSame ps
 own_same set a b s s' [] e n m h h' k k' z = tt

@@ -5,7 +5,7 @@ use Rattle.entry_model.specs.State.{State}
 use Rattle.entry_model.specs.declared.line.Line.{Line}
 use Rattle.entry_model.specs.declared.operation.Op.{Op}
 use Rattle.entry_model.specs.declared.operation.Answer.{Answer}
-use Rattle.entry_model.specs.declared.operation.Answer.TheVariants.{Denied, At}
+use Rattle.entry_model.specs.declared.operation.Answer.TheVariants.{Denied, Masked, At}
 use Rattle.entry_model.specs.declared.receipt.Receipt.{Receipt}
 use Rattle.entry_model.specs.declared.access_reply.AccessReply.{AccessReply}
 use Rattle.entry_model.specs.declared.access_reply.Outcome.{Outcome}
@@ -24,6 +24,7 @@ use Rattle.history_check.specs.Replay.{before_each}
 decided_is_found : (answer : Answer) → is_decided answer ≡ true → not (is_no_match answer) ≡ true
 decided_is_found At h = refl
 decided_is_found Denied h = refl
+decided_is_found Masked h = refl
 decided_is_found other h = cc
 
 at_end : (goes : Bool) → MatchBool goes (Unit {0}) (let none : List Receipt = [] in none ≡ [])

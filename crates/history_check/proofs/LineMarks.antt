@@ -18,11 +18,13 @@ use Rattle.trace_reply.specs.declared.shown.Shown.{Shown}
 use Rattle.trace_reply.specs.declared.reply.Reply.{Reply}
 use Rattle.trace_reply.specs.declared.reply.Reply.TheVariants as replies
 use Rattle.trace_reply.specs.Replies.{IsOfKind, receipts_in}
-use Rattle.reply_text.specs.Text.{head_text, name_of, want_word, code_text, word_text, outcome_text, way_text, reply_text}
+use Rattle.reply_text.specs.Text.{mask_word, head_text, name_of, want_word, code_text, word_text, outcome_text, way_text, reply_text}
 use Rattle.receipt_text.specs.Receipts.{receipts_text}
 use Rattle.receipt_text.specs.Cuts.{lacks}
 use Rattle.receipt_text.proofs.Bytes.{lacks_decimal}
 use Rattle.history_check.proofs.TextMarks.{IsFront, both_front, code_front, words_front, outcome_front, way_front}
+use Rattle.authority_mask.specs.declared.masks.MaskName.{MaskName}
+use Rattle.authority_mask.specs.declared.masks.MaskName.TheVariants as masks
 
 -- ---- heads
 plain_front : (a : List ℕ) → lacks 10 a ≡ true → lacks 124 a ≡ true → IsFront a
@@ -45,11 +47,16 @@ want_front wants.Load = plain_front _ refl refl
 want_front wants.Store = plain_front _ refl refl
 want_front wants.Fetch = plain_front _ refl refl
 
+mask_front : (name : MaskName) → IsFront (mask_word name)
+mask_front masks.Amr = plain_front _ refl refl
+mask_front masks.Iamr = plain_front _ refl refl
+
 name_front : (act : Act) → IsFront (name_of act)
 name_front (acts.Call number args spelt) = cond_both spelt (hcall_name (hcall_of number)) (codes "hcall") IsFront (λ e. call_front (hcall_of number)) (λ e. plain_front _ refl refl)
 name_front (acts.Access want ea user) = want_front want
 name_front (acts.SlbMte rb rs) = plain_front _ refl refl
 name_front acts.SlbClear = plain_front _ refl refl
+name_front (acts.SetMask name value) = mask_front name
 name_front acts.Dump = plain_front _ refl refl
 
 decimal_front : (n : ℕ) → IsFront (decimal n)
@@ -70,21 +77,19 @@ pub record IsLine (l : TraceLine) (r : Reply) : Type 0 where
 hcall_ends : (h a b c : List ℕ) → h ++ (((a ++ b) ++ c) ++ 10 ∷ []) ≡ ((h ++ (a ++ b)) ++ c) ++ 10 ∷ []
 hcall_ends h a b c = sym (append_assoc h ((a ++ b) ++ c) (10 ∷ [])) ∙ ap (λ z. z ++ 10 ∷ []) (sym (append_assoc h (a ++ b) c))
 
+-- A reply without receipts whose word says how it ended.
+worded_line : (l : TraceLine) (r : Reply) (word : List ℕ) → IsFront word → reply_text l r ≡ head_text l.number l.cpu (name_of l.act) ++ (word ++ 10 ∷ []) → receipts_text (receipts_in r) ≡ [] → IsLine l r
+worded_line l r word is_word text none =
+    let head = head_text l.number l.cpu (name_of l.act) in
+    record {
+      front = head ++ word;
+      is_front = both_front head word (head_front l.number l.cpu (name_of l.act) (name_front l.act)) is_word;
+      text = text ∙ sym (append_assoc head word (10 ∷ [])) ∙ ap (λ z. z ++ 10 ∷ []) (sym (append-nil (head ++ word)) ∙ ap (λ z. (head ++ word) ++ z) (sym none));
+    }
+
 segment_line : (l : TraceLine) (accepted : Bool) → IsLine l (replies.Segment accepted)
-segment_line l true =
-    let head = head_text l.number l.cpu (name_of l.act) in
-    record {
-      front = head ++ codes " ok";
-      is_front = both_front head (codes " ok") (head_front l.number l.cpu (name_of l.act) (name_front l.act)) (plain_front _ refl refl);
-      text = sym (append_assoc head (codes " ok") (10 ∷ [])) ∙ ap (λ z. z ++ 10 ∷ []) (sym (append-nil (head ++ codes " ok")));
-    }
-segment_line l false =
-    let head = head_text l.number l.cpu (name_of l.act) in
-    record {
-      front = head ++ codes " refused";
-      is_front = both_front head (codes " refused") (head_front l.number l.cpu (name_of l.act) (name_front l.act)) (plain_front _ refl refl);
-      text = sym (append_assoc head (codes " refused") (10 ∷ [])) ∙ ap (λ z. z ++ 10 ∷ []) (sym (append-nil (head ++ codes " refused")));
-    }
+segment_line l true = worded_line l (replies.Segment true) (codes " ok") (plain_front _ refl refl) refl refl
+segment_line l false = worded_line l (replies.Segment false) (codes " refused") (plain_front _ refl refl) refl refl
 
 no_dump_reply : (act : Act) (shown : Shown) → is_quiet act ≡ false → IsOfKind act (replies.Dump shown) → ⊥
 unfolding is_quiet
@@ -93,6 +98,7 @@ no_dump_reply (acts.Call number args spelt) shown plain kind = kind
 no_dump_reply (acts.Access want ea user) shown plain kind = kind
 no_dump_reply (acts.SlbMte rb rs) shown plain kind = kind
 no_dump_reply acts.SlbClear shown plain kind = kind
+no_dump_reply (acts.SetMask name value) shown plain kind = kind
 
 pub line_of : (l : TraceLine) (r : Reply) → is_quiet l.act ≡ false → IsOfKind l.act r → IsLine l r
 line_of l (replies.Hcall h) plain kind =
@@ -112,4 +118,5 @@ line_of l (replies.Access r) plain kind =
       text = hcall_ends head (outcome_text r.outcome) (way_text r.by) (receipts_text r.receipts);
     }
 line_of l (replies.Segment accepted) plain kind = segment_line l accepted
+line_of l replies.MaskSet plain kind = worded_line l replies.MaskSet (codes " ok") (plain_front _ refl refl) refl refl
 line_of l (replies.Dump shown) plain kind = absurd (no_dump_reply l.act shown plain kind)

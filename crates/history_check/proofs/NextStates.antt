@@ -12,8 +12,9 @@ use Rattle.entry_model.specs.declared.operation.Op.{Op}
 use Rattle.entry_model.specs.declared.operation.Op.TheVariants as ops
 use Rattle.entry_model.specs.declared.receipt.Receipt.{Receipt}
 use Rattle.entry_model.specs.Receipt.{after_of, is_at}
-use Rattle.entry_model.specs.Reply.{reply_of, compared_bits, has_base, is_match, is_allowed, access_mode, answer_of_match, answer_of_access, touched_state, change_to, change_where, entered_state, is_found}
+use Rattle.entry_model.specs.Reply.{reply_of, compared_bits, has_base, is_match, is_allowed, access_mode, answer_of_match, answer_of_allowed, masks_refuse, answer_of_access, touched_state, change_to, change_where, entered_state, is_found}
 use Rattle.history_check.specs.Steps.{no_test, step_op, raises_stamp, next_by}
+use Rattle.authority_mask.specs.declared.masks.Masks.{Masks}
 
 abbrev IsNext : State → Want → Answer × State → Type 0
 IsNext s w x = x.1 ≡ (if is_at x.0 && s.valid then touched_state s w else s)
@@ -26,11 +27,13 @@ either_P false p q P h k = k
 allowed_next : (s : State) (w : Want) → s.valid ≡ true → touched_state s w ≡ (if is_at answers.At && s.valid then touched_state s w else s)
 allowed_next s w h = rw h refl
 
-access_next : (s : State) (t b : ℕ) (k n : Bool) (w : Want) → IsNext s w (answer_of_access s t b (access_mode k n w))
-access_next s t b k n w =
-    let mode = access_mode k n w in
+access_next : (s : State) (t b : ℕ) (k n : Bool) (w : Want) (masks : Masks) → IsNext s w (answer_of_access s t b (access_mode k n w masks))
+access_next s t b k n w masks =
+    let mode = access_mode k n w masks in
     either_P (is_match s t b) (answer_of_match s mode) (answers.NoMatch, s) (IsNext s w)
-    (λ m. either_P (is_allowed s mode) (answers.At, touched_state s w) (answers.Denied, s) (IsNext s w) (λ a. allowed_next s w (and_parts s.valid ((compared_bits s.dword0 == t) && has_base s.dword0 s.dword1 b) m).0) refl)
+    (λ m. either_P (is_allowed s mode) (answer_of_allowed s mode) (answers.Denied, s) (IsNext s w)
+    (λ a. either_P (masks_refuse s mode) (answers.Masked, s) (answers.At, touched_state s w) (IsNext s w) (λ r. refl) (allowed_next s w (and_parts s.valid ((compared_bits s.dword0 == t) && has_base s.dword0 s.dword1 b) m).0))
+    refl)
     refl
 
 -- ---- other operations
@@ -58,7 +61,7 @@ found_valid s test h = rw (and_parts s.valid _ h).0 refl
 
 next_of : (s : State) (op : Op) → (reply_of s op).1 ≡ next_by (step_op op) (reply_of s op).0 s
 unfolding next_by
-next_of s (ops.Access t b k n w) = access_next s t b k n w
+next_of s (ops.Access t b k n w masks) = access_next s t b k n w masks
 next_of s (ops.Enter a b) = entered_next s.valid s (change_to s answers.Entered (entered_state a b)) (changed_next s answers.Entered (entered_state a b) refl)
 next_of s (ops.Remove test) = where_next (is_found s test) (is_found s no_test) s answers.Removed (empty_state 0) refl (found_valid s test)
 next_of s (ops.Protect test flags) = where_next (is_found s test) (is_found s no_test) s answers.Protected (record s { dword1 = protected_word s.dword1 flags }) refl (found_valid s test)
@@ -78,7 +81,7 @@ pub unchanged_next : (op : Op) (answer : Answer) (s : State) → (raises_stamp a
 unfolding next_by
 unchanged_next op answer s h = at op (neither (raises_stamp answer) (is_at answer) h) where
   at : (op : Op) → (raises_stamp answer ≡ false) × (is_at answer ≡ false) → s ≡ next_by op answer s
-  at (ops.Access t b k n w) both = rw both.1 refl
+  at (ops.Access t b k n w masks) both = rw both.1 refl
   at (ops.Enter a b) both = rw both.0 refl
   at (ops.Remove test) both = rw both.0 refl
   at (ops.Protect test flags) both = rw both.0 refl

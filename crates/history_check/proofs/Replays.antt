@@ -19,7 +19,7 @@ use Rattle.hpte_fields.specs.Fields.{protected_word}
 use Rattle.entry_model.specs.Trial.{Call, call, IsTrial, Plan, IsReplyOf, plan_of_code}
 use Rattle.entry_model.proofs.Exact.{exact, same}
 use Rattle.frame_grants.specs.declared.grant.Grant.{Grant}
-use Rattle.h_enter.specs.Enter.{candidates, enter_plan}
+use Rattle.h_enter.specs.Enter.{candidates}
 use Rattle.page_grants.specs.Suited.{entered_words}
 use Rattle.h_enter.specs.Checks.{words_plan, h_enter_plan}
 use Rattle.h_update.specs.Single.{single_plan, h_remove_plan, h_protect_plan, h_clear_ref_plan, h_clear_mod_plan, read_entries, h_read_plan}
@@ -96,7 +96,7 @@ others_undecided s (ops.Protect test flags) h = where_undecided (is_found s test
 others_undecided s ops.Read h = refl
 others_undecided s ops.ClearRef h = where_undecided s.valid s answers.Was (record s { referenced = false }) refl
 others_undecided s ops.ClearMod h = where_undecided s.valid s answers.Was (record s { changed = false }) refl
-others_undecided s (ops.Access t b k n w) h = cc
+others_undecided s (ops.Access t b k n w masks) h = cc
 
 -- The calls are no accesses.
 abbrev NoAccess : List Call → Type 0

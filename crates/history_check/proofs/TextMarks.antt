@@ -26,6 +26,7 @@ use Rattle.receipt_text.specs.Cuts.{lacks}
 use Rattle.receipt_text.specs.Marks.{IsMark}
 use Rattle.receipt_text.proofs.ReadBack.{listed_marks, receipts_lack}
 use Rattle.receipt_text.proofs.Bytes.{lacks_append, lacks_back, cut_at, IsNoDigit, lacks_hex, lacks_decimal, last_of, last_append}
+use Rattle.authority_mask.specs.declared.masks.MaskName.TheVariants as masks
 
 -- ---- one receipt
 -- Entry and stamp are numbers that a text tells.
@@ -120,6 +121,8 @@ hcall_shows h k x y s t e =
 pub outcome_front : (o : Outcome) → IsFront (outcome_text o)
 outcome_front (outcomes.At address) = record { no_end = lacks_hex 10 address (inl (omega arith)); no_bar = lacks_hex 124 address (inr (omega arith)) }
 outcome_front outcomes.Denied = record { no_end = refl; no_bar = refl }
+outcome_front (outcomes.Masked masks.Amr) = record { no_end = refl; no_bar = refl }
+outcome_front (outcomes.Masked masks.Iamr) = record { no_end = refl; no_bar = refl }
 outcome_front outcomes.NoPage = record { no_end = refl; no_bar = refl }
 outcome_front outcomes.NoSegment = record { no_end = refl; no_bar = refl }
 outcome_front (outcomes.Ungranted address) = record { no_end = lacks_hex 10 address (inl (omega arith)); no_bar = lacks_hex 124 address (inr (omega arith)) }
@@ -161,6 +164,7 @@ abbrev tail_text : Reply → List ℕ
 tail_text (replies.Hcall h) = hcall_text h
 tail_text (replies.Access r) = access_text r
 tail_text (replies.Segment accepted) = verdict_text accepted
+tail_text replies.MaskSet = codes " ok\n"
 tail_text (replies.Dump shown) = []
 
 abbrev ShortReply : Reply → Type 0
@@ -172,6 +176,7 @@ tail_shows (acts.Call number args spelt) (replies.Hcall r) (replies.Hcall q) x y
 tail_shows (acts.Access want ea user) (replies.Access r) (replies.Access q) x y n h k s t e = let m = access_shows r q x y s t e in (record { way = m.0; marks = m.1 }, m.2)
 tail_shows (acts.SlbMte rb rs) (replies.Segment r) (replies.Segment q) x y n h k s t e = (record { way = tt; marks = refl }, segment_shows r q x y e)
 tail_shows acts.SlbClear (replies.Segment r) (replies.Segment q) x y n h k s t e = (record { way = tt; marks = refl }, segment_shows r q x y e)
+tail_shows (acts.SetMask name value) replies.MaskSet replies.MaskSet x y n h k s t e = (record { way = tt; marks = refl }, segment_shows true true x y e)
 tail_shows acts.Dump r q x y n h k s t e = cc
 tail_shows (acts.Call number args spelt) (replies.Hcall r) other x y n h k s t e = absurd k
 tail_shows (acts.Call number args spelt) other q x y n h k s t e = absurd h
@@ -180,7 +185,9 @@ tail_shows (acts.Access want ea user) other q x y n h k s t e = absurd h
 tail_shows (acts.SlbMte rb rs) (replies.Segment r) other x y n h k s t e = absurd k
 tail_shows (acts.SlbMte rb rs) other q x y n h k s t e = absurd h
 tail_shows acts.SlbClear (replies.Segment r) other x y n h k s t e = absurd k
+tail_shows (acts.SetMask name value) replies.MaskSet other x y n h k s t e = absurd k
 tail_shows acts.SlbClear other q x y n h k s t e = absurd h
+tail_shows (acts.SetMask name value) other q x y n h k s t e = absurd h
 
 pub cancel : (h a b : List ℕ) → h ++ a ≡ h ++ b → a ≡ b
 cancel [] a b e = e
@@ -192,11 +199,13 @@ no_dump (acts.Call number args spelt) (replies.Hcall r) n h l e = refl
 no_dump (acts.Access want ea user) (replies.Access r) n h l e = refl
 no_dump (acts.SlbMte rb rs) (replies.Segment r) n h l e = refl
 no_dump acts.SlbClear (replies.Segment r) n h l e = refl
+no_dump (acts.SetMask name value) replies.MaskSet n h l e = refl
 no_dump acts.Dump r n h l e = cc
 no_dump (acts.Call number args spelt) other n h l e = absurd h
 no_dump (acts.Access want ea user) other n h l e = absurd h
 no_dump (acts.SlbMte rb rs) other n h l e = absurd h
 no_dump acts.SlbClear other n h l e = absurd h
+no_dump (acts.SetMask name value) other n h l e = absurd h
 
 -- Two texts that begin with the reply to one line show the same there, and go on alike.
 pub line_shows : (l : TraceLine) (r q : Reply) (x y : List ℕ) → is_quiet l.act ≡ false → IsOfKind l.act r → IsOfKind l.act q → AreShort (receipts_in r) → AreShort (receipts_in q) → reply_text l r ++ x ≡ reply_text l q ++ y → ShowsSame r q × (x ≡ y)

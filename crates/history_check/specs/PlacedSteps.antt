@@ -3,6 +3,7 @@ use Rattle.std.specs.Prelude.{◌≡◌, ℕ, ◌<◌, false, List, [], ◌∷�
 use Rattle.std.specs.List.{AllByRecursion}
 use Rattle.std.specs.List.Sorted.{IsNonDecreasingBy}
 use Rattle.entry_model.specs.State.{State}
+use Rattle.authority_mask.specs.Authority.{no_masks}
 use Rattle.entry_model.specs.declared.operation.Op.{Op}
 use Rattle.entry_model.specs.declared.operation.Op.TheVariants as ops
 use Rattle.entry_model.specs.declared.receipt.Receipt.{Receipt}
@@ -43,7 +44,7 @@ call_op other args = ops.Read
 -- What is kept of each operation of a line: in that they are alike.
 abbrev pub line_op : Act → Op
 line_op (acts.Call number args spelt) = call_op (hcall_of number) args
-line_op (acts.Access want ea user) = ops.Access 0 0 false false want
+line_op (acts.Access want ea user) = ops.Access 0 0 false false want no_masks
 line_op other = ops.Read
 
 -- ---- from receipts, and from what their text shows

@@ -2,6 +2,7 @@
 use Rattle.std.specs.Prelude.{ℕ, ◌+◌, ◌*◌, ◌==◌, ◌&&◌, ◌||◌, List, [], ◌∷◌, map, Bool, true, false, None, if◌then◌else◌, nat_le, slice_set}
 use Rattle.basics.specs.Words.{bool_eq}
 use Rattle.entry_model.specs.State.{State}
+use Rattle.authority_mask.specs.Authority.{no_masks}
 use Rattle.entry_model.specs.declared.operation.Op.{Op}
 use Rattle.entry_model.specs.declared.operation.Op.TheVariants.{Access, Remove, Protect}
 use Rattle.entry_model.specs.declared.operation.Test.{Test}
@@ -19,9 +20,9 @@ use Rattle.receipt_text.specs.declared.mark.Mark.{Mark}
 abbrev pub no_test : Test
 no_test = record { avpn = None; andcond = None }
 
--- What is kept of an operation. No test, since the answer says whether the entry passed. Of an access what it wants: by which segment and which entry it was made isn't known before the processor's lines are run.
+-- What is kept of an operation. No test, since the answer says whether the entry passed. Of an access what it wants: by which segment, which masks and which entry it was made isn't known before the processor's lines are run.
 abbrev pub step_op : Op → Op
-step_op (Access tag base key no_execute want) = Access 0 0 false false want
+step_op (Access tag base key no_execute want masks) = Access 0 0 false false want no_masks
 step_op (Remove test) = Remove no_test
 step_op (Protect test flags) = Protect no_test flags
 step_op other = other
@@ -36,7 +37,7 @@ raises_stamp other = false
 
 -- The state after, where this was the answer. An access that was allowed was on a valid state, and sets R, and a store C; any other operation made its change if the answer says that the stamp was raised.
 unfoldable pub next_by : Op → Answer → State → State
-next_by (Access tag base key no_execute want) answer s =
+next_by (Access tag base key no_execute want masks) answer s =
     if is_at answer && s.valid then touched_state s want else s
 next_by other answer s = if raises_stamp answer then (reply_of s other).1 else s
 
@@ -68,7 +69,7 @@ ending_states a (x ∷ xs) = ending_states (after_step a x) xs
 -- ---- places
 -- The operation is a store of a processor.
 abbrev pub is_store_access : Op → Bool
-is_store_access (Access tag base key no_execute want) = is_store want
+is_store_access (Access tag base key no_execute want masks) = is_store want
 is_store_access other = false
 
 -- Nothing was changed by an operation, a store of a processor or none, as the answer and R and C before tell.

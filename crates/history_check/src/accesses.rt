@@ -13,6 +13,7 @@ ghost use Rattle.history_check.specs.Hits.{IsHitBy};
 
 use crate::context::Context;
 use crate::replay::Replay;
+use authority_mask::Masks;
 use entry_model::{AccessEnd, Answer, By, EntryState, Line, Op, Receipt, Receipts, reply};
 use hpt_walk::{Request, walk_into};
 use hpte_fields::secondary;
@@ -31,24 +32,28 @@ pub fn walk_on(
     want: Want,
     key: bool,
     no_execute: bool,
+    masks: Masks,
     receipts: &mut Receipts,
 ) -> Option<Receipt>
     requires low { 18 ≤ order }
     requires high { order ≤ 22 }
     ensures trial { IsTrial
         is_no_match
-        (walk_calls order page.now (access_mode key no_execute want))
+        (walk_calls order page.now (access_mode key no_execute want masks))
         receipts.new }
     ensures found { result ≡ found_of receipts.new }
     ensures before { length receipts.new ≡ length states.now
         → before_each receipts.new ≡ states.now }
     ensures only { (rs : List Receipt)
-        → IsTrial is_no_match (walk_calls order page.now (access_mode key no_execute want)) rs
+        → IsTrial
+        is_no_match
+        (walk_calls order page.now (access_mode key no_execute want masks))
+        rs
         → before_each rs ≡ states.now
         → receipts.new ≡ rs }
 {
     let mut store = Replay::new(states, order);
-    walk_into(&mut store, page, want, key, no_execute, receipts)
+    walk_into(&mut store, page, want, key, no_execute, masks, receipts)
 }
 
 fn is_current(line: &Line, state: &EntryState) -> bool
@@ -71,7 +76,7 @@ pub fn hit_on(state: &EntryState, line: &Line, op: Op) -> Option<Receipt>
     }
     let (answer, _) = reply(state, &op);
     match answer {
-        Answer::Denied | Answer::At => Some(Receipt {
+        Answer::Denied | Answer::Masked | Answer::At => Some(Receipt {
             entry: line.entry,
             before: *state,
             op,
@@ -155,6 +160,7 @@ pub fn walk_end(
         request.want,
         key(segment, request.user),
         segment.no_execute,
+        request.masks,
         receipts,
     );
     let outcome = outcome(context.grants, request.ea, &walked);

@@ -37,7 +37,7 @@ pub fn receipts_of(place: &ReplyPlace) -> &[Receipt]
 {
     match &place.end {
         ReplyEnd::Hcall(_) | ReplyEnd::Access(_) => place.receipts.as_slice(),
-        ReplyEnd::Segment(_) | ReplyEnd::Dump(_) => &[],
+        ReplyEnd::Segment(_) | ReplyEnd::MaskSet | ReplyEnd::Dump(_) => &[],
     }
 }
 

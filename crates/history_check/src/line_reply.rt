@@ -127,7 +127,12 @@ fn put_hit(
     let Some(segment) = processor.segment(ea) else {
         return false;
     };
-    let request = Request { want, ea, user };
+    let request = Request {
+        want,
+        ea,
+        user,
+        masks: processor.masks(),
+    };
     let receipts = &mut place.receipts;
     match cached_end(context, processor, &segment, &request, found, receipts) {
         None => false,
@@ -164,12 +169,18 @@ fn put_other(
             place.end = ReplyEnd::Hcall(registers);
         }
         Act::Access { want, ea, user } => {
-            let request = Request { want, ea, user };
+            let request = Request {
+                want,
+                ea,
+                user,
+                masks: processor.masks(),
+            };
             let end = uncached_end(context, processor, &request, found, receipts);
             place.end = ReplyEnd::Access(end);
         }
         Act::SlbMte { rb, rs } => place.end = ReplyEnd::Segment(is_accepted(rb, rs)),
         Act::SlbClear => place.end = ReplyEnd::Segment(true),
+        Act::SetMask { .. } => place.end = ReplyEnd::MaskSet,
         // Not reached: a dump is quiet.
         Act::Dump => place.end = ReplyEnd::Segment(true),
     }

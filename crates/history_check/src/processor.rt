@@ -8,7 +8,9 @@ ghost use Rattle.tlb_model.specs.Cache.{cached_line, empty_cache};
 ghost use Rattle.tlb_model.specs.CacheAfter.{cache_after, gone_line};
 ghost use Rattle.run_model.specs.Processors.{processor_after, gone_line_of};
 ghost use Rattle.trace_reply.specs.Places.{reply_in};
+ghost use Rattle.authority_mask.specs.Authority.{no_masks};
 
+use authority_mask::Masks;
 use entry_model::{AccessEnd, Answer, By, Line, Receipt};
 use power_addr::Page;
 use slb_model::{Segment, Slb};
@@ -18,10 +20,12 @@ use trace_line::Act;
 use trace_reply::{ReplyEnd, ReplyPlace};
 use vcpu::{kept_line, refill};
 
-/// A processor as its replies tell of it: its segments, and the translations that it has cached.
+/// A processor as its replies tell of it: its segments, its authority masks, and the translations
+/// that it has cached.
 #[derive(Drop)]
 pub struct Processor {
     slb: Slb,
+    masks: Masks,
     tlb: Tlb,
 }
 
@@ -30,7 +34,7 @@ impl Model for Processor {
 
     ghost Value = { Processor };
 
-    ghost view = { λ p. record { slots = p.slb; cache = p.tlb } };
+    ghost view = { λ p. record { slots = p.slb; masks = p.masks; cache = p.tlb } };
 }
 
 /// The receipt that was found: the first that doesn't say NoMatch.
@@ -43,13 +47,15 @@ fn found_of(list: &[Receipt]) -> Option<Receipt>
 }
 
 impl Processor {
-    /// A processor without a segment and without a cached translation.
+    /// A processor without a segment and without a cached translation, whose masks refuse nothing.
     pub fn new() -> Processor
         ensures slots { result.slots ≡ no_slots }
+        ensures masks { result.masks ≡ no_masks }
         ensures cache { result.cache ≡ empty_cache }
     {
         Processor {
             slb: Slb::new(),
+            masks: Masks::default(),
             tlb: Tlb::new(),
         }
     }
@@ -59,6 +65,13 @@ impl Processor {
         ensures { self.new ≡ record self.old { cache = empty_cache } }
     {
         self.tlb.clear();
+    }
+
+    /// Its authority masks.
+    pub fn masks(&self) -> Masks
+        ensures { result ≡ self.now.masks }
+    {
+        self.masks
     }
 
     /// The segment that has the effective address, if there is one.
@@ -146,6 +159,7 @@ impl Processor {
                 let _refused = self.slb.mte(rb, rs);
             }
             (Act::SlbClear, _) => self.slb.clear(),
+            (Act::SetMask { name, value }, _) => self.masks.set(name, value),
             (Act::Access { ea, .. }, ReplyEnd::Access(end)) => {
                 self.accessed(ea, end, place.receipts.as_slice());
             }

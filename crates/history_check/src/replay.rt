@@ -30,7 +30,7 @@ impl<'a> Model for Replay<'a> {
 fn is_decided(answer: Answer) -> bool
     ensures { result ≡ Rattle.entry_model.specs.Receipt.is_decided answer }
 {
-    matches!(answer, Answer::Denied | Answer::At)
+    matches!(answer, Answer::Denied | Answer::Masked | Answer::At)
 }
 
 /// The state that stands behind all that were given.

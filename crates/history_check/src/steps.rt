@@ -4,6 +4,7 @@ ghost use Rattle.entry_model.specs.Reply.{touched_state};
 ghost use Rattle.history_check.specs.Steps as steps_of;
 ghost use Rattle.history_check.specs.PlacedSteps as placed_of;
 
+use authority_mask::Masks;
 use entry_model::{Answer, EntryState, Op, Test, reply};
 use hpte_fields::normal;
 use papr_codes::Hcall;
@@ -36,7 +37,7 @@ fn call_op(hcall: Hcall, args: &[u64; 8]) -> Op
     }
 }
 
-/// What is kept of each operation of a line: its test and the segment of an access are not.
+/// What is kept of each operation of a line: its test, and the segment and the masks of an access, are not.
 fn line_op(act: &Act) -> Op
     ensures { result ≡ placed_of.line_op act.now }
 {
@@ -48,6 +49,7 @@ fn line_op(act: &Act) -> Op
             key: false,
             no_execute: false,
             want: *want,
+            masks: Masks::default(),
         },
         _ => Op::Read,
     }

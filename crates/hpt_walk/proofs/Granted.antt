@@ -1,12 +1,11 @@
 -- The page of each valid entry lies in a grant, and no operation changes that but one that enters words of another page.
-use Rattle.std.specs.Prelude.{if◌then◌else◌, ◌==◌, ◌||◌}
+use Rattle.std.specs.Prelude.{if◌then◌else◌, ◌==◌}
 use Rattle.std.proofs.Common.{◌≡◌, ℕ, ◌+◌, ◌^◌, ◌<◌, List, Bool, true, false, Option, Some, ap, sym, subst, arith}
 use Rattle.std.specs.Option.{option_map_or}
 use Rattle.std.proofs.lemmas.Nat.{pow_pos}
-use Rattle.storage_prot.specs.Protection.{allowed}
 use Rattle.page_sizes.specs.declared.size.PageSize.{PageSize}
 use Rattle.page_sizes.specs.Sizes.{size_of}
-use Rattle.hpte_fields.specs.Fields.{page_bits, frame_of, protected_word, without_rc, pp_of, is_no_execute}
+use Rattle.hpte_fields.specs.Fields.{page_bits, frame_of, protected_word, without_rc}
 use Rattle.hpte_fields.proofs.PageBits.{same_size, same_frame, without_rc_page, protected_page}
 use Rattle.frame_grants.specs.declared.grant.Grant.{Grant}
 use Rattle.frame_grants.specs.declared.grant.Kind.{Kind}
@@ -15,7 +14,7 @@ use Rattle.frame_grants.proofs.Landing.{part_range}
 use Rattle.entry_model.specs.State.{State, empty_state}
 use Rattle.entry_model.specs.declared.operation.Answer.{Answer}
 use Rattle.entry_model.specs.declared.operation.Op.{Op}
-use Rattle.entry_model.specs.Reply.{reply_of, change_to, change_where, entered_state, is_found, is_match, answer_of_match, touched_state, access_mode}
+use Rattle.entry_model.specs.Reply.{reply_of, change_to, change_where, entered_state, is_found, is_match, answer_of_match, answer_of_allowed, masks_refuse, is_allowed, touched_state, access_mode}
 use Rattle.entry_model.proofs.PlanBounds.{EntersOnly}
 use Rattle.hpt_walk.specs.Access.{actual_size, logical_of}
 use Rattle.entry_model.specs.declared.operation.Answer.TheVariants as answers
@@ -66,7 +65,7 @@ reply_granted grants s (ops.Protect test flags) w h = where_granted (is_found s 
 reply_granted grants s ops.Read w h = h
 reply_granted grants s ops.ClearRef w h = where_granted s.valid grants s answers.Was (record s { referenced = false }) h h
 reply_granted grants s ops.ClearMod w h = where_granted s.valid grants s answers.Was (record s { changed = false }) h h
-reply_granted grants s (ops.Access tag base key no_execute want) w h = either_granted (is_match s tag base) grants (answer_of_match s (access_mode key no_execute want)) (answers.NoMatch, s) (either_granted (allowed (pp_of s.dword1) key (no_execute || is_no_execute s.dword1) want) grants (answers.At, touched_state s want) (answers.Denied, s) h h) h
+reply_granted grants s (ops.Access tag base key no_execute want masks) w h = either_granted (is_match s tag base) grants (answer_of_match s (access_mode key no_execute want masks)) (answers.NoMatch, s) (either_granted (is_allowed s (access_mode key no_execute want masks)) grants (answer_of_allowed s (access_mode key no_execute want masks)) (answers.Denied, s) (either_granted (masks_refuse s (access_mode key no_execute want masks)) grants (answers.Masked, s) (answers.At, touched_state s want) h h) h) h
 
 -- ---- accesses
 -- An access by a valid entry has a machine address.

@@ -10,3 +10,4 @@ pub mod Unchanged
 mod Rows
 pub mod Finding
 pub mod Offsets
+pub mod Masked

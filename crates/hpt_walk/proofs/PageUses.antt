@@ -1,6 +1,6 @@
 -- The page of an entry that an access used.
 use Rattle.std.specs.Prelude.{IsTrue}
-use Rattle.std.proofs.Common.{◌≡◌, ℕ, zero, suc, ◌+◌, ◌*◌, ◌/◌, ◌^◌, ◌<◌, ◌≤◌, map, List, [], ◌∷◌, Bool, true, false, arith, ap, sym, ◌∙◌, refl}
+use Rattle.std.proofs.Common.{◌≡◌, ℕ, zero, suc, ◌+◌, ◌*◌, ◌/◌, ◌≤◌, map, List, [], ◌∷◌, Bool, true, false, arith, ap, sym, ◌∙◌, refl}
 use Rattle.std.specs.List.{AllByRecursion, range_with_len}
 use Rattle.power_addr.specs.Pages.{VirtualPage, IsPage, tag_of}
 use Rattle.hpte_fields.specs.Fields.{is_secondary}

@@ -20,13 +20,14 @@ use Rattle.hpt_walk.specs.Translations.{translations}
 use Rattle.entry_model.specs.declared.operation.Op.TheVariants as ops
 use Rattle.entry_model.specs.declared.access_reply.Outcome.TheVariants as outcomes
 use Rattle.entry_model.specs.declared.operation.Answer.TheVariants.{NoMatch}
+use Rattle.authority_mask.specs.Authority.{no_masks, row_says, key_rows}
 
 -- Page 5 of segment 1, in pages of 4 KB: its groups in the smallest table are 4 and 0x7FB.
 abbrev page : VirtualPage
 page = virtual_page false 1 12 5
 
 abbrev calls : List Call
-calls = walk_calls 18 page (access_mode false false Load)
+calls = walk_calls 18 page (access_mode false false Load no_masks)
 
 -- ---- the walk order
 entries : map (λ (c : Call). c.entry) calls ≡ 0x20 ∷ 0x21 ∷ 0x22 ∷ 0x23 ∷ 0x24 ∷ 0x25 ∷ 0x26 ∷ 0x27 ∷ 0x3FD8 ∷ 0x3FD9 ∷ 0x3FDA ∷ 0x3FDB ∷ 0x3FDC ∷ 0x3FDD ∷ 0x3FDE ∷ 0x3FDF ∷ []
@@ -34,11 +35,11 @@ unfolding walk_calls group_of
 entries = refl
 
 -- With the segment's number at 2 ^ 12 and V; in the secondary group with H.
-first_op : access_op page (access_mode false false Load) false ≡ ops.Access 0x1001 12 false false Load
+first_op : access_op page (access_mode false false Load no_masks) false ≡ ops.Access 0x1001 12 false false Load no_masks
 unfolding tag_of
 first_op = refl
 
-second_op : access_op page (access_mode true true Store) true ≡ ops.Access 0x1003 12 true true Store
+second_op : access_op page (access_mode true true Store no_masks) true ≡ ops.Access 0x1003 12 true true Store no_masks
 unfolding tag_of
 second_op = refl
 
@@ -59,10 +60,10 @@ abbrev grants : List Grant
 grants = record { logical = 0; machine = 0x2000000000; length = 0x40000000; kind = Ram } ∷ []
 
 abbrev load : ℕ → State → Receipt
-load e s = receipt_of e s (access_op page (access_mode false false Load) false)
+load e s = receipt_of e s (access_op page (access_mode false false Load no_masks) false)
 
 abbrev store : ℕ → State → Receipt
-store e s = receipt_of e s (access_op page (access_mode false false Store) false)
+store e s = receipt_of e s (access_op page (access_mode false false Store no_masks) false)
 
 in_small_page : logical_of 0x5678 mapped ≡ 0x3678
 in_small_page = refl
@@ -84,20 +85,20 @@ in_base_page_of_16_mb : logical_of 0x5801234 in_16_mb ≡ 0x3801234
 in_base_page_of_16_mb = refl
 
 at_base_page : outcome_of grants 0x5000 (load 0x20 in_64_kb ∷ []) ≡ outcomes.At 0x2000015000
-unfolding outcome_of machine_range tag_of has_base permission rows
+unfolding outcome_of machine_range tag_of has_base permission rows row_says key_rows
 at_base_page = refl
 
 -- An access of 64 KB pages doesn't match a base page of 4 KB, whatever its actual page.
-of_another_base_size : (receipt_of 0x20 in_64_kb (access_op (virtual_page false 1 16 0) (access_mode false false Load) false)).answer ≡ NoMatch
+of_another_base_size : (receipt_of 0x20 in_64_kb (access_op (virtual_page false 1 16 0) (access_mode false false Load no_masks) false)).answer ≡ NoMatch
 unfolding tag_of has_base
 of_another_base_size = refl
 
 at_granted : outcome_of grants 0x5678 (load 0x20 (empty_state 0) ∷ load 0x21 mapped ∷ []) ≡ outcomes.At 0x2000003678
-unfolding outcome_of machine_range tag_of has_base permission rows
+unfolding outcome_of machine_range tag_of has_base permission rows row_says key_rows
 at_granted = refl
 
 denied : outcome_of grants 0x5678 (store 0x20 read_only ∷ []) ≡ outcomes.Denied
-unfolding outcome_of tag_of has_base permission rows
+unfolding outcome_of tag_of has_base permission rows row_says key_rows
 denied = refl
 
 nothing : outcome_of grants 0x5678 (load 0x20 (empty_state 0) ∷ load 0x21 (empty_state 3) ∷ []) ≡ outcomes.NoPage
@@ -105,7 +106,7 @@ unfolding outcome_of
 nothing = refl
 
 not_granted : outcome_of [] 0x5678 (load 0x20 mapped ∷ []) ≡ outcomes.Ungranted 0x3678
-unfolding outcome_of machine_range tag_of has_base permission rows
+unfolding outcome_of machine_range tag_of has_base permission rows row_says key_rows
 not_granted = refl
 
 -- ---- translations

@@ -1,5 +1,5 @@
 -- An access without a receipt that says At changes no entry.
-use Rattle.std.proofs.Common.{◌≡◌, ℕ, ◌*◌, List, [], ◌∷◌, Bool, true, false, Option, Some, None, ap, sym, ◌∙◌, refl, subst, set}
+use Rattle.std.proofs.Common.{◌≡◌, ℕ, ◌*◌, List, [], ◌∷◌, true, false, Option, Some, None, ap, sym, ◌∙◌, refl, subst, set}
 use Rattle.std.specs.List.{AllByRecursion, range_with_len}
 use Rattle.std.proofs.lemmas.List.{set-get_or}
 use Rattle.power_addr.specs.Pages.{VirtualPage}
@@ -7,13 +7,12 @@ use Rattle.hpt_hash.specs.Hash.{group_of}
 use Rattle.slb_model.specs.declared.segment.Segment.{Segment}
 use Rattle.entry_model.specs.State.{State, empty_state}
 use Rattle.entry_model.specs.declared.line.Line.{Line}
-use Rattle.entry_model.specs.declared.operation.Op.{Op}
 use Rattle.entry_model.specs.declared.receipt.Receipt.{Receipt}
 use Rattle.entry_model.specs.declared.access_reply.AccessReply.{AccessReply}
 use Rattle.entry_model.specs.declared.access_reply.By.{By}
 use Rattle.entry_model.specs.declared.access_reply.By.TheVariants.{Hit, Walk}
 use Rattle.entry_model.specs.Receipt.{is_no_match, is_access, is_at, after_of}
-use Rattle.entry_model.specs.Run.{IsRun, IsStep, state_at}
+use Rattle.entry_model.specs.Run.{IsRun, IsStep}
 use Rattle.entry_model.specs.Trial.{Call, IsTrial}
 use Rattle.entry_model.specs.Reply.{AccessMode}
 use Rattle.entry_model.proofs.OperationLaws.{access_undone}

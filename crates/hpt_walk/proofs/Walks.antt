@@ -1,6 +1,6 @@
 -- A walk from the searches of its two groups.
 use Rattle.std.specs.Prelude.{IfSome, IsNone, ◌↔◌, IsTrue}
-use Rattle.std.proofs.Common.{◌≡◌, ℕ, ◌+◌, ◌-◌, ◌*◌, ◌^◌, ◌<◌, ◌≤◌, List, [], ◌∷◌, ◌++◌, length, Bool, true, false, Option, Some, None, arith, ap, sym, ◌∙◌, refl, subst, pow-add}
+use Rattle.std.proofs.Common.{◌≡◌, ℕ, ◌+◌, ◌-◌, ◌*◌, ◌^◌, ◌<◌, ◌≤◌, List, [], ◌∷◌, ◌++◌, length, true, false, Option, Some, None, arith, ap, sym, ◌∙◌, refl, subst, pow-add}
 use Rattle.std.specs.List.{AllByRecursion, range_with_len}
 use Rattle.power_addr.specs.Pages.{VirtualPage}
 use Rattle.hpt_hash.specs.Hash.{group_of}

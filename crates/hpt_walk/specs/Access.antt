@@ -3,6 +3,8 @@ use Rattle.std.specs.Prelude.{◌≡◌, ℕ, ◌+◌, ◌%◌, ◌^◌, Bool, t
 use Rattle.std.specs.List.{AllByRecursion}
 use Rattle.std.specs.Option.{option_map_or}
 use Rattle.storage_prot.specs.declared.want.Want.{Want}
+use Rattle.authority_mask.specs.declared.masks.Masks.{Masks}
+use Rattle.authority_mask.specs.declared.masks.MaskName.{MaskName}
 use Rattle.page_sizes.specs.declared.size.PageSize.{PageSize}
 use Rattle.page_sizes.specs.Sizes.{size_of}
 use Rattle.hpte_fields.specs.Fields.{frame_of, is_secondary}
@@ -19,8 +21,8 @@ use Rattle.entry_model.specs.declared.access_reply.AccessReply.{AccessReply}
 use Rattle.entry_model.specs.declared.access_reply.By.{By}
 use Rattle.entry_model.specs.declared.access_reply.By.TheVariants.{Hit, Walk}
 use Rattle.entry_model.specs.declared.access_reply.Outcome.{Outcome}
-use Rattle.entry_model.specs.declared.access_reply.Outcome.TheVariants.{At, Denied, NoPage, NoSegment, Ungranted}
-use Rattle.entry_model.specs.Receipt.{is_no_match, is_decided, is_at, found_of}
+use Rattle.entry_model.specs.declared.access_reply.Outcome.TheVariants.{At, Denied, Masked, NoPage, NoSegment, Ungranted}
+use Rattle.entry_model.specs.Receipt.{is_no_match, is_decided, is_at, is_masked, mask_of, found_of}
 use Rattle.entry_model.specs.CachedLines.{IsCurrent}
 use Rattle.entry_model.specs.Trial.{Call, IsTrial, call}
 use Rattle.hpt_walk.specs.Walk.{access_op, walk_calls}
@@ -35,17 +37,17 @@ pub record AccessContext : Type 0 where
 abbrev pub access_context : ℕ → List Grant → AccessContext
 access_context order grants = record { order = order; grants = grants }
 
--- What an access asks: what it wants, the effective address, and whether the processor is in problem state.
-abbrev pub request : Want → ℕ → Bool → Request
-request want ea user = record { want = want; ea = ea; user = user }
+-- What an access asks: what it wants, the effective address, whether the processor is in problem state, and the processor's masks.
+abbrev pub request : Want → ℕ → Bool → Masks → Request
+request want ea user masks = record { want = want; ea = ea; user = user; masks = masks }
 
 -- The segment's key: Kp in problem state, else Ks.
 abbrev pub key_for : Segment → Bool → Bool
 key_for seg user = if user then seg.kp else seg.ks
 
--- What an access of the segment asks of protection.
+-- What an access of the segment asks of protection and of the masks.
 abbrev pub mode_for : Segment → Request → AccessMode
-mode_for seg a = access_mode (key_for seg a.user) seg.no_execute a.want
+mode_for seg a = access_mode (key_for seg a.user) seg.no_execute a.want a.masks
 
 -- ---- where an access ends
 -- The binary logarithm of the size of the real page; of words that encode none, that of 4 KB.
@@ -61,13 +63,22 @@ abbrev pub landing_at : Option (ℕ × Kind) → ℕ → Outcome
 landing_at None logical = Ungranted logical
 landing_at (Some x) logical = At x.0
 
+-- Refused by this mask; by none, it is protection that refuses.
+abbrev pub refused_by : Option MaskName → Outcome
+refused_by None = Denied
+refused_by (Some name) = Masked name
+
+-- The mask that refused the access of a receipt, which then says Masked.
+abbrev pub refusing_mask : Receipt → Option MaskName
+refusing_mask r = if is_masked r.answer then mask_of r else None
+
 -- By the receipt that was found.
 abbrev pub outcome_by : List Grant → ℕ → Option Receipt → Outcome
 outcome_by grants ea None = NoPage
 outcome_by grants ea (Some r) =
     if is_at r.answer
     then landing_at (machine_range grants (logical_of ea r.before) 1) (logical_of ea r.before)
-    else Denied
+    else refused_by (refusing_mask r)
 
 -- Where an access with these receipts ends.
 unfoldable pub outcome_of : List Grant → ℕ → List Receipt → Outcome
@@ -79,7 +90,7 @@ abbrev pub hit_calls : Segment → Request → Line → List Call
 hit_calls seg a line =
     call (access_op seg.page (mode_for seg a) (is_secondary line.dword0)) line.entry ∷ []
 
--- One receipt, of the line's entry, on a state at which the line is current, which says At or Denied.
+-- One receipt, of the line's entry, on a state at which the line is current, which says At, Masked or Denied.
 pub record IsHit
     (context : AccessContext)
     (seg : Segment)

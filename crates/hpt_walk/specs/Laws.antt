@@ -1,5 +1,5 @@
 -- What is proved of the accesses of a page.
-use Rattle.std.specs.Prelude.{◌≡◌, ◌≢◌, ℕ, ◌/◌, ◌%◌, ◌^◌, ◌<◌, ◌≤◌, ◌↔◌, Bool, false, IsTrue, List, find, Option, option_map}
+use Rattle.std.specs.Prelude.{◌≡◌, ◌≢◌, ℕ, ◌/◌, ◌%◌, ◌^◌, ◌<◌, ◌≤◌, ◌↔◌, Bool, false, IsTrue, List, find, Option, Some, option_map}
 use Rattle.std.specs.List.{AllByRecursion}
 use Rattle.power_addr.specs.Pages.{VirtualPage, IsPage}
 use Rattle.hpte_fields.specs.Fields.{is_secondary, page_bits}
@@ -13,14 +13,17 @@ use Rattle.entry_model.specs.declared.operation.Answer.TheVariants.{NoMatch}
 use Rattle.entry_model.specs.declared.operation.Op.{Op}
 use Rattle.entry_model.specs.declared.receipt.Receipt.{Receipt}
 use Rattle.entry_model.specs.declared.access_reply.AccessReply.{AccessReply}
-use Rattle.entry_model.specs.Reply.{reply_of, AccessMode}
-use Rattle.entry_model.specs.Receipt.{is_no_match, is_decided, is_at, found_of}
+use Rattle.authority_mask.specs.Authority.{no_masks}
+use Rattle.authority_mask.specs.declared.masks.MaskName.{MaskName}
+use Rattle.entry_model.specs.declared.access_reply.Outcome.TheVariants.{Masked}
+use Rattle.entry_model.specs.Reply.{reply_of, AccessMode, is_allowed, mask_against}
+use Rattle.entry_model.specs.Receipt.{is_no_match, is_decided, is_at, is_masked, found_of}
 use Rattle.entry_model.specs.CachedLines.{IsAccessOf, IsCurrent, line_of}
 use Rattle.entry_model.specs.Run.{IsRun}
 use Rattle.entry_model.specs.Trial.{IsTrial}
 use Rattle.hpt_walk.specs.Walk.{access_op, walk_calls, walk_entries}
 use Rattle.hpt_walk.specs.declared.request.Request.{Request}
-use Rattle.hpt_walk.specs.Access.{AccessContext, IsHit, IsAccessReply, actual_size, logical_of}
+use Rattle.hpt_walk.specs.Access.{AccessContext, IsHit, IsAccessReply, mode_for, actual_size, logical_of}
 use Rattle.hpt_walk.specs.Translations.{TranslatesItsPage, StandsInItsGroup, translations, is_paired}
 
 -- ---- an access and the page of an entry
@@ -113,6 +116,31 @@ OnlyAtChangesEntries =
     → IsRun old reply.receipts new
     → new ≡ old
 
+-- ---- masks
+-- Protection allows the access by the entry that was found, as it was before, and this mask refuses it for the entry's key.
+abbrev pub IsRefusedByMask : Option Segment → Request → MaskName → Option Receipt → Type 0
+IsRefusedByMask (Some seg) a name (Some r) =
+    IsTrue (is_allowed r.before (mode_for seg a))
+    × (mask_against r.before a.masks a.want ≡ Some name)
+IsRefusedByMask segment a name found = ⊥
+
+-- An access ends refused by a mask exactly where the last of its receipts, and the first that doesn't say NoMatch, is of such an entry.
+abbrev pub MaskedExactlyWhereRefused : Type 0
+MaskedExactlyWhereRefused =
+    (context : AccessContext) (cached : VirtualPage → Option Line) (a : Request)
+    (segment : Option Segment) (reply : AccessReply) (name : MaskName)
+    → IsAccessReply context cached a segment reply
+    → (reply.outcome ≡ Masked name) ↔ IsRefusedByMask segment a name (found_of reply.receipts)
+
+-- Where both masks are 0, no receipt of an access says Masked.
+abbrev pub ZeroMasksRefuseNoAccess : Type 0
+ZeroMasksRefuseNoAccess =
+    (context : AccessContext) (cached : VirtualPage → Option Line) (a : Request)
+    (segment : Option Segment) (reply : AccessReply)
+    → a.masks ≡ no_masks
+    → IsAccessReply context cached a segment reply
+    → AllByRecursion (λ (r : Receipt). is_masked r.answer ≡ false) reply.receipts
+
 -- ---- a walk and the translations of a table
 -- On states that nobody else changes, a walk of the page finds the first entry, in walk order, that the list of translations pairs with the page, and none where it pairs none.
 abbrev pub WalkFindsFirst : Type 0
@@ -127,7 +155,7 @@ WalkFindsFirst =
     ≡ find (is_paired (translations order a) page) (walk_entries order page)
 
 -- ---- lines of a cache
--- In a walk of the page, a receipt that says Denied or At gives a line that translates the page.
+-- In a walk of the page, a receipt that says Denied, Masked or At gives a line that translates the page.
 abbrev pub WalksGiveLines : Type 0
 WalksGiveLines =
     (order : ℕ) (page : VirtualPage) (mode : AccessMode) (rs : List Receipt)
@@ -143,7 +171,7 @@ LinesMatchAccesses =
     → TranslatesItsPage line
     → IsAccessOf line (access_op line.page mode (is_secondary line.dword0))
 
--- An access that matches a line is answered Denied or At on a state at which the line is current.
+-- An access that matches a line is answered Denied, Masked or At on a state at which the line is current.
 abbrev pub CurrentLinesDecide : Type 0
 CurrentLinesDecide =
     (line : Line) (op : Op) (s : State)

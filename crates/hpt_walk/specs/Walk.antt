@@ -1,6 +1,6 @@
 -- The search of a page's two groups for an entry that translates the page.
 -- Power ISA 2.07 Book III-S, hashed page table search: first the primary group, then the secondary one.
-use Rattle.std.specs.Prelude.{◌≡◌, ℕ, ◌+◌, ◌*◌, Bool, true, false, not, if◌then◌else◌, IsTrue, List, length, drop, ◌++◌, map, find, Option}
+use Rattle.std.specs.Prelude.{◌≡◌, ℕ, ◌+◌, ◌*◌, Bool, true, false, if◌then◌else◌, IsTrue, List, length, ◌++◌, map}
 use Rattle.std.specs.List.{AllByRecursion, range_with_len}
 use Rattle.power_addr.specs.Pages.{VirtualPage, tag_of}
 use Rattle.hpt_hash.specs.Hash.{group_of}
@@ -24,6 +24,7 @@ access_op page mode secondary =
     mode.key
     mode.no_execute
     mode.want
+    mode.masks
 
 -- The operation on the eight entries of a group, in slot order.
 abbrev pub group_calls : Op → ℕ → List Call

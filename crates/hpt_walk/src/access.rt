@@ -3,16 +3,26 @@ ghost use Rattle.entry_model.specs.Receipt.{IsNormal};
 ghost use Rattle.hpt_walk.specs.Walk as table;
 ghost use Rattle.entry_model.specs.Reply.{access_mode};
 
+use authority_mask::Masks;
 use entry_model::Op;
 use hpte_fields::{SECONDARY, VALID};
 use power_addr::Page;
 use storage_prot::Want;
 
 /// The access of a page by one of its entries: `secondary` says whether the entry stands in the
-/// page's secondary group, `key` is the segment's key for the state of the processor, and
-/// `no_execute` says whether the segment refuses instruction fetches.
-pub fn access_op(page: &Page, key: bool, no_execute: bool, want: Want, secondary: bool) -> Op
-    ensures op { result ≡ table.access_op page.now (access_mode key no_execute want) secondary }
+/// page's secondary group, `key` is the segment's key for the state of the processor, `no_execute`
+/// says whether the segment refuses instruction fetches, and `masks` are the processor's.
+#[inline(always)]
+pub fn access_op(
+    page: &Page,
+    key: bool,
+    no_execute: bool,
+    want: Want,
+    masks: Masks,
+    secondary: bool,
+) -> Op
+    ensures op { result
+        ≡ table.access_op page.now (access_mode key no_execute want masks) secondary }
     ensures normal { IsNormal result }
 {
     let hash = if secondary { SECONDARY } else { 0 };
@@ -22,5 +32,6 @@ pub fn access_op(page: &Page, key: bool, no_execute: bool, want: Want, secondary
         key,
         no_execute,
         want,
+        masks,
     }
 }

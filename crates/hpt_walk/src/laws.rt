@@ -1,6 +1,6 @@
 //! Laws of the accesses of a page. Each function does nothing, and its contract is the law.
 
-ghost use Rattle.hpt_walk.specs.Laws.{AccessTellsPage, OtherPagesDontMatch, AddressesLieInActualPages, WalksUseTheirPage, HitsUseTheirPage, OnlyAtChangesEntries, WalkFindsFirst, WalksGiveLines, LinesMatchAccesses, CurrentLinesDecide};
+ghost use Rattle.hpt_walk.specs.Laws.{AccessTellsPage, OtherPagesDontMatch, AddressesLieInActualPages, WalksUseTheirPage, HitsUseTheirPage, OnlyAtChangesEntries, MaskedExactlyWhereRefused, ZeroMasksRefuseNoAccess, WalkFindsFirst, WalksGiveLines, LinesMatchAccesses, CurrentLinesDecide};
 
 /// An access of a page, made on an entry of one of the page's two groups with H to match, answers
 /// NoMatch exactly where the entry isn't one of the page.
@@ -33,6 +33,17 @@ pub fn hits_use_their_page()
 /// An access without a receipt that says At changes no entry, however many entries it asked.
 pub fn only_at_changes_entries()
     ensures { OnlyAtChangesEntries }
+{}
+
+/// An access ends refused by a mask exactly where protection allows it by the entry that it ended with,
+/// and the mask refuses it for the entry's key.
+pub fn masked_exactly_where_refused()
+    ensures { MaskedExactlyWhereRefused }
+{}
+
+/// Where both masks are 0, no receipt of an access says Masked.
+pub fn zero_masks_refuse_no_access()
+    ensures { ZeroMasksRefuseNoAccess }
 {}
 
 /// Over a table that nobody else changes, a walk finds the first entry, in walk order, that

@@ -13,8 +13,9 @@ mod walking;
 pub use access::access_op;
 pub use laws::{
     access_tells_page, addresses_lie_in_actual_pages, current_lines_decide, hits_use_their_page,
-    lines_match_accesses, only_at_changes_entries, other_pages_dont_match, walk_finds_first,
-    walks_give_lines, walks_use_their_page,
+    lines_match_accesses, masked_exactly_where_refused, only_at_changes_entries,
+    other_pages_dont_match, walk_finds_first, walks_give_lines, walks_use_their_page,
+    zero_masks_refuse_no_access,
 };
 pub use logical::logical_of;
 pub use request::Request;

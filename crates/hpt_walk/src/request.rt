@@ -1,3 +1,4 @@
+use authority_mask::Masks;
 use storage_prot::Want;
 
 /// What an access asks.
@@ -8,4 +9,6 @@ pub struct Request {
     pub ea: u64,
     /// Whether the processor is in problem state.
     pub user: bool,
+    /// The processor's authority masks.
+    pub masks: Masks,
 }

@@ -8,6 +8,7 @@ ghost use Rattle.hpt_walk.specs.Walk.{walk_calls, group_calls, AreAllNoMatch};
 ghost use Rattle.hpt_walk.specs.Translations.{TranslatesItsPage};
 
 use crate::access::access_op;
+use authority_mask::Masks;
 use entry_model::{EntryStore, GoesOn, Op, Receipt, Receipts, try_entries};
 use hpt_hash::groups;
 use hpte_fields::GROUP_SIZE;
@@ -17,26 +18,27 @@ use storage_prot::Want;
 /// What a walk found, and the receipts that it made, in their order.
 #[derive(Drop)]
 pub struct WalkAnswer {
-    /// The receipt of the entry that translates the page: the last one, which says At or Denied.
+    /// The receipt of the entry that translates the page: the last one, which says At, Masked or Denied.
     pub found: Option<Receipt>,
     pub receipts: Receipts,
 }
 
 /// Makes an access of the page on the entries of its primary group, then on those of its secondary
 /// group, in slot order, up to the first that translates the page. `key` is the segment's key for
-/// the state of the processor, and `no_execute` says whether the segment refuses instruction
-/// fetches.
+/// the state of the processor, `no_execute` says whether the segment refuses instruction fetches,
+/// and `masks` are the processor's.
 pub fn walk<T: EntryStore>(
     store: &mut T,
     page: &Page,
     want: Want,
     key: bool,
     no_execute: bool,
+    masks: Masks,
 ) -> WalkAnswer
     ensures made { T.made store.old store.new result.receipts }
     ensures trial { IsTrial
         is_no_match
-        (walk_calls (T.table_order store.old) page.now (access_mode key no_execute want))
+        (walk_calls (T.table_order store.old) page.now (access_mode key no_execute want masks))
         result.receipts }
     ensures found { result.found ≡ found_of result.receipts }
     ensures none { IsNone result.found ↔ AreAllNoMatch result.receipts }
@@ -46,12 +48,12 @@ pub fn walk<T: EntryStore>(
     ensures translates { IfSome result.found (λ r. TranslatesItsPage (line_of page.now r)) }
 {
     let mut receipts = Receipts::new();
-    let found = walk_into(store, page, want, key, no_execute, &mut receipts);
+    let found = walk_into(store, page, want, key, no_execute, masks, &mut receipts);
     WalkAnswer { found, receipts }
 }
 
 /// The same walk, whose receipts take the place of what is in `receipts`. Gives back the receipt of
-/// the entry that translates the page: the last one, which says At or Denied.
+/// the entry that translates the page: the last one, which says At, Masked or Denied.
 #[tactic(auto, unfolding(crate::specs::Walk::walk_calls))]
 pub fn walk_into<T: EntryStore>(
     store: &mut T,
@@ -59,12 +61,13 @@ pub fn walk_into<T: EntryStore>(
     want: Want,
     key: bool,
     no_execute: bool,
+    masks: Masks,
     receipts: &mut Receipts,
 ) -> Option<Receipt>
     ensures made { T.made store.old store.new receipts.new }
     ensures trial { IsTrial
         is_no_match
-        (walk_calls (T.table_order store.old) page.now (access_mode key no_execute want))
+        (walk_calls (T.table_order store.old) page.now (access_mode key no_execute want masks))
         receipts.new }
     ensures found { result ≡ found_of receipts.new }
     ensures none { IsNone result ↔ AreAllNoMatch receipts.new }
@@ -75,11 +78,11 @@ pub fn walk_into<T: EntryStore>(
 {
     receipts.clear();
     let (primary, secondary) = groups(page, store.order());
-    let op = access_op(page, key, no_execute, want, false);
+    let op = access_op(page, key, no_execute, want, masks, false);
     if let Some(receipt) = search(store, primary as u32, op, receipts) {
         return Some(receipt);
     }
-    let op = access_op(page, key, no_execute, want, true);
+    let op = access_op(page, key, no_execute, want, masks, true);
     search(store, secondary as u32, op, receipts)
 }
 

@@ -10,6 +10,7 @@ use Rattle.basics.specs.Words.{bool_eq}
 use Rattle.hpte_fields.specs.Fields.{rc_bits}
 use Rattle.entry_model.specs.History.{state_eq}
 use Rattle.storage_prot.specs.declared.want.Want.{Want}
+use Rattle.authority_mask.specs.declared.masks.Masks.{Masks}
 use Rattle.storage_prot.specs.declared.want.Want.TheVariants.{Load, Store, Fetch}
 use Rattle.lock_core.specs.declared.control.Control.{Control}
 use Rattle.lock_core.specs.declared.doing.Doing.{Doing}
@@ -106,14 +107,19 @@ want_eq Store Store = true
 want_eq Fetch Fetch = true
 want_eq a b = false
 
+-- The two processors have the same masks.
+abbrev pub masks_eq : Masks → Masks → Bool
+masks_eq m n = (m.amr == n.amr) && (m.iamr == n.iamr)
+
 -- The two are the same access.
 unfoldable pub same_access : Op → Op → Bool
-same_access (Access tag base key no_execute want) (Access tag' base' key' no_execute' want') =
+same_access (Access tag base key no_execute want masks) (Access tag' base' key' no_execute' want' masks') =
     (tag == tag')
     && (base == base')
     && bool_eq key key'
     && bool_eq no_execute no_execute'
     && want_eq want want'
+    && masks_eq masks masks'
 same_access a b = false
 
 -- The data words are those of the state, or the state is empty.

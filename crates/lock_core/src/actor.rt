@@ -53,6 +53,7 @@ fn shown(receipt: &Receipt) -> Option<Sighting>
     match receipt.answer {
         Answer::At => Some(sighting(receipt.entry, &receipt.before)),
         Answer::Denied => Some(sighting(receipt.entry, &receipt.before)),
+        Answer::Masked => Some(sighting(receipt.entry, &receipt.before)),
         _ => None,
     }
 }

@@ -7,6 +7,7 @@ ghost use Rattle.lock_core.specs.Words as words;
 use crate::control::Control;
 use crate::doing::Doing;
 use crate::entry::Entry;
+use authority_mask::Masks;
 use entry_model::{EntryState, Op, Receipt, reply};
 use hpte_fields::{CHANGED, REFERENCED};
 use storage_prot::Want;
@@ -164,6 +165,13 @@ fn same_want(a: Want, b: Want) -> bool
     }
 }
 
+/// Whether the two have the same values.
+fn same_masks(a: Masks, b: Masks) -> bool
+    ensures { result ≡ words.masks_eq a b }
+{
+    a.amr == b.amr && a.iamr == b.iamr
+}
+
 /// Whether the two are the same access.
 #[tactic(auto, unfolding(crate::specs::Words::same_access))]
 pub fn same_access(a: &Op, b: &Op) -> bool
@@ -177,6 +185,7 @@ pub fn same_access(a: &Op, b: &Op) -> bool
                 key,
                 no_execute,
                 want,
+                masks,
             },
             Op::Access {
                 tag: tag_b,
@@ -184,12 +193,14 @@ pub fn same_access(a: &Op, b: &Op) -> bool
                 key: key_b,
                 no_execute: no_execute_b,
                 want: want_b,
+                masks: masks_b,
             },
         ) => {
             let page = tag == tag_b && base == base_b;
             page && same_bit(key, key_b)
                 && same_bit(no_execute, no_execute_b)
                 && same_want(want, want_b)
+                && same_masks(masks, masks_b)
         }
         _ => false,
     }

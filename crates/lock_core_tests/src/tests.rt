@@ -5,6 +5,7 @@ ghost use Rattle.std.specs.Prelude.{◌≡◌, length, IfOk};
 
 mod four_actors;
 
+use authority_mask::Masks;
 use entry_model::{Answer, EntryState, Op, Receipt, Test};
 use lock_core::*;
 use std::alloc::Global;
@@ -38,6 +39,7 @@ fn access(want: Want) -> Op {
         key: false,
         no_execute: false,
         want,
+        masks: Masks::default(),
     }
 }
 

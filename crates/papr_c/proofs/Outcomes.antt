@@ -34,7 +34,7 @@ use Rattle.papr_c.specs.declared.walking.PaprAccess.{PaprAccess}
 use Rattle.papr_c.specs.declared.walking.PaprWalk.{PaprWalk}
 use Rattle.papr_c.specs.Lent.{is_table}
 use Rattle.papr_c.specs.Calls.{LentMemory, memory, refused_reply, reply_told, outcome_by, outcome_where}
-use Rattle.papr_c.specs.Walks.{WalkMemory, walk_memory, page_of, want_of, walk_end, walked_by, outcome_of_walk}
+use Rattle.papr_c.specs.Walks.{masks_of, WalkMemory, walk_memory, page_of, want_of, walk_end, walked_by, outcome_of_walk}
 
 -- What was handed over, and the entries that the receipts led to.
 pub record IsHandedOver (registers : Registers) (rs : List Receipt) (m : LentMemory) (told : PaprReply) (words : List ℕ) (receipts : List PaprReceipt) : Type 0 where
@@ -50,9 +50,9 @@ call_is fits plan m registers rs reply words receipts lent now after fit is run 
     rw fit (told ∙ ap (outcome_by m) made)
 
 -- A walk whose arguments fit leaves what its calls do on the entries that were lent.
-pub walk_is : (order : ℕ) (a : PaprAccess) (page : VirtualPage) (want : Want) (m : WalkMemory) (rs : List Receipt) (found : Option Receipt) (count : ℕ) (told : PaprWalk) (places : List PaprReceipt) (lent now after : List State) → is_table order m.entries ≡ true → page_of a ≡ Some page → want_of a.want ≡ Some want → IsTrial is_no_match (walk_calls order page (access_mode a.key a.no_execute want)) rs → IsRun lent rs now → lent ≡ m.entries → found ≡ found_of rs → count ≡ min (length m.receipts) (length rs) → told ≡ walk_end a.ea found count → places ≡ filled m.receipts (map shown_receipt rs) → after ≡ now → (told, walk_memory after places) ≡ outcome_of_walk order a m
+pub walk_is : (order : ℕ) (a : PaprAccess) (page : VirtualPage) (want : Want) (m : WalkMemory) (rs : List Receipt) (found : Option Receipt) (count : ℕ) (told : PaprWalk) (places : List PaprReceipt) (lent now after : List State) → is_table order m.entries ≡ true → page_of a ≡ Some page → want_of a.want ≡ Some want → IsTrial is_no_match (walk_calls order page (access_mode a.key a.no_execute want (masks_of a))) rs → IsRun lent rs now → lent ≡ m.entries → found ≡ found_of rs → count ≡ min (length m.receipts) (length rs) → told ≡ walk_end a.ea found count → places ≡ filled m.receipts (map shown_receipt rs) → after ≡ now → (told, walk_memory after places) ≡ outcome_of_walk order a m
 walk_is order a page want m rs found count told places lent now after fit at_page wants trial run same is counted ended put kept =
-    let made : (rs, now) ≡ trial_run is_no_match m.entries (walk_calls order page (access_mode a.key a.no_execute want)) = trial_is is_no_match m.entries now (walk_calls order page (access_mode a.key a.no_execute want)) rs trial (rw same at run) in
+    let made : (rs, now) ≡ trial_run is_no_match m.entries (walk_calls order page (access_mode a.key a.no_execute want (masks_of a))) = trial_is is_no_match m.entries now (walk_calls order page (access_mode a.key a.no_execute want (masks_of a))) rs trial (rw same at run) in
     let here : (told, walk_memory after places) ≡ walked_by a.ea m (rs, now) = rw (ended, is, counted, put, kept) refl in
     rw (fit, at_page, wants) (here ∙ ap (walked_by a.ea m) made)
 

@@ -3,7 +3,7 @@ use Rattle.std.specs.Prelude.{ℕ, ◌+◌, if◌then◌else◌, List, [], ◌�
 use Rattle.entry_model.specs.State.{State}
 use Rattle.entry_model.specs.Reply.{words_of}
 use Rattle.entry_model.specs.declared.operation.Answer.{Answer}
-use Rattle.entry_model.specs.declared.operation.Answer.TheVariants.{Entered, Taken, Removed, Protected, Was, Words, NotFound, NoMatch, Denied, At, Worn}
+use Rattle.entry_model.specs.declared.operation.Answer.TheVariants.{Entered, Taken, Removed, Protected, Was, Words, NotFound, NoMatch, Denied, Masked, At, Worn}
 use Rattle.entry_model.specs.declared.receipt.Receipt.{Receipt}
 use Rattle.papr_c.specs.declared.receipts.PaprReceipt.{PaprReceipt}
 
@@ -32,6 +32,7 @@ answer_number NoMatch = 7
 answer_number Denied = 8
 answer_number At = 9
 answer_number Worn = 10
+answer_number Masked = 11
 
 -- R and C as one number: R counts 2, and C counts 1.
 abbrev pub bits_number : State → ℕ

@@ -2,6 +2,9 @@
 use Rattle.std.specs.Prelude.{ℕ, ◌==◌, if◌then◌else◌, List, length, map, min, Option, Some, None}
 use Rattle.storage_prot.specs.declared.want.Want.{Want}
 use Rattle.storage_prot.specs.declared.want.Want.TheVariants.{Load, Store, Fetch}
+use Rattle.authority_mask.specs.declared.masks.Masks.{Masks}
+use Rattle.authority_mask.specs.declared.masks.MaskName.{MaskName}
+use Rattle.authority_mask.specs.declared.masks.MaskName.TheVariants.{Amr, Iamr}
 use Rattle.power_addr.specs.Pages.{VirtualPage, page_of_address}
 use Rattle.entry_model.specs.State.{State}
 use Rattle.entry_model.specs.Reply.{access_mode}
@@ -9,7 +12,7 @@ use Rattle.entry_model.specs.Receipt.{is_no_match, is_at, found_of}
 use Rattle.entry_model.specs.Trial.{trial_run}
 use Rattle.entry_model.specs.declared.receipt.Receipt.{Receipt}
 use Rattle.hpt_walk.specs.Walk.{walk_calls}
-use Rattle.hpt_walk.specs.Access.{logical_of}
+use Rattle.hpt_walk.specs.Access.{logical_of, refusing_mask}
 use Rattle.papr_c.specs.declared.receipts.PaprReceipt.{PaprReceipt}
 use Rattle.papr_c.specs.declared.walking.PaprAccess.{PaprAccess}
 use Rattle.papr_c.specs.declared.walking.PaprWalk.{PaprWalk}
@@ -38,13 +41,23 @@ want_of want =
 abbrev pub page_of : PaprAccess → Option VirtualPage
 page_of a = page_of_address a.one_tb a.vsid a.shift a.ea
 
+-- The masks of the access's processor.
+abbrev pub masks_of : PaprAccess → Masks
+masks_of a = record { amr = a.amr; iamr = a.iamr }
+
 -- ---- what is told
 -- A walk that isn't made.
 abbrev pub refused_walk : PaprWalk
 refused_walk = record { logical = 0; entry = 0; outcome = 3; receipts = 0 }
 
+-- The number of an access that this mask refuses; by none, protection refuses it.
+abbrev pub refusal_number : Option MaskName → ℕ
+refusal_number None = 1
+refusal_number (Some Amr) = 4
+refusal_number (Some Iamr) = 5
+
 -- The end of a walk by the receipt that was found: allowed, at this logical address, or refused by
--- the entry.
+-- the entry or by a mask.
 abbrev pub end_at : ℕ → Receipt → ℕ → PaprWalk
 end_at ea r receipts =
     if is_at r.answer
@@ -55,7 +68,13 @@ end_at ea r receipts =
       outcome = 0;
       receipts = receipts;
     }
-    else record { logical = 0; entry = r.entry; outcome = 1; receipts = receipts }
+    else
+    record {
+      logical = 0;
+      entry = r.entry;
+      outcome = refusal_number (refusing_mask r);
+      receipts = receipts;
+    }
 
 -- The end by the receipt that was found, if there was one.
 abbrev pub walk_end : ℕ → Option Receipt → ℕ → PaprWalk
@@ -78,7 +97,7 @@ walked_by ea m run = (
 abbrev pub walk_of_page :
     ℕ → PaprAccess → VirtualPage → Want → WalkMemory → PaprWalk × WalkMemory
 walk_of_page order a page want m =
-    let calls = walk_calls order page (access_mode a.key a.no_execute want) in
+    let calls = walk_calls order page (access_mode a.key a.no_execute want (masks_of a)) in
     walked_by a.ea m (trial_run is_no_match m.entries calls)
 
 -- Where there is a page and a kind of access.

@@ -37,6 +37,7 @@ fn answer_number(answer: Answer) -> u8
         Answer::Denied => 8,
         Answer::At => 9,
         Answer::Worn => 10,
+        Answer::Masked => 11,
     }
 }
 

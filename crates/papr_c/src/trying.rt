@@ -1,5 +1,5 @@
 ghost use Rattle.std.specs.Prelude.{◌≡◌, ◌≤◌, ◌<◌, ◌+◌, ◌^◌, [], ◌∷◌, length, map, set, if◌then◌else◌, Some, None};
-ghost use Rattle.entry_model.specs.Receipt.{receipt_of};
+ghost use Rattle.entry_model.specs.Receipt.{after_of, receipt_of};
 ghost use Rattle.entry_model.specs.Run.{state_at, states_after};
 ghost use Rattle.entry_model.specs.Trial.{ending_of};
 ghost use Rattle.papr_c.specs.Places.{placed, shown_receipt};
@@ -26,7 +26,7 @@ impl Tried {
             then None
             else Some self.now.last) }
     {
-        if goes_after(goes_on, self.last.answer) {
+        if goes_on.after(self.last.answer) {
             None
         } else {
             Some(self.last)
@@ -34,9 +34,23 @@ impl Tried {
     }
 }
 
+/// Gives an entry its state after an operation. An entry that doesn't match is as it was, and isn't
+/// written: a walk goes past most of them.
+#[inline(always)]
+fn store(entries: &mut [EntryState], receipt: &Receipt, after: &EntryState)
+    requires in_table { receipt.now.entry < length entries.old }
+    requires before { receipt.now.before ≡ state_at entries.old receipt.now.entry }
+    requires after { after.now ≡ after_of receipt.now }
+    ensures { entries.new ≡ states_after entries.old receipt.now }
+{
+    if !matches!(receipt.answer, Answer::NoMatch) {
+        entries[receipt.entry as usize] = *after;
+    }
+}
+
 /// Makes an operation on an entry, and puts the receipt into the caller's place, where there is
 /// one.
-#[inline]
+#[inline(always)]
 fn make(
     entries: &mut [EntryState],
     op: &Op,
@@ -51,33 +65,22 @@ fn make(
 {
     let before = entries[entry as usize];
     let (answer, after) = reply(&before, op);
-    entries[entry as usize] = after;
     let receipt = Receipt {
         entry,
         before,
         op: *op,
         answer,
     };
+    store(entries, &receipt, &after);
     put_receipt(&receipt, receipts, place);
     receipt
-}
-
-/// Whether a trial goes on after this answer.
-fn goes_after(goes_on: GoesOn, answer: Answer) -> bool
-    ensures { result ≡ Rattle.entry_model.specs.Trial.goes_after goes_on answer }
-{
-    match goes_on {
-        GoesOn::WhileTaken => answer == Answer::Taken,
-        GoesOn::WhileNoMatch => answer == Answer::NoMatch,
-        GoesOn::Always => true,
-    }
 }
 
 /// Makes an operation on `count` entries, one behind the other from `first` on, as long as the
 /// answers go on. The receipts are put into the caller's places from `place` on, as far as these
 /// go.
-// Out of line, and the only one that calls `reply`, so that this is compiled into it.
-#[inline(never)]
+// In line, so that each caller has the part of `reply` that its operation needs, and no other.
+#[inline(always)]
 pub fn try_lent(
     entries: &mut [EntryState],
     op: &Op,
@@ -109,7 +112,7 @@ pub fn try_lent(
     loop {
         let last = make(entries, op, first + tried, receipts, place + tried);
         tried += 1;
-        if tried == count || !goes_after(goes_on, last.answer) {
+        if tried == count || !goes_on.after(last.answer) {
             return Tried { last, count: tried };
         }
     }

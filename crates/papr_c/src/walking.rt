@@ -1,10 +1,11 @@
 ghost use Rattle.std.specs.Prelude.{◌≡◌};
-ghost use Rattle.papr_c.specs.Walks.{WalkMemory, want_of, walk_memory, refused_walk, walk_end, walk_told, outcome_of_walk};
+ghost use Rattle.papr_c.specs.Walks.{WalkMemory, want_of, walk_memory, refused_walk, refusal_number, walk_end, walk_told, outcome_of_walk};
 
 use crate::lent::is_table;
 use crate::receipts::PaprReceipt;
 use crate::reply::filled_count;
 use crate::trying::try_lent;
+use authority_mask::{MaskName, Masks};
 use entry_model::{Answer, EntryState, GoesOn, Receipt};
 use hpt_hash::groups;
 use hpt_walk::{access_op, logical_of};
@@ -24,6 +25,12 @@ const NO_PAGE: u32 = 2;
 /// The arguments are out of range, and no entry was tried.
 const REFUSED: u32 = 3;
 
+/// AMR refuses it.
+const AMR: u32 = 4;
+
+/// IAMR refuses it.
+const IAMR: u32 = 5;
+
 /// What an access asks, in a segment that its caller has looked up.
 #[repr(C)]
 #[derive(Clone, Copy)]
@@ -32,6 +39,10 @@ pub struct PaprAccess {
     pub ea: u64,
     /// The segment's number: 50 bits, or 38 in a segment of 1 TB.
     pub vsid: u64,
+    /// The authority mask of the processor for loads and stores.
+    pub amr: u64,
+    /// Its authority mask for instruction fetches.
+    pub iamr: u64,
     /// The binary logarithm of the segment's base page size: 12, 16 or 24, and in a segment of 1 TB
     /// also 34.
     pub shift: u8,
@@ -54,7 +65,8 @@ pub struct PaprWalk {
     /// The index of the entry that translates the page, where there is one; else 0.
     pub entry: u32,
     /// 0 where the access is allowed, 1 where the entry's protection refuses it, 2 where no entry
-    /// translates the page, 3 where the arguments are out of range.
+    /// translates the page, 3 where the arguments are out of range, 4 where AMR refuses the access, 5
+    /// where IAMR does.
     pub outcome: u32,
     /// How many of the caller's places for receipts were filled.
     pub receipts: u32,
@@ -68,6 +80,17 @@ fn want_of(want: u8) -> Option<Want>
         1 => Some(Want::Store),
         2 => Some(Want::Fetch),
         _ => None,
+    }
+}
+
+/// The number of an access that this mask refuses; by none, protection refuses it.
+fn refusal(mask: Option<MaskName>) -> u32
+    ensures { result ≡ refusal_number mask }
+{
+    match mask {
+        None => DENIED,
+        Some(MaskName::Amr) => AMR,
+        Some(MaskName::Iamr) => IAMR,
     }
 }
 
@@ -104,6 +127,12 @@ impl PaprWalk {
                 outcome: ALLOWED,
                 receipts,
             },
+            Answer::Masked => PaprWalk {
+                logical: 0,
+                entry,
+                outcome: refusal(receipt.mask()),
+                receipts,
+            },
             _ => PaprWalk {
                 logical: 0,
                 entry,
@@ -135,7 +164,11 @@ pub extern "C" fn papr_walk(
     }
     let (primary, secondary) = groups(&page, order);
     let (key, no_execute) = (access.key, access.no_execute);
-    let op = access_op(&page, key, no_execute, want, false);
+    let masks = Masks {
+        amr: access.amr,
+        iamr: access.iamr,
+    };
+    let op = access_op(&page, key, no_execute, want, masks, false);
     let goes_on = GoesOn::WhileNoMatch;
     let first = primary as u32 * GROUP_SIZE;
     let early = try_lent(entries, &op, first, GROUP_SIZE, goes_on, receipts, 0);
@@ -143,7 +176,7 @@ pub extern "C" fn papr_walk(
         let count = filled_count(receipts.len(), early.count);
         return PaprWalk::end(access.ea, &Some(receipt), count);
     }
-    let op = access_op(&page, key, no_execute, want, true);
+    let op = access_op(&page, key, no_execute, want, masks, true);
     let first = secondary as u32 * GROUP_SIZE;
     let late = try_lent(
         entries,

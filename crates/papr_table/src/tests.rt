@@ -4,6 +4,7 @@ ghost use Rattle.entry_model.specs.Receipt.{IsNormal};
 ghost use Rattle.entry_model.specs.CachedLines.{IsAccessOf, IsCurrent};
 
 use super::*;
+use authority_mask::Masks;
 use entry_model::{Answer, EntryState, EntryStore, Line, Op, Receipt, Test};
 use page_sizes::decode;
 use power_addr::Page;
@@ -94,6 +95,7 @@ fn store_by(line: &Line) -> Option<Op>
         key: false,
         no_execute: false,
         want: Want::Store,
+        masks: Masks::default(),
     })
 }
 

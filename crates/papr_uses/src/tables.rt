@@ -9,6 +9,7 @@ ghost use Rattle.hpt_walk.specs.Laws.{IsEntryState};
 ghost use Rattle.hpt_walk.specs.Translations.{translations, is_paired};
 ghost use Rattle.hpt_walk.specs.Walk.{walk_entries};
 
+use authority_mask::Masks;
 use entry_model::{EntryStore, HReply};
 use h_enter::enter_words;
 use h_update::{h_read, h_remove};
@@ -59,7 +60,7 @@ pub fn entry_of_page(table: &mut PlainTable, page: &Page) -> Option<u32>
     let _order = table.order();
     let _vsid = page.vsid();
     walk_finds_first();
-    let answer = walk(table, page, Want::Load, false, false);
+    let answer = walk(table, page, Want::Load, false, false, Masks::default());
     match answer.found {
         Some(receipt) => Some(receipt.entry),
         None => None,

@@ -38,6 +38,7 @@ answer_by k =
     else if k == 110 * 16 + 7 then answers.NotFound
     else if k == 110 * 16 + 6 then answers.NoMatch
     else if k == 100 * 16 + 5 then answers.Denied
+    else if k == 109 * 16 + 5 then answers.Masked
     else if k == 97 * 16 + 1 then answers.At
     else answers.Worn
 
@@ -51,6 +52,7 @@ answer_back answers.Words = refl
 answer_back answers.NotFound = refl
 answer_back answers.NoMatch = refl
 answer_back answers.Denied = refl
+answer_back answers.Masked = refl
 answer_back answers.At = refl
 answer_back answers.Worn = refl
 
@@ -67,6 +69,7 @@ answer_lacks answers.Words = (refl, refl)
 answer_lacks answers.NotFound = (refl, refl)
 answer_lacks answers.NoMatch = (refl, refl)
 answer_lacks answers.Denied = (refl, refl)
+answer_lacks answers.Masked = (refl, refl)
 answer_lacks answers.At = (refl, refl)
 answer_lacks answers.Worn = (refl, refl)
 

@@ -7,7 +7,7 @@ use Rattle.std.proofs.Math.Facts.{ltb_yes}
 use Rattle.std.specs.Fmt.{decimal}
 use Rattle.std.specs.Str.{IsAscii}
 use Rattle.entry_model.specs.declared.operation.Answer.{Answer}
-use Rattle.entry_model.specs.declared.operation.Answer.TheVariants.{Entered, Taken, Removed, Protected, Was, Words, NotFound, NoMatch, Denied, At, Worn}
+use Rattle.entry_model.specs.declared.operation.Answer.TheVariants.{Entered, Taken, Removed, Protected, Was, Words, NotFound, NoMatch, Denied, Masked, At, Worn}
 use Rattle.entry_model.specs.declared.receipt.Receipt.{Receipt}
 use Rattle.number_text.specs.Numbers.{hex}
 use Rattle.receipt_text.specs.Receipts.{answer_word, bits_digit, receipt_text}
@@ -32,6 +32,7 @@ IsAscii-answer_word Words = IsAscii-from_test (codes "read") tt
 IsAscii-answer_word NotFound = IsAscii-from_test (codes "notfound") tt
 IsAscii-answer_word NoMatch = IsAscii-from_test (codes "nomatch") tt
 IsAscii-answer_word Denied = IsAscii-from_test (codes "denied") tt
+IsAscii-answer_word Masked = IsAscii-from_test (codes "masked") tt
 IsAscii-answer_word At = IsAscii-from_test (codes "at") tt
 IsAscii-answer_word Worn = IsAscii-from_test (codes "worn") tt
 

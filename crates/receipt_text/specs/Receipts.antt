@@ -4,7 +4,7 @@ use Rattle.std.specs.List.{flat_map}
 use Rattle.std.specs.Fmt.{decimal}
 use Rattle.entry_model.specs.State.{State}
 use Rattle.entry_model.specs.declared.operation.Answer.{Answer}
-use Rattle.entry_model.specs.declared.operation.Answer.TheVariants.{Entered, Taken, Removed, Protected, Was, Words, NotFound, NoMatch, Denied, At, Worn}
+use Rattle.entry_model.specs.declared.operation.Answer.TheVariants.{Entered, Taken, Removed, Protected, Was, Words, NotFound, NoMatch, Denied, Masked, At, Worn}
 use Rattle.entry_model.specs.declared.receipt.Receipt.{Receipt}
 use Rattle.receipt_text.specs.declared.mark.Mark.{Mark}
 use Rattle.number_text.specs.Numbers.{hex}
@@ -20,6 +20,7 @@ answer_word Words = codes "read"
 answer_word NotFound = codes "notfound"
 answer_word NoMatch = codes "nomatch"
 answer_word Denied = codes "denied"
+answer_word Masked = codes "masked"
 answer_word At = codes "at"
 answer_word Worn = codes "worn"
 
@@ -51,6 +52,7 @@ mark_of r = record {
   answer = r.answer;
 }
 
+-- The text of a receipt: that of its mark.
 abbrev pub receipt_text : Receipt → List ℕ
 receipt_text r = mark_text (mark_of r)
 

@@ -46,6 +46,7 @@ fn answer_of(word: &[u8]) -> Option<Answer>
         b"notfound" => Some(Answer::NotFound),
         b"nomatch" => Some(Answer::NoMatch),
         b"denied" => Some(Answer::Denied),
+        b"masked" => Some(Answer::Masked),
         b"at" => Some(Answer::At),
         b"worn" => Some(Answer::Worn),
         _ => None,

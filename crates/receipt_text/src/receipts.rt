@@ -27,6 +27,7 @@ fn word_of(answer: Answer) -> &'static str
         Answer::NotFound => "notfound",
         Answer::NoMatch => "nomatch",
         Answer::Denied => "denied",
+        Answer::Masked => "masked",
         Answer::At => "at",
         Answer::Worn => "worn",
     }

@@ -10,17 +10,19 @@ use Rattle.storage_prot.specs.Protection.{permission, rows}
 use Rattle.entry_model.specs.State.{State, empty_state}
 use Rattle.entry_model.specs.declared.operation.Op.{Op}
 use Rattle.entry_model.specs.declared.access_reply.By.TheVariants.{Hit, Walk}
-use Rattle.entry_model.specs.declared.access_reply.Outcome.TheVariants.{At, Denied, NoPage, NoSegment, Ungranted}
+use Rattle.entry_model.specs.declared.access_reply.Outcome.TheVariants.{At, Denied, Masked, NoPage, NoSegment, Ungranted}
 use Rattle.entry_model.specs.Receipt.{receipt_of}
 use Rattle.entry_model.specs.Reply.{has_base}
 use Rattle.trace_line.specs.declared.line.TraceLine.{TraceLine}
-use Rattle.trace_line.specs.declared.act.Act.TheVariants.{Call, Access, SlbMte, SlbClear, Dump}
+use Rattle.trace_line.specs.declared.act.Act.TheVariants.{Call, Access, SlbMte, SlbClear, SetMask, Dump}
+use Rattle.authority_mask.specs.declared.masks.MaskName.TheVariants.{Amr, Iamr}
 use Rattle.trace_reply.specs.declared.reply.Reply.{Reply}
 use Rattle.reply_text.specs.Summary.{summary_text, counts_text, row_text, entries_text}
 use Rattle.reply_text.specs.Text.{text_from, head_text, code_text, entry_text, dump_head, table_text}
 use Rattle.papr_codes.specs.declared.codes.Rc.TheVariants as rc
 use Rattle.entry_model.specs.declared.operation.Op.TheVariants as ops
 use Rattle.trace_reply.specs.declared.reply.Reply.TheVariants as replies
+use Rattle.authority_mask.specs.Authority.{no_masks, row_says, key_rows}
 
 -- An entry of the page of VSID 1 and index 1, read-only, with C and without R.
 used : State
@@ -31,7 +33,7 @@ worn : State
 worn = record used { referenced = true; stamp = 0xFFFFFFFF }
 
 reached : ℕ → Op
-reached tag = ops.Access tag 12 false false Store
+reached tag = ops.Access tag 12 false false Store no_masks
 
 -- ---- codes
 each_code : flat_map code_text (map rc_code (rc.Success ∷ rc.Busy ∷ rc.Closed ∷ rc.LongBusy ∷ rc.Hardware ∷ rc.Function ∷ rc.Parameter ∷ rc.PtegFull ∷ rc.NotFound ∷ rc.NoMem ∷ rc.Resource ∷ [])) ≡ codes " 0 1 2 9900 -1 -2 -4 -6 -7 -9 -16"
@@ -70,8 +72,19 @@ made =
     ∷ []
 
 each_form : text_from lines made ≡ codes "10 63 H_ENTER -6 | 0x9.31.1.taken\n11 0 hcall 0 0xffffffffffffffff 0x0 | 0x9.31.1.read 0xa.0.0.read\n12 1 load at 0x2000003abc hit | 0x4.31.1.at\n13 1 store denied walk | 0x2.31.1.nomatch 0x3.31.1.denied\n14 1 fetch nopage walk | 0x2.31.1.nomatch\n15 1 load nosegment\n16 1 load ungranted 0x7000 walk\n17 1 slbmte ok\n18 1 slbmte refused\n19 1 slbclear ok\n131072 dump table 12 order 22 place 0x1000400000 entries 2\n 0x0 0x1001 0x3193 4294967295\n 0x3fff 0x4000000001000011 0x8000000000003012 2\n"
-unfolding digits lines made used worn reached has_base permission rows hcall_of row_of text_from head_text code_text entry_text dump_head table_text
+unfolding digits lines made used worn reached has_base permission rows row_says key_rows hcall_of row_of text_from head_text code_text entry_text dump_head table_text
 each_form = refl
+
+-- Lines that set masks, and an access that one refuses.
+masked_lines : List TraceLine
+masked_lines = record { number = 6; cpu = 0; act = SetMask Amr 1 } ∷ record { number = 7; cpu = 0; act = SetMask Iamr 1 } ∷ record { number = 8; cpu = 0; act = Access Fetch 0x5000 false } ∷ []
+
+masked_made : List Reply
+masked_made = replies.MaskSet ∷ replies.MaskSet ∷ replies.Access (record { outcome = Masked Iamr; by = Some Hit; receipts = [] }) ∷ []
+
+masks_told : text_from masked_lines masked_made ≡ codes "6 0 amr ok\n7 0 iamr ok\n8 0 fetch masked iamr hit\n"
+unfolding digits masked_lines masked_made text_from head_text
+masks_told = refl
 
 -- ---- the summary
 -- Of no replies, of four, and of those above. A hit that is denied is a hit; an access that is ungranted is an access alone.

@@ -5,6 +5,7 @@ use Rattle.std.specs.Fmt.{decimal, signed_decimal}
 use Rattle.papr_codes.specs.Hcalls.{hcall_of, hcall_name}
 use Rattle.papr_codes.specs.ReturnCodes.{rc_code}
 use Rattle.storage_prot.specs.declared.want.Want.{Want}
+use Rattle.authority_mask.specs.declared.masks.MaskName.{MaskName}
 use Rattle.entry_model.specs.State.{State}
 use Rattle.entry_model.specs.declared.access_reply.AccessReply.{AccessReply}
 use Rattle.entry_model.specs.declared.access_reply.Outcome.{Outcome}
@@ -19,6 +20,7 @@ use Rattle.trace_read.specs.Trace.{AcceptedTrace}
 use Rattle.trace_reply.specs.declared.shown.Shown.{Shown}
 use Rattle.trace_reply.specs.declared.reply.Reply.{Reply}
 use Rattle.storage_prot.specs.declared.want.Want.TheVariants as wants
+use Rattle.authority_mask.specs.declared.masks.MaskName.TheVariants as masks
 use Rattle.entry_model.specs.declared.access_reply.Outcome.TheVariants as outcomes
 use Rattle.entry_model.specs.declared.access_reply.By.TheVariants as ways
 use Rattle.trace_line.specs.declared.act.Act.TheVariants as acts
@@ -31,6 +33,11 @@ want_word wants.Load = codes "load"
 want_word wants.Store = codes "store"
 want_word wants.Fetch = codes "fetch"
 
+-- The word of a mask.
+abbrev pub mask_word : MaskName → List ℕ
+mask_word masks.Amr = codes "amr"
+mask_word masks.Iamr = codes "iamr"
+
 -- The word behind the processor: a call's name where the line spelt it, else `hcall`.
 abbrev pub name_of : Act → List ℕ
 name_of (acts.Call number args spelt) =
@@ -38,6 +45,7 @@ name_of (acts.Call number args spelt) =
 name_of (acts.Access want ea user) = want_word want
 name_of (acts.SlbMte rb rs) = codes "slbmte"
 name_of acts.SlbClear = codes "slbclear"
+name_of (acts.SetMask name value) = mask_word name
 name_of acts.Dump = codes "dump"
 
 -- NUMBER PROCESSOR NAME
@@ -63,6 +71,7 @@ hcall_text h =
 abbrev pub outcome_text : Outcome → List ℕ
 outcome_text (outcomes.At address) = codes " at " ++ hex address
 outcome_text outcomes.Denied = codes " denied"
+outcome_text (outcomes.Masked name) = codes " masked " ++ mask_word name
 outcome_text outcomes.NoPage = codes " nopage"
 outcome_text outcomes.NoSegment = codes " nosegment"
 outcome_text (outcomes.Ungranted address) = codes " ungranted " ++ hex address
@@ -127,6 +136,7 @@ reply_text l (replies.Hcall h) = head_text l.number l.cpu (name_of l.act) ++ hca
 reply_text l (replies.Access r) = head_text l.number l.cpu (name_of l.act) ++ access_text r
 reply_text l (replies.Segment accepted) =
     head_text l.number l.cpu (name_of l.act) ++ verdict_text accepted
+reply_text l replies.MaskSet = head_text l.number l.cpu (name_of l.act) ++ codes " ok\n"
 reply_text l (replies.Dump shown) = dump_text l.number shown
 
 -- The replies of all run lines, in file order.

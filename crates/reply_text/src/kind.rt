@@ -25,7 +25,7 @@ impl ReplyKind {
         match reply {
             Reply::Hcall(reply) => ReplyKind::Call(reply.rc),
             Reply::Access(reply) => ReplyKind::Access(reply.outcome, reply.by),
-            Reply::Segment(_) | Reply::Dump(_) => ReplyKind::Other,
+            Reply::Segment(_) | Reply::MaskSet | Reply::Dump(_) => ReplyKind::Other,
         }
     }
 
@@ -36,7 +36,7 @@ impl ReplyKind {
         match &place.end {
             ReplyEnd::Hcall(registers) => ReplyKind::Call(registers.rc),
             ReplyEnd::Access(end) => ReplyKind::Access(end.outcome, end.by),
-            ReplyEnd::Segment(_) | ReplyEnd::Dump(_) => ReplyKind::Other,
+            ReplyEnd::Segment(_) | ReplyEnd::MaskSet | ReplyEnd::Dump(_) => ReplyKind::Other,
         }
     }
 }

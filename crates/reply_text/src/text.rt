@@ -5,8 +5,9 @@ ghost use Rattle.papr_codes.specs.ReturnCodes.{rc_code};
 ghost use Rattle.trace_reply.specs.Places.{reply_in};
 ghost use Rattle.trace_reply.specs.Replies.{is_dump};
 ghost use Rattle.number_text.specs.Room.{TakesAtMost};
-ghost use Rattle.reply_text.specs.Text.{want_word, name_of, head_text, word_text, code_text, hcall_text, outcome_text, way_text, access_text, verdict_text, entry_text, dump_head, table_text, dump_text, reply_text, text_from};
+ghost use Rattle.reply_text.specs.Text.{want_word, mask_word, name_of, head_text, word_text, code_text, hcall_text, outcome_text, way_text, access_text, verdict_text, entry_text, dump_head, table_text, dump_text, reply_text, text_from};
 
+use authority_mask::MaskName;
 use entry_model::{By, EntryState, Outcome, Receipts, ReplyWords};
 use number_text::{put_decimal, put_hexadecimal, put_signed};
 use papr_codes::{Hcall, Rc};
@@ -36,6 +37,17 @@ fn want_name(want: Want) -> &'static str
     }
 }
 
+/// The word of a mask.
+fn mask_name(name: MaskName) -> &'static str
+    ensures value { result.now ≡ mask_word name }
+    ensures short { length result.now ≤ 4 }
+{
+    match name {
+        MaskName::Amr => "amr",
+        MaskName::Iamr => "iamr",
+    }
+}
+
 /// The word behind the processor in a reply's line.
 #[tactic(auto, using(crate::proofs::Lengths::hcall_name_short))]
 fn name(act: &Act) -> &'static str
@@ -52,6 +64,7 @@ fn name(act: &Act) -> &'static str
         Act::Access { want, .. } => want_name(want),
         Act::SlbMte { .. } => "slbmte",
         Act::SlbClear => "slbclear",
+        Act::SetMask { name, .. } => mask_name(name),
         Act::Dump => "dump",
     }
 }
@@ -133,6 +146,10 @@ fn put_outcome(out: &mut String, outcome: Outcome) -> Result<(), AllocError>
     match outcome {
         Outcome::At(address) => put_hexadecimal(out, " at ", address),
         Outcome::Denied => out.push_str(" denied"),
+        Outcome::Masked(name) => {
+            out.push_str(" masked ")?;
+            out.push_str(mask_name(name))
+        }
         Outcome::NoPage => out.push_str(" nopage"),
         Outcome::NoSegment => out.push_str(" nosegment"),
         Outcome::Ungranted(address) => put_hexadecimal(out, " ungranted ", address),
@@ -288,6 +305,10 @@ pub fn put_reply(out: &mut String, line: &TraceLine, reply: &Reply) -> Result<()
             put_head(out, line)?;
             put_verdict(out, *accepted)
         }
+        Reply::MaskSet => {
+            put_head(out, line)?;
+            out.push_str(" ok\n")
+        }
         Reply::Dump(shown) => put_dump(out, line.number, shown),
     }
 }
@@ -320,6 +341,10 @@ pub fn put_place(out: &mut String, line: &TraceLine, place: &ReplyPlace) -> Resu
         ReplyEnd::Segment(accepted) => {
             put_head(out, line)?;
             put_verdict(out, *accepted)
+        }
+        ReplyEnd::MaskSet => {
+            put_head(out, line)?;
+            out.push_str(" ok\n")
         }
         ReplyEnd::Dump(shown) => put_dump(out, line.number, shown),
     }

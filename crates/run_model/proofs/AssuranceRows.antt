@@ -26,6 +26,7 @@ use Rattle.run_model.specs.CommittedResizes.{commits_by}
 use Rattle.run_model.specs.Landings.{IsLanding}
 use Rattle.papr_codes.specs.declared.calls.Hcall.TheVariants as calls
 use Rattle.trace_line.specs.declared.act.Act.TheVariants as acts
+use Rattle.authority_mask.specs.Authority.{no_masks, row_says, key_rows}
 
 -- A bolted entry of the page of VSID 0x801 and index 1, at index 0 of a table of 2 ^ 18 bytes.
 entry : Bool → State
@@ -36,19 +37,19 @@ made changed op = receipt_of 0 (entry changed) op
 
 -- A store to that page with protection bits 2.
 store : Op
-store = Access 0x801001 12 false false Store
+store = Access 0x801001 12 false false Store no_masks
 
 -- ---- stores
 stores_by_a_store : stores (made false store) ≡ true
-unfolding made entry store has_base permission rows
+unfolding made entry store has_base permission rows row_says key_rows
 stores_by_a_store = refl
 
-no_store_by_a_load : stores (made false (Access 0x801001 12 false false Load)) ≡ false
+no_store_by_a_load : stores (made false (Access 0x801001 12 false false Load no_masks)) ≡ false
 unfolding made entry
 no_store_by_a_load = refl
 
 -- Another page's store is no match.
-no_store_elsewhere : stores (made false (Access 0x801081 12 false false Store)) ≡ false
+no_store_elsewhere : stores (made false (Access 0x801081 12 false false Store no_masks)) ≡ false
 unfolding made entry has_base
 no_store_elsewhere = refl
 
@@ -98,7 +99,7 @@ unfolding made entry
 gone_between h = let no : false ≡ true = h.0 in cc
 
 gone_at_the_end : StoresAreShown (made false store ∷ []) (entry false) (Unit {0}) → ⊥
-unfolding made entry store has_base permission rows
+unfolding made entry store has_base permission rows row_says key_rows
 gone_at_the_end h = let no : false ≡ true = h.0.0 in cc
 
 -- A load asks nothing.
@@ -172,7 +173,7 @@ page : VirtualPage
 page = virtual_page false 0x801 12 1
 
 lands : IsLanding granted 18 0x1234 page (made true store) 0x2000003234
-unfolding granted page made entry store has_base permission rows machine_range tag_of group_of
+unfolding granted page made entry store has_base permission rows row_says key_rows machine_range tag_of group_of
 lands = record {
   allowed = refl;
   of_page = record { valid = refl; tag = refl; size = refl; segment = refl; group = refl };
@@ -183,7 +184,7 @@ lands = record {
 
 -- Another byte of the same grant.
 lands_elsewhere : IsLanding granted 18 0x1234 page (made true store) 0x2000003235 → ⊥
-unfolding granted page made entry store has_base permission rows machine_range
+unfolding granted page made entry store has_base permission rows row_says key_rows machine_range
 lands_elsewhere h = let no : 0x2000003234 ≡ 0x2000003235 = ap (λ x. option_map_or (λ (y : ℕ × Kind). y.0) x 0) h.in_grant in absurd (omega (arith, no))
 
 -- The entry is none of the next page.

@@ -82,6 +82,7 @@ kept_fresh : (b : List State) (page : VirtualPage) (o : Outcome) (found : Option
 kept_fresh b page (outcomes.At x) (Some r) lines h k = all_put_last (IsFresh b) lines (line_of page r) k h
 kept_fresh b page (outcomes.At x) None lines h k = k
 kept_fresh b page outcomes.Denied found lines h k = k
+kept_fresh b page (outcomes.Masked name) found lines h k = k
 kept_fresh b page outcomes.NoPage found lines h k = k
 kept_fresh b page outcomes.NoSegment found lines h k = k
 kept_fresh b page (outcomes.Ungranted x) found lines h k = k
@@ -109,10 +110,12 @@ line_fresh : (set : AccessContext) (processor : Processor) (act : Act) (r : Repl
 line_fresh set processor (acts.Call number args spelt) r a b w run h = h
 line_fresh set processor (acts.SlbMte rb rs) r a b w run h = h
 line_fresh set processor acts.SlbClear r a b w run h = h
+line_fresh set processor (acts.SetMask name value) r a b w run h = h
 line_fresh set processor acts.Dump r a b w run h = h
-line_fresh set processor (acts.Access want ea user) (replies.Access r) a b w run h = segment_fresh set processor (request want ea user) (segment_of processor.slots ea) r a b w run h
+line_fresh set processor (acts.Access want ea user) (replies.Access r) a b w run h = segment_fresh set processor (request want ea user processor.masks) (segment_of processor.slots ea) r a b w run h
 line_fresh set processor (acts.Access want ea user) (replies.Hcall r) a b w run h = h
 line_fresh set processor (acts.Access want ea user) (replies.Segment r) a b w run h = h
+line_fresh set processor (acts.Access want ea user) replies.MaskSet a b w run h = h
 line_fresh set processor (acts.Access want ea user) (replies.Dump r) a b w run h = h
 
 pub no_cache : (states : List State) → AllCached (IsFresh states) empty_cache

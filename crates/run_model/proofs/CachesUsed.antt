@@ -94,7 +94,7 @@ segment_uses context states p a None r h left later = subst (λ (x : AccessReply
 segment_uses context states p a (Some seg) r h left later = way_uses context states seg a (cached_line p.cache seg.page) r.by r h left later
 
 act_uses : (context : AccessContext) (states : List State) (p : Processor) (act : Act) (reply : Reply) → IsReplyToAccess context p act reply → IfSome (gone_line_of p act reply) (λ l. l.stamp < (state_at states l.entry).stamp) → IfSome (gone_line_of p act reply) (λ l. AllLater l (receipts_in reply)) → UsesItsCache states p act reply
-act_uses context states p (acts.Access want ea user) (replies.Access r) h left later = segment_uses context states p (request want ea user) (segment_of p.slots ea) r h left later
+act_uses context states p (acts.Access want ea user) (replies.Access r) h left later = segment_uses context states p (request want ea user p.masks) (segment_of p.slots ea) r h left later
 act_uses context states p act reply h left later = tt
 
 -- ---- the lines of one processor

@@ -144,10 +144,12 @@ line_shows : (set : AccessContext) (act : Act) (reply : Reply) → IsCallReply s
 line_shows set (acts.Call number args spelt) (replies.Hcall h) is = hcall_shows set (hcall_of number) args h is
 line_shows set (acts.Call number args spelt) (replies.Access r) is = tt
 line_shows set (acts.Call number args spelt) (replies.Segment accepted) is = tt
+line_shows set (acts.Call number args spelt) replies.MaskSet is = tt
 line_shows set (acts.Call number args spelt) (replies.Dump shown) is = tt
 line_shows set (acts.Access want ea user) reply is = tt
 line_shows set (acts.SlbMte rb rs) reply is = tt
 line_shows set acts.SlbClear reply is = tt
+line_shows set (acts.SetMask name value) reply is = tt
 line_shows set acts.Dump reply is = tt
 
 -- ---- a run

@@ -123,9 +123,10 @@ segment_kept set p states a (Some seg) h = line_kept set states seg a (current_l
 result_kept : (set : AccessContext) (p : Processor) (states : List State) (act : Act) → AreKept set.grants states → Keeps set.grants (line_result set p states act)
 unfolding line_result
 result_kept set p states (acts.Call number args spelt) h = plan_kept set.grants (hcall_plan set (hcall_of number) args) states (hcall_enters set (hcall_of number) args) h
-result_kept set p states (acts.Access want ea user) h = segment_kept set p states (request want ea user) (segment_of p.slots ea) h
+result_kept set p states (acts.Access want ea user) h = segment_kept set p states (request want ea user p.masks) (segment_of p.slots ea) h
 result_kept set p states (acts.SlbMte rb rs) h = h
 result_kept set p states acts.SlbClear h = h
+result_kept set p states (acts.SetMask name value) h = h
 result_kept set p states acts.Dump h = h
 
 -- ---- runs

@@ -41,3 +41,4 @@ mod ParallelRows
 mod RefusedRows
 mod OpeningAgainRows
 pub mod ProcessorLists
+pub mod MaskedAccesses

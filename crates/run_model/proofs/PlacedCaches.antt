@@ -1,6 +1,6 @@
 -- Each cached line's entry stands in its page's group, and each access lands where its entry maps the page.
 use Rattle.std.specs.Prelude.{IfSome, IsTrue, find, if◌then◌else◌}
-use Rattle.std.proofs.Common.{◌≡◌, ℕ, zero, suc, ◌+◌, ◌<◌, List, [], ◌∷◌, Bool, true, false, not, ap, sym, ◌∙◌, refl, subst, ◌⊎◌, inl, inr, arith, length, map, replicate, Option, Some, None}
+use Rattle.std.proofs.Common.{◌≡◌, ℕ, zero, suc, List, [], ◌∷◌, Bool, true, false, not, ap, sym, ◌∙◌, refl, subst, ◌⊎◌, inl, inr, arith, map, replicate, Option, Some, None}
 use Rattle.std.specs.List.{AllByRecursion}
 use Rattle.std.specs.Option.{option_and_then, option_map}
 use Rattle.std.proofs.lemmas.Bool.{cases_Bool}
@@ -15,6 +15,7 @@ use Rattle.slb_model.specs.declared.segment.Segment.{Segment}
 use Rattle.slb_model.specs.declared.slot.Slot.{Slot}
 use Rattle.slb_model.specs.Slots.{covers, segment_by, segment_with}
 use Rattle.slb_model.specs.Buffer.{segment_of, valid_slots}
+use Rattle.authority_mask.specs.declared.masks.MaskName.{MaskName}
 use Rattle.entry_model.specs.State.{State}
 use Rattle.entry_model.specs.declared.line.Line.{Line}
 use Rattle.entry_model.specs.declared.operation.Answer.{Answer}
@@ -29,7 +30,7 @@ use Rattle.tlb_model.specs.Cache.{is_of, set_of, set_number, cached_line, withou
 use Rattle.tlb_model.specs.CacheAfter.{kept_line, set_with, after_walk, cache_after}
 use Rattle.tlb_model.specs.Processor.{Processor, new_processor}
 use Rattle.tlb_model.proofs.CachedPages.{all_filter, all_put_last, all_in_set_of, all_written, all_cached, all_empty, cached_is_of}
-use Rattle.hpt_walk.specs.Access.{AccessContext, logical_of, landing_at, outcome_by, outcome_of, IsByWay, IsAccessReply, request, mode_for}
+use Rattle.hpt_walk.specs.Access.{AccessContext, logical_of, landing_at, outcome_by, outcome_of, refused_by, refusing_mask, IsByWay, IsAccessReply, request, mode_for}
 use Rattle.hpt_walk.specs.declared.request.Request.{Request}
 use Rattle.hpt_walk.specs.Laws.{WasOfPage, HasFirstWord}
 use Rattle.hpt_walk.specs.Translations.{StandsInItsGroup}
@@ -47,6 +48,7 @@ use Rattle.run_model.specs.Histories.{lines_of_processor, receipts_by}
 use Rattle.run_model.specs.Sections.{processor_after_lines, processors_after_lines}
 use Rattle.run_model.specs.GoodRun.{EachLineOfProcessor, IsAccessLine}
 use Rattle.run_model.specs.Landings.{IsLanding, Lands, LandsByItsEntry}
+use Rattle.run_model.proofs.ProcessorLists.{after_each}
 use Rattle.run_model.proofs.Each.{each_map, each_at, each_front, each_back, each_filter, each_of_map}
 use Rattle.run_model.proofs.LowStamps.{IsLowStamp, top, FromLowStamp}
 use Rattle.run_model.proofs.Memories.{prepare_table}
@@ -84,12 +86,18 @@ at_decided other h = cc
 UsedPage : ℕ → VirtualPage → Receipt → Type 0
 UsedPage order page r = IsTrue (is_decided r.answer) → WasOfPage order page r
 
+refused_lands : (granted : GrantedMemory) (order ea : ℕ) (seg : Segment) (found : Option Receipt) (mask : Option MaskName) → Lands granted order ea (Some seg) found (refused_by mask)
+refused_lands granted order ea seg None None = tt
+refused_lands granted order ea seg None (Some name) = tt
+refused_lands granted order ea seg (Some r) None = tt
+refused_lands granted order ea seg (Some r) (Some name) = tt
+
 found_lands : (granted : GrantedMemory) (order ea : ℕ) (seg : Segment) (found : Option Receipt) → AreApart granted → IfSome found (λ r. IsLowStamp granted.grants top r.before) → IfSome found (λ r. IsTrue (is_decided r.answer) → WasOfPage order seg.page r) → Lands granted order ea (Some seg) found (outcome_by granted.grants ea found)
 found_lands granted order ea seg None apart low_stamp used = tt
 found_lands granted order ea seg (Some r) apart low_stamp used = at (cases_Bool (is_at r.answer)) where
   at : (is_at r.answer ≡ true) ⊎ (is_at r.answer ≡ false) → Lands granted order ea (Some seg) (Some r) (outcome_by granted.grants ea (Some r))
   at (inl on) = rw on (landing granted order ea seg.page r apart low_stamp on (used (at_decided r.answer on)) seg refl)
-  at (inr off) = rw off tt
+  at (inr off) = rw off (refused_lands granted order ea seg (Some r) (refusing_mask r))
 
 each_found : (P : Receipt → Type 0) (rs : List Receipt) → AllByRecursion P rs → IfSome (found_of rs) P
 each_found P [] h = tt
@@ -125,6 +133,7 @@ kept_placed : (granted : GrantedMemory) (order ea : ℕ) (seg : Segment) (o : Ou
 kept_placed granted order ea seg (outcomes.At x) (Some r) lines h k = all_put_last (StandsInItsGroup order) lines _ k h.of_page.group
 kept_placed granted order ea seg (outcomes.At x) None lines h k = k
 kept_placed granted order ea seg outcomes.Denied found lines h k = k
+kept_placed granted order ea seg (outcomes.Masked name) found lines h k = k
 kept_placed granted order ea seg outcomes.NoPage found lines h k = k
 kept_placed granted order ea seg outcomes.NoSegment found lines h k = k
 kept_placed granted order ea seg (outcomes.Ungranted x) found lines h k = k
@@ -155,13 +164,15 @@ segment_lands granted set p a (Some seg) r apart same is placed low h =
     (lands, way_placed granted set.order a.ea seg r.by r p.cache lands placed)
 
 line_lands : (granted : GrantedMemory) (set : AccessContext) (p : Processor) (act : Act) (reply : Reply) → AreApart granted → set.grants ≡ granted.grants → ProcessorPlaced set.order p → FromLowStamp granted.grants top (receipts_in reply) → IsReplyToAccess set p act reply → LandsAndPlaces granted set.order p act reply
-line_lands granted set p (acts.Access want ea user) (replies.Access r) apart same placed low h = segment_lands granted set p (request want ea user) (segment_of p.slots ea) r apart same (segment_page p.slots ea) placed low h
+line_lands granted set p (acts.Access want ea user) (replies.Access r) apart same placed low h = segment_lands granted set p (request want ea user p.masks) (segment_of p.slots ea) r apart same (segment_page p.slots ea) placed low h
 line_lands granted set p (acts.Access want ea user) (replies.Hcall r) apart same placed low h = absurd h
 line_lands granted set p (acts.Access want ea user) (replies.Segment r) apart same placed low h = absurd h
+line_lands granted set p (acts.Access want ea user) replies.MaskSet apart same placed low h = absurd h
 line_lands granted set p (acts.Access want ea user) (replies.Dump r) apart same placed low h = absurd h
 line_lands granted set p (acts.Call number args spelt) reply apart same placed low h = (tt, placed)
 line_lands granted set p (acts.SlbMte rb rs) reply apart same placed low h = (tt, placed)
 line_lands granted set p acts.SlbClear reply apart same placed low h = (tt, placed)
+line_lands granted set p (acts.SetMask name value) reply apart same placed low h = (tt, placed)
 line_lands granted set p acts.Dump reply apart same placed low h = (tt, placed)
 
 -- ---- the lines of a processor
@@ -190,16 +201,8 @@ pub empty_placed : (order : ℕ) → ProcessorPlaced order new_processor
 unfolding new_processor
 empty_placed order = all_empty (StandsInItsGroup order)
 
--- Where the lines of each processor keep its lines in their groups, all are so behind the section.
-after_placed : (order first : ℕ) (ps : List Processor) (ts : List RepliedLine) → ((k : ℕ) → k < length ps → ProcessorPlaced order (processor_after_lines (processor_at ps k) (lines_of_processor (first + k) ts))) → AllByRecursion (ProcessorPlaced order) (processors_after_lines first ps ts)
-after_placed order first [] ts h = tt
-after_placed order first (p ∷ ps) ts h = (
-  subst (λ n. ProcessorPlaced order (processor_after_lines p (lines_of_processor n ts))) (omega arith) (h 0 (omega arith)),
-  after_placed order (suc first) ps ts (λ k low. subst (λ n. ProcessorPlaced order (processor_after_lines (processor_at ps k) (lines_of_processor n ts))) (omega arith) (h (suc k) (omega arith))),
-)
-
 pub section_lands : (granted : GrantedMemory) (w : RunState) (b : List State) (ts : List RepliedLine) → AreApart granted → w.grants ≡ granted.grants → AllPlaced w → FromLowStamp granted.grants top (receipts_by ts) → ((cpu : ℕ) → EachLineOfProcessor (IsAccessLine (context_of w) b) (processor_at w.processors cpu) (lines_of_processor cpu ts)) → ((cpu : ℕ) → EachLineOfProcessor (λ p t. LandsByItsEntry granted w.memory.table.order p t.line.act t.reply) (processor_at w.processors cpu) (lines_of_processor cpu ts)) × AllByRecursion (ProcessorPlaced w.memory.table.order) (processors_after_lines 0 w.processors ts)
-section_lands granted w b ts apart same placed low h = (λ cpu. (one cpu).0, after_placed w.memory.table.order 0 w.processors ts (λ k within. subst (λ n. ProcessorPlaced w.memory.table.order (processor_after_lines (processor_at w.processors k) (lines_of_processor n ts))) (omega arith) (one k).1)) where
+section_lands granted w b ts apart same placed low h = (λ cpu. (one cpu).0, after_each (ProcessorPlaced w.memory.table.order) 0 w.processors ts (λ k within. subst (λ n. ProcessorPlaced w.memory.table.order (processor_after_lines (processor_at w.processors k) (lines_of_processor n ts))) (omega arith) (one k).1)) where
   one : (cpu : ℕ) → EachLineOfProcessor (λ p t. LandsByItsEntry granted w.memory.table.order p t.line.act t.reply) (processor_at w.processors cpu) (lines_of_processor cpu ts) × ProcessorPlaced w.memory.table.order (processor_after_lines (processor_at w.processors cpu) (lines_of_processor cpu ts))
   one cpu =
       lines_land granted (context_of w) b (processor_at w.processors cpu) (lines_of_processor cpu ts) apart same

@@ -1,8 +1,21 @@
--- Lists of processors that are made, or whose caches are cleared, one after the other.
+-- Lists of processors: after their lines, made one after the other, and with their caches cleared.
 use Rattle.std.proofs.Common.{◌≡◌, ℕ, zero, suc, ◌+◌, ◌<◌, List, [], ◌∷◌, ◌++◌, length, map, take, drop, get_or, slice_set, replicate, refl, ap, sym, ◌∙◌, subst, arith}
 use Rattle.std.proofs.lemmas.List.{replicate_more}
 use Rattle.tlb_model.specs.Processor.{Processor, new_processor}
+use Rattle.std.specs.List.{AllByRecursion}
+use Rattle.trace_reply.specs.Replies.{RepliedLine}
+use Rattle.run_model.specs.Processors.{processor_at}
+use Rattle.run_model.specs.Histories.{lines_of_processor}
+use Rattle.run_model.specs.Sections.{processor_after_lines, processors_after_lines}
 use Rattle.run_model.specs.RunState.{without_cache}
+
+-- What holds of each processor after its own lines holds of all of them after the lines of all.
+pub after_each : (P : Processor → Type 0) (first : ℕ) (ps : List Processor) (ts : List RepliedLine) → ((k : ℕ) → k < length ps → P (processor_after_lines (processor_at ps k) (lines_of_processor (first + k) ts))) → AllByRecursion P (processors_after_lines first ps ts)
+after_each P first [] ts h = tt
+after_each P first (p ∷ ps) ts h = (
+  subst (λ n. P (processor_after_lines p (lines_of_processor n ts))) (omega arith) (h 0 (omega arith)),
+  after_each P (suc first) ps ts (λ k low. subst (λ n. P (processor_after_lines (processor_at ps k) (lines_of_processor n ts))) (omega arith) (h (suc k) (omega arith))),
+)
 
 -- One more of them is cleared.
 pub cleared_more : (processors : List Processor) (i : ℕ) (d : Processor) → i < length processors → slice_set (map without_cache (take i processors) ++ drop i processors) i (without_cache (get_or processors i d)) ≡ map without_cache (take (i + 1) processors) ++ drop (i + 1) processors

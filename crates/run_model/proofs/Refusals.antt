@@ -67,7 +67,7 @@ reply_stands s (ops.Protect test flags) = where_stands is_change (is_found s tes
 reply_stands s ops.Read = λ _. refl
 reply_stands s ops.ClearRef = where_stands is_change s.valid s answers.Was (record s { referenced = false }) refl
 reply_stands s ops.ClearMod = where_stands is_change s.valid s answers.Was (record s { changed = false }) refl
-reply_stands s (ops.Access tag base key no_execute want) = λ off. access_undone s (ops.Access tag base key no_execute want) refl (not_at _ off)
+reply_stands s (ops.Access tag base key no_execute want masks) = λ off. access_undone s (ops.Access tag base key no_execute want masks) refl (not_at _ off)
 
 -- ---- receipts
 -- The receipt came without a change.

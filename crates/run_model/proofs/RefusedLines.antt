@@ -141,6 +141,7 @@ found_of_page page (l ∷ ls) line found =
 no_line_kept : (page : VirtualPage) (outcome : Outcome) (found : Option Receipt) → ends_at outcome ≡ false → kept_line page outcome found ≡ None
 no_line_kept page (outcomes.At address) found off = cc
 no_line_kept page outcomes.Denied found off = refl
+no_line_kept page (outcomes.Masked name) found off = refl
 no_line_kept page outcomes.NoPage found off = refl
 no_line_kept page outcomes.NoSegment found off = refl
 no_line_kept page (outcomes.Ungranted address) found off = refl
@@ -165,14 +166,14 @@ false_of_not : (b : Bool) → not b ≡ true → b ≡ false
 false_of_not false h = refl
 false_of_not true h = cc
 
-access_all : (context : AccessContext) (p : Processor) (want : _) (ea : ℕ) (user : Bool) (segment : Option Segment) (r : AccessReply) → segment_of p.slots ea ≡ segment → IsAccessReply context (cached_line p.cache) (request want ea user) segment r → IsNowhere r.outcome → LeavesAll p (acts.Access want ea user) (replies.Access r)
+access_all : (context : AccessContext) (p : Processor) (want : _) (ea : ℕ) (user : Bool) (segment : Option Segment) (r : AccessReply) → segment_of p.slots ea ≡ segment → IsAccessReply context (cached_line p.cache) (request want ea user p.masks) segment r → IsNowhere r.outcome → LeavesAll p (acts.Access want ea user) (replies.Access r)
 access_all context p want ea user None r e is h = record {
-  entries = access_leaves context (cached_line p.cache) (request want ea user) None r is h;
+  entries = access_leaves context (cached_line p.cache) (request want ea user p.masks) None r is h;
   slots = refl;
   cache = rw e refl;
 }
 access_all context p want ea user (Some seg) r e is h = record {
-  entries = access_leaves context (cached_line p.cache) (request want ea user) (Some seg) r is h;
+  entries = access_leaves context (cached_line p.cache) (request want ea user p.masks) (Some seg) r is h;
   slots = refl;
   cache = rw e (way_cache p.cache seg r.by r h.off);
 }

@@ -92,6 +92,7 @@ quiet_after w (acts.Call number args spelt) h = resize_after w (hcall_of number)
 quiet_after w (acts.Access want ea user) h = same_after w.memory h
 quiet_after w (acts.SlbMte rb rs) h = same_after w.memory h
 quiet_after w acts.SlbClear h = same_after w.memory h
+quiet_after w (acts.SetMask name value) h = same_after w.memory h
 quiet_after w acts.Dump h = same_after w.memory h
 
 -- ---- what is carried

@@ -129,8 +129,9 @@ segment_line granted set cached a (Some seg) r h = way_line granted set seg a (c
 -- ---- each line
 pub line_tame : (granted : GrantedMemory) (set : AccessContext) (processor : Processor) (act : Act) (reply : Reply) → set.grants ≡ granted.grants → IsOfKind act reply → IsCallReply set act reply → IsReplyToAccess set processor act reply → IsTameLine granted reply
 line_tame granted set processor (acts.Call number args spelt) (replies.Hcall h) same kind call acc = call_line granted set (hcall_of number) args h same call
-line_tame granted set processor (acts.Access want ea user) (replies.Access r) same kind call acc = segment_line granted set (cached_line processor.cache) (request want ea user) (segment_of processor.slots ea) r acc
+line_tame granted set processor (acts.Access want ea user) (replies.Access r) same kind call acc = segment_line granted set (cached_line processor.cache) (request want ea user processor.masks) (segment_of processor.slots ea) r acc
 line_tame granted set processor (acts.SlbMte rb rs) (replies.Segment accepted) same kind call acc = record { enters = tt; few = omega arith; safe = λ low_stamp. tt }
 line_tame granted set processor acts.SlbClear (replies.Segment accepted) same kind call acc = record { enters = tt; few = omega arith; safe = λ low_stamp. tt }
+line_tame granted set processor (acts.SetMask name value) replies.MaskSet same kind call acc = record { enters = tt; few = omega arith; safe = λ low_stamp. tt }
 line_tame granted set processor acts.Dump (replies.Dump shown) same kind call acc = record { enters = tt; few = omega arith; safe = λ low_stamp. tt }
 line_tame granted set processor act reply same kind call acc = absurd kind

@@ -199,6 +199,7 @@ quiet_size w (acts.Call number args spelt) = resize_size w (hcall_of number) arg
 quiet_size w (acts.Access want ea user) = refl
 quiet_size w (acts.SlbMte rb rs) = refl
 quiet_size w acts.SlbClear = refl
+quiet_size w (acts.SetMask name value) = refl
 quiet_size w acts.Dump = refl
 
 -- each line of each section has one of n processors

@@ -37,6 +37,7 @@ use Rattle.run_model.specs.RunState.{reply_of_code, context_of, run_quiet_line, 
 use Rattle.run_model.proofs.SmallPartition.{small}
 use Rattle.entry_model.specs.declared.operation.Op.TheVariants as ops
 use Rattle.trace_reply.specs.declared.reply.Reply.TheVariants as replies
+use Rattle.authority_mask.specs.Authority.{no_masks, row_says, key_rows}
 
 replied_line : ℕ → ℕ → Act → Reply → RepliedLine
 replied_line number cpu act reply = record { line = record { number = number; cpu = cpu; act = act }; reply = reply }
@@ -55,7 +56,7 @@ protected : Receipt
 protected = receipt_of 0 (at_stamp 1) (ops.Protect (record { avpn = None; andcond = None }) 0x2)
 
 reached : State → Receipt
-reached before = receipt_of 0 before (ops.Access 0x1001 12 false false Load)
+reached before = receipt_of 0 before (ops.Access 0x1001 12 false false Load no_masks)
 
 hcall : ℕ → ℕ → ℕ → Receipt → RepliedLine
 hcall n cpu number r = replied_line n cpu (Call number (0 ∷ 0 ∷ 0 ∷ 0 ∷ []) true) (replies.Hcall (record { rc = Success; words = []; receipts = r ∷ [] }))
@@ -99,16 +100,16 @@ by_processor = refl
 
 -- It has the reply of the closing states.
 dump_is_replied : (run_quiet_line (section_end (small 2) (cut replied_lines).0) Dump).0 ≡ dump.reply
-unfolding replied_lines replied_line hcall walk resize dump is_quiet hcall_of row_of entered protected reached at_stamp with_r section_end closing_states place pair_of state_eq has_base permission rows run_quiet_line shown_of
+unfolding replied_lines replied_line hcall walk resize dump is_quiet hcall_of row_of entered protected reached at_stamp with_r section_end closing_states place pair_of state_eq has_base permission rows row_says key_rows run_quiet_line shown_of
 dump_is_replied = refl
 
 -- The one behind the dump opens on the states that the one before it closes on, and so on; the one behind the commit on a table of the next number.
 opening_states : map (λ (s : Section). state_at s.before.memory.table.states 0) (take 3 opened) ≡ empty_state 0 ∷ with_r ∷ with_r ∷ []
-unfolding opened replied_lines replied_line hcall walk resize dump is_quiet hcall_of row_of entered protected reached at_stamp with_r section_end closing_states place pair_of state_eq has_base permission rows run_quiet_line run_resize prepare_result
+unfolding opened replied_lines replied_line hcall walk resize dump is_quiet hcall_of row_of entered protected reached at_stamp with_r section_end closing_states place pair_of state_eq has_base permission rows row_says key_rows run_quiet_line run_resize prepare_result
 opening_states = refl
 
 opening_numbers : map (λ (s : Section). s.before.memory.table.number) opened ≡ 0 ∷ 0 ∷ 0 ∷ 1 ∷ []
-unfolding opened replied_lines replied_line hcall walk resize dump is_quiet hcall_of row_of entered protected reached at_stamp with_r section_end closing_states place pair_of state_eq has_base permission rows run_quiet_line run_resize prepare_result commit_result outcome_of_prepare outcome_of_commit lowest_place multiples taken_with taken_without collision_of collision_at first_with target_of carried_page
+unfolding opened replied_lines replied_line hcall walk resize dump is_quiet hcall_of row_of entered protected reached at_stamp with_r section_end closing_states place pair_of state_eq has_base permission rows row_says key_rows run_quiet_line run_resize prepare_result commit_result outcome_of_prepare outcome_of_commit lowest_place multiples taken_with taken_without collision_of collision_at first_with target_of carried_page
 opening_numbers = refl
 
 opening_ends : map (λ (s : Section). s.quiet) opened ≡ Some dump ∷ Some (resize 12 0x36C) ∷ Some (resize 13 0x370) ∷ None ∷ []
@@ -118,20 +119,20 @@ opening_ends = refl
 -- Processor 0 keeps its segment, and the line of its walk, until the commit.
 filled : Processor
 unfolding slots_after no_slots slot_of_words empty_cache
-filled = record { slots = slots_after no_slots 0x8000000 0x1000; cache = slice_set empty_cache 1 (record { page = virtual_page false 1 12 1; entry = 0; stamp = 2; dword0 = 0x1001; dword1 = 0x3012 } ∷ []) }
+filled = record { slots = slots_after no_slots 0x8000000 0x1000; masks = no_masks; cache = slice_set empty_cache 1 (record { page = virtual_page false 1 12 1; entry = 0; stamp = 2; dword0 = 0x1001; dword1 = 0x3012 } ∷ []) }
 
 -- Behind it the segment alone.
 bare : Processor
 bare = record filled { cache = empty_cache }
 
 opening_processors : map (λ (s : Section). s.before.processors) opened ≡ (new_processor ∷ new_processor ∷ []) ∷ (filled ∷ new_processor ∷ []) ∷ (filled ∷ new_processor ∷ []) ∷ (bare ∷ new_processor ∷ []) ∷ []
-unfolding filled bare opened replied_lines replied_line hcall walk resize dump is_quiet hcall_of row_of entered protected reached at_stamp with_r section_end closing_states place pair_of state_eq has_base permission rows run_quiet_line run_resize prepare_result commit_result outcome_of_prepare outcome_of_commit lowest_place multiples taken_with taken_without collision_of collision_at first_with target_of carried_page mte_refusal tests_of_words slots_after no_slots slot_of_words segment_of new_processor empty_cache cached_line same_page after_walk
+unfolding filled bare opened replied_lines replied_line hcall walk resize dump is_quiet hcall_of row_of entered protected reached at_stamp with_r section_end closing_states place pair_of state_eq has_base permission rows row_says key_rows run_quiet_line run_resize prepare_result commit_result outcome_of_prepare outcome_of_commit lowest_place multiples taken_with taken_without collision_of collision_at first_with target_of carried_page mte_refusal tests_of_words slots_after no_slots slot_of_words segment_of new_processor empty_cache cached_line same_page after_walk
 opening_processors = refl
 
 -- ---- what a processor's lines tell of an entry
 -- A walk past the cached line says that it was gone, before its receipt; the first walk is past none.
 told : events_by bare (walk 5 0 (reached (at_stamp 2)) ∷ walk 6 0 (reached (at_stamp 3)) ∷ []) ≡ made (reached (at_stamp 2)) ∷ gone (record { page = virtual_page false 1 12 1; entry = 0; stamp = 2; dword0 = 0x1001; dword1 = 0x3012 }) ∷ made (reached (at_stamp 3)) ∷ []
-unfolding filled bare walk replied_line reached at_stamp has_base permission rows slots_after no_slots slot_of_words segment_of empty_cache cached_line same_page after_walk
+unfolding filled bare walk replied_line reached at_stamp has_base permission rows row_says key_rows slots_after no_slots slot_of_words segment_of empty_cache cached_line same_page after_walk
 told = refl
 
 -- Where the entry closes at the line's stamp, a walk past it is no good reply; at a later stamp it is.

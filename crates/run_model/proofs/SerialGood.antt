@@ -45,9 +45,10 @@ segment_kind set processor states a (Some seg) = line_kind set states seg a (cur
 on_kind : (set : AccessContext) (processor : Processor) (states : List State) (act : Act) → is_quiet act ≡ false → IsOfKind act (line_result set processor states act).0
 unfolding line_result is_quiet
 on_kind set processor states (acts.Call number args spelt) q = tt
-on_kind set processor states (acts.Access want ea user) q = segment_kind set processor states (request want ea user) (segment_of processor.slots ea)
+on_kind set processor states (acts.Access want ea user) q = segment_kind set processor states (request want ea user processor.masks) (segment_of processor.slots ea)
 on_kind set processor states (acts.SlbMte rb rs) q = tt
 on_kind set processor states acts.SlbClear q = tt
+on_kind set processor states (acts.SetMask name value) q = tt
 on_kind set processor states acts.Dump q = cc
 
 resize_kind : (w : RunState) (call : Hcall) (number : ℕ) (args : List ℕ) (spelt : Bool) → IsOfKind (acts.Call number args spelt) (run_resize w call args).0
@@ -70,6 +71,7 @@ quiet_kind w acts.Dump q = tt
 quiet_kind w (acts.Access want ea user) q = cc
 quiet_kind w (acts.SlbMte rb rs) q = cc
 quiet_kind w acts.SlbClear q = cc
+quiet_kind w (acts.SetMask name value) q = cc
 
 one_kind : (w : RunState) (l : TraceLine) → IsOfKind l.act (run_line w l).0
 unfolding run_line

@@ -33,6 +33,7 @@ use Rattle.hpt_walk.specs.Walk.{access_op, group_calls, walk_calls}
 use Rattle.hpt_walk.specs.Translations.{TranslatesItsPage}
 use Rattle.hpt_walk.specs.Access.{AccessContext, outcome_of, hit_calls, no_segment_reply, IsWalk, IsByWay, IsAccessReply, request, mode_for}
 use Rattle.hpt_walk.specs.declared.request.Request.{Request}
+use Rattle.storage_prot.specs.declared.want.Want.{Want}
 use Rattle.tlb_model.specs.CacheAfter.{gone_by_way, gone_line}
 use Rattle.tlb_model.specs.Processor.{Processor}
 use Rattle.hpt_walk.proofs.Walks.{group_in_table}
@@ -109,9 +110,21 @@ hit_decided seg a line s of now words =
     subst (λ p. is_decided (reply_of s (access_op p (mode_for seg a) (is_secondary line.dword0))).0 ≡ true) of (known_is_decided line s (access_op line.page (mode_for seg a) (is_secondary line.dword0)) (line_matches line (mode_for seg a) words) now)
 
 -- ---- accesses
+-- The reply of an access of this processor.
+abbrev IsAnswer : AccessContext → Processor → Request → Reply → Type 0
+IsAnswer set processor a (replies.Access r) = IsAccessReply set (cached_line processor.cache) a (segment_of processor.slots a.ea) r
+IsAnswer set processor a other = ⊥
+
+answers : (set : AccessContext) (processor : Processor) (want : Want) (ea : ℕ) (user : Bool) (reply : Reply) → IsAnswer set processor (request want ea user processor.masks) reply → IsReplyToAccess set processor (acts.Access want ea user) reply
+answers set processor want ea user (replies.Access r) h = h
+answers set processor want ea user (replies.Hcall r) h = absurd h
+answers set processor want ea user (replies.Segment accepted) h = absurd h
+answers set processor want ea user replies.MaskSet h = absurd h
+answers set processor want ea user (replies.Dump shown) h = absurd h
+
 -- An access that was answered on these states.
 pub record Reached (set : AccessContext) (processor : Processor) (a : Request) (states : List State) (x : Reply × List State) : Type 0 where
-  pub reply : IsReplyToAccess set processor (acts.Access a.want a.ea a.user) x.0
+  pub reply : IsAnswer set processor a x.0
   pub gone : IsPassed states (gone_line_of processor (acts.Access a.want a.ea a.user) x.0)
   pub run : IsRun states (receipts_in x.0) x.1
 
@@ -154,9 +167,10 @@ line_meets set processor l states (acts.Call number args spelt) e q size low fre
     record { call = m.0; access = tt; gone = tt; run = m.1 }
 line_meets set processor l states (acts.SlbMte rb rs) e q size low fresh = record { call = refl; access = tt; gone = tt; run = refl }
 line_meets set processor l states acts.SlbClear e q size low fresh = record { call = refl; access = tt; gone = tt; run = refl }
+line_meets set processor l states (acts.SetMask name value) e q size low fresh = record { call = refl; access = tt; gone = tt; run = refl }
 line_meets set processor l states (acts.Access want ea user) e q size low fresh =
-    let m = segment_meets set processor (request want ea user) states (segment_of processor.slots ea) refl size low fresh in
-    record { call = tt; access = m.reply; gone = m.gone; run = m.run }
+    let m = segment_meets set processor (request want ea user processor.masks) states (segment_of processor.slots ea) refl size low fresh in
+    record { call = tt; access = answers set processor want ea user _ m.reply; gone = m.gone; run = m.run }
 line_meets set processor l states acts.Dump e q size low fresh = cc
 
 pub replied_line_meets : (set : AccessContext) (processors : List Processor) (states : List State) (l : TraceLine) → is_quiet l.act ≡ false → IsSound set.order processors states → IsUndisturbed set (processor_at processors l.cpu) states (record { line = l; reply = (line_result set (processor_at processors l.cpu) states l.act).0 }) (line_result set (processor_at processors l.cpu) states l.act).1

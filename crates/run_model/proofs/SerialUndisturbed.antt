@@ -67,6 +67,7 @@ quiet_sound w (acts.Call number args spelt) h = resize_sound w (hcall_of number)
 quiet_sound w (acts.Access want ea user) h = h
 quiet_sound w (acts.SlbMte rb rs) h = h
 quiet_sound w acts.SlbClear h = h
+quiet_sound w (acts.SetMask name value) h = h
 quiet_sound w acts.Dump h = h
 
 -- ---- a line in front of what stands

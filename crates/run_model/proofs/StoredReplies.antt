@@ -1,10 +1,9 @@
 -- Each valid entry has words that H_ENTER would store as they are, and no operation changes that but one that enters other words.
-use Rattle.std.specs.Prelude.{if◌then◌else◌, ◌==◌, ◌||◌}
+use Rattle.std.specs.Prelude.{if◌then◌else◌, ◌==◌}
 use Rattle.std.proofs.Common.{◌≡◌, ℕ, ◌+◌, ◌*◌, ◌^◌, ◌<◌, List, Bool, true, false, bit_and, bit_or, ap, sym, ◌∙◌, refl, lit<, arith}
 use Rattle.std.specs.Int.Bits.{and_zero_l, and_zero_r, or_zero_r}
 use Rattle.std.proofs.lemmas.Nat.{and_block}
-use Rattle.storage_prot.specs.Protection.{allowed}
-use Rattle.hpte_fields.specs.Fields.{protected_word, without_rc, stored_second, pp_of, is_no_execute}
+use Rattle.hpte_fields.specs.Fields.{protected_word, without_rc, stored_second}
 use Rattle.hpte_fields.proofs.Masks.{mask_of_or, masks_join, shifted_apart}
 use Rattle.hpte_fields.proofs.PageBits.{without_rc_page, protected_page}
 use Rattle.frame_grants.specs.declared.grant.Grant.{Grant}
@@ -12,7 +11,7 @@ use Rattle.trace_read.proofs.StoredWords.{AreStored, same_stored}
 use Rattle.entry_model.specs.State.{State, empty_state}
 use Rattle.entry_model.specs.declared.operation.Answer.{Answer}
 use Rattle.entry_model.specs.declared.operation.Op.{Op}
-use Rattle.entry_model.specs.Reply.{reply_of, change_to, change_where, entered_state, is_found, is_match, answer_of_match, touched_state, access_mode}
+use Rattle.entry_model.specs.Reply.{reply_of, change_to, change_where, entered_state, is_found, is_match, answer_of_match, answer_of_allowed, masks_refuse, is_allowed, touched_state, access_mode}
 use Rattle.entry_model.proofs.PlanBounds.{EntersOnly}
 use Rattle.entry_model.specs.declared.operation.Answer.TheVariants as answers
 use Rattle.entry_model.specs.declared.operation.Op.TheVariants as ops
@@ -110,4 +109,4 @@ reply_stored grants s (ops.Protect test flags) w h = where_stored (is_found s te
 reply_stored grants s ops.Read w h = h
 reply_stored grants s ops.ClearRef w h = where_stored s.valid grants s answers.Was (record s { referenced = false }) h h
 reply_stored grants s ops.ClearMod w h = where_stored s.valid grants s answers.Was (record s { changed = false }) h h
-reply_stored grants s (ops.Access tag base key no_execute want) w h = either_stored (is_match s tag base) grants (answer_of_match s (access_mode key no_execute want)) (answers.NoMatch, s) (either_stored (allowed (pp_of s.dword1) key (no_execute || is_no_execute s.dword1) want) grants (answers.At, touched_state s want) (answers.Denied, s) h h) h
+reply_stored grants s (ops.Access tag base key no_execute want masks) w h = either_stored (is_match s tag base) grants (answer_of_match s (access_mode key no_execute want masks)) (answers.NoMatch, s) (either_stored (is_allowed s (access_mode key no_execute want masks)) grants (answer_of_allowed s (access_mode key no_execute want masks)) (answers.Denied, s) (either_stored (masks_refuse s (access_mode key no_execute want masks)) grants (answers.Masked, s) (answers.At, touched_state s want) h h) h) h

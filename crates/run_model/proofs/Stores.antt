@@ -4,18 +4,19 @@ use Rattle.std.proofs.Common.{◌≡◌, ℕ, ◌+◌, List, [], ◌∷◌, Bool
 use Rattle.std.proofs.lemmas.Bool.{cases_Bool, and_parts}
 use Rattle.storage_prot.specs.declared.want.Want.{Want}
 use Rattle.storage_prot.specs.Protection.{allowed}
-use Rattle.hpte_fields.specs.Fields.{pp_of, is_no_execute, protected_word}
+use Rattle.hpte_fields.specs.Fields.{protected_word}
 use Rattle.entry_model.specs.State.{State, empty_state}
 use Rattle.entry_model.specs.declared.operation.Op.{Op}
 use Rattle.entry_model.specs.declared.operation.Answer.{Answer}
 use Rattle.entry_model.specs.declared.receipt.Receipt.{Receipt}
 use Rattle.entry_model.specs.Receipt.{after_of, is_at}
-use Rattle.entry_model.specs.Reply.{reply_of, change_to, change_where, is_found, is_match, answer_of_match, touched_state, is_store, access_mode}
+use Rattle.entry_model.specs.Reply.{reply_of, change_to, change_where, is_found, is_match, answer_of_match, answer_of_allowed, masks_refuse, is_allowed, touched_state, is_store, access_mode}
 use Rattle.entry_model.specs.History.{IsLegal}
 use Rattle.run_model.specs.ShownStores.{clears_by, clears, stores_by, stores, ShowsChange, StoresAreShown}
 use Rattle.storage_prot.specs.declared.want.Want.TheVariants as wants
 use Rattle.entry_model.specs.declared.operation.Op.TheVariants as ops
 use Rattle.entry_model.specs.declared.operation.Answer.TheVariants as answers
+use Rattle.authority_mask.specs.declared.masks.Masks.{Masks}
 
 -- An entry whose C is set.
 pub record IsDirty (s : State) : Type 0 where
@@ -41,9 +42,11 @@ op_keeps s (ops.Protect test flags) d c = where_dirty (is_found s test) s answer
 op_keeps s ops.Read d c = d
 op_keeps s ops.ClearRef d c = where_dirty s.valid s answers.Was (record s { referenced = false }) (λ a. Unit {0}) d (λ e. record { valid = d.valid; changed = d.changed }) tt
 op_keeps s ops.ClearMod d c = where_dirty s.valid s answers.Was (record s { changed = false }) (λ a. clears_by ops.ClearMod a ≡ false) d (λ e. absurd (let no : true ≡ false = e in cc)) c
-op_keeps s (ops.Access tag base key no_execute want) d c =
-    either_dirty (is_match s tag base) (answer_of_match s (access_mode key no_execute want)) (answers.NoMatch, s) (λ a. Unit {0})
-    (either_dirty (allowed (pp_of s.dword1) key (no_execute || is_no_execute s.dword1) want) (answers.At, touched_state s want) (answers.Denied, s) (λ a. Unit {0}) (λ e. record { valid = d.valid; changed = rw d.changed refl }) (λ e. d))
+op_keeps s (ops.Access tag base key no_execute want masks) d c =
+    either_dirty (is_match s tag base) (answer_of_match s (access_mode key no_execute want masks)) (answers.NoMatch, s) (λ a. Unit {0})
+    (either_dirty (is_allowed s (access_mode key no_execute want masks)) (answer_of_allowed s (access_mode key no_execute want masks)) (answers.Denied, s) (λ a. Unit {0})
+    (either_dirty (masks_refuse s (access_mode key no_execute want masks)) (answers.Masked, s) (answers.At, touched_state s want) (λ a. Unit {0}) (λ e. d) (λ e. record { valid = d.valid; changed = rw d.changed refl }))
+    (λ e. d))
     (λ e. d) tt
 
 -- ---- a store
@@ -61,15 +64,17 @@ not_at wants.Store b e h = let no : true ≡ false = sym h ∙ e in cc
 not_at wants.Load b e h = cc
 not_at wants.Fetch b e h = cc
 
-access_stores : (s : State) (tag base : ℕ) (key no_execute : Bool) (want : Want) → stores_by (ops.Access tag base key no_execute want) (reply_of s (ops.Access tag base key no_execute want)).0 ≡ true → IsDirty (reply_of s (ops.Access tag base key no_execute want)).1
-access_stores s tag base key no_execute want h = at (cases_Bool (is_match s tag base)) where
+access_stores : (s : State) (tag base : ℕ) (key no_execute : Bool) (want : Want) (masks : Masks) → stores_by (ops.Access tag base key no_execute want masks) (reply_of s (ops.Access tag base key no_execute want masks)).0 ≡ true → IsDirty (reply_of s (ops.Access tag base key no_execute want masks)).1
+access_stores s tag base key no_execute want masks h = at (cases_Bool (is_match s tag base)) where
   P : Answer → Type 0
   P a = (if is_store want then is_at a else false) ≡ true
 
-  at : (is_match s tag base ≡ true) ⊎ (is_match s tag base ≡ false) → IsDirty (reply_of s (ops.Access tag base key no_execute want)).1
+  at : (is_match s tag base ≡ true) ⊎ (is_match s tag base ≡ false) → IsDirty (reply_of s (ops.Access tag base key no_execute want masks)).1
   at (inl m) =
-      either_dirty (is_match s tag base) (answer_of_match s (access_mode key no_execute want)) (answers.NoMatch, s) P
-      (either_dirty (allowed (pp_of s.dword1) key (no_execute || is_no_execute s.dword1) want) (answers.At, touched_state s want) (answers.Denied, s) P (λ e. record { valid = (and_parts _ _ m).0; changed = store_changes want s e }) (λ e. absurd (not_at want (is_at answers.Denied) refl e)))
+      either_dirty (is_match s tag base) (answer_of_match s (access_mode key no_execute want masks)) (answers.NoMatch, s) P
+      (either_dirty (is_allowed s (access_mode key no_execute want masks)) (answer_of_allowed s (access_mode key no_execute want masks)) (answers.Denied, s) P
+      (either_dirty (masks_refuse s (access_mode key no_execute want masks)) (answers.Masked, s) (answers.At, touched_state s want) P (λ e. absurd (not_at want (is_at answers.Masked) refl e)) (λ e. record { valid = (and_parts _ _ m).0; changed = store_changes want s e }))
+      (λ e. absurd (not_at want (is_at answers.Denied) refl e)))
       (λ e. absurd (not_at want (is_at answers.NoMatch) refl e)) h
   at (inr m) =
       let h' : P answers.NoMatch = rw m at h in
@@ -82,7 +87,7 @@ op_stores s (ops.Protect test flags) h = cc
 op_stores s ops.Read h = cc
 op_stores s ops.ClearRef h = cc
 op_stores s ops.ClearMod h = cc
-op_stores s (ops.Access tag base key no_execute want) h = access_stores s tag base key no_execute want h
+op_stores s (ops.Access tag base key no_execute want masks) h = access_stores s tag base key no_execute want masks h
 
 keeps : (r : Receipt) → IsDirty r.before → clears r ≡ false → IsDirty (after_of r)
 keeps r d c = op_keeps r.before r.op d (ap (clears_by r.op) (sym r.lawful) ∙ c)

@@ -77,9 +77,10 @@ segment_length set p states a (Some seg) = line_length set states seg a (current
 result_length : (set : AccessContext) (p : Processor) (states : List State) (act : Act) → length (line_result set p states act).1 ≡ length states
 unfolding line_result
 result_length set p states (acts.Call number args spelt) = plan_length (hcall_plan set (hcall_of number) args) states
-result_length set p states (acts.Access want ea user) = segment_length set p states (request want ea user) (segment_of p.slots ea)
+result_length set p states (acts.Access want ea user) = segment_length set p states (request want ea user p.masks) (segment_of p.slots ea)
 result_length set p states (acts.SlbMte rb rs) = refl
 result_length set p states acts.SlbClear = refl
+result_length set p states (acts.SetMask name value) = refl
 result_length set p states acts.Dump = refl
 
 same_size : (memory : TableMemory) (states : List State) → length states ≡ length memory.table.states → IsSized memory → IsSized (with_states memory states)

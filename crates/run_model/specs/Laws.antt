@@ -22,6 +22,7 @@ use Rattle.run_model.specs.ShownStores.{NoStoreIsLostIn, NoSetBitIsLostIn, Clear
 use Rattle.run_model.specs.CommittedResizes.{ResizesKeepTranslations}
 use Rattle.run_model.specs.Landings.{AccessesLand, IsUnworn}
 use Rattle.run_model.specs.CachedAccesses.{AccessesUseCaches}
+use Rattle.run_model.specs.MaskedAccesses.{SetsZero, MasksRefuse, NoneIsMasked}
 use Rattle.run_model.specs.RefusedCalls.{RefusedLinesLeave, RefusedQuietLinesLeave}
 use Rattle.run_model.specs.ParallelRun.{IsParallel}
 
@@ -111,6 +112,22 @@ CachedLinesAreCurrentOrGone =
     (t : AcceptedTrace) (rs : List Reply)
     → IsGoodRun t rs
     → AllByRecursion AccessesUseCaches (sections_of t rs)
+
+-- ---- masks
+-- In a good run an access is refused by a mask exactly where protection allows it by the entry that it ended with, and a mask of its processor refuses it for the entry's key.
+abbrev pub MasksRefuseExactlyWhere : Type 0
+MasksRefuseExactlyWhere =
+    (t : AcceptedTrace) (rs : List Reply)
+    → IsGoodRun t rs
+    → AllByRecursion MasksRefuse (sections_of t rs)
+
+-- In a good run of a trace that sets no mask but to 0, no access is refused by a mask: each entry answers by its protection alone.
+abbrev pub ZeroMasksRefuseNothing : Type 0
+ZeroMasksRefuseNothing =
+    (t : AcceptedTrace) (rs : List Reply)
+    → AllByRecursion (λ (l : TraceLine). SetsZero l.act) t.lines
+    → IsGoodRun t rs
+    → AllByRecursion NoneIsMasked (sections_of t rs)
 
 -- ---- what a refusal leaves
 -- In a good run a refused line changes no entry, no segment and no other cached line than one that was gone; but a bulk removal that ends with H_PARAMETER or H_HARDWARE keeps the pairs that it has removed.

@@ -9,6 +9,7 @@ pub mod ParallelRun
 pub mod ShownStores
 pub mod CommittedResizes
 pub mod Landings
+pub mod MaskedAccesses
 pub mod RefusedCalls
 pub mod CachedAccesses
 pub mod Assurances

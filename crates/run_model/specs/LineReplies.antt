@@ -39,18 +39,24 @@ hcall_plan context calls.ClearMod args = h_clear_mod_plan context.order (slice_i
 hcall_plan context calls.BulkRemove args = h_bulk_remove_plan context.order args
 hcall_plan context other args = plan_of_code rc.Function
 
--- The reply of a hypervisor call is the one of its receipts. An slbmte is refused exactly where the buffer refuses its words.
+-- The reply of a hypervisor call is the one of its receipts. An slbmte is refused exactly where the buffer refuses its words; to clear the buffer or to set a mask never is.
 abbrev pub IsCallReply : AccessContext → Act → Reply → Type 0
 IsCallReply context (acts.Call number args spelt) (replies.Hcall h) =
     IsReplyOf (hcall_plan context (hcall_of number) args) h
 IsCallReply context (acts.Call number args spelt) other = ⊥
 IsCallReply context (acts.SlbMte rb rs) r = r ≡ replies.Segment (is_none (mte_refusal rb rs))
 IsCallReply context acts.SlbClear r = r ≡ replies.Segment true
+IsCallReply context (acts.SetMask name value) r = r ≡ replies.MaskSet
 IsCallReply context other r = Unit {0}
 
--- The reply of an access is the one of its receipts, for the segments and the cache that the processor has then.
+-- The reply of an access is the one of its receipts, for the segments, the masks and the cache that the processor has then.
 abbrev pub IsReplyToAccess : AccessContext → Processor → Act → Reply → Type 0
 IsReplyToAccess context p (acts.Access want ea user) (replies.Access r) =
-    IsAccessReply context (cached_line p.cache) (request want ea user) (segment_of p.slots ea) r
+    IsAccessReply
+    context
+    (cached_line p.cache)
+    (request want ea user p.masks)
+    (segment_of p.slots ea)
+    r
 IsReplyToAccess context p (acts.Access want ea user) other = ⊥
 IsReplyToAccess context p other r = Unit {0}

@@ -4,6 +4,7 @@ use Rattle.entry_model.specs.declared.line.Line.{Line}
 use Rattle.slb_model.specs.declared.error.BadSlb.{BadSlb}
 use Rattle.slb_model.specs.declared.slot.Slot.{Slot}
 use Rattle.slb_model.specs.Refusals.{mte_refusal}
+use Rattle.authority_mask.specs.Authority.{with_mask}
 use Rattle.slb_model.specs.Buffer.{no_slots, slots_after, segment_of}
 use Rattle.tlb_model.specs.CacheAfter.{cache_after, gone_line}
 use Rattle.tlb_model.specs.Processor.{Processor, new_processor}
@@ -28,6 +29,8 @@ abbrev pub processor_after : Processor → Act → Reply → Processor
 processor_after p (acts.SlbMte rb rs) r =
     record p { slots = slots_or (mte_refusal rb rs) (slots_after p.slots rb rs) p.slots }
 processor_after p acts.SlbClear r = record p { slots = no_slots }
+processor_after p (acts.SetMask name value) r =
+    record p { masks = with_mask p.masks name value }
 processor_after p (acts.Access want ea user) (replies.Access r) =
     record p { cache = cache_after p.cache (segment_of p.slots ea) r.by r }
 processor_after p act r = p

@@ -74,9 +74,10 @@ unfoldable pub line_result : AccessContext → Processor → List State → Act 
 line_result context p states (acts.Call number args spelt) =
     call_result (plan_run (hcall_plan context (hcall_of number) args) states)
 line_result context p states (acts.Access want ea user) =
-    result_by_segment context p states (request want ea user) (segment_of p.slots ea)
+    result_by_segment context p states (request want ea user p.masks) (segment_of p.slots ea)
 line_result context p states (acts.SlbMte rb rs) =
     (replies.Segment (is_none (mte_refusal rb rs)), states)
+line_result context p states (acts.SetMask name value) = (replies.MaskSet, states)
 line_result context p states other = (replies.Segment true, states)
 
 -- The reply, and what the run carries after it: these states, and the line's processor.

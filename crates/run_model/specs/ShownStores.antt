@@ -38,7 +38,7 @@ clears r = clears_by r.op r.answer
 
 -- A store that was allowed.
 abbrev pub stores_by : Op → Answer → Bool
-stores_by (ops.Access tag base key no_execute want) answer =
+stores_by (ops.Access tag base key no_execute want masks) answer =
     if is_store want then is_at answer else false
 stores_by op answer = false
 

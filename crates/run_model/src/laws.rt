@@ -1,6 +1,6 @@
 //! Laws of the runs of a trace. Each function does nothing, and its contract is the law.
 
-ghost use Rattle.run_model.specs.Laws.{SerialIsGood, ParallelIsGood, SerialIsParallel, SerialIsTheOneGoodRun, NoStoreIsLost, NoSetBitIsLost, ClearingRepliesShow, ResizesKeepBoltedPages, AccessesLandByTheirEntries, CachedLinesAreCurrentOrGone, NoEntryIsWorn, RefusedLinesChangeNothing, RefusedResizesChangeNothing, EntriesCanBeEntered, ImagesOpenAgain};
+ghost use Rattle.run_model.specs.Laws.{SerialIsGood, ParallelIsGood, SerialIsParallel, SerialIsTheOneGoodRun, NoStoreIsLost, NoSetBitIsLost, ClearingRepliesShow, ResizesKeepBoltedPages, AccessesLandByTheirEntries, CachedLinesAreCurrentOrGone, MasksRefuseExactlyWhere, ZeroMasksRefuseNothing, NoEntryIsWorn, RefusedLinesChangeNothing, RefusedResizesChangeNothing, EntriesCanBeEntered, ImagesOpenAgain};
 
 /// The serial run of a trace is a good run.
 pub fn serial_is_good()
@@ -55,6 +55,17 @@ pub fn accesses_land_by_their_entries()
 /// cached line only where its entry has left the line's stamp.
 pub fn cached_lines_are_current_or_gone()
     ensures { CachedLinesAreCurrentOrGone }
+{}
+
+/// In a good run an access is refused by a mask exactly where protection allows it by the entry that it
+/// ended with, and a mask of its processor refuses it for the entry's key.
+pub fn masks_refuse_exactly_where()
+    ensures { MasksRefuseExactlyWhere }
+{}
+
+/// In a good run of a trace that sets no mask but to 0, no access is refused by a mask.
+pub fn zero_masks_refuse_nothing()
+    ensures { ZeroMasksRefuseNothing }
 {}
 
 /// In a good run no reply is H_HARDWARE.

@@ -1,6 +1,7 @@
 //! The operations of a thread, drawn from its number.
 ghost use Rattle.entry_model.specs.Receipt.{IsNormal};
 
+use authority_mask::Masks;
 use entry_model::{Op, Test};
 use storage_prot::Want;
 
@@ -77,5 +78,6 @@ fn access(want: Want) -> Op
         key: false,
         no_execute: false,
         want,
+        masks: Masks::default(),
     }
 }

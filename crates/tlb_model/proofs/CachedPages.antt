@@ -1,6 +1,6 @@
 -- What holds of each line of a cache.
 use Rattle.std.proofs.Common.{◌≡◌, ℕ, zero, suc, List, [], ◌∷◌, ◌++◌, Bool, true, false, Some, None, ◌⊎◌, inl, inr, refl, length, get_or, drop, find, filter, slice_set, IfSome, nat_lt}
-use Rattle.std.proofs.lemmas.Bool.{cases_Bool, cond_both, and_parts, eq-eqb, eqb-true}
+use Rattle.std.proofs.lemmas.Bool.{cases_Bool, cond_both}
 use Rattle.power_addr.specs.Pages.{VirtualPage}
 use Rattle.entry_model.specs.declared.line.Line.{Line}
 use Rattle.tlb_model.specs.Cache.{is_of, set_of, set_number, line_of_page, cached_line, empty_cache, without_page, put_last, AllInSet, AllCached}

@@ -1,5 +1,5 @@
 -- A processor's cache of translations: 32 sets of lines, each in the order of filling.
-use Rattle.std.specs.Prelude.{ℕ, ◌%◌, ◌==◌, ◌&&◌, Bool, not, if◌then◌else◌, nat_lt, List, [], ◌∷◌, ◌++◌, length, drop, filter, find, slice_index_or, replicate, Option}
+use Rattle.std.specs.Prelude.{ℕ, ◌%◌, Bool, not, if◌then◌else◌, nat_lt, List, [], ◌∷◌, ◌++◌, length, drop, filter, find, slice_index_or, replicate, Option}
 use Rattle.std.specs.List.{AllByRecursion}
 use Rattle.power_addr.specs.Pages.{VirtualPage, same_page}
 use Rattle.entry_model.specs.declared.line.Line.{Line}

@@ -1,5 +1,6 @@
 ghost use Rattle.std.specs.Prelude.{◌≡◌};
 
+use authority_mask::MaskName;
 use papr_codes::Hcall;
 use storage_prot::Want;
 
@@ -26,6 +27,11 @@ pub enum Act {
     },
     /// Clears the whole segment lookaside buffer.
     SlbClear,
+    /// Sets an authority mask of the processor.
+    SetMask {
+        name: MaskName,
+        value: u64,
+    },
     /// Shows the table.
     Dump,
 }

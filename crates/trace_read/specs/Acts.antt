@@ -19,6 +19,7 @@ takes verbs.Numbered count = nat_le 3 count && nat_le count 11
 takes (verbs.Access want) count = count == 4
 takes verbs.SlbMte count = count == 4
 takes verbs.SlbClear count = count == 2
+takes (verbs.SetMask name) count = count == 3
 
 -- The word at an index as a number; a missing one is 0.
 unfoldable pub number_at : List (List ℕ) → ℕ → Result ℕ Why
@@ -64,6 +65,9 @@ act_by verbs.SlbMte ws = do
   rs ← number_at ws 3
   Ok (acts.SlbMte rb rs)
 act_by verbs.SlbClear ws = Ok acts.SlbClear
+act_by (verbs.SetMask name) ws = do
+  value ← number_at ws 2
+  Ok (acts.SetMask name value)
 
 -- The processor, and what it does.
 unfoldable pub run_act : ℕ → Option Verb → List (List ℕ) → Result (ℕ × Act) Why

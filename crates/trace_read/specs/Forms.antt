@@ -6,6 +6,7 @@ use Rattle.papr_codes.specs.declared.calls.Hcall.{Hcall}
 use Rattle.papr_codes.specs.declared.calls.Hcall.TheVariants as calls
 use Rattle.papr_codes.specs.Hcalls.{hcall_name, is_named}
 use Rattle.storage_prot.specs.declared.want.Want.TheVariants.{Load, Store, Fetch}
+use Rattle.authority_mask.specs.declared.masks.MaskName.TheVariants.{Amr, Iamr}
 use Rattle.trace_read.specs.declared.forms.Form.{Form}
 use Rattle.trace_read.specs.declared.forms.Form.TheVariants as forms
 use Rattle.trace_read.specs.declared.verbs.Verb.{Verb}
@@ -42,6 +43,8 @@ other_verb word =
     else if bytes_eq (codes "fetch") word then Some (verbs.Access Fetch)
     else if bytes_eq (codes "slbmte") word then Some verbs.SlbMte
     else if bytes_eq (codes "slbclear") word then Some verbs.SlbClear
+    else if bytes_eq (codes "amr") word then Some (verbs.SetMask Amr)
+    else if bytes_eq (codes "iamr") word then Some (verbs.SetMask Iamr)
     else None
 
 -- The call, or else the other verb.

@@ -84,6 +84,10 @@ fn act(verb: Verb, words: &[&[u8]]) -> Result<Act, Why>
             rs: number_at(words, 3)?,
         }),
         Verb::SlbClear => Ok(Act::SlbClear),
+        Verb::SetMask(name) => Ok(Act::SetMask {
+            name,
+            value: number_at(words, 2)?,
+        }),
     }
 }
 

@@ -3,6 +3,7 @@ ghost use Rattle.trace_read.specs.Forms.{call_named, other_verb, verb_of, IsName
 ghost use Rattle.trace_read.specs.Acts.{takes};
 
 use crate::forms::is;
+use authority_mask::MaskName;
 use papr_codes::Hcall;
 use storage_prot::Want;
 
@@ -19,6 +20,8 @@ pub enum Verb {
     SlbMte,
     /// `slbclear`
     SlbClear,
+    /// `amr` or `iamr`
+    SetMask(MaskName),
 }
 
 impl Verb {
@@ -31,6 +34,7 @@ impl Verb {
             Verb::Numbered => 3 <= count && count <= 11,
             Verb::Access(_) | Verb::SlbMte => count == 4,
             Verb::SlbClear => count == 2,
+            Verb::SetMask(_) => count == 3,
         }
     }
 }
@@ -74,6 +78,10 @@ fn other(word: &[u8]) -> Option<Verb>
         Some(Verb::SlbMte)
     } else if is(word, "slbclear") {
         Some(Verb::SlbClear)
+    } else if is(word, "amr") {
+        Some(Verb::SetMask(MaskName::Amr))
+    } else if is(word, "iamr") {
+        Some(Verb::SetMask(MaskName::Iamr))
     } else {
         None
     }

@@ -13,6 +13,7 @@ abbrev pub reply_ended : ReplyEnd → List Receipt → Reply
 reply_ended (ends.Hcall registers) rs = replies.Hcall (reply_with registers rs)
 reply_ended (ends.Access end) rs = replies.Access (access_reply_with end rs)
 reply_ended (ends.Segment accepted) rs = replies.Segment accepted
+reply_ended ends.MaskSet rs = replies.MaskSet
 reply_ended (ends.Dump shown) rs = replies.Dump shown
 
 -- The reply that has the place.

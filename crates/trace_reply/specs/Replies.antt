@@ -13,6 +13,7 @@ IsOfKind (acts.Call number args spelt) (replies.Hcall h) = Unit {0}
 IsOfKind (acts.Access want ea user) (replies.Access r) = Unit {0}
 IsOfKind (acts.SlbMte rb rs) (replies.Segment accepted) = Unit {0}
 IsOfKind acts.SlbClear (replies.Segment accepted) = Unit {0}
+IsOfKind (acts.SetMask name value) replies.MaskSet = Unit {0}
 IsOfKind acts.Dump (replies.Dump shown) = Unit {0}
 IsOfKind act reply = ⊥
 
@@ -33,6 +34,7 @@ abbrev pub receipts_in : Reply → List Receipt
 receipts_in (replies.Hcall h) = h.receipts
 receipts_in (replies.Access r) = r.receipts
 receipts_in (replies.Segment accepted) = []
+receipts_in replies.MaskSet = []
 receipts_in (replies.Dump shown) = []
 
 -- A line and its reply.

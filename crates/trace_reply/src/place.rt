@@ -14,6 +14,8 @@ pub enum ReplyEnd {
     Access(AccessEnd),
     /// Of a change of the segment lookaside buffer: whether it was accepted.
     Segment(bool),
+    /// Of the setting of an authority mask.
+    MaskSet,
     /// Of a dump.
     Dump(Shown),
 }
@@ -63,6 +65,7 @@ impl ReplyPlace {
                 self.receipts = receipts;
             }
             Reply::Segment(accepted) => self.end = ReplyEnd::Segment(accepted),
+            Reply::MaskSet => self.end = ReplyEnd::MaskSet,
             Reply::Dump(shown) => self.end = ReplyEnd::Dump(shown),
         }
     }
@@ -76,6 +79,7 @@ impl ReplyPlace {
             ReplyEnd::Hcall(registers) => Reply::Hcall(registers.into_reply(receipts)),
             ReplyEnd::Access(end) => Reply::Access(end.into_reply(receipts)),
             ReplyEnd::Segment(accepted) => Reply::Segment(accepted),
+            ReplyEnd::MaskSet => Reply::MaskSet,
             ReplyEnd::Dump(shown) => Reply::Dump(shown),
         }
     }

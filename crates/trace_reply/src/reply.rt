@@ -10,6 +10,8 @@ pub enum Reply {
     Access(AccessReply),
     /// Of a change of the segment lookaside buffer: whether it was accepted.
     Segment(bool),
+    /// Of the setting of an authority mask, which is never refused.
+    MaskSet,
     /// Of a dump.
     Dump(Shown),
 }

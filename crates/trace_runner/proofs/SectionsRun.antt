@@ -60,6 +60,7 @@ quiet_kind w acts.Dump q = tt
 quiet_kind w (acts.Access want ea user) q = let clash : false ≡ true = q in cc
 quiet_kind w (acts.SlbMte rb rs) q = let clash : false ≡ true = q in cc
 quiet_kind w acts.SlbClear q = let clash : false ≡ true = q in cc
+quiet_kind w (acts.SetMask name value) q = let clash : false ≡ true = q in cc
 
 -- ---- so far
 -- The replies to the lines up to one are given, and what completes the rest completes the run.

@@ -37,6 +37,7 @@ use Rattle.run_model.specs.SerialRun.{line_result, run_line, replies_from}
 use Rattle.reply_text.specs.Text.{text_from, head_text, code_text, entry_text, dump_head, table_text}
 use Rattle.run_model.specs.RunState.{RunState, run_resize, run_quiet_line, shown_of, opening_run}
 use Rattle.run_model.proofs.SmallPartition.{memory_of, small, calls, reaches, mte}
+use Rattle.authority_mask.specs.Authority.{row_says, key_rows}
 
 abbrev dumps : ℕ → TraceLine
 dumps n = record { number = n; cpu = 0; act = Dump }
@@ -55,7 +56,7 @@ shown =
     ∷ []
 
 dumped : text_from shown (replies_from (small 1) shown) ≡ codes "4 0 slbmte ok\n5 dump table 0 order 18 place 0x1000000000 entries 0\n6 0 H_ENTER 0 0x1 | 0x1.0.0.entered\n7 0 H_ENTER 0 0xe | 0xe.0.0.entered\n8 0 store at 0x2000003000 walk | 0x0.0.0.nomatch 0x1.1.0.at\n9 dump table 0 order 18 place 0x1000000000 entries 2\n 0x1 0x1001 0x3192 1\n 0xe 0x5011 0x6092 1\n10 0 store at 0x2000003000 hit | 0x1.1.3.at\n"
-unfolding digits shown text_from head_text code_text entry_text dump_head table_text run_line line_result run_quiet_line shown_of hcall_plan is_quiet hcall_of row_of plan_run trial_run candidates suits_grants h_enter_plan machine_range mte_refusal tests_of_words no_slots slots_after slot_of_words segment_of new_processor empty_cache cached_line same_page after_walk walk_calls group_of tag_of has_base permission rows outcome_of
+unfolding digits shown text_from head_text code_text entry_text dump_head table_text run_line line_result run_quiet_line shown_of hcall_plan is_quiet hcall_of row_of plan_run trial_run candidates suits_grants h_enter_plan machine_range mte_refusal tests_of_words no_slots slots_after slot_of_words segment_of new_processor empty_cache cached_line same_page after_walk walk_calls group_of tag_of has_base permission rows row_says key_rows outcome_of
 dumped = refl
 
 -- ---- the codes of the two calls

@@ -6,7 +6,7 @@ use Rattle.hpte_fields.specs.Fields.{is_secondary}
 use Rattle.slb_model.specs.declared.segment.Segment.{Segment}
 use Rattle.entry_model.specs.declared.line.Line.{Line}
 use Rattle.entry_model.specs.declared.operation.Answer.{Answer}
-use Rattle.entry_model.specs.declared.operation.Answer.TheVariants.{At, Denied}
+use Rattle.entry_model.specs.declared.operation.Answer.TheVariants.{At, Denied, Masked}
 use Rattle.entry_model.specs.declared.receipt.Receipt.{Receipt}
 use Rattle.entry_model.specs.declared.access_reply.By.{By}
 use Rattle.entry_model.specs.declared.access_reply.Outcome.{Outcome}
@@ -27,6 +27,7 @@ is_access_of line page mode of fits =
 decided_is_found : (answer : Answer) → is_decided answer ≡ true → not (is_no_match answer) ≡ true
 decided_is_found At h = refl
 decided_is_found Denied h = refl
+decided_is_found Masked h = refl
 decided_is_found other h = cc
 
 at_end : (goes : Bool) → MatchBool goes (Unit {0}) (let none : List Receipt = [] in none ≡ [])

@@ -7,6 +7,7 @@ use Rattle.entry_model.specs.declared.operation.Op.TheVariants.{Access}
 use Rattle.storage_prot.specs.declared.want.Want.TheVariants.{Load}
 use Rattle.hpt_walk.specs.Access.{logical_of}
 use Rattle.hpt_walk.specs.Walk.{access_op}
+use Rattle.authority_mask.specs.Authority.{no_masks}
 
 state_of : ℕ → ℕ → State
 state_of dword0 dword1 = record { valid = true; dword0 = dword0; dword1 = dword1; referenced = false; changed = false; stamp = 1 }
@@ -29,10 +30,10 @@ unfolding state_of
 in_16_gb = refl
 
 -- ---- the operation: page 5 of 4 KB in the segment 1 of 256 MB
-primary : access_op (virtual_page false 1 12 5) (access_mode true false Load) false ≡ Access 0x1001 12 true false Load
+primary : access_op (virtual_page false 1 12 5) (access_mode true false Load no_masks) false ≡ Access 0x1001 12 true false Load no_masks
 unfolding tag_of
 primary = refl
 
-secondary : access_op (virtual_page false 1 12 5) (access_mode true false Load) true ≡ Access 0x1003 12 true false Load
+secondary : access_op (virtual_page false 1 12 5) (access_mode true false Load no_masks) true ≡ Access 0x1003 12 true false Load no_masks
 unfolding tag_of
 secondary = refl

@@ -26,6 +26,7 @@ pub fn operation(segment: &Segment, request: &Request, secondary: bool) -> Op
         key(segment, request.user),
         segment.no_execute,
         request.want,
+        request.masks,
         secondary,
     )
 }

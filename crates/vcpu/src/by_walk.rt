@@ -49,6 +49,7 @@ pub fn by_walk<T: EntryStore>(
         request.want,
         key,
         segment.no_execute,
+        request.masks,
         receipts,
     );
     let outcome = outcome(grants, request.ea, &found);

@@ -1,13 +1,17 @@
 ghost use Rattle.std.specs.Prelude.{◌≡◌, Some, None, IfSome, MatchResult, OnOk, OnErr};
 ghost use Rattle.slb_model.specs.Buffer.{no_slots, slots_after, segment_of};
 ghost use Rattle.slb_model.specs.Refusals.{mte_refusal};
+ghost use Rattle.authority_mask.specs.Authority.{no_masks};
 ghost use Rattle.tlb_model.specs.Cache.{AllCached, cached_line, empty_cache};
 ghost use Rattle.entry_model.specs.CachedLines.{AllLater};
 ghost use Rattle.entry_model.specs.Replies.{access_reply_with};
 ghost use Rattle.hpt_walk.specs.Access.{IsAccessReply, access_context, request};
 ghost use Rattle.tlb_model.specs.CacheAfter.{cache_after, gone_line};
+ghost use Rattle.std.specs.Borrow.{sem};
+ghost use Rattle.vcpu.specs.LentMasks.{LendsMasks};
 
 use crate::passing::in_segment;
+use authority_mask::Masks;
 use entry_model::{AccessEnd, AccessReply, EntryStore, Outcome, Receipts};
 use frame_grants::Grants;
 use hpt_walk::Request;
@@ -16,10 +20,11 @@ use std::marker::Model;
 use storage_prot::Want;
 use tlb_model::Tlb;
 
-/// One processor: its segments, and the translations that it has cached.
+/// One processor: its segments, its authority masks, and the translations that it has cached.
 #[derive(Drop)]
 pub struct Cpu {
     slb: Slb,
+    masks: Masks,
     tlb: Tlb,
 }
 
@@ -30,19 +35,21 @@ impl Model for Cpu {
 
     ghost Value = { Processor };
 
-    ghost view = { λ cpu. record { slots = cpu.slb; cache = cpu.tlb } };
+    ghost view = { λ cpu. record { slots = cpu.slb; masks = cpu.masks; cache = cpu.tlb } };
 
     ghost invariant = { λ cpu. AllCached TranslatesItsPage cpu.tlb };
 }
 
 impl Cpu {
-    /// A processor without a segment and without a cached translation.
+    /// A processor without a segment and without a cached translation, whose masks refuse nothing.
     pub fn new() -> Cpu
         ensures slots { result.slots ≡ no_slots }
+        ensures masks { result.masks ≡ no_masks }
         ensures cache { result.cache ≡ empty_cache }
     {
         Cpu {
             slb: Slb::new(),
+            masks: Masks::default(),
             tlb: Tlb::new(),
         }
     }
@@ -63,6 +70,14 @@ impl Cpu {
         ensures { self.new ≡ record self.old { slots = no_slots } }
     {
         self.slb.clear();
+    }
+
+    /// The authority masks, which the caller may set.
+    pub fn masks(&mut self) -> &mut Masks
+        ensures* set { sem 𝓛 (LendsMasks self.entry result) }
+        ensures now { result.now ≡ self.old.masks }
+    {
+        &mut self.masks
     }
 
     /// Forgets all cached translations.
@@ -91,10 +106,11 @@ impl Cpu {
         ensures reply { IsAccessReply
             (access_context (T.table_order store.old) grants.now.grants)
             (cached_line self.old.cache)
-            (request want ea user)
+            (request want ea user self.old.masks)
             (segment_of self.old.slots ea)
             result }
         ensures slots { self.new.slots ≡ self.old.slots }
+        ensures masks { self.new.masks ≡ self.old.masks }
         ensures cache { self.new.cache
             ≡ cache_after self.old.cache (segment_of self.old.slots ea) result.by result }
         ensures seen { AllCached (T.seen store.new) self.new.cache }
@@ -129,10 +145,11 @@ impl Cpu {
         ensures reply { IsAccessReply
             (access_context (T.table_order store.old) grants.now.grants)
             (cached_line self.old.cache)
-            (request want ea user)
+            (request want ea user self.old.masks)
             (segment_of self.old.slots ea)
             (access_reply_with result receipts.new) }
         ensures slots { self.new.slots ≡ self.old.slots }
+        ensures masks { self.new.masks ≡ self.old.masks }
         ensures cache { self.new.cache
             ≡ cache_after
             self.old.cache
@@ -164,7 +181,12 @@ impl Cpu {
                 }
             }
             Some(segment) => {
-                let request = Request { want, ea, user };
+                let request = Request {
+                    want,
+                    ea,
+                    user,
+                    masks: self.masks,
+                };
                 in_segment(&mut self.tlb, store, grants, &segment, &request, receipts)
             }
         }

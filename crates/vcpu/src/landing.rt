@@ -3,6 +3,7 @@ ghost use Rattle.frame_grants.specs.Grants.{machine_range};
 ghost use Rattle.hpt_walk.specs.Access.{landing_at};
 ghost use Rattle.hpt_walk.specs.Access as access;
 
+use authority_mask::MaskName;
 use entry_model::{Answer, Outcome, Receipt};
 use frame_grants::Grants;
 use hpt_walk::logical_of;
@@ -23,7 +24,18 @@ pub fn outcome_at(grants: &Grants, ea: u64, receipt: &Receipt) -> Outcome
 {
     match receipt.answer {
         Answer::At => landing(grants, logical_of(ea, &receipt.before)),
+        Answer::Masked => refused_by(receipt.mask()),
         _ => Outcome::Denied,
+    }
+}
+
+/// Refused by this mask; by none, it is protection that refuses.
+fn refused_by(mask: Option<MaskName>) -> Outcome
+    ensures { result ≡ access.refused_by mask }
+{
+    match mask {
+        None => Outcome::Denied,
+        Some(name) => Outcome::Masked(name),
     }
 }
 

@@ -5,6 +5,7 @@ ghost use Rattle.entry_model.specs.CachedLines.{ShowsLine, IsAccessOf};
 ghost use Rattle.entry_lock.specs.PassOfTable.{IsOf};
 
 use super::{ENTRY, access, enter, no_test, open_table, page, remove};
+use authority_mask::Masks;
 use entry_lock::{LockTable, NoPause, Pass, Waiting};
 use entry_model::{Answer, EntryStore, Line, Op, Receipt};
 use page_sizes::decode;
@@ -42,6 +43,7 @@ fn store_by(line: &Line) -> Option<Op>
         key: false,
         no_execute: false,
         want: Want::Store,
+        masks: Masks::default(),
     })
 }
 

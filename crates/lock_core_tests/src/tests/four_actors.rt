@@ -5,6 +5,7 @@ ghost use Rattle.std.specs.Prelude.{◌≡◌, ◌<◌, length, bit_and, IfOk};
 ghost use Rattle.hpte_fields.specs.Fields.{rc_bits};
 
 use super::Line;
+use authority_mask::Masks;
 use entry_model::{Answer, EntryState, Op, Receipt};
 use lock_core::{Core, CoreError, Step};
 use std::alloc::Global;
@@ -46,6 +47,7 @@ fn access(entry: u32, want: Want) -> Op {
         key: false,
         no_execute: false,
         want,
+        masks: Masks::default(),
     }
 }
 

@@ -1,6 +1,7 @@
 //! The hypervisor calls and the walk, over a pass and over a plain table.
 
 use super::{DWORD0, DWORD1, ENTRIES, GROUP, ORDER, memory, open_table};
+use authority_mask::Masks;
 use entry_lock::{NoPause, Waiting};
 use entry_model::{EntryState, EntryStore, HReply};
 use frame_grants::Grants;
@@ -39,7 +40,7 @@ fn all_calls<T: EntryStore>(
         note(alloc, &mut replies, entered)?;
     }
     if let Some(page) = Page::of_address(false, 1, 12, 0x5000) {
-        let answer = walk(store, &page, Want::Store, false, false);
+        let answer = walk(store, &page, Want::Store, false, false, Masks::default());
         let reply = HReply {
             receipts: answer.receipts,
             ..HReply::without_receipts(Rc::Success)

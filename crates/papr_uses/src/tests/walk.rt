@@ -1,4 +1,5 @@
 use super::empty_table;
+use authority_mask::Masks;
 use entry_model::{Answer, EntryStore, Op};
 use hpt_walk::{
     WalkAnswer, access_op, access_tells_page, current_lines_decide, lines_match_accesses, walk,
@@ -74,7 +75,7 @@ fn table_of(alloc: Global, row: &Row) -> Result<PlainTable, Fail> {
 /// A walk of the page under test with key 0.
 fn walk_of_page(table: &mut PlainTable, want: Want) -> Option<WalkAnswer> {
     let page = Page::new(false, 1, 12, INDEX)?;
-    Some(walk(table, &page, want, false, false))
+    Some(walk(table, &page, want, false, false, Masks::default()))
 }
 
 /// The receipts of a walk are of the entries in their order: all before the last say NoMatch.
@@ -123,8 +124,12 @@ fn the_operation_of_an_access(rt: HostRuntime) -> Result<(), Fail> {
         key: true,
         no_execute: false,
         want: Want::Fetch,
+        masks: Masks::default(),
     };
-    assert_eq!(rt; access_op(&page, true, false, Want::Fetch, true), op);
+    assert_eq!(rt;
+        access_op(&page, true, false, Want::Fetch, Masks::default(), true),
+        op
+    );
     access_tells_page();
     walk_finds_first();
     walks_give_lines();

@@ -1,4 +1,4 @@
-use Rattle.std.proofs.Common.{◌∙◌, ◌≡◌, true, ap, sym, bit_and, false}
+use Rattle.std.proofs.Common.{◌∙◌, ◌≡◌, true, ap, sym, bit_and}
 use Rattle.std.proofs.lemmas.Bool.{false≢true}
 use Rattle.hpte_fields.proofs.KeptBits.{protected_keeps_rc}
 use Rattle.entry_model.specs.State.{State}

@@ -1,4 +1,4 @@
-use Rattle.std.proofs.Common.{◌≡◌, true, false, None, arith, ap, sym, subst, [], ◌∷◌, ◌++◌, List, ◌∙◌, append_assoc, append-nil}
+use Rattle.std.proofs.Common.{◌≡◌, true, false, arith, ap, sym, subst, [], ◌∷◌, ◌++◌, List, ◌∙◌, append_assoc, append-nil}
 use Rattle.std.proofs.lemmas.Grind.{common_steps}
 use Rattle.entry_model.specs.declared.receipt.Receipt.{Receipt}
 use Rattle.entry_model.specs.Trial.{IsTrial, ending_of, goes_after, receipts_added}

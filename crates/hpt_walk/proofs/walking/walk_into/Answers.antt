@@ -21,17 +21,17 @@ returns-in-Some-clause-trial g c =
     let trial : IsTrial is_no_match (group_calls c.access_op-op.result c.groups-primary.result.0) first = rw c.clear.ensures at c.search.ensures.trial in
     let found : c.search.result ≡ found_of first = rw c.clear.ensures at c.search.ensures.found in
     let group : c.groups-primary.result.0 ≡ group_of page (g.T.EntryStore.table_order c.args.store.now) false = c.groups-primary.ensures.primary ∙ ap (λ o. group_of page o false) c.order.ensures.value in
-    walk_ends (g.T.EntryStore.table_order c.args.store.now) page (access_mode c.args.key c.args.no_execute c.args.want) c.access_op-op.result c.groups-primary.result.0 first c.in-Some.receipt c.access_op-op.ensures.op group trial (sym found ∙ c.in-Some.is)
+    walk_ends (g.T.EntryStore.table_order c.args.store.now) page (access_mode c.args.key c.args.no_execute c.args.want c.args.masks) c.access_op-op.result c.groups-primary.result.0 first c.in-Some.receipt c.access_op-op.ensures.op group trial (sym found ∙ c.in-Some.is)
 
 pub returns-in-Some-clause-shown : goal.returns-in-Some-clause-shown
 returns-in-Some-clause-shown g c =
     let found : c.search.result ≡ found_of c.search.new.receipts = rw c.clear.ensures at c.search.ensures.found in
-    walk_shown (g.T.EntryStore.table_order c.args.store.now) c.args.page.now (access_mode c.args.key c.args.no_execute c.args.want) c.search.new.receipts (Some c.in-Some.receipt) (returns-in-Some-clause-trial g c) (sym c.in-Some.is ∙ found)
+    walk_shown (g.T.EntryStore.table_order c.args.store.now) c.args.page.now (access_mode c.args.key c.args.no_execute c.args.want c.args.masks) c.search.new.receipts (Some c.in-Some.receipt) (returns-in-Some-clause-trial g c) (sym c.in-Some.is ∙ found)
 
 pub returns-in-Some-clause-translates : goal.returns-in-Some-clause-translates
 returns-in-Some-clause-translates g c =
     let found : c.search.result ≡ found_of c.search.new.receipts = rw c.clear.ensures at c.search.ensures.found in
-    walk_translates (g.T.EntryStore.table_order c.args.store.now) c.args.page.now (access_mode c.args.key c.args.no_execute c.args.want) c.search.new.receipts (Some c.in-Some.receipt) (returns-in-Some-clause-trial g c) (sym c.in-Some.is ∙ found)
+    walk_translates (g.T.EntryStore.table_order c.args.store.now) c.args.page.now (access_mode c.args.key c.args.no_execute c.args.want c.args.masks) c.search.new.receipts (Some c.in-Some.receipt) (returns-in-Some-clause-trial g c) (sym c.in-Some.is ∙ found)
 
 -- ---- the secondary group
 pub search-requires-2-clause-in_table : goal.search-requires-2-clause-in_table
@@ -56,7 +56,7 @@ returns-clause-trial g c =
     let found : c.search.result ≡ found_of first = rw c.clear.ensures at c.search.ensures.found in
     let primary : c.groups-primary.result.0 ≡ group_of page order false = c.groups-primary.ensures.primary ∙ ap (λ o. group_of page o false) c.order.ensures.value in
     let secondary : c.groups-primary.result.1 ≡ group_of page order true = c.groups-primary.ensures.secondary ∙ ap (λ o. group_of page o true) c.order.ensures.value in
-    subst (IsTrial is_no_match (walk_calls order page (access_mode c.args.key c.args.no_execute c.args.want))) (sym c.search-2.ensures.behind) (walk_joined order page (access_mode c.args.key c.args.no_execute c.args.want) c.access_op-op.result c.access_op-op-2.result c.groups-primary.result.0 c.groups-primary.result.1 first (receipts_added first all) c.access_op-op.ensures.op primary c.access_op-op-2.ensures.op secondary trial (sym found ∙ c.in_default.is) c.search-2.ensures.trial)
+    subst (IsTrial is_no_match (walk_calls order page (access_mode c.args.key c.args.no_execute c.args.want c.args.masks))) (sym c.search-2.ensures.behind) (walk_joined order page (access_mode c.args.key c.args.no_execute c.args.want c.args.masks) c.access_op-op.result c.access_op-op-2.result c.groups-primary.result.0 c.groups-primary.result.1 first (receipts_added first all) c.access_op-op.ensures.op primary c.access_op-op-2.ensures.op secondary trial (sym found ∙ c.in_default.is) c.search-2.ensures.trial)
 
 pub returns-clause-found : goal.returns-clause-found
 returns-clause-found g c =
@@ -67,12 +67,12 @@ returns-clause-found g c =
 
 pub returns-clause-none : goal.returns-clause-none
 returns-clause-none g c =
-    walk_none (g.T.EntryStore.table_order c.args.store.now) c.args.page.now (access_mode c.args.key c.args.no_execute c.args.want) c.search-2.new.receipts c.search-2.result (returns-clause-trial g c) (returns-clause-found g c)
+    walk_none (g.T.EntryStore.table_order c.args.store.now) c.args.page.now (access_mode c.args.key c.args.no_execute c.args.want c.args.masks) c.search-2.new.receipts c.search-2.result (returns-clause-trial g c) (returns-clause-found g c)
 
 pub returns-clause-shown : goal.returns-clause-shown
 returns-clause-shown g c =
-    walk_shown (g.T.EntryStore.table_order c.args.store.now) c.args.page.now (access_mode c.args.key c.args.no_execute c.args.want) c.search-2.new.receipts c.search-2.result (returns-clause-trial g c) (returns-clause-found g c)
+    walk_shown (g.T.EntryStore.table_order c.args.store.now) c.args.page.now (access_mode c.args.key c.args.no_execute c.args.want c.args.masks) c.search-2.new.receipts c.search-2.result (returns-clause-trial g c) (returns-clause-found g c)
 
 pub returns-clause-translates : goal.returns-clause-translates
 returns-clause-translates g c =
-    walk_translates (g.T.EntryStore.table_order c.args.store.now) c.args.page.now (access_mode c.args.key c.args.no_execute c.args.want) c.search-2.new.receipts c.search-2.result (returns-clause-trial g c) (returns-clause-found g c)
+    walk_translates (g.T.EntryStore.table_order c.args.store.now) c.args.page.now (access_mode c.args.key c.args.no_execute c.args.want c.args.masks) c.search-2.new.receipts c.search-2.result (returns-clause-trial g c) (returns-clause-found g c)

@@ -1,7 +1,7 @@
 use Rattle.std.proofs.Common.{◌≡◌, ◌+◌, ◌++◌, [], ◌∷◌, true, false, ◌⊎◌, inl, inr, arith}
 use Rattle.entry_model.specs.Trial.{goes_after}
 use Rattle.papr_c.proofs.SoFar.{IsTold, starts, so_far_goes, ends}
-use Rattle.papr_c.proofs.trying.try_lent.Goals.{then-tried-count-via-then-tried-count, then-tried-count-via-else-tried-count+then-not-goes_after}
+use Rattle.papr_c.proofs.trying.try_lent.Goals.{then-tried-count-via-then-tried-count, then-tried-count-via-else-tried-count+then-not-after}
 use Rattle.papr_c.proofs.trying.try_lent.Goals as goal
 
 pub loop-tried-init : goal.loop-tried-init
@@ -10,7 +10,7 @@ loop-tried-init c = record { more = omega (arith, c.requires.some); so_far = ([]
 ended : (c : goal.Joined-then-tried-count) → (goes_after c.args.goes_on c.make-last.result.answer ≡ false) ⊎ (c.loop-tried.tried + 1 ≡ c.args.count)
 ended c = elim c.then-tried-count.branch [
   | then-tried-count-via-then-tried-count w ↦ inr w.if-tried-count.true
-  | then-tried-count-via-else-tried-count+then-not-goes_after w ↦ inl (let e = w.if-not-goes_after.ensures in let f = w.goes_after.ensures in cc)
+  | then-tried-count-via-else-tried-count+then-not-after w ↦ inl (let e = w.if-not-after.ensures in let f = w.after.ensures in cc)
 ]
 
 told : (c : goal.Joined-then-tried-count) → IsTold (goes_after c.args.goes_on) c.args.op.now c.args.first c.args.count c.args.place (c.loop-tried.tried + 1) c.args.entries.now c.make-last.new.entries c.args.receipts.now c.make-last.new.receipts c.make-last.result
@@ -35,7 +35,7 @@ returns-then-tried-count-clause-alone c = (told c).alone
 pub loop-tried-preserved : goal.loop-tried-preserved
 loop-tried-preserved c =
     let r = c.make-last.result in
-    let on : goes_after c.args.goes_on r.answer ≡ true = let e = c.if-not-goes_after.ensures in let f = c.goes_after.ensures in cc in
+    let on : goes_after c.args.goes_on r.answer ≡ true = let e = c.if-not-after.ensures in let f = c.after.ensures in cc in
     let other = c.if-tried-count.false in
     record {
       more = omega (arith, other, c.loop-tried.invariant.more);

@@ -17,4 +17,4 @@ returns c =
     let seg = c.args.segment.now in
     let kept : c.kept_line-kept.result ≡ kept_line seg.page r.outcome (found_of r.receipts) = c.kept_line-kept.ensures ∙ ap (kept_line seg.page r.outcome) c.found_of-found.ensures in
     let cache : c.refill.new.tlb ≡ cache_after c.self.inside.tlb (Some seg) r.by r = c.refill.ensures ∙ ap (with_kept c.kept_line-kept.result) c.drop_line.ensures ∙ walked_cache c.self.inside.tlb seg r c.kept_line-kept.result c.requires kept in
-    ap (λ z. record { slots = c.self.inside.slb; cache = z }) cache ∙ ap (λ (p : Processor). record { slots = p.slots; cache = cache_after p.cache (Some seg) r.by r }) c.self.view_is
+    ap (λ z. record { slots = c.self.inside.slb; masks = c.self.inside.masks; cache = z }) cache ∙ ap (λ (p : Processor). record { slots = p.slots; masks = p.masks; cache = cache_after p.cache (Some seg) r.by r }) c.self.view_is

@@ -1,0 +1,8 @@
+//! Laws of masks. Each function does nothing, and its contract is the law.
+
+ghost use Rattle.authority_mask.specs.Authority.{NoMasksRefuseNothing};
+
+/// Masks of 0 refuse nothing.
+pub fn no_masks_refuse_nothing()
+    ensures { NoMasksRefuseNothing }
+{}

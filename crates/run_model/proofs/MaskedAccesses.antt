@@ -1,0 +1,153 @@
+-- Accesses that a mask refuses, and runs whose masks are 0.
+use Rattle.std.proofs.Common.{◌≡◌, ℕ, suc, List, [], ◌∷◌, Bool, true, false, map, replicate, zero, refl, subst, arith, Some, None}
+use Rattle.std.specs.Prelude.{if◌then◌else◌}
+use Rattle.std.specs.List.{AllByRecursion}
+use Rattle.authority_mask.specs.Authority.{no_masks}
+use Rattle.authority_mask.specs.declared.masks.MaskName.TheVariants.{Amr, Iamr}
+use Rattle.papr_codes.specs.declared.calls.Hcall.{Hcall}
+use Rattle.papr_codes.specs.declared.calls.Hcall.TheVariants as calls
+use Rattle.papr_codes.specs.Hcalls.{hcall_of}
+use Rattle.entry_model.specs.State.{State}
+use Rattle.slb_model.specs.Buffer.{segment_of}
+use Rattle.hpt_walk.specs.Access.{AccessContext, request}
+use Rattle.hpt_walk.proofs.Masked.{masked_where_refused, zero_refuses_none}
+use Rattle.tlb_model.specs.Cache.{cached_line}
+use Rattle.tlb_model.specs.Processor.{Processor, new_processor}
+use Rattle.trace_line.specs.declared.act.Act.{Act}
+use Rattle.trace_line.specs.declared.act.Act.TheVariants as acts
+use Rattle.trace_line.specs.declared.line.TraceLine.{TraceLine}
+use Rattle.trace_line.specs.Lines.{is_quiet}
+use Rattle.trace_read.specs.Trace.{AcceptedTrace}
+use Rattle.trace_reply.specs.declared.reply.Reply.{Reply}
+use Rattle.trace_reply.specs.declared.reply.Reply.TheVariants as replies
+use Rattle.trace_reply.specs.Replies.{RepliedLine, lines_with_replies}
+use Rattle.run_model.specs.Processors.{processor_at, processor_after}
+use Rattle.run_model.specs.LineReplies.{IsReplyToAccess}
+use Rattle.run_model.specs.RunState.{RunState, context_of, states_of, opening_run, run_quiet_line, run_resize, without_cache}
+use Rattle.run_model.specs.Histories.{lines_of_processor}
+use Rattle.run_model.specs.Sections.{Section, QuietPart, section_end, processor_after_lines, cut, sections_from, sections_of}
+use Rattle.run_model.specs.GoodRun.{EachLineOfProcessor, IsAccessLine, AccessesAreReplied, IsGoodRun}
+use Rattle.run_model.specs.MaskedAccesses.{IsMaskedByItsEntry, MasksRefuse, SetsZero, HasNoMasked, IsUnmasked, NoneIsMasked}
+use Rattle.run_model.proofs.Each.{each_at, each_filter}
+use Rattle.run_model.proofs.ProcessorLists.{after_each}
+
+-- ---- accesses
+line_masked : (context : AccessContext) (p : Processor) (act : Act) (reply : Reply) → IsReplyToAccess context p act reply → IsMaskedByItsEntry p act reply
+line_masked context p (acts.Access want ea user) (replies.Access r) is = λ name. masked_where_refused context (cached_line p.cache) (request want ea user p.masks) (segment_of p.slots ea) r name is
+line_masked context p act reply is = tt
+
+lines_masked : (context : AccessContext) (states : List State) (p : Processor) (ts : List RepliedLine) → EachLineOfProcessor (IsAccessLine context states) p ts → EachLineOfProcessor (λ p t. IsMaskedByItsEntry p t.line.act t.reply) p ts
+lines_masked context states p [] h = tt
+lines_masked context states p (t ∷ ts) h =
+    (line_masked context p t.line.act t.reply h.0.reply, lines_masked context states (processor_after p t.line.act t.reply) ts h.1)
+
+section_masked : (s : Section) → AccessesAreReplied s → MasksRefuse s
+section_masked s replied = λ cpu. lines_masked (context_of s.before) (states_of (section_end s.before s.replied_lines)) (processor_at s.before.processors cpu) (lines_of_processor cpu s.replied_lines) (replied cpu)
+
+sections_masked : (ss : List Section) → AllByRecursion AccessesAreReplied ss → AllByRecursion MasksRefuse ss
+sections_masked [] replied = tt
+sections_masked (s ∷ ss) replied = (section_masked s replied.0, sections_masked ss replied.1)
+
+pub masks_refuse : (t : AcceptedTrace) (rs : List Reply) → IsGoodRun t rs → AllByRecursion MasksRefuse (sections_of t rs)
+masks_refuse t rs good = sections_masked (sections_of t rs) good.accesses
+
+-- ---- lines that set no mask but to 0
+abbrev IsZeroLine : RepliedLine → Type 0
+IsZeroLine t = SetsZero t.line.act
+
+abbrev AreZeroLines : List RepliedLine → Type 0
+AreZeroLines ts = AllByRecursion IsZeroLine ts
+
+replied_zero : (ls : List TraceLine) (rs : List Reply) → AllByRecursion (λ (l : TraceLine). SetsZero l.act) ls → AreZeroLines (lines_with_replies ls rs)
+replied_zero [] rs h = tt
+replied_zero (l ∷ ls) [] h = tt
+replied_zero (l ∷ ls) (r ∷ rs) h = (h.0, replied_zero ls rs h.1)
+
+abbrev IsZeroCut : List RepliedLine × List QuietPart → Type 0
+IsZeroCut x = AreZeroLines x.0 × AllByRecursion (λ (q : QuietPart). AreZeroLines q.1) x.1
+
+cut_by : (quiet : Bool) (t : RepliedLine) (x : List RepliedLine × List QuietPart) → IsZeroLine t → IsZeroCut x → IsZeroCut (if quiet then ([], (t, x.0) ∷ x.1) else (t ∷ x.0, x.1))
+cut_by true t x here rest = (tt, (rest.0, rest.1))
+cut_by false t x here rest = ((here, rest.0), rest.1)
+
+cut_zero : (ts : List RepliedLine) → AreZeroLines ts → IsZeroCut (cut ts)
+cut_zero [] h = (tt, tt)
+cut_zero (t ∷ ts) h = cut_by (is_quiet t.line.act) t (cut ts) h.0 (cut_zero ts h.1)
+
+-- ---- processors whose masks are 0
+abbrev HasZeroMasks : Processor → Type 0
+HasZeroMasks p = p.masks ≡ no_masks
+
+after_zero : (p : Processor) (act : Act) (reply : Reply) → SetsZero act → HasZeroMasks p → HasZeroMasks (processor_after p act reply)
+after_zero p (acts.SetMask Amr value) reply is h = λ i. record (h i) { amr = is i }
+after_zero p (acts.SetMask Iamr value) reply is h = λ i. record (h i) { iamr = is i }
+after_zero p (acts.Access want ea user) (replies.Access r) is h = h
+after_zero p (acts.Access want ea user) other is h = h
+after_zero p (acts.SlbMte rb rs) reply is h = h
+after_zero p acts.SlbClear reply is h = h
+after_zero p (acts.Call number args spelt) reply is h = h
+after_zero p acts.Dump reply is h = h
+
+no_masked : (context : AccessContext) (p : Processor) (act : Act) (reply : Reply) → HasZeroMasks p → IsReplyToAccess context p act reply → HasNoMasked act reply
+no_masked context p (acts.Access want ea user) (replies.Access r) h is = zero_refuses_none context (cached_line p.cache) (request want ea user p.masks) (segment_of p.slots ea) r h is
+no_masked context p act reply h is = tt
+
+lines_unmasked : (context : AccessContext) (states : List State) (p : Processor) (ts : List RepliedLine) → HasZeroMasks p → AreZeroLines ts → EachLineOfProcessor (IsAccessLine context states) p ts → EachLineOfProcessor IsUnmasked p ts × HasZeroMasks (processor_after_lines p ts)
+lines_unmasked context states p [] h zeros replied = (tt, h)
+lines_unmasked context states p (t ∷ ts) h zeros replied =
+    let rest = lines_unmasked context states (processor_after p t.line.act t.reply) ts (after_zero p t.line.act t.reply zeros.0 h) zeros.1 replied.1 in
+    ((record { masks = h; answers = no_masked context p t.line.act t.reply h replied.0.reply }, rest.0), rest.1)
+
+-- ---- sections
+abbrev HaveZeroMasks : RunState → Type 0
+HaveZeroMasks w = AllByRecursion HasZeroMasks w.processors
+
+new_zero : HasZeroMasks new_processor
+unfolding new_processor
+new_zero = refl
+
+all_new_zero : (count : ℕ) → AllByRecursion HasZeroMasks (replicate count new_processor)
+all_new_zero zero = tt
+all_new_zero (suc count) = (new_zero, all_new_zero count)
+
+section_unmasked : (s : Section) → HaveZeroMasks s.before → AreZeroLines s.replied_lines → AccessesAreReplied s → NoneIsMasked s × HaveZeroMasks (section_end s.before s.replied_lines)
+unfolding section_end
+section_unmasked s h zeros replied = (λ cpu. (one cpu).0, after_each HasZeroMasks 0 s.before.processors s.replied_lines (λ k within. subst (λ n. HasZeroMasks (processor_after_lines (processor_at s.before.processors k) (lines_of_processor n s.replied_lines))) (omega arith) (one k).1)) where
+  one : (cpu : ℕ) → EachLineOfProcessor IsUnmasked (processor_at s.before.processors cpu) (lines_of_processor cpu s.replied_lines) × HasZeroMasks (processor_after_lines (processor_at s.before.processors cpu) (lines_of_processor cpu s.replied_lines))
+  one cpu =
+      lines_unmasked (context_of s.before) (states_of (section_end s.before s.replied_lines)) (processor_at s.before.processors cpu) (lines_of_processor cpu s.replied_lines)
+      (each_at HasZeroMasks s.before.processors cpu new_processor new_zero h)
+      (each_filter IsZeroLine _ s.replied_lines zeros)
+      (replied cpu)
+
+all_cleared : (ps : List Processor) → AllByRecursion HasZeroMasks ps → AllByRecursion HasZeroMasks (map without_cache ps)
+all_cleared [] h = tt
+all_cleared (p ∷ ps) h = (h.0, all_cleared ps h.1)
+
+committed_zero : (done : Bool) (ps : List Processor) → AllByRecursion HasZeroMasks ps → AllByRecursion HasZeroMasks (if done then map without_cache ps else ps)
+committed_zero true ps h = all_cleared ps h
+committed_zero false ps h = h
+
+resized_zero : (w : RunState) (call : Hcall) (args : List ℕ) → HaveZeroMasks w → HaveZeroMasks (run_resize w call args).1
+unfolding run_resize
+resized_zero w calls.Prepare args h = h
+resized_zero w calls.Commit args h = committed_zero _ w.processors h
+resized_zero w other args h = h
+
+quiet_zero : (w : RunState) (act : Act) → HaveZeroMasks w → HaveZeroMasks (run_quiet_line w act).1
+unfolding run_quiet_line
+quiet_zero w (acts.Call number args spelt) h = resized_zero w (hcall_of number) args h
+quiet_zero w other h = h
+
+sections_unmasked : (w : RunState) (ts : List RepliedLine) (qs : List QuietPart) → HaveZeroMasks w → IsZeroCut (ts, qs) → AllByRecursion AccessesAreReplied (sections_from w ts qs) → AllByRecursion NoneIsMasked (sections_from w ts qs)
+sections_unmasked w ts [] h zeros replied = ((section_unmasked (record { before = w; replied_lines = ts; quiet = None }) h zeros.0 replied.0).0, tt)
+sections_unmasked w ts (q ∷ qs) h zeros replied =
+    let here = section_unmasked (record { before = w; replied_lines = ts; quiet = Some q.0 }) h zeros.0 replied.0 in
+    let after = run_quiet_line (section_end w ts) q.0.line.act in
+    (here.0, sections_unmasked after.1 q.1 qs (quiet_zero (section_end w ts) q.0.line.act here.1) (zeros.1.0, zeros.1.1) replied.1)
+
+pub zero_masks_refuse : (t : AcceptedTrace) (rs : List Reply) → AllByRecursion (λ (l : TraceLine). SetsZero l.act) t.lines → IsGoodRun t rs → AllByRecursion NoneIsMasked (sections_of t rs)
+unfolding opening_run
+zero_masks_refuse t rs zeros good =
+    let ts = lines_with_replies t.lines rs in
+    sections_unmasked (opening_run t.config) (cut ts).0 (cut ts).1 (all_new_zero t.config.cpus) (cut_zero ts (replied_zero t.lines rs zeros)) good.accesses

@@ -1,0 +1,5 @@
+pub mod KeptWords
+pub mod BusyCalls
+pub mod TwoCalls
+pub mod Ungranted
+mod Rows

@@ -1,5 +1,5 @@
 ghost use Rattle.std.specs.Prelude.{◌≡◌};
-ghost use Rattle.frame_grants.specs.Grants.{no_grant, is_aligned, ends_past, overlaps, holds};
+ghost use Rattle.frame_grants.specs.Grants.{no_grant, is_aligned, ends_past, meets_machine, overlaps, holds};
 
 use crate::range::{ends_past_top, range_within, ranges_meet};
 
@@ -67,12 +67,19 @@ impl Grant {
         ends_past_top(self.logical, self.length) || ends_past_top(self.machine, self.length)
     }
 
+    /// Whether the machine ranges meet.
+    pub fn meets_machine(&self, other: &Grant) -> bool
+        ensures { result ≡ meets_machine self.now other.now }
+    {
+        ranges_meet(self.machine, self.length, other.machine, other.length)
+    }
+
     /// Whether the logical ranges meet, or the machine ranges.
     pub(crate) fn overlaps(&self, other: &Grant) -> bool
         ensures { result ≡ overlaps self.now other.now }
     {
         ranges_meet(self.logical, self.length, other.logical, other.length)
-            || ranges_meet(self.machine, self.length, other.machine, other.length)
+            || self.meets_machine(other)
     }
 
     /// Whether the whole logical range lies in the grant.

@@ -1,5 +1,5 @@
 mod Lists
-mod Powers
+pub mod Powers
 mod Shape
 mod Halves
 mod Rooms

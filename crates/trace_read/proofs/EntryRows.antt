@@ -15,12 +15,12 @@ use Rattle.trace_read.specs.Entries.{entry_named, with_entry}
 use Rattle.trace_read.specs.Forms.{form_named, form_of}
 use Rattle.trace_read.specs.Grammar.{after_form, after_words, after_text, after_line, after_lines, trace_of}
 use Rattle.trace_read.specs.Numbers.{number_of}
-use Rattle.trace_read.specs.Settings.{number_within, with_order, with_pool, with_granted, with_begin}
+use Rattle.trace_read.specs.Settings.{number_within, with_order, pool_named, with_pool, grant_named, with_granted, with_begin}
 use Rattle.trace_read.specs.Trace.{AcceptedTrace}
 
 -- What is opened to read configuration lines.
 unfoldable config_on_literals : ⊤
-unfolding trace_of after_lines after_line after_text after_words after_form form_of form_named number_within with_order with_pool with_granted with_begin with_entry entry_named entry_words number_at number_of range_refusal add_refusal grant_refusals with_grant suits_grants machine_range hex_on_literals
+unfolding trace_of after_lines after_line after_text after_words after_form form_of form_named number_within with_order pool_named with_pool grant_named with_granted with_begin with_entry entry_named entry_words number_at number_of range_refusal add_refusal grant_refusals with_grant suits_grants machine_range hex_on_literals
 config_on_literals = tt
 
 -- Lines behind an order and 1 GB of memory: the first of them is the third.

@@ -1,5 +1,5 @@
 -- The trace that an input gives: a machine over its lines.
-use Rattle.std.specs.Prelude.{◌≡◌, ◌≤◌, ℕ, ◌+◌, ◌^◌, true, false, List, [], ◌∷◌, ◌++◌, length, Result, Ok, Err, if◌then◌else◌, nat_lt}
+use Rattle.std.specs.Prelude.{◌≡◌, ◌≤◌, ℕ, ◌+◌, ◌-◌, ◌^◌, true, false, List, [], ◌∷◌, ◌++◌, length, Result, Ok, Err, if◌then◌else◌, nat_lt}
 use Rattle.std.specs.List.{list_all}
 use Rattle.trace_read.specs.declared.forms.Form.{Form}
 use Rattle.trace_read.specs.declared.forms.Form.TheVariants as forms
@@ -16,7 +16,7 @@ use Rattle.trace_read.specs.Forms.{form_of}
 use Rattle.trace_read.specs.TextLines.{raw_lines, without_cr, is_printable, words_of, is_remark}
 use Rattle.trace_read.specs.Entries.{with_entry}
 use Rattle.trace_read.specs.Places.{is_running, is_first, may_have_entries, comes_at}
-use Rattle.trace_read.specs.Settings.{default_settings, with_order, with_limit, with_cpus, with_pool, with_granted, with_begin}
+use Rattle.trace_read.specs.Settings.{settings_beside, with_order, with_limit, with_cpus, with_pool, with_granted, with_begin}
 use Rattle.trace_line.specs.Lines.{IsTrace}
 use Rattle.trace_read.specs.Trace.{AcceptedTrace}
 use Rattle.trace_read.specs.Whys.{◌>>=◌, guard}
@@ -28,9 +28,18 @@ pub record Reading : Type 0 where
   pub config : Configuration
   pub lines : List TraceLine
 
--- Before the first line.
+-- Before the first line, where this pool stands until a line names another.
+abbrev pub reading_beside : ℕ → ℕ → Reading
+reading_beside pool_base pool_order = record {
+  taken = 0;
+  stage = stages.Order;
+  config = settings_beside pool_base pool_order;
+  lines = [];
+}
+
+-- The pool that stands in a trace that names none has 2 ^ 24 bytes.
 abbrev pub opening_reading : Reading
-opening_reading = record { taken = 0; stage = stages.Order; config = default_settings; lines = [] }
+opening_reading = reading_beside 0x1000000000 24
 
 -- ---- one line
 -- After a configuration line, what may come next.
@@ -80,6 +89,14 @@ after_line r line = do
   few ← guard (nat_lt r.taken (2 ^ 17)) whys.Lines
   text ← guard (list_all is_printable (without_cr line)) whys.Ascii
   after_text (record r { taken = r.taken + 1 }) (words_of (without_cr line))
+
+-- The lines before this number are taken.
+abbrev pub at_line : ℕ → Reading → Reading
+at_line number r = record r { taken = number - 1 }
+
+-- The reading after a further line that has this number: the numbers between have no lines.
+abbrev pub after_numbered : ℕ → Reading → List ℕ → Result Reading Why
+after_numbered number r line = after_line (at_line number r) line
 
 -- ---- all lines
 -- A refusal is told with the number of its line.

@@ -11,4 +11,8 @@ pub mod Entries
 pub mod Counts
 pub mod Places
 pub mod Grammar
+pub mod Givens
 pub mod Read
+pub mod Numbered
+pub mod ReaderLaws
+pub mod RefusalLaws

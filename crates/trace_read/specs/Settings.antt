@@ -11,15 +11,19 @@ use Rattle.trace_read.specs.Acts.{number_at}
 use Rattle.trace_read.specs.Configuration.{Configuration}
 use Rattle.trace_read.specs.Whys.{◌>>=◌, guard, why_of_grant}
 
--- A table of 2 ^ 18 bytes that may grow to 2 ^ 22, one processor, no grant beside a pool of 2 ^ 24 bytes, and no entry.
-abbrev pub default_settings : Configuration
-default_settings = record {
+-- A table of 2 ^ 18 bytes that may grow to 2 ^ 22, one processor, no grant beside this pool, and no entry.
+abbrev pub settings_beside : ℕ → ℕ → Configuration
+settings_beside pool_base pool_order = record {
   order = 18;
   limit = 22;
   cpus = 1;
-  granted = no_grants 0x1000000000 24;
+  granted = no_grants pool_base pool_order;
   entries = [];
 }
+
+-- Those beside a pool of 2 ^ 24 bytes.
+abbrev pub default_settings : Configuration
+default_settings = settings_beside 0x1000000000 24
 
 -- ---- one line each
 -- The number of a line that has one, between these bounds, which are among the numbers allowed.
@@ -48,28 +52,39 @@ with_cpus c ws = do
   cpus ← number_within ws 1 64
   Ok (record c { cpus = cpus })
 
--- The grants are still to come.
-unfoldable pub with_pool : Configuration → List (List ℕ) → Result Configuration Why
-with_pool c ws = do
+-- The base and the order of the pool that a line names behind its first word.
+unfoldable pub pool_named : List (List ℕ) → Result (ℕ × ℕ) Why
+pool_named ws = do
   counted ← guard (length ws == 3) Count
   base ← number_at ws 1
   order ← number_at ws 2
   within ← guard (is_none (range_refusal base order)) Range
-  Ok (record c { granted = no_grants base order })
+  Ok (base, order)
+
+-- The grants are still to come.
+unfoldable pub with_pool : Configuration → List (List ℕ) → Result Configuration Why
+with_pool c ws = do
+  pool ← pool_named ws
+  Ok (record c { granted = no_grants pool.0 pool.1 })
 
 -- A grant, unless it is refused.
 abbrev pub with_checked_grant : Configuration → Grant → Option GrantError → Result Configuration Why
 with_checked_grant c grant (Some error) = Err (why_of_grant error)
 with_checked_grant c grant None = Ok (record c { granted = with_grant c.granted grant })
 
--- `ram` and `io`: one more grant.
-unfoldable pub with_granted : Configuration → Kind → List (List ℕ) → Result Configuration Why
-with_granted c kind ws = do
+-- The grant that a line of `ram` or `io` names.
+unfoldable pub grant_named : Kind → List (List ℕ) → Result Grant Why
+grant_named kind ws = do
   counted ← guard (length ws == 4) Count
   logical ← number_at ws 1
   machine ← number_at ws 2
   size ← number_at ws 3
-  let grant : Grant = record { logical = logical; machine = machine; length = size; kind = kind }
+  Ok (record { logical = logical; machine = machine; length = size; kind = kind })
+
+-- `ram` and `io`: one more grant.
+unfoldable pub with_granted : Configuration → Kind → List (List ℕ) → Result Configuration Why
+with_granted c kind ws = do
+  grant ← grant_named kind ws
   with_checked_grant c grant (add_refusal c.granted grant)
 
 -- At `begin` the pool has room for the opening table.

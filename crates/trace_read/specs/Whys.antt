@@ -10,6 +10,7 @@ abbrev pub why_word : Why → List ℕ
 why_word whys.Long = codes "long"
 why_word whys.Lines = codes "lines"
 why_word whys.Ascii = codes "ascii"
+why_word whys.Lpar = codes "lpar"
 why_word whys.Word = codes "word"
 why_word whys.Place = codes "place"
 why_word whys.Count = codes "count"

@@ -1,4 +1,4 @@
-ghost use Rattle.std.specs.Prelude.{◌≡◌, ◌++◌, [], ◌∷◌, OnOk, OnErr, Ok};
+ghost use Rattle.std.specs.Prelude.{◌≡◌, ◌++◌, [], ◌∷◌, OnOk, OnErr, Ok, length};
 ghost use Rattle.trace_read.specs.Counts.{may_add, AreFew};
 
 use crate::why::Why;
@@ -73,6 +73,13 @@ impl CountedLines {
             self.dumps += 1;
         }
         Ok(())
+    }
+
+    /// How many lines there are.
+    pub fn count(&self) -> usize
+        ensures { result ≡ length self.now }
+    {
+        self.lines.as_slice().len()
     }
 
     /// The lines alone.

@@ -1,5 +1,6 @@
 ghost use Rattle.std.specs.Prelude.{◌≡◌, IfSome, IfOk};
 ghost use Rattle.std.specs.Str.{bytes_eq};
+ghost use Rattle.trace_read.specs.Givens.{is_setting, is_setting_form};
 ghost use Rattle.trace_read.specs.TextLines.{texts};
 ghost use Rattle.trace_read.specs.Forms.{begins_with_digit, form_named, run_form, form_of, IsNamedForm};
 
@@ -28,6 +29,15 @@ pub enum Form {
     Run(Option<Verb>),
     /// `dump`
     Dump,
+}
+
+impl Form {
+    /// Whether the line is of the configuration, and no run line.
+    fn is_setting(&self) -> bool
+        ensures { result ≡ is_setting_form self.now }
+    {
+        !matches!(self, Form::Run(_) | Form::Dump)
+    }
 }
 
 /// Whether a word is this name.
@@ -101,5 +111,16 @@ pub fn line_form(words: &[&[u8]]) -> Result<Form, Why>
         processor_form(rest)
     } else {
         named_form(first).ok_or(Why::Word)
+    }
+}
+
+/// Whether the words are of a configuration line's form: `order`, `limit`, `cpus`, `pool`, `ram`,
+/// `io`, `entry` or `begin`, whatever stands behind this first word.
+pub fn is_setting(words: &[&[u8]]) -> bool
+    ensures { result ≡ is_setting (texts words.now) }
+{
+    match line_form(words) {
+        Ok(form) => form.is_setting(),
+        Err(_) => false,
     }
 }

@@ -3,10 +3,10 @@ ghost use Rattle.trace_read.specs.Grammar.{trace_of};
 ghost use Rattle.trace_read.specs.Read.{IsParsed, error_of};
 ghost use Rattle.trace_read.specs.Trace.{IsAccepted};
 
+use crate::given::LineRefused;
 use crate::lines::{lines_of, split_line};
-use crate::reader::Reader;
-use crate::stop::Stop;
 use crate::trace::Trace;
+use crate::trace_reader::{MOST_LINES, POOL_BASE, POOL_ORDER, TraceReader};
 use crate::why::Why;
 use std::alloc::Global;
 
@@ -22,12 +22,12 @@ pub enum TraceError {
     Memory,
 }
 
-fn error_at(line: u32, stop: Stop) -> TraceError
-    ensures { result ≡ error_of line stop }
+fn error_at(line: u32, refused: LineRefused) -> TraceError
+    ensures { result ≡ error_of line refused }
 {
-    match stop {
-        Stop::Refused(why) => TraceError::Line { line, why },
-        Stop::Memory => TraceError::Memory,
+    match refused {
+        LineRefused::Refused { why, grant: _ } => TraceError::Line { line, why },
+        LineRefused::Memory => TraceError::Memory,
     }
 }
 
@@ -43,24 +43,25 @@ pub fn parse(alloc: Global, bytes: &[u8]) -> Result<Trace, TraceError>
             why: Why::Long,
         });
     }
-    let mut words = Vec::new(alloc);
-    let mut reader = Reader::new(alloc);
+    let mut reader = TraceReader::new(alloc, POOL_BASE, POOL_ORDER);
     let mut rest = lines_of(bytes);
     while let Some(text) = rest {
         let (line, after) = split_line(text);
         let number = reader.taken() + 1;
-        if let Err(stop) = reader.read_line(&mut words, line) {
-            return Err(error_at(number, stop));
+        if number > MOST_LINES {
+            return Err(TraceError::Line {
+                line: number,
+                why: Why::Lines,
+            });
+        }
+        if let Err(refused) = reader.line(number, line) {
+            return Err(error_at(number, refused));
         }
         rest = after;
     }
-    if !reader.is_running() {
-        return Err(TraceError::Line {
-            line: reader.taken() + 1,
-            why: Why::Begin,
-        });
+    let line = reader.taken() + 1;
+    match reader.end() {
+        Ok(trace) => Ok(trace),
+        Err(why) => Err(TraceError::Line { line, why }),
     }
-    let trace = reader.into_trace();
-    trace.keeps_limits();
-    Ok(trace)
 }

@@ -1,34 +1,34 @@
 ghost use Rattle.std.specs.Prelude.{◌≡◌, ◌<◌, ◌≤◌, ◌^◌, true, false, length};
+ghost use Rattle.pool_range.specs.Ranges.{IsPoolRange};
 ghost use Rattle.trace_read.specs.Acts.{run_act, dump_act};
-ghost use Rattle.trace_read.specs.Forms.{IsNamedForm};
-ghost use Rattle.trace_read.specs.Grammar.{opening_reading, after_line, after_text, after_words, after_form, set_to, after_act, with_run_line};
-ghost use Rattle.trace_read.specs.TextLines.{texts};
 ghost use Rattle.trace_read.specs.Entries.{with_entry};
+ghost use Rattle.trace_read.specs.Forms.{form_of, IsNamedForm};
+ghost use Rattle.trace_read.specs.Givens.{given_by, given_if};
+ghost use Rattle.trace_read.specs.Grammar.{reading_beside, after_text, after_words, after_form, set_to, after_act, with_run_line};
 ghost use Rattle.trace_read.specs.Places.{is_first, is_running, may_have_entries, comes_at};
-ghost use Rattle.trace_read.specs.Read.{ReadsTo};
+ghost use Rattle.trace_read.specs.Read.{Reads, ReadsTo};
 ghost use Rattle.trace_read.specs.Settings.{with_order, with_limit, with_cpus, with_pool, with_granted, with_begin};
+ghost use Rattle.trace_read.specs.TextLines.{texts};
 ghost use Rattle.trace_line.specs.Lines.{IsSpelt};
 
 use crate::acts::{dump_act, run_act};
 use crate::counted::CountedLines;
 use crate::forms::{Form, line_form};
-use crate::lines::{drop_cr, is_remark_line, is_text, read_words};
+use crate::given::{Given, LineRefused};
+use crate::grant_line::{grant_named, told};
+use crate::lines::is_remark_line;
 use crate::settings::Settings;
 use crate::stage::Stage;
 use crate::stop::Stop;
 use crate::trace::Trace;
 use crate::verbs::Verb;
 use crate::why::Why;
-use frame_grants::Kind;
+use frame_grants::{Grants, Kind};
 use std::alloc::Global;
 use std::marker::Model;
 use trace_line::{Act, TraceLine};
 
-/// The most lines that an input may have.
-const MOST_LINES: u32 = 131_072;
-
-/// What the lines so far have given, and what may come next. After a line that is refused it is not
-/// used.
+/// What the lines so far have given, and what may come next. A line that is refused changes nothing.
 #[derive(Drop)]
 pub struct Reader {
     taken: u32,
@@ -51,19 +51,20 @@ impl Model for Reader {
 }
 
 impl Reader {
-    /// Before the first line.
-    pub fn new(alloc: Global) -> Self
-        ensures { result ≡ opening_reading }
+    /// Before the first line, where this pool stands.
+    pub fn new(alloc: Global, pool_base: u64, pool_order: u8) -> Self
+        requires { IsPoolRange pool_base pool_order }
+        ensures { result ≡ reading_beside pool_base pool_order }
     {
         Reader {
             taken: 0,
             stage: Stage::Order,
-            settings: Settings::new(alloc),
+            settings: Settings::new(alloc, pool_base, pool_order),
             lines: CountedLines::new(alloc),
         }
     }
 
-    /// How many lines were read.
+    /// The number of the last line that was taken, and 0 before the first.
     pub fn taken(&self) -> u32
         ensures count { result ≡ self.now.taken }
         ensures few { result ≤ 2 ^ 17 }
@@ -76,6 +77,30 @@ impl Reader {
         ensures { result ≡ is_running self.now.stage }
     {
         self.stage.is_running()
+    }
+
+    /// How many run lines there are so far.
+    pub fn lines(&self) -> usize
+        ensures count { result ≡ length self.now.lines }
+        ensures few { result ≤ 2 ^ 17 }
+    {
+        self.lines.count()
+    }
+
+    /// The binary logarithm of the size in bytes of the opening table, as the lines so far have it.
+    pub fn order(&self) -> u8
+        ensures value { result ≡ self.now.config.order }
+        ensures at_least { 18 ≤ result }
+        ensures at_most { result ≤ 22 }
+    {
+        self.settings.order()
+    }
+
+    /// The memory that is granted so far.
+    pub fn grants(&self) -> &Grants
+        ensures { result.now ≡ self.now.config.granted }
+    {
+        self.settings.grants()
     }
 
     /// The trace that the lines have given.
@@ -95,182 +120,247 @@ impl Reader {
         }
     }
 
-    /// Takes the next line. The list is room for the line's words: what it has before and after
-    /// means nothing.
-    #[tactic(auto, unfolding(crate::specs::Grammar::after_line, crate::specs::Grammar::after_text))]
-    pub fn read_line<'a>(&mut self, words: &mut Vec<&'a [u8]>, line: &'a [u8]) -> Result<(), Stop>
-        ensures { ReadsTo (after_line self.old line.now) result self.new }
+    /// Takes a line with these words, which has this number.
+    #[tactic(auto, unfolding(crate::specs::Grammar::after_text))]
+    pub fn take(&mut self, number: u32, words: &[&[u8]]) -> Result<Given, LineRefused>
+        requires next { self.old.taken < number }
+        requires few { number ≤ 2 ^ 17 }
+        ensures { Reads
+            (after_text (record self.old { taken = number }) (texts words.now))
+            (texts words.now)
+            result
+            self.old
+            self.new }
     {
-        if self.taken >= MOST_LINES {
-            return Err(Stop::Refused(Why::Lines));
-        }
-        let line = drop_cr(line);
-        if !is_text(line) {
-            return Err(Stop::Refused(Why::Ascii));
-        }
-        read_words(words, line)?;
-        self.taken += 1;
         if is_remark_line(words) {
-            return Ok(());
+            self.taken = number;
+            return Ok(Given::Remark);
         }
-        self.take_words(words)
+        match self.take_words(number, words) {
+            Ok(given) => Ok(given),
+            Err(stop) => Err(told(stop, words)),
+        }
     }
 
     #[tactic(auto, unfolding(crate::specs::Grammar::after_words))]
-    fn take_words(&mut self, words: &[&[u8]]) -> Result<(), Stop>
-        requires { length self.old.lines < self.old.taken }
-        ensures { ReadsTo (after_words self.old (texts words.now)) result self.new }
+    fn take_words(&mut self, number: u32, words: &[&[u8]]) -> Result<Given, Stop>
+        requires next { self.old.taken < number }
+        requires few { number ≤ 2 ^ 17 }
+        ensures { ReadsTo
+            (after_words (record self.old { taken = number }) (texts words.now))
+            (given_if (form_of (texts words.now)) self.old.config (texts words.now))
+            result
+            self.old
+            self.new }
     {
         let form = line_form(words)?;
         if !self.stage.admits(form) {
             return Err(Stop::Refused(Why::Place));
         }
-        self.take_form(form, words)
+        self.take_form(number, form, words)
     }
 
     #[tactic(auto, unfolding(crate::specs::Grammar::after_form))]
-    fn take_form(&mut self, form: Form, words: &[&[u8]]) -> Result<(), Stop>
-        requires few { length self.old.lines < self.old.taken }
+    fn take_form(&mut self, number: u32, form: Form, words: &[&[u8]]) -> Result<Given, Stop>
+        requires next { self.old.taken < number }
+        requires few { number ≤ 2 ^ 17 }
         requires place { comes_at form self.old.stage ≡ true }
         requires named { IsNamedForm form }
-        ensures { ReadsTo (after_form form self.old (texts words.now)) result self.new }
+        ensures { ReadsTo
+            (after_form form (record self.old { taken = number }) (texts words.now))
+            (given_by form self.old.config (texts words.now))
+            result
+            self.old
+            self.new }
     {
         match form {
-            Form::Order => self.take_order(words),
-            Form::Limit => self.take_limit(words),
-            Form::Cpus => self.take_cpus(words),
-            Form::Pool => self.take_pool(words),
-            Form::Grant(kind) => self.take_grant(kind, words),
-            Form::Entry => self.take_entry(words),
-            Form::Begin => self.take_begin(words),
-            Form::Run(verb) => self.take_run(verb, words),
-            Form::Dump => self.take_dump(words),
+            Form::Order => self.take_order(number, words),
+            Form::Limit => self.take_limit(number, words),
+            Form::Cpus => self.take_cpus(number, words),
+            Form::Pool => self.take_pool(number, words),
+            Form::Grant(kind) => self.take_grant(number, kind, words),
+            Form::Entry => self.take_entry(number, words),
+            Form::Begin => self.take_begin(number, words),
+            Form::Run(verb) => self.take_run(number, verb, words),
+            Form::Dump => self.take_dump(number, words),
         }
     }
 
-    fn take_order(&mut self, words: &[&[u8]]) -> Result<(), Stop>
-        requires { is_first self.old.stage ≡ true }
+    fn take_order(&mut self, number: u32, words: &[&[u8]]) -> Result<Given, Stop>
+        requires next { self.old.taken < number }
+        requires few { number ≤ 2 ^ 17 }
+        requires place { is_first self.old.stage ≡ true }
         ensures { ReadsTo
-            (set_to self.old Stage.Limit (with_order self.old.config (texts words.now)))
+            (set_to (record self.old { taken = number }) Stage.Limit (with_order self.old.config (texts words.now)))
+            Given.Setting
             result
+            self.old
             self.new }
     {
         self.settings.take_order(words)?;
         self.stage = Stage::Limit;
-        Ok(())
+        self.taken = number;
+        Ok(Given::Setting)
     }
 
-    fn take_limit(&mut self, words: &[&[u8]]) -> Result<(), Stop>
-        requires { may_have_entries self.old.stage ≡ false }
+    fn take_limit(&mut self, number: u32, words: &[&[u8]]) -> Result<Given, Stop>
+        requires next { self.old.taken < number }
+        requires few { number ≤ 2 ^ 17 }
+        requires place { may_have_entries self.old.stage ≡ false }
         ensures { ReadsTo
-            (set_to self.old Stage.Cpus (with_limit self.old.config (texts words.now)))
+            (set_to (record self.old { taken = number }) Stage.Cpus (with_limit self.old.config (texts words.now)))
+            Given.Setting
             result
+            self.old
             self.new }
     {
         self.settings.take_limit(words)?;
         self.stage = Stage::Cpus;
-        Ok(())
+        self.taken = number;
+        Ok(Given::Setting)
     }
 
-    fn take_cpus(&mut self, words: &[&[u8]]) -> Result<(), Stop>
-        requires { may_have_entries self.old.stage ≡ false }
+    fn take_cpus(&mut self, number: u32, words: &[&[u8]]) -> Result<Given, Stop>
+        requires next { self.old.taken < number }
+        requires few { number ≤ 2 ^ 17 }
+        requires place { may_have_entries self.old.stage ≡ false }
         ensures { ReadsTo
-            (set_to self.old Stage.Pool (with_cpus self.old.config (texts words.now)))
+            (set_to (record self.old { taken = number }) Stage.Pool (with_cpus self.old.config (texts words.now)))
+            Given.Setting
             result
+            self.old
             self.new }
     {
         self.settings.take_cpus(words)?;
         self.stage = Stage::Pool;
-        Ok(())
+        self.taken = number;
+        Ok(Given::Setting)
     }
 
-    fn take_pool(&mut self, words: &[&[u8]]) -> Result<(), Stop>
-        requires { may_have_entries self.old.stage ≡ false }
+    fn take_pool(&mut self, number: u32, words: &[&[u8]]) -> Result<Given, Stop>
+        requires next { self.old.taken < number }
+        requires few { number ≤ 2 ^ 17 }
+        requires place { may_have_entries self.old.stage ≡ false }
         ensures { ReadsTo
-            (set_to self.old Stage.Grants (with_pool self.old.config (texts words.now)))
+            (set_to (record self.old { taken = number }) Stage.Grants (with_pool self.old.config (texts words.now)))
+            Given.Setting
             result
+            self.old
             self.new }
     {
         self.settings.take_pool(words)?;
         self.stage = Stage::Grants;
-        Ok(())
+        self.taken = number;
+        Ok(Given::Setting)
     }
 
-    fn take_grant(&mut self, kind: Kind, words: &[&[u8]]) -> Result<(), Stop>
-        requires { may_have_entries self.old.stage ≡ false }
+    #[tactic(auto, unfolding(crate::specs::Settings::with_granted))]
+    fn take_grant(&mut self, number: u32, kind: Kind, words: &[&[u8]]) -> Result<Given, Stop>
+        requires next { self.old.taken < number }
+        requires few { number ≤ 2 ^ 17 }
+        requires place { may_have_entries self.old.stage ≡ false }
         ensures { ReadsTo
-            (set_to self.old Stage.Grants (with_granted self.old.config kind (texts words.now)))
+            (set_to (record self.old { taken = number }) Stage.Grants (with_granted self.old.config kind (texts words.now)))
+            (given_by (Form.Grant kind) self.old.config (texts words.now))
             result
+            self.old
             self.new }
     {
-        self.settings.take_grant(kind, words)?;
+        let grant = grant_named(kind, words)?;
+        self.settings.add_grant(grant)?;
         self.stage = Stage::Grants;
-        Ok(())
+        self.taken = number;
+        Ok(Given::Grant(grant))
     }
 
-    fn take_entry(&mut self, words: &[&[u8]]) -> Result<(), Stop>
-        requires { is_running self.old.stage ≡ false }
+    fn take_entry(&mut self, number: u32, words: &[&[u8]]) -> Result<Given, Stop>
+        requires next { self.old.taken < number }
+        requires few { number ≤ 2 ^ 17 }
+        requires place { is_running self.old.stage ≡ false }
         ensures { ReadsTo
-            (set_to self.old Stage.Entries (with_entry self.old.config (texts words.now)))
+            (set_to (record self.old { taken = number }) Stage.Entries (with_entry self.old.config (texts words.now)))
+            Given.Setting
             result
+            self.old
             self.new }
     {
         self.settings.take_entry(words)?;
         self.stage = Stage::Entries;
-        Ok(())
+        self.taken = number;
+        Ok(Given::Setting)
     }
 
-    fn take_begin(&mut self, words: &[&[u8]]) -> Result<(), Stop>
-        requires { is_running self.old.stage ≡ false }
+    fn take_begin(&mut self, number: u32, words: &[&[u8]]) -> Result<Given, Stop>
+        requires next { self.old.taken < number }
+        requires few { number ≤ 2 ^ 17 }
+        requires place { is_running self.old.stage ≡ false }
         ensures { ReadsTo
-            (set_to self.old Stage.Lines (with_begin self.old.config (texts words.now)))
+            (set_to (record self.old { taken = number }) Stage.Lines (with_begin self.old.config (texts words.now)))
+            (Given.Begin self.old.config.order)
             result
+            self.old
             self.new }
     {
+        let order = self.settings.order();
         self.settings.take_begin(words)?;
         self.stage = Stage::Lines;
-        Ok(())
+        self.taken = number;
+        Ok(Given::Begin { order })
     }
 
     #[tactic(auto, unfolding(crate::specs::Grammar::after_act))]
-    fn take_run(&mut self, verb: Option<Verb>, words: &[&[u8]]) -> Result<(), Stop>
-        requires few { length self.old.lines < self.old.taken }
+    fn take_run(&mut self, number: u32, verb: Option<Verb>, words: &[&[u8]]) -> Result<Given, Stop>
+        requires next { self.old.taken < number }
+        requires few { number ≤ 2 ^ 17 }
         requires place { is_running self.old.stage ≡ true }
         requires named { IsNamedForm (Form.Run verb) }
         ensures { ReadsTo
-            (after_act self.old (run_act self.old.config.cpus verb (texts words.now)))
+            (after_act
+            (record self.old { taken = number })
+            (run_act self.old.config.cpus verb (texts words.now)))
+            Given.Run
             result
+            self.old
             self.new }
     {
         let (cpu, act) = run_act(self.settings.cpus(), verb, words)?;
-        self.add(cpu, act)
+        self.add(number, cpu, act)
     }
 
     #[tactic(auto, unfolding(crate::specs::Grammar::after_act))]
-    fn take_dump(&mut self, words: &[&[u8]]) -> Result<(), Stop>
-        requires few { length self.old.lines < self.old.taken }
+    fn take_dump(&mut self, number: u32, words: &[&[u8]]) -> Result<Given, Stop>
+        requires next { self.old.taken < number }
+        requires few { number ≤ 2 ^ 17 }
         requires place { is_running self.old.stage ≡ true }
-        ensures { ReadsTo (after_act self.old (dump_act (texts words.now))) result self.new }
+        ensures { ReadsTo
+            (after_act (record self.old { taken = number }) (dump_act (texts words.now)))
+            Given.Run
+            result
+            self.old
+            self.new }
     {
         let (cpu, act) = dump_act(words)?;
         prove!(cpu < self.settings.cpus());
-        self.add(cpu, act)
+        self.add(number, cpu, act)
     }
 
     /// Adds a run line.
-    fn add(&mut self, cpu: u32, act: Act) -> Result<(), Stop>
-        requires few { length self.old.lines < self.old.taken }
+    fn add(&mut self, number: u32, cpu: u32, act: Act) -> Result<Given, Stop>
+        requires next { self.old.taken < number }
+        requires few { number ≤ 2 ^ 17 }
         requires place { is_running self.old.stage ≡ true }
         requires cpu { cpu < self.old.config.cpus }
         requires spelt { IsSpelt act }
-        ensures { ReadsTo (with_run_line self.old cpu act) result self.new }
+        ensures { ReadsTo
+            (with_run_line (record self.old { taken = number }) cpu act)
+            Given.Run
+            result
+            self.old
+            self.new }
     {
         self.lines.check(&act)?;
-        self.lines.push(TraceLine {
-            number: self.taken,
-            cpu,
-            act,
-        })?;
-        Ok(())
+        self.lines.push(TraceLine { number, cpu, act })?;
+        self.taken = number;
+        Ok(Given::Run)
     }
 }

@@ -1,28 +1,24 @@
-ghost use Rattle.std.specs.Prelude.{◌≡◌, ◌≤◌, ◌++◌, [], ◌∷◌, IfOk, OnOk, OnErr};
+ghost use Rattle.std.specs.Prelude.{◌≡◌, ◌≤◌, ◌++◌, [], ◌∷◌, IfOk, OnOk};
 ghost use Rattle.trace_read.specs.Configuration.{AreOpeningEntries};
 ghost use Rattle.trace_read.specs.Entries.{entry_named, with_entry};
 ghost use Rattle.trace_read.specs.Read.{ReadsTo};
 ghost use Rattle.trace_read.specs.TextLines.{texts};
-ghost use Rattle.trace_read.specs.Settings.{default_settings, number_within, with_order, with_limit, with_cpus, with_pool, with_granted, with_begin, SetsTo};
+ghost use Rattle.trace_read.specs.Settings.{settings_beside, number_within, with_order, with_limit, with_cpus, with_pool, with_checked_grant, with_begin, SetsTo};
+ghost use Rattle.frame_grants.specs.Grants.{add_refusal};
+ghost use Rattle.pool_range.specs.Ranges.{IsPoolRange};
 
 use crate::acts::{number_at, word_at};
 use crate::config::Config;
 use crate::entries::EntryLines;
 use crate::entry_line::{is_above, is_stored, layout_named, words_spelt};
+use crate::pool_line::pool_named;
 use crate::stop::Stop;
 use crate::why::{Why, grant_why};
-use frame_grants::{Grant, Grants, Kind};
+use frame_grants::{Grant, Grants};
 use hpte_fields::entry_count;
-use pool_range::PoolRange;
 use std::alloc::Global;
 use std::marker::Model;
 use table_image::ImageEntry;
-
-/// The machine region for page tables where a trace names none: its base, and the binary logarithm
-/// of its size in bytes.
-const POOL_BASE: u64 = 0x10_0000_0000;
-
-const POOL_ORDER: u8 = 24;
 
 // The number of a line that has one, within these bounds.
 #[tactic(auto, unfolding(crate::specs::Settings::number_within))]
@@ -73,17 +69,18 @@ impl Model for Settings {
 }
 
 impl Settings {
-    /// Those of a trace without configuration lines.
-    pub fn new(alloc: Global) -> Self
-        ensures { result ≡ default_settings }
+    /// Those of a trace without configuration lines, where this pool stands.
+    pub fn new(alloc: Global, pool_base: u64, pool_order: u8) -> Self
+        requires { IsPoolRange pool_base pool_order }
+        ensures { result ≡ settings_beside pool_base pool_order }
     {
         Settings {
             order: 18,
             limit: 22,
             cpus: 1,
-            pool_base: POOL_BASE,
-            pool_order: POOL_ORDER,
-            grants: Grants::new(POOL_BASE, POOL_ORDER),
+            pool_base,
+            pool_order,
+            grants: Grants::new(pool_base, pool_order),
             entries: EntryLines::new(alloc),
         }
     }
@@ -127,41 +124,24 @@ impl Settings {
         ensures taken { SetsTo (with_pool self.old (texts words.now)) result self.old self.new }
         ensures entries { self.new.entries ≡ self.old.entries }
     {
-        if words.len() != 3 {
-            return Err(Why::Count);
-        }
-        let base = number_at(words, 1)?;
-        let order = number_at(words, 2)?;
-        match PoolRange::new(base, order) {
-            Err(_) => Err(Why::Range),
-            Ok(range) => {
-                self.pool_base = range.base;
-                self.pool_order = range.order;
-                self.grants = Grants::new(range.base, range.order);
-                Ok(())
-            }
-        }
+        let range = pool_named(words)?;
+        self.pool_base = range.base;
+        self.pool_order = range.order;
+        self.grants = Grants::new(range.base, range.order);
+        Ok(())
     }
 
-    /// `ram LOGICAL MACHINE LENGTH` or `io LOGICAL MACHINE LENGTH`
-    #[tactic(auto, unfolding(crate::specs::Settings::with_granted, frame_grants::specs::Grants::with_grant))]
-    pub fn take_grant(&mut self, kind: Kind, words: &[&[u8]]) -> Result<(), Why>
+    /// One more grant.
+    #[tactic(auto, unfolding(frame_grants::specs::Grants::with_grant))]
+    pub fn add_grant(&mut self, grant: Grant) -> Result<(), Why>
         requires { self.old.entries ≡ [] }
-        ensures taken { SetsTo (with_granted self.old kind (texts words.now)) result self.old self.new }
+        ensures taken { SetsTo
+            (with_checked_grant self.old grant (add_refusal self.old.granted grant))
+            result
+            self.old
+            self.new }
         ensures entries { self.new.entries ≡ self.old.entries }
     {
-        if words.len() != 4 {
-            return Err(Why::Count);
-        }
-        let logical = number_at(words, 1)?;
-        let machine = number_at(words, 2)?;
-        let length = number_at(words, 3)?;
-        let grant = Grant {
-            logical,
-            machine,
-            length,
-            kind,
-        };
         if let Err(error) = self.grants.add(grant) {
             return Err(grant_why(error));
         }
@@ -204,8 +184,7 @@ impl Settings {
     /// `entry old INDEX DIGITS` or `entry new INDEX DIGITS`
     #[tactic(auto, unfolding(crate::specs::Entries::with_entry))]
     pub fn take_entry(&mut self, words: &[&[u8]]) -> Result<(), Stop>
-        ensures taken { ReadsTo (with_entry self.old (texts words.now)) result self.new }
-        ensures err { OnErr result (self.new ≡ self.old) }
+        ensures { ReadsTo (with_entry self.old (texts words.now)) tt result self.old self.new }
     {
         let entry = self.entry_named(words)?;
         self.entries.push(entry)?;
@@ -225,6 +204,22 @@ impl Settings {
             return Err(Why::Small);
         }
         Ok(())
+    }
+
+    /// The binary logarithm of the size of the opening table in bytes.
+    pub fn order(&self) -> u8
+        ensures value { result ≡ self.now.order }
+        ensures at_least { 18 ≤ result }
+        ensures at_most { result ≤ 22 }
+    {
+        self.order
+    }
+
+    /// The memory that is granted.
+    pub fn grants(&self) -> &Grants
+        ensures { result.now ≡ self.now.granted }
+    {
+        &self.grants
     }
 
     /// How many processors there are.

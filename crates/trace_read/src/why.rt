@@ -12,6 +12,8 @@ pub enum Why {
     Lines,
     /// A byte is neither tab nor printable ASCII.
     Ascii,
+    /// The line names no partition, or what it may not set. No reading of one trace gives this.
+    Lpar,
     /// The line begins with no word of any form.
     Word,
     /// The line may not stand here.
@@ -59,6 +61,7 @@ impl Why {
             Why::Long => "long",
             Why::Lines => "lines",
             Why::Ascii => "ascii",
+            Why::Lpar => "lpar",
             Why::Word => "word",
             Why::Place => "place",
             Why::Count => "count",

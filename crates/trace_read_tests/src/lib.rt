@@ -4,4 +4,6 @@
 #[cfg(test)]
 mod entry_lines;
 #[cfg(test)]
+mod numbered;
+#[cfg(test)]
 mod tests;

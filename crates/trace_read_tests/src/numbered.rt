@@ -1,0 +1,125 @@
+use frame_grants::{Grant, Kind};
+use std::test::Fail;
+use trace_read::{
+    Given, LineRefused, MOST_LINES, TraceReader, Why, is_remark_line, is_setting, is_text,
+    pool_named, read_words,
+};
+
+/// What a line gives at a number that may come next.
+fn taken<'a>(
+    reader: &mut TraceReader<'a>,
+    number: u32,
+    line: &'a str,
+) -> Result<Result<Given, LineRefused>, Fail> {
+    if number <= reader.taken() || number > MOST_LINES {
+        return Err("no further number".into());
+    }
+    Ok(reader.line(number, line.as_bytes()))
+}
+
+/// A pool of 1 MB.
+const BASE: u64 = 0x20_0000_0000;
+
+/// Lines, and what each gives.
+const GIVEN: &[(u32, &str, Given)] = &[
+    (2, "# order 18", Given::Remark),
+    (3, "order 19\r", Given::Setting),
+    (
+        5,
+        "ram 0 0x1000000000 0x1000",
+        Given::Grant(Grant {
+            logical: 0,
+            machine: 0x10_0000_0000,
+            length: 0x1000,
+            kind: Kind::Ram,
+        }),
+    ),
+    (
+        6,
+        "entry old 0x20 00000000000010010000000000000012",
+        Given::Setting,
+    ),
+    (7, "begin", Given::Begin { order: 19 }),
+    (9, "0 slbclear", Given::Run),
+    (131_072, "dump", Given::Run),
+];
+
+#[test]
+fn numbered_lines_give_a_trace(rt: HostRuntime) -> Result<(), Fail> {
+    let mut reader = TraceReader::new(rt.alloc(), BASE, 20);
+    assert_eq!(rt; reader.taken(), 0);
+    for (number, line, given) in GIVEN {
+        assert_eq!(rt; taken(&mut reader, *number, line)?, Ok(*given), "at {line}");
+        assert_eq!(rt; reader.taken(), *number);
+    }
+    assert!(rt; reader.is_running());
+    assert_eq!(rt; reader.lines(), 2);
+    assert_eq!(rt; reader.grants().list().len(), 1);
+    let trace = reader.end()?;
+    assert_eq!(rt; trace.config.pool_base, BASE);
+    let lines = trace.lines.as_slice();
+    assert_eq!(rt; lines.len(), 2);
+    assert_eq!(rt; (lines[0].number, lines[1].number), (9, 131_072));
+    Ok(())
+}
+
+/// Refused lines in this order, the reason of each, and the grant that is told.
+const REFUSED: &[(u32, &str, Why, Option<Grant>)] = &[
+    (1, "\x7f", Why::Ascii, None),
+    (2, "begin\r\r", Why::Ascii, None),
+    (3, "orders 18", Why::Word, None),
+    (4, "dump", Why::Place, None),
+    (5, "order 17", Why::Range, None),
+    (
+        6,
+        "ram 0 0x2000000000 0x1000",
+        Why::Tables,
+        Some(Grant {
+            logical: 0,
+            machine: 0x20_0000_0000,
+            length: 0x1000,
+            kind: Kind::Ram,
+        }),
+    ),
+    (7, "io 0x1000 0x2000000000 0", Why::Empty, None),
+];
+
+#[test]
+fn a_refused_line_changes_nothing(rt: HostRuntime) -> Result<(), Fail> {
+    let mut reader = TraceReader::new(rt.alloc(), BASE, 20);
+    for (number, line, why, grant) in REFUSED {
+        let refused = LineRefused::Refused {
+            why: *why,
+            grant: *grant,
+        };
+        assert_eq!(rt;
+            taken(&mut reader, *number, line)?,
+            Err(refused),
+            "at {line}"
+        );
+        assert_eq!(rt; reader.taken(), 0);
+    }
+    assert_eq!(rt; taken(&mut reader, 1, "order 18")?, Ok(Given::Setting));
+    assert!(rt; !reader.is_running());
+    assert!(rt; matches!(reader.end(), Err(Why::Begin)));
+    Ok(())
+}
+
+#[test]
+fn words_are_read_as_their_line(rt: HostRuntime) -> Result<(), Fail> {
+    let line = b"pool 0x3000000000\t20";
+    assert!(rt; is_text(line));
+    let mut words = Vec::new(rt.alloc());
+    read_words(&mut words, line)?;
+    assert_eq!(rt; words.len(), 3);
+    assert!(rt; is_setting(&words));
+    assert!(rt; !is_remark_line(&words));
+    match pool_named(&words) {
+        Ok(range) => assert_eq!(rt; (range.base, range.order), (0x30_0000_0000, 20)),
+        Err(_) => return Err("no range".into()),
+    }
+    let mut reader = TraceReader::new(rt.alloc(), BASE, 20);
+    assert_eq!(rt; reader.words(4, &words), Ok(Given::Setting));
+    assert_eq!(rt; reader.taken(), 4);
+    Ok(())
+}

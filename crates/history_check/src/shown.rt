@@ -1,26 +1,11 @@
-ghost use Rattle.std.specs.Prelude.{◌≡◌, ◌≤◌, ◌^◌, length, IfOk};
+ghost use Rattle.std.specs.Prelude.{◌≡◌, IfOk};
 ghost use Rattle.partition.specs.PartitionState.{HasStates};
-ghost use Rattle.run_model.specs.RunState.{valid_from, shown_of};
+ghost use Rattle.run_model.specs.RunState.{shown_of};
 
-use entry_model::EntryState;
 use partition::Partition;
+use run_model::valid_states;
 use std::alloc::{AllocError, Global};
-use trace_reply::{Shown, ShownStates};
-
-/// The valid entries, each with its index.
-fn valid_states(alloc: Global, states: &[EntryState]) -> Result<ShownStates, AllocError>
-    requires { length states.now ≤ 2 ^ 18 }
-    ensures { IfOk result (λ shown. shown ≡ valid_from 0 states.now) }
-{
-    let mut shown = ShownStates::new(alloc);
-    for i in 0..states.len() {
-        let state = states[i];
-        if state.valid {
-            shown.push(i as u32, state)?;
-        }
-    }
-    Ok(shown)
-}
+use trace_reply::Shown;
 
 /// The table of a partition, as a dump shows it.
 #[tactic(auto, unfolding(run_model::specs::RunState::shown_of))]

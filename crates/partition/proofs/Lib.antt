@@ -1,5 +1,5 @@
-mod PoolKept
-mod Resizing
+pub mod PoolKept
+pub mod Resizing
 pub mod Opening
 mod Carrying
 mod Committing

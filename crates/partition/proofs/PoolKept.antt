@@ -18,7 +18,7 @@ same_pool pool = record { base = refl; size = refl; sound = λ s. s }
 and_then : (one two three : PoolState) → KeepsPool one two → KeepsPool two three → KeepsPool one three
 and_then one two three first second = record { base = second.base ∙ first.base; size = second.size ∙ first.size; sound = λ s. second.sound (first.sound s) }
 
-dropped_pool : (pending : Option PendingTable) (pool : PoolState) → KeepsPool pool (pool_without pending pool)
+pub dropped_pool : (pending : Option PendingTable) (pool : PoolState) → KeepsPool pool (pool_without pending pool)
 dropped_pool None pool = same_pool pool
 dropped_pool (Some table) pool = record { base = refl; size = refl; sound = sound_without pool table.place }
 
@@ -40,7 +40,7 @@ continued_pool : (pool : PoolState) (start : PrepareOutcome) (o : Option Pending
 continued_pool pool start None kept = kept
 continued_pool pool start (Some table) kept = kept
 
-asked_low : (flags shift : ℕ) → not (is_prepare_request flags shift) ≡ false → (shift == 0) ≡ false → 18 ≤ shift
+pub asked_low : (flags shift : ℕ) → not (is_prepare_request flags shift) ≡ false → (shift == 0) ≡ false → 18 ≤ shift
 asked_low flags shift asked nonzero = grind (arith, nat_tests, asked, nonzero)
 
 pub prepared_pool : (limit flags shift : ℕ) (pending : Option PendingTable) (pool : PoolState) → KeepsPool pool (outcome_of_prepare limit flags shift pending pool).pool

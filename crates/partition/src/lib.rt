@@ -10,6 +10,7 @@ pub use laws::{
     commit_keeps_translations, kept_translations_are_paired, opens_again, opens_with_entries,
 };
 pub use partition_state::Partition;
+pub use states::opening_states;
 
 #[cfg(test)]
 mod tests;

@@ -201,9 +201,10 @@ fn put_verdict(out: &mut String, accepted: bool) -> Result<(), AllocError>
     out.push_str(if accepted { " ok\n" } else { " refused\n" })
 }
 
-/// The line of an entry: its index, both doublewords, and its stamp.
+/// Appends the line of an entry in a dump: its index, both doublewords, and its stamp. Where memory
+/// ends, the text that was there stands, with perhaps a part of the line behind it.
 #[tactic(auto, unfolding(crate::specs::Text::entry_text))]
-fn put_entry(out: &mut String, entry: u32, state: &EntryState) -> Result<(), AllocError>
+pub fn put_entry(out: &mut String, entry: u32, state: &EntryState) -> Result<(), AllocError>
     ensures text { OnOk
         result
         (string_bytes out.new ≡ string_bytes out.old ++ entry_text (entry, state.now)) }
@@ -231,7 +232,7 @@ fn put_dump_head(out: &mut String, line: u32) -> Result<(), AllocError>
 
 /// The table's number, order and place, and how many entries it has.
 #[tactic(auto, using(std::proofs::Common::append_assoc), unfolding(crate::specs::Text::table_text))]
-fn put_table(out: &mut String, shown: &Shown, count: usize) -> Result<(), AllocError>
+fn put_size(out: &mut String, shown: &Shown, count: usize) -> Result<(), AllocError>
     ensures text { OnOk
         result
         (string_bytes out.new
@@ -245,6 +246,27 @@ fn put_table(out: &mut String, shown: &Shown, count: usize) -> Result<(), AllocE
     put_hexadecimal(out, " place ", shown.place)?;
     put_decimal(out, " entries ", count as u64)?;
     out.push_str("\n")
+}
+
+/// Appends the first line of a dump: the line's number, and the table's number, order and place, and
+/// how many entries it has. Where memory ends, the text that was there stands, with perhaps a part of
+/// the line behind it.
+pub fn put_table(out: &mut String, line: u32, shown: &Shown) -> Result<(), AllocError>
+    ensures text { OnOk
+        result
+        (string_bytes out.new
+        ≡ string_bytes out.old
+        ++ dump_head line
+        ++ table_text
+        shown.now.number
+        shown.now.order
+        shown.now.place
+        (length shown.now.states)) }
+    ensures kept { OnErr result (StartsWith (string_bytes out.new) (string_bytes out.old)) }
+    ensures capacity { string_capacity out.old ≤ string_capacity out.new }
+{
+    put_dump_head(out, line)?;
+    put_size(out, shown, shown.states.as_slice().len())
 }
 
 /// The lines of entries, each in room of its own.
@@ -270,10 +292,8 @@ fn put_dump(out: &mut String, line: u32, shown: &Shown) -> Result<(), AllocError
     ensures kept { OnErr result (StartsWith (string_bytes out.new) (string_bytes out.old)) }
     ensures capacity { string_capacity out.old ≤ string_capacity out.new }
 {
-    let entries = shown.states.as_slice();
-    put_dump_head(out, line)?;
-    put_table(out, shown, entries.len())?;
-    put_entries(out, entries)
+    put_table(out, line, shown)?;
+    put_entries(out, shown.states.as_slice())
 }
 
 /// Appends the text of the reply to a line. Where memory ends, the text that was there stands, with

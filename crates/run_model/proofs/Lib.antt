@@ -24,7 +24,7 @@ mod RehashedStates
 mod StoredReplies
 pub mod LowStampRuns
 mod EnteredEntries
-mod TableSizes
+pub mod TableSizes
 mod ReadAgain
 mod OpeningAgain
 pub mod AllSafe
@@ -42,3 +42,4 @@ mod RefusedRows
 mod OpeningAgainRows
 pub mod ProcessorLists
 pub mod MaskedAccesses
+pub mod GoodAssured

@@ -120,7 +120,7 @@ quiet_sized w (acts.Call number args spelt) h = resize_sized w (hcall_of number)
 quiet_sized w other h = h
 
 -- ---- all lines
-one_sized : (w : RunState) (l : TraceLine) → IsSized w.memory → IsSized (run_line w l).1.memory
+pub one_sized : (w : RunState) (l : TraceLine) → IsSized w.memory → IsSized (run_line w l).1.memory
 unfolding run_line
 one_sized w l h = at (cases_Bool (is_quiet l.act)) where
   at : (is_quiet l.act ≡ true) ⊎ (is_quiet l.act ≡ false) → IsSized (run_line w l).1.memory

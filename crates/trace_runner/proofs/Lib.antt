@@ -2,7 +2,7 @@ pub mod Acting
 pub mod Holding
 pub mod Resizing
 pub mod RunSteps
-pub mod Assured
+pub mod OpeningMachine
 pub mod WorkSteps
 pub mod NewWorkers
 pub mod CountedReplies

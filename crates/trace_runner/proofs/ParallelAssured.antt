@@ -12,10 +12,7 @@ use Rattle.run_model.specs.ParallelRun.{IsParallel}
 use Rattle.run_model.specs.Assurances.{Assures}
 use Rattle.run_model.specs.Laws.{HasOneProcessor}
 use Rattle.run_model.proofs.ParallelGood.{parallel_good}
-use Rattle.run_model.proofs.AllSafe.{accesses_land, all_unworn}
-use Rattle.run_model.proofs.ClearedBits.{cleared_are_shown}
-use Rattle.run_model.proofs.StoresKept.{no_store_is_lost, no_set_bit_is_lost}
-use Rattle.run_model.proofs.SectionChain.{resizes_keep_bolted_pages}
+use Rattle.run_model.proofs.GoodAssured.{good_assures}
 use Rattle.run_model.proofs.OneProcessor.{one_good_run}
 use Rattle.trace_runner.specs.Workers.{Keeping}
 use Rattle.trace_runner.specs.SectionRun.{Runs, HasRunFrom}
@@ -39,14 +36,7 @@ output_of has t w lines output is run_state same h =
       put = subst (λ ls. has output ls rs) same h.put;
       kinds = both.0;
       good = good;
-      assured = record {
-        stores = no_store_is_lost t rs is good;
-        set = no_set_bit_is_lost t rs is good;
-        cleared = cleared_are_shown t rs good;
-        pages = resizes_keep_bolted_pages t rs is good;
-        landings = accesses_land t rs is good;
-        unworn = all_unworn t rs is good;
-      };
+      assured = good_assures t rs is good;
       one = λ cpu one. one_good_run t cpu rs is one good;
     }
 

@@ -1,0 +1,195 @@
+-- What a run assures doesn't hang on where dumps say that the table lies.
+use Rattle.std.proofs.Common.{◌≡◌, ℕ, List, [], ◌∷◌, true, false, Option, Some, None, map, refl, sym, subst, ap, ◌∙◌, ◌⊎◌, inl, inr}
+use Rattle.std.specs.Prelude.{◌<◌, length, option_map, MatchOption}
+use Rattle.std.specs.List.{AllByRecursion}
+use Rattle.std.proofs.Math.Path.{transport, transport⁻¹}
+use Rattle.std.proofs.lemmas.Bool.{cases_Bool}
+use Rattle.entry_model.specs.Run.{state_at}
+use Rattle.papr_codes.specs.declared.calls.Hcall.{Hcall}
+use Rattle.papr_codes.specs.Hcalls.{hcall_of}
+use Rattle.trace_line.specs.declared.act.Act.{Act}
+use Rattle.trace_line.specs.declared.line.TraceLine.{TraceLine}
+use Rattle.trace_line.specs.Lines.{is_quiet}
+use Rattle.trace_read.specs.Trace.{AcceptedTrace}
+use Rattle.trace_reply.specs.declared.reply.Reply.{Reply}
+use Rattle.trace_reply.specs.Replies.{RepliedLine, AreReplies, IsOfKind, lines_with_replies}
+use Rattle.run_model.specs.RunState.{RunState, opening_run, run_quiet_line, states_of}
+use Rattle.run_model.specs.Sections.{Section, QuietPart, cut, cut_before, sections_from, sections_of, section_end}
+use Rattle.run_model.specs.ShownStores.{ShowsChange, StoresAreShown, StaysShown, NoStoreIsLostIn, NoSetBitIsLostIn, ClearedBitsAreShown, carried_to, history_in, closing_state}
+use Rattle.run_model.specs.CommittedResizes.{commits_call, commits_by, is_committed, LeavesTable, ResizesKeepTranslations}
+use Rattle.run_model.specs.Landings.{AccessesLand, IsUnworn}
+use Rattle.run_model.specs.Assurances.{Assures}
+use Rattle.lpar_set.specs.SetLaws.{without_place}
+use Rattle.papr_codes.specs.declared.calls.Hcall.TheVariants as calls
+use Rattle.trace_line.specs.declared.act.Act.TheVariants as acts
+use Rattle.trace_reply.specs.declared.reply.Reply.TheVariants as replies
+
+-- ---- what is erased
+-- The line, whose dump doesn't say where the table lies.
+abbrev pub erased_line : RepliedLine → RepliedLine
+erased_line t = record t { reply = without_place t.reply }
+
+-- The quiet line is such.
+abbrev pub erased_part : QuietPart → QuietPart
+erased_part q = (erased_line q.0, q.1)
+
+-- Lines that were cut, with such quiet lines.
+abbrev pub erased_cut : List RepliedLine × List QuietPart → List RepliedLine × List QuietPart
+erased_cut x = (x.0, map erased_part x.1)
+
+-- The section, with such a quiet line.
+abbrev pub erased : Section → Section
+erased s = record s { quiet = option_map erased_line s.quiet }
+
+-- ---- sections
+-- Only dumps change.
+same_reply : (act : Act) (r : Reply) → is_quiet act ≡ false → IsOfKind act r → without_place r ≡ r
+unfolding is_quiet
+same_reply acts.Dump r q kind = cc
+same_reply (acts.Call number args spelt) (replies.Hcall h) q kind = refl
+same_reply (acts.Access want ea user) (replies.Access a) q kind = refl
+same_reply (acts.SlbMte rb rs) (replies.Segment accepted) q kind = refl
+same_reply acts.SlbClear (replies.Segment accepted) q kind = refl
+same_reply (acts.SetMask name value) replies.MaskSet q kind = refl
+same_reply act r q kind = absurd kind
+
+front_erased : (t : RepliedLine) (x : List RepliedLine × List QuietPart) → IsOfKind t.line.act t.reply → cut_before (erased_line t) (erased_cut x) ≡ erased_cut (cut_before t x)
+front_erased t x kind = at (cases_Bool (is_quiet t.line.act)) where
+  at : (is_quiet t.line.act ≡ true) ⊎ (is_quiet t.line.act ≡ false) → cut_before (erased_line t) (erased_cut x) ≡ erased_cut (cut_before t x)
+  at (inl q) = rw q
+  at (inr q) = rw (q, same_reply t.line.act t.reply q kind)
+
+cut_erased : (ls : List TraceLine) (rs : List Reply) → AreReplies ls rs → cut (lines_with_replies ls (map without_place rs)) ≡ erased_cut (cut (lines_with_replies ls rs))
+cut_erased [] rs kinds = refl
+cut_erased (l ∷ ls) [] kinds = refl
+cut_erased (l ∷ ls) (r ∷ rs) kinds =
+    let t : RepliedLine = record { line = l; reply = r } in
+    ap (cut_before (erased_line t)) (cut_erased ls rs kinds.1) ∙ front_erased t (cut (lines_with_replies ls rs)) kinds.0
+
+from_erased : (w : RunState) (ts : List RepliedLine) (qs : List QuietPart) → sections_from w ts (map erased_part qs) ≡ map erased (sections_from w ts qs)
+from_erased w ts [] = refl
+from_erased w ts (q ∷ qs) =
+    let s : Section = record { before = w; replied_lines = ts; quiet = Some (erased_line q.0) } in
+    ap (λ ss. s ∷ ss) (from_erased (run_quiet_line (section_end w ts) q.0.line.act).1 q.1 qs)
+
+pub sections_erased : (t : AcceptedTrace) (rs : List Reply) → AreReplies t.lines rs → sections_of t (map without_place rs) ≡ map erased (sections_of t rs)
+sections_erased t rs kinds =
+    let w = opening_run t.config in
+    let c = cut (lines_with_replies t.lines rs) in
+    ap (λ (x : List RepliedLine × List QuietPart). sections_from w x.0 x.1) (cut_erased t.lines rs kinds) ∙ from_erased w c.0 c.1
+
+-- ---- what holds of them
+each_erased : (Q : Section → Type 0) → ((s : Section) → Q (erased s) ≡ Q s) → (ss : List Section) → AllByRecursion Q (map erased ss) ≡ AllByRecursion Q ss
+each_erased Q same [] = refl
+each_erased Q same (s ∷ ss) = λ i. same s i × each_erased Q same ss i
+
+stays_erased : (s : Section) (entry : ℕ) (rest : List Section) → StaysShown (erased s) entry (map erased rest) ≡ StaysShown s entry rest
+stays_erased s entry [] = refl
+stays_erased s entry (next ∷ rest) = λ i.
+    MatchOption
+    (carried_to s next entry)
+    (Unit {0})
+    (λ target. ShowsChange (history_in next target) (closing_state next target) (stays_erased next target rest i))
+
+stores_erased : (ss : List Section) → NoStoreIsLostIn (map erased ss) ≡ NoStoreIsLostIn ss
+stores_erased [] = refl
+stores_erased (s ∷ rest) = λ i.
+    ((entry : ℕ)
+    → entry < length (states_of s.before)
+    → StoresAreShown (history_in s entry) (closing_state s entry) (stays_erased s entry rest i))
+    × stores_erased rest i
+
+bits_erased : (ss : List Section) → NoSetBitIsLostIn (map erased ss) ≡ NoSetBitIsLostIn ss
+bits_erased [] = refl
+bits_erased (s ∷ rest) = λ i.
+    ((entry : ℕ)
+    → (state_at (states_of s.before) entry).valid ≡ true
+    → (state_at (states_of s.before) entry).changed ≡ true
+    → ShowsChange (history_in s entry) (closing_state s entry) (stays_erased s entry rest i))
+    × bits_erased rest i
+
+-- ---- committed resizes
+commits_erased : (call : Hcall) (r : Reply) → commits_call call (without_place r) ≡ commits_call call r
+commits_erased call (replies.Hcall h) = refl
+commits_erased call (replies.Access a) = refl
+commits_erased call (replies.Segment accepted) = refl
+commits_erased call replies.MaskSet = refl
+commits_erased calls.Commit (replies.Dump shown) = refl
+commits_erased call (replies.Dump shown) = refl
+
+by_erased : (act : Act) (r : Reply) → commits_by act (without_place r) ≡ commits_by act r
+by_erased (acts.Call number args spelt) r = commits_erased (hcall_of number) r
+by_erased act r = refl
+
+committed_erased : (quiet : Option RepliedLine) → is_committed (option_map erased_line quiet) ≡ is_committed quiet
+committed_erased None = refl
+committed_erased (Some q) = by_erased q.line.act q.reply
+
+leaves_in : (s next : Section) → LeavesTable s next → LeavesTable (erased s) (erased next)
+leaves_in s next h = record {
+  told = rw (committed_erased s.quiet) h.told;
+  keeps = rw (committed_erased s.quiet) h.keeps;
+  stays = rw (committed_erased s.quiet) h.stays;
+}
+
+leaves_out : (s next : Section) → LeavesTable (erased s) (erased next) → LeavesTable s next
+leaves_out s next h = record {
+  told = rw (sym (committed_erased s.quiet)) h.told;
+  keeps = rw (sym (committed_erased s.quiet)) h.keeps;
+  stays = rw (sym (committed_erased s.quiet)) h.stays;
+}
+
+resizes_in : (ss : List Section) → ResizesKeepTranslations ss → ResizesKeepTranslations (map erased ss)
+resizes_in [] h = tt
+resizes_in (s ∷ []) h = tt
+resizes_in (s ∷ next ∷ rest) h = (leaves_in s next h.0, resizes_in (next ∷ rest) h.1)
+
+resizes_out : (ss : List Section) → ResizesKeepTranslations (map erased ss) → ResizesKeepTranslations ss
+resizes_out [] h = tt
+resizes_out (s ∷ []) h = tt
+resizes_out (s ∷ next ∷ rest) h = (leaves_out s next h.0, resizes_out (next ∷ rest) h.1)
+
+-- ---- replies
+unworn_reply : (r : Reply) → IsUnworn (without_place r) ≡ IsUnworn r
+unworn_reply (replies.Hcall h) = refl
+unworn_reply (replies.Access a) = refl
+unworn_reply (replies.Segment accepted) = refl
+unworn_reply replies.MaskSet = refl
+unworn_reply (replies.Dump shown) = refl
+
+unworn_erased : (rs : List Reply) → AllByRecursion IsUnworn (map without_place rs) ≡ AllByRecursion IsUnworn rs
+unworn_erased [] = refl
+unworn_erased (r ∷ rs) = λ i. unworn_reply r i × unworn_erased rs i
+
+-- ---- all that a run assures
+-- Erasing the places keeps it.
+assured_in : (t : AcceptedTrace) (rs : List Reply) → AreReplies t.lines rs → Assures t rs → Assures t (map without_place rs)
+assured_in t rs kinds h =
+    let ss = sections_of t rs in
+    let same = sections_erased t rs kinds in
+    record {
+      stores = rw same (transport⁻¹ (stores_erased ss) h.stores);
+      set = rw same (transport⁻¹ (bits_erased ss) h.set);
+      cleared = rw same (transport⁻¹ (each_erased ClearedBitsAreShown (λ s. refl) ss) h.cleared);
+      pages = rw same (resizes_in ss h.pages);
+      landings = rw same (transport⁻¹ (each_erased (AccessesLand t.config.granted) (λ s. refl) ss) h.landings);
+      unworn = transport⁻¹ (unworn_erased rs) h.unworn;
+    }
+
+-- It holds already where it holds with the places erased.
+assured_out : (t : AcceptedTrace) (rs : List Reply) → AreReplies t.lines rs → Assures t (map without_place rs) → Assures t rs
+assured_out t rs kinds h =
+    let ss = sections_of t rs in
+    let same = sections_erased t rs kinds in
+    record {
+      stores = transport (stores_erased ss) (rw same at h.stores);
+      set = transport (bits_erased ss) (rw same at h.set);
+      cleared = transport (each_erased ClearedBitsAreShown (λ s. refl) ss) (rw same at h.cleared);
+      pages = resizes_out ss (rw same at h.pages);
+      landings = transport (each_erased (AccessesLand t.config.granted) (λ s. refl) ss) (rw same at h.landings);
+      unworn = transport (unworn_erased rs) h.unworn;
+    }
+
+-- What these replies assure others do that differ in places alone.
+pub assured_like : (t : AcceptedTrace) (rs other : List Reply) → AreReplies t.lines rs → AreReplies t.lines other → map without_place rs ≡ map without_place other → Assures t other → Assures t rs
+assured_like t rs other kinds others same h = assured_out t rs kinds (subst (Assures t) (sym same) (assured_in t other others h))

@@ -1,0 +1,57 @@
+-- The first lines of an accepted trace make one, so replies as of their serial run assure what it does.
+use Rattle.std.proofs.Common.{◌≡◌, ℕ, zero, suc, ◌<◌, ◌≤◌, ◌^◌, List, [], ◌∷◌, Bool, true, false, take, length, ◌⊎◌, inl, inr, arith, length-take}
+use Rattle.std.specs.Prelude.{cond, count_by}
+use Rattle.std.specs.List.{AllByRecursion}
+use Rattle.std.proofs.lemmas.Bool.{cases_Bool}
+use Rattle.std.proofs.lemmas.List.Sums.{sum_by-take-le}
+use Rattle.trace_line.specs.declared.line.TraceLine.{TraceLine}
+use Rattle.trace_line.specs.Lines.{IsTrace, IsSpelt, is_quiet, is_dump}
+use Rattle.trace_read.specs.Trace.{AcceptedTrace, IsAccepted}
+use Rattle.trace_reply.specs.declared.reply.Reply.{Reply}
+use Rattle.trace_reply.specs.Replies.{AreReplies}
+use Rattle.run_model.specs.SerialRun.{serial_replies}
+use Rattle.run_model.specs.Assurances.{Assures}
+use Rattle.run_model.proofs.GoodAssured.{serial_assures}
+use Rattle.run_model.proofs.SerialGood.{serial_good}
+use Rattle.lpar_set.specs.SetLaws.{is_no_mem, served, first_lines, RunsAsIfAlone}
+use Rattle.lpar_set.proofs.ErasedPlaces.{assured_like}
+
+-- ---- the limits of a trace
+pub each_take : {A : Type 0} (P : A → Type 0) (n : ℕ) (xs : List A) → AllByRecursion P xs → AllByRecursion P (take n xs)
+each_take P zero xs h = tt
+each_take P (suc n) [] h = tt
+each_take P (suc n) (x ∷ xs) h = (h.0, each_take P n xs h.1)
+
+pub count_take : {A : Type 0} (p : A → Bool) (n : ℕ) (xs : List A) → count_by p (take n xs) ≤ count_by p xs
+count_take p n xs = sum_by-take-le (λ x. cond (p x) 1 0) xs n
+
+pub first_accepted : (n : ℕ) (t : AcceptedTrace) → IsAccepted t → IsAccepted (first_lines n t)
+first_accepted n t is =
+    let few : length t.lines ≤ 2 ^ 17 = is.lines.few in
+    let few_quiet : count_by (λ (l : TraceLine). is_quiet l.act) t.lines ≤ 256 = is.lines.few_quiet in
+    let few_dumps : count_by (λ (l : TraceLine). is_dump l.act) t.lines ≤ 16 = is.lines.few_dumps in
+    let lines : IsTrace t.config.cpus (take n t.lines) = record {
+      on_cpus = each_take (λ (l : TraceLine). l.cpu < t.config.cpus) n t.lines is.lines.on_cpus;
+      spelt = each_take (λ (l : TraceLine). IsSpelt l.act) n t.lines is.lines.spelt;
+      few = omega (arith, length-take n t.lines);
+      few_quiet = omega (arith, count_take (λ (l : TraceLine). is_quiet l.act) n t.lines);
+      few_dumps = omega (arith, count_take (λ (l : TraceLine). is_dump l.act) n t.lines);
+    } in
+    record { configured = is.configured; sound = is.sound; entries = is.entries; lines = lines }
+
+-- ---- the lines before the first H_NO_MEM
+-- The replies before it are those to the first lines.
+pub served_kinds : (ls : List TraceLine) (rs : List Reply) → AreReplies ls rs → AreReplies (take (length (served rs)) ls) (served rs)
+served_kinds [] [] kinds = tt
+served_kinds [] (r ∷ rs) kinds = absurd kinds
+served_kinds (l ∷ ls) [] kinds = absurd kinds
+served_kinds (l ∷ ls) (r ∷ rs) kinds = at (cases_Bool (is_no_mem r)) (served_kinds ls rs kinds.1) where
+  at : (is_no_mem r ≡ true) ⊎ (is_no_mem r ≡ false) → AreReplies (take (length (served rs)) ls) (served rs) → AreReplies (take (length (served (r ∷ rs))) (l ∷ ls)) (served (r ∷ rs))
+  at (inl q) rest = rw q tt
+  at (inr q) rest = rw q (kinds.0, rest)
+
+pub served_assured : (t : AcceptedTrace) (rs : List Reply) → IsAccepted t → AreReplies t.lines rs → RunsAsIfAlone t (served rs) → Assures (first_lines (length (served rs)) t) (served rs)
+served_assured t rs is kinds alone =
+    let first = first_lines (length (served rs)) t in
+    let accepted : IsAccepted first = first_accepted (length (served rs)) t is in
+    assured_like first (served rs) (serial_replies first) (served_kinds t.lines rs kinds) (serial_good first accepted).kinds alone (serial_assures first accepted)

@@ -1,0 +1,24 @@
+use Rattle.std.proofs.Common.{ap, sym, subst, ◌∙◌, List, length}
+use Rattle.entry_model.specs.State.{State}
+use Rattle.trace_reply.specs.Replies.{receipts_in}
+use Rattle.trace_reply.specs.Places.{reply_in}
+use Rattle.lpar_set.specs.BetweenLines.{AllHold}
+use Rattle.lpar_set.proofs.HeldCaches.{all_on}
+use Rattle.lpar_set.proofs.member.Member.run.Goals as goal
+
+pub invariant_of-self : goal.invariant_of-self
+invariant_of-self c =
+    let before = c.open-table.ensures.states ∙ ap (λ v. v.items) c.replace-states.ensures.value in
+    let held = subst (λ (s : List State). AllHold s c.self.inside.cpus.items) (sym before) c.self.invariant.hold in
+    let holding = all_on c.open-table.result.states c.run_act.new.table.states (receipts_in (reply_in c.run_act.new.place)) c.self.inside.cpus.items c.args.line.now.cpu c.run_act.new.cpu c.run_act.ensures.run held c.run_act.ensures.seen in
+    let is = c.self.invariant.member in
+    record {
+      member = record {
+        limit_low = is.limit_low;
+        limit_high = is.limit_high;
+        order_low = is.order_low;
+        order_high = is.order_high;
+        whole = ap length c.close.ensures ∙ c.run_act.ensures.size ∙ ap length before ∙ is.whole;
+      };
+      hold = rw c.close.ensures holding;
+    }

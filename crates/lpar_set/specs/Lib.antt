@@ -1,0 +1,10 @@
+pub mod OpeningTables
+pub mod SetTrace
+pub mod SetRun
+pub mod SetStates
+pub mod BetweenLines
+pub mod SetText
+pub mod SetLaws
+pub mod SetGrammar
+pub mod SetReadings
+pub mod SetRead

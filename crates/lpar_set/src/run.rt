@@ -1,0 +1,29 @@
+ghost use Rattle.std.specs.Prelude.{◌≡◌, length, IfOk};
+ghost use Rattle.lpar_set.specs.SetLaws.{IsSetAssured};
+ghost use Rattle.lpar_set.specs.SetRun.{set_replies};
+
+use crate::members::Members;
+use crate::set::SetTrace;
+use std::alloc::{AllocError, Global};
+use trace_reply::{Replies, ReplyPlace};
+
+/// The replies to the lines of a set, one after the other in file order, in no more room than they need.
+/// The only error is want of memory.
+pub fn run_set(alloc: Global, set: &SetTrace) -> Result<Replies, AllocError>
+    ensures replies { IfOk result (λ r. r.items ≡ set_replies set.now) }
+    ensures count { IfOk result (λ r. length r.items ≡ length set.now.turns) }
+    ensures room { IfOk result (λ r. r.spare ≡ 0) }
+    ensures assured { IsSetAssured set.now (set_replies set.now) }
+{
+    set.keeps_limits();
+    let turns = set.turns();
+    let mut members = Members::open(alloc, set)?;
+    let mut replies = Replies::new(alloc);
+    replies.reserve(turns.len())?;
+    for turn in turns {
+        let mut place = ReplyPlace::new();
+        members.line(alloc, turn.partition, set.line_of(turn), &mut place)?;
+        replies.push(place.into_reply())?;
+    }
+    Ok(replies)
+}

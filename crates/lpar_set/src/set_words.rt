@@ -1,0 +1,34 @@
+ghost use Rattle.std.specs.Prelude.{◌≡◌, ◌<◌, IfOk};
+ghost use Rattle.std.specs.Str.{bytes_eq};
+ghost use Rattle.trace_read.specs.TextLines.{texts};
+ghost use Rattle.lpar_set.specs.SetGrammar as sets;
+
+use trace_read::{Why, number};
+
+/// Whether a word is this name.
+pub fn is(word: &[u8], name: &str) -> bool
+    ensures { result ≡ bytes_eq name.now word.now }
+{
+    name.as_bytes() == word
+}
+
+/// The number of the partition that a first word names, which is below 8.
+pub fn partition_named(word: &[u8]) -> Result<u8, Why>
+    ensures value { result ≡ sets.partition_named word.now }
+    ensures below { IfOk result (λ number. number < 8) }
+{
+    match number(word) {
+        Some(number) if number < 8 => Ok(number as u8),
+        _ => Err(Why::Lpar),
+    }
+}
+
+/// Whether the first of the words behind a number is one that no line of a set may have there.
+pub fn is_of_the_whole(words: &[&[u8]]) -> bool
+    ensures { result ≡ sets.is_of_the_whole (texts words.now) }
+{
+    match words.first() {
+        None => false,
+        Some(word) => is(word, "pool") || is(word, "window") || is(word, "entry"),
+    }
+}

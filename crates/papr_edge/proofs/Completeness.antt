@@ -5,13 +5,12 @@ use Rattle.std.proofs.lemmas.List.{append-nil}
 use Rattle.papr_edge.specs.declared.reason.Reason.{Reason}
 use Rattle.papr_edge.specs.declared.status.Status.{Status}
 use Rattle.papr_edge.specs.declared.status.Status.TheVariants.{Done, Usage, Refused, ReadFault, WriteFault, Memory, CheckNo}
-use Rattle.papr_edge.specs.Inputs.{JudgedInput, judged_input, trace_input}
+use Rattle.papr_edge.specs.Inputs.{JudgedInput, judged_input}
 use Rattle.papr_edge.specs.Reading.{Reads}
 use Rattle.papr_edge.specs.Ends.{Run, EndsReading, WithDone, IsAnswered}
-use Rattle.trace_read.specs.Trace.{AcceptedTrace}
 use Rattle.papr_edge.specs.declared.command.Command.{Command}
 use Rattle.papr_edge.specs.declared.command.Command.TheVariants.{Check}
-use Rattle.papr_edge.proofs.Outcomes.{RefusesLong, long_trace, long_judged}
+use Rattle.papr_edge.proofs.Outcomes.{RefusesLong, long_judged}
 
 -- What is read is the whole of what was left, or both are past the limit: they read alike.
 read_whole : {A : Type 0} (reads : List ℕ → Result A (ℕ × Reason)) (left bytes rest : List ℕ) → RefusesLong reads → left ≡ bytes ++ rest → (length bytes ≤ 2 ^ 24 → rest ≡ []) → reads bytes ≡ reads left
@@ -42,13 +41,13 @@ reading_done reads says run ReadFault refuses ends accepted no_read_fault no_wri
 reading_done reads says run WriteFault refuses ends accepted no_read_fault no_write_fault = absurd (no_write_fault refl)
 reading_done reads says run Usage refuses ends accepted no_read_fault no_write_fault = absurd ends
 
--- A command of a trace has one status for it.
-pub trace_done : (command : Option Command) (says : AcceptedTrace → List ℕ → Type 0) (run : Run) (result : Status) → EndsReading trace_input (WithDone says) run result → IsSomeAnd run.left (λ input. IsOk (trace_input input)) → result ≢ ReadFault → result ≢ WriteFault → IsAnswered command result ⊎ (result ≡ Memory)
-trace_done command says run result ends accepted no_read_fault no_write_fault =
-    at result ends (reading_done trace_input (WithDone says) run result long_trace ends accepted no_read_fault no_write_fault) where
-      at : (status : Status) → EndsReading trace_input (WithDone says) run status → (status ≡ Done) ⊎ ((status ≡ CheckNo) ⊎ (status ≡ Memory)) → IsAnswered command status ⊎ (status ≡ Memory)
+-- A command that writes a text of its input has one status for it.
+pub text_done : {A : Type 0} (reads : List ℕ → Result A (ℕ × Reason)) (command : Option Command) (says : A → List ℕ → Type 0) (run : Run) (result : Status) → RefusesLong reads → EndsReading reads (WithDone says) run result → IsSomeAnd run.left (λ input. IsOk (reads input)) → result ≢ ReadFault → result ≢ WriteFault → IsAnswered command result ⊎ (result ≡ Memory)
+text_done reads command says run result refuses ends accepted no_read_fault no_write_fault =
+    at result ends (reading_done reads (WithDone says) run result refuses ends accepted no_read_fault no_write_fault) where
+      at : (status : Status) → EndsReading reads (WithDone says) run status → (status ≡ Done) ⊎ ((status ≡ CheckNo) ⊎ (status ≡ Memory)) → IsAnswered command status ⊎ (status ≡ Memory)
       at status ended (inl done) = inl (subst (IsAnswered command) (sym done) tt)
-      at status ended (inr (inl bad)) = absurd ((subst (EndsReading trace_input (WithDone says) run) bad ended).said)
+      at status ended (inr (inl bad)) = absurd ((subst (EndsReading reads (WithDone says) run) bad ended).said)
       at status ended (inr (inr memory)) = inr memory
 
 -- A judgement has two.

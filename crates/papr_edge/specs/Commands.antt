@@ -4,7 +4,7 @@ use Rattle.std.specs.Str.{bytes_eq}
 use Rattle.std.specs.declared.alloc.Global.{Global}
 use Rattle.trace_read.specs.Numbers.{number_of}
 use Rattle.papr_edge.specs.declared.command.Command.{Command}
-use Rattle.papr_edge.specs.declared.command.Command.TheVariants.{Run, Par, Check, Image, Drill}
+use Rattle.papr_edge.specs.declared.command.Command.TheVariants.{Run, Par, Check, Set, Image, Drill}
 use Rattle.table_image.specs.declared.layout.Layout.TheVariants.{Old, New}
 
 -- At most 100,000 lines are generated.
@@ -23,15 +23,16 @@ image_of layout =
     else if bytes_eq layout (codes "new") then Some (Image New)
     else None
 
--- `run`, `par` or `check`.
+-- `run`, `par`, `check` or `set`.
 unfoldable pub reading_of : List ℕ → Option Command
 reading_of word =
     if bytes_eq word (codes "run") then Some Run
     else if bytes_eq word (codes "par") then Some Par
     else if bytes_eq word (codes "check") then Some Check
+    else if bytes_eq word (codes "set") then Some Set
     else None
 
--- `run`, `par`, `check`, `image LAYOUT`, or `drill SEED LINES`.
+-- `run`, `par`, `check`, `set`, `image LAYOUT`, or `drill SEED LINES`.
 unfoldable pub command_of : List (String Global) → Option Command
 command_of (word ∷ []) = reading_of (string_bytes word)
 command_of (word ∷ layout ∷ []) =
@@ -49,6 +50,7 @@ abbrev pub IsInRange : Command → Type 0
 IsInRange Run = Unit {0}
 IsInRange Par = Unit {0}
 IsInRange Check = Unit {0}
+IsInRange Set = Unit {0}
 IsInRange (Image layout) = Unit {0}
 IsInRange (Drill seed lines) = lines ≤ 100000
 

@@ -3,7 +3,6 @@ use Rattle.std.specs.Prelude.{◌≡◌, ℕ, List, [], ◌++◌, Option, Some, 
 use Rattle.std.specs.declared.alloc.AllocError.{AllocError}
 use Rattle.std.specs.declared.alloc.Global.{Global}
 use Rattle.trace_io.specs.Outside.{Took, Put}
-use Rattle.trace_read.specs.Trace.{AcceptedTrace}
 use Rattle.papr_edge.specs.Inputs.{refusal_text}
 use Rattle.papr_edge.specs.Reading.{Reads}
 use Rattle.papr_edge.specs.declared.command.Command.{Command}
@@ -33,20 +32,20 @@ abbrev pub WritesPrefix : Run → List ℕ → Type 0
 WritesPrefix run text =
     (front : List ℕ) × (rest : List ℕ) × (text ≡ front ++ rest) × Writes run front
 
--- ---- texts of a trace
--- The text of a result that may be given of the trace.
+-- ---- texts of an input
+-- The text of a result that may be given of the input.
 abbrev pub IsMade :
-    (AcceptedTrace → Result (String Global) AllocError → Type 0)
-    → AcceptedTrace
+    {A : Type 0}
+    → (A → Result (String Global) AllocError → Type 0)
+    → A
     → List ℕ
     → Type 0
-IsMade gives t text = (s : String Global) × gives t (Ok s) × (string_bytes s ≡ text)
+IsMade gives x text = (s : String Global) × gives x (Ok s) × (string_bytes s ≡ text)
 
--- A text that may be written of a trace comes with Done.
-abbrev pub WithDone :
-    (AcceptedTrace → List ℕ → Type 0) → AcceptedTrace → Status → List ℕ → Type 0
-WithDone says t Done text = says t text
-WithDone says t other text = ⊥
+-- A text that may be written of an input comes with Done.
+abbrev pub WithDone : {A : Type 0} → (A → List ℕ → Type 0) → A → Status → List ℕ → Type 0
+WithDone says x Done text = says x text
+WithDone says x other text = ⊥
 
 -- ---- commands that read
 -- The bytes are an input, and a text that may be written of it was.

@@ -24,10 +24,9 @@ abbrev pub refusal_text : ℕ → Reason → List ℕ
 refusal_text line reason =
     codes "papr: line " ++ decimal line ++ codes ": " ++ reason_word reason ++ codes "\n"
 
--- The refused line of a trace, as one of an input.
-abbrev pub with_reason :
-    Result AcceptedTrace (ℕ × Why) → Result AcceptedTrace (ℕ × Reason)
-with_reason (Ok t) = Ok t
+-- A refused line, as one of an input.
+abbrev pub with_reason : {A : Type 0} → Result A (ℕ × Why) → Result A (ℕ × Reason)
+with_reason (Ok x) = Ok x
 with_reason (Err e) = Err (e.0, reasons.Trace e.1)
 
 -- The trace that the whole input is, or its first refused line and the reason.

@@ -2,7 +2,8 @@
 use Rattle.std.specs.Prelude.{◌≡◌, ℕ, ◌<◌, ◌≤◌, List, length, Option, Result, Ok, Err}
 use Rattle.trace_io.specs.Outside.{Took, AtEnd}
 use Rattle.trace_read.specs.declared.why.Why.TheVariants as whys
-use Rattle.trace_read.specs.Trace.{AcceptedTrace}
+use Rattle.trace_read.specs.declared.parser.TraceError.{TraceError}
+use Rattle.trace_read.specs.declared.parser.TraceError.TheVariants as errors
 use Rattle.trace_read.specs.Grammar.{most_bytes}
 use Rattle.papr_edge.specs.declared.reading.NoInput.{NoInput}
 use Rattle.papr_edge.specs.declared.reading.NoInput.TheVariants as missing
@@ -41,9 +42,13 @@ WasLong (missing.Refused line reason) left left_after =
     × ((bytes : List ℕ) × (most_bytes < length bytes) × Took left bytes left_after)
 WasLong other left left_after = Unit {0}
 
--- The trace that was parsed, or the refusal, as is said; of want of memory nothing is told.
-abbrev pub IsParsedInput :
-    Result AcceptedTrace NoInput → Result AcceptedTrace (ℕ × Reason) → Type 0
-IsParsedInput (Ok t) said = said ≡ Ok t
+-- What a refusal of a trace or of a set is for an input.
+abbrev pub no_input_of : TraceError → NoInput
+no_input_of (errors.Line line why) = missing.Refused line (reasons.Trace why)
+no_input_of errors.Memory = missing.Memory
+
+-- What was parsed, or the refusal, as is said; of want of memory nothing is told.
+abbrev pub IsParsedInput : {A : Type 0} → Result A NoInput → Result A (ℕ × Reason) → Type 0
+IsParsedInput (Ok x) said = said ≡ Ok x
 IsParsedInput (Err (missing.Refused line reason)) said = said ≡ Err (line, reason)
 IsParsedInput (Err other) said = Unit {0}

@@ -17,6 +17,8 @@ pub enum Command {
     Par,
     /// Judges whether the text behind a trace is that of a good run of it.
     Check,
+    /// Runs the set of partitions that is read, whose tables share one pool, one line after the other.
+    Set,
     /// Runs the trace that is read, one line after the other, and writes the table at its end, in this
     /// layout.
     Image(Layout),
@@ -64,6 +66,7 @@ fn reading(word: &str) -> Option<Command>
         "run" => Some(Command::Run),
         "par" => Some(Command::Par),
         "check" => Some(Command::Check),
+        "set" => Some(Command::Set),
         _ => None,
     }
 }

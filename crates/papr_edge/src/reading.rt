@@ -21,6 +21,23 @@ pub enum NoInput {
     Memory,
 }
 
+impl From<TraceError> for NoInput {
+    ghost use Rattle.std.specs.Prelude.{◌≡◌};
+    ghost use Rattle.papr_edge.specs.Reading.{no_input_of};
+
+    ghost from_gives = { λ error missing. missing ≡ no_input_of error };
+
+    fn from(error: TraceError) -> Self {
+        match error {
+            TraceError::Line { line, why } => NoInput::Refused {
+                line,
+                reason: Reason::Trace(why),
+            },
+            TraceError::Memory => NoInput::Memory,
+        }
+    }
+}
+
 /// Reads the source to its end. An input past the limit is refused before its first line.
 pub fn read_bytes<S: Source>(alloc: Global, source: &mut S) -> Result<Vec<u8>, NoInput>
     ensures bytes { IfOk result (λ v. Reads (S.left source.old) v.items (S.left source.new)) }
@@ -46,14 +63,7 @@ pub fn parse_input(alloc: Global, bytes: &[u8]) -> Result<Trace, NoInput>
     ensures accepted { IfOk result IsAccepted }
     ensures no_fault { result ≢ Err NoInput.Fault }
 {
-    match parse(alloc, bytes) {
-        Ok(trace) => Ok(trace),
-        Err(TraceError::Line { line, why }) => Err(NoInput::Refused {
-            line,
-            reason: Reason::Trace(why),
-        }),
-        Err(TraceError::Memory) => Err(NoInput::Memory),
-    }
+    Ok(parse(alloc, bytes)?)
 }
 
 /// Reads the source to its end, and gives the trace that it is.

@@ -1,5 +1,6 @@
 pub mod Texts
 pub mod Judging
 pub mod Images
+pub mod Sets
 pub mod Top
 pub mod Laws

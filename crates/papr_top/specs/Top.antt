@@ -12,6 +12,7 @@ use Rattle.papr_edge.specs.declared.command.Command.TheVariants as commands
 use Rattle.papr_top.specs.Texts.{IsAssured, IsSerialText, IsParallelText, drill_text}
 use Rattle.papr_top.specs.Judging.{IsVerdictText}
 use Rattle.papr_top.specs.Images.{EndsImage, HasImage, HasNoImage}
+use Rattle.papr_top.specs.Sets.{set_input, IsSetText}
 
 -- ---- words that read nothing
 -- The line that answers wrong words.
@@ -42,6 +43,8 @@ IsOutcome (Some commands.Par) run status =
     EndsReading trace_input (WithDone IsParallelText) run status
 IsOutcome (Some commands.Check) run status =
     EndsReading judged_input IsVerdictText run status
+IsOutcome (Some commands.Set) run status =
+    EndsReading set_input (WithDone IsSetText) run status
 IsOutcome (Some (commands.Image layout)) run status = EndsImage layout run status
 IsOutcome (Some (commands.Drill seed lines)) run status =
     EndsDrill (generated_trace seed lines) run status
@@ -53,6 +56,7 @@ HasInput None left = ⊥
 HasInput (Some (commands.Drill seed lines)) left = Unit {0}
 HasInput (Some (commands.Image layout)) left = IsSomeAnd left (HasImage layout)
 HasInput (Some commands.Check) left = IsSomeAnd left (λ bytes. IsOk (judged_input bytes))
+HasInput (Some commands.Set) left = IsSomeAnd left (λ bytes. IsOk (set_input bytes))
 HasInput (Some reading) left = IsSomeAnd left (λ bytes. IsOk (trace_input bytes))
 
 -- The words are a command that reads, and what the source tells is no input of it, or under `image` has an entry that the layout can't hold.
@@ -61,4 +65,5 @@ HasRefusedInput None left = ⊥
 HasRefusedInput (Some (commands.Drill seed lines)) left = ⊥
 HasRefusedInput (Some (commands.Image layout)) left = IsSomeAnd left (HasNoImage layout)
 HasRefusedInput (Some commands.Check) left = IsSomeAnd left (λ bytes. IsErr (judged_input bytes))
+HasRefusedInput (Some commands.Set) left = IsSomeAnd left (λ bytes. IsErr (set_input bytes))
 HasRefusedInput (Some reading) left = IsSomeAnd left (λ bytes. IsErr (trace_input bytes))

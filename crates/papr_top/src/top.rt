@@ -9,6 +9,7 @@ ghost use Rattle.papr_top.specs.Top.{IsOutcome, HasInput, HasRefusedInput, EndsD
 use crate::answer::{parallel_text, serial_text, summary};
 use crate::imaging::image;
 use crate::judging::check;
+use crate::sets::set;
 use papr_edge::{Command, Status, answer_input, command_of, finish};
 use std::alloc::Global;
 use std::sync::Wait;
@@ -47,7 +48,8 @@ fn drill<K: Sink>(alloc: Global, seed: u64, lines: u32, sink: &mut K) -> Status
 /// An input that is no trace is refused with its first refused line and the reason:
 /// [`Status::Refused`]. `check` reads a trace, a line `replies` and a text, and writes whether the
 /// text is that of a good run of the trace: `good`, or `bad section K` with the first section that no
-/// good run explains, [`Status::CheckNo`]. `image old` and `image new` run a trace as `run` does, and
+/// good run explains, [`Status::CheckNo`]. `set` reads a set of partitions whose tables share one pool,
+/// runs its lines one after the other, and writes the replies. `image old` and `image new` run a trace as `run` does, and
 /// write the table at its end, in the layout of the Power ISA, version 2.07, or in that of version
 /// 3.0; where the layout can't hold an entry, the first such is named: [`Status::Refused`]. `drill
 /// SEED LINES` leaves the source as it is, and writes the summary of the
@@ -85,9 +87,10 @@ pub fn papr_serial<S: Source, K: Sink>(
         → ¬ Rose (S.faults source.old) (S.faults source.new)
         → ¬ Rose (K.faults sink.old) (K.faults sink.new)
         → (result ≡ Status.Refused) ⊎ (result ≡ Status.Memory) }
-    // Under other words than `run`, `check` and `image` the source is left as it is.
+    // Under other words than `run`, `check`, `set` and `image` the source is left as it is.
     ensures untouched { words_of.command_of words.now ≢ Some Command.Run
         → words_of.command_of words.now ≢ Some Command.Check
+        → words_of.command_of words.now ≢ Some Command.Set
         → words_of.command_of words.now ≢ Some (Command.Image Layout.Old)
         → words_of.command_of words.now ≢ Some (Command.Image Layout.New)
         → source.new ≡ source.old }
@@ -106,6 +109,7 @@ pub fn papr_serial<S: Source, K: Sink>(
     match command_of(words) {
         Some(Command::Run) => answer_input(alloc, source, sink, |trace| serial_text(alloc, trace)),
         Some(Command::Check) => check(alloc, source, sink),
+        Some(Command::Set) => set(alloc, source, sink),
         Some(Command::Image(layout)) => image(alloc, layout, source, sink),
         Some(Command::Drill { seed, lines }) => drill(alloc, seed, lines, sink),
         None | Some(Command::Par) => finish(sink, b"papr: usage\n", Status::Usage),
@@ -149,10 +153,11 @@ pub fn papr<R: Threads + Wait + Sync, S: Source, K: Sink, G: Gate + Sync>(
         → ¬ Rose (S.faults source.old) (S.faults source.new)
         → ¬ Rose (K.faults sink.old) (K.faults sink.new)
         → (result ≡ Status.Refused) ⊎ (result ≡ Status.Memory) }
-    // Under other words than `run`, `par`, `check` and `image` the source is left as it is.
+    // Under other words than `run`, `par`, `check`, `set` and `image` the source is left as it is.
     ensures untouched { words_of.command_of words.now ≢ Some Command.Run
         → words_of.command_of words.now ≢ Some Command.Par
         → words_of.command_of words.now ≢ Some Command.Check
+        → words_of.command_of words.now ≢ Some Command.Set
         → words_of.command_of words.now ≢ Some (Command.Image Layout.Old)
         → words_of.command_of words.now ≢ Some (Command.Image Layout.New)
         → source.new ≡ source.old }

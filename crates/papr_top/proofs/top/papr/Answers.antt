@@ -4,7 +4,7 @@ use Rattle.papr_edge.specs.declared.command.Command.TheVariants as commands
 use Rattle.papr_edge.specs.Ends.{Run, WithDone}
 use Rattle.papr_top.specs.Texts.{IsParallelText}
 use Rattle.papr_edge.specs.Inputs.{trace_input}
-use Rattle.papr_edge.proofs.Completeness.{trace_done, reading_refused}
+use Rattle.papr_edge.proofs.Completeness.{text_done, reading_refused}
 use Rattle.papr_edge.proofs.Outcomes.{long_trace, ends_weaker}
 use Rattle.papr_top.proofs.top.papr.Goals as goal
 
@@ -14,7 +14,7 @@ returns-in-Some-Par-clause-complete g c = λ input no_read_fault no_write_fault.
     let left = g.S.Source.left in
     let taken = g.K.Sink.taken in
     let ran : Run = record { left = left c.args.source.now; left_after = left c.answer_input.new.source; taken = taken c.args.sink.now; taken_after = taken c.answer_input.new.sink } in
-    trace_done _ _ ran c.answer_input.result c.answer_input.ensures.outcome (rw asked at input) (λ is. no_read_fault (c.answer_input.ensures.read_fault is)) (λ is. no_write_fault (c.answer_input.ensures.write_fault is))
+    text_done trace_input _ _ ran c.answer_input.result long_trace c.answer_input.ensures.outcome (rw asked at input) (λ is. no_read_fault (c.answer_input.ensures.read_fault is)) (λ is. no_write_fault (c.answer_input.ensures.write_fault is))
 
 pub returns-in-Some-Par-clause-refuses : goal.returns-in-Some-Par-clause-refuses
 returns-in-Some-Par-clause-refuses g c = λ input no_read_fault no_write_fault.

@@ -4,10 +4,12 @@ use Rattle.papr_edge.specs.declared.command.Command.TheVariants as commands
 use Rattle.papr_edge.specs.Ends.{Run, WithDone}
 use Rattle.papr_top.specs.Texts.{IsSerialText}
 use Rattle.papr_top.specs.Judging.{IsVerdictText}
+use Rattle.papr_top.specs.Sets.{set_input, IsSetText}
 use Rattle.papr_edge.specs.Inputs.{trace_input, judged_input}
-use Rattle.papr_edge.proofs.Completeness.{trace_done, judged_done, reading_refused}
+use Rattle.papr_edge.proofs.Completeness.{text_done, judged_done, reading_refused}
 use Rattle.papr_edge.proofs.Outcomes.{long_trace, long_judged, ends_weaker}
 use Rattle.papr_top.proofs.ImageEnds.{image_done, image_refused}
+use Rattle.papr_top.proofs.SetInputs.{long_set}
 use Rattle.papr_top.proofs.top.papr_serial.Goals as goal
 
 pub returns-in-Some-Run-clause-outcome : goal.returns-in-Some-Run-clause-outcome
@@ -24,7 +26,7 @@ returns-in-Some-Run-clause-complete g c = λ input no_read_fault no_write_fault.
     let left = g.S.Source.left in
     let taken = g.K.Sink.taken in
     let ran : Run = record { left = left c.args.source.now; left_after = left c.answer_input.new.source; taken = taken c.args.sink.now; taken_after = taken c.answer_input.new.sink } in
-    trace_done _ _ ran c.answer_input.result c.answer_input.ensures.outcome (rw asked at input) (λ is. no_read_fault (c.answer_input.ensures.read_fault is)) (λ is. no_write_fault (c.answer_input.ensures.write_fault is))
+    text_done trace_input _ _ ran c.answer_input.result long_trace c.answer_input.ensures.outcome (rw asked at input) (λ is. no_read_fault (c.answer_input.ensures.read_fault is)) (λ is. no_write_fault (c.answer_input.ensures.write_fault is))
 
 pub returns-in-Some-Run-clause-refuses : goal.returns-in-Some-Run-clause-refuses
 returns-in-Some-Run-clause-refuses g c = λ input no_read_fault no_write_fault.
@@ -49,6 +51,22 @@ returns-in-Some-Check-clause-refuses g c = λ input no_read_fault no_write_fault
     let taken = g.K.Sink.taken in
     let ran : Run = record { left = left c.args.source.now; left_after = left c.check.new.source; taken = taken c.args.sink.now; taken_after = taken c.check.new.sink } in
     reading_refused judged_input IsVerdictText ran c.check.result long_judged c.check.ensures.outcome (rw asked at input) (λ is. no_read_fault (c.check.ensures.read_fault is)) (λ is. no_write_fault (c.check.ensures.write_fault is))
+
+pub returns-in-Some-Set-clause-complete : goal.returns-in-Some-Set-clause-complete
+returns-in-Some-Set-clause-complete g c = λ input no_read_fault no_write_fault.
+    let asked : command_of c.args.words.now ≡ Some commands.Set = cc in
+    let left = g.S.Source.left in
+    let taken = g.K.Sink.taken in
+    let ran : Run = record { left = left c.args.source.now; left_after = left c.set.new.source; taken = taken c.args.sink.now; taken_after = taken c.set.new.sink } in
+    text_done set_input _ IsSetText ran c.set.result long_set c.set.ensures.outcome (rw asked at input) (λ is. no_read_fault (c.set.ensures.read_fault is)) (λ is. no_write_fault (c.set.ensures.write_fault is))
+
+pub returns-in-Some-Set-clause-refuses : goal.returns-in-Some-Set-clause-refuses
+returns-in-Some-Set-clause-refuses g c = λ input no_read_fault no_write_fault.
+    let asked : command_of c.args.words.now ≡ Some commands.Set = cc in
+    let left = g.S.Source.left in
+    let taken = g.K.Sink.taken in
+    let ran : Run = record { left = left c.args.source.now; left_after = left c.set.new.source; taken = taken c.args.sink.now; taken_after = taken c.set.new.sink } in
+    reading_refused set_input (WithDone IsSetText) ran c.set.result long_set c.set.ensures.outcome (rw asked at input) (λ is. no_read_fault (c.set.ensures.read_fault is)) (λ is. no_write_fault (c.set.ensures.write_fault is))
 
 pub returns-in-Some-Image-clause-complete : goal.returns-in-Some-Image-clause-complete
 returns-in-Some-Image-clause-complete g c = λ input no_read_fault no_write_fault.

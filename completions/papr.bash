@@ -8,7 +8,7 @@ _papr_options() {
 _papr() {
     COMPREPLY=()
     if [ "$COMP_CWORD" -eq 1 ]; then
-        mapfile -t COMPREPLY < <(compgen -W 'run par check image drill' -- "${COMP_WORDS[COMP_CWORD]}")
+        mapfile -t COMPREPLY < <(compgen -W 'run par check set image drill' -- "${COMP_WORDS[COMP_CWORD]}")
     elif [ "$COMP_CWORD" -eq 2 ] && [ "${COMP_WORDS[1]}" = image ]; then
         mapfile -t COMPREPLY < <(compgen -W 'old new' -- "${COMP_WORDS[COMP_CWORD]}")
     fi

@@ -4,6 +4,7 @@ complete -c papr -f
 complete -c papr -n __fish_is_first_token -a run -d 'Run a trace from standard input'
 complete -c papr -n __fish_is_first_token -a par -d 'Run it with a thread for each processor'
 complete -c papr -n __fish_is_first_token -a check -d 'Judge a text of replies behind a trace'
+complete -c papr -n __fish_is_first_token -a set -d 'Run partitions whose tables share one pool'
 complete -c papr -n __fish_is_first_token -a image -d 'Write the table at the end of a trace'
 complete -c papr -n __fish_is_first_token -a drill -d 'Run a generated trace: SEED LINES'
 complete -c papr -n '__fish_prev_arg_in image' -a old -d 'In the layout of Power ISA 2.07'

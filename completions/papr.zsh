@@ -9,6 +9,7 @@ _papr() {
             'run[run a trace from standard input]' \
             'par[run it with a thread for each processor]' \
             'check[judge a text of replies behind a trace]' \
+            'set[run partitions whose tables share one pool]' \
             'image[write the table at the end of a trace: old or new layout]' \
             'drill[run a generated trace: SEED LINES]'
     elif [[ $words[2] == image ]]; then

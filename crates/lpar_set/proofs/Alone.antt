@@ -1,17 +1,12 @@
 -- Each partition of a set is answered as it would be with the pool to itself, until a PREPARE is refused for lack of room.
-use Rattle.std.specs.List.{range_with_len}
-use Rattle.std.proofs.Common.{◌≡◌, ℕ, ◌<◌, ◌==◌, true, false, List, [], ◌∷◌, length, map, get_or, refl, sym, ap, ap₂, ◌∙◌, subst, inl, inr, ◌⊎◌, arith}
-use Rattle.std.proofs.lemmas.Bool.{cases_Bool, eqb-true}
-use Rattle.std.proofs.lemmas.List.{same_lists, get_or_default}
+use Rattle.std.proofs.Common.{◌≡◌, ℕ, ◌<◌, List, length, sym, ◌∙◌, subst}
 use Rattle.std.proofs.lemmas.List.Elements.{All-get_or, All-from_recursion}
-use Rattle.std.proofs.lemmas.List.FromFn.{length-map-range_with_len, get_or-map-range_with_len}
 use Rattle.pool_range.specs.Ranges.{IsPoolRange}
 use Rattle.hpt_pool.specs.Pool.{no_blocks}
 use Rattle.trace_line.specs.declared.line.TraceLine.{TraceLine}
 use Rattle.run_model.specs.RunState.{opening_run}
-use Rattle.lpar_set.specs.declared.turn.Turn.{Turn}
 use Rattle.lpar_set.specs.OpeningTables.{opening_place, with_opening}
-use Rattle.lpar_set.specs.SetTrace.{AcceptedSet, IsAcceptedSet, IsOfSet, no_partition, no_line, partition_at, line_of, turns_of}
+use Rattle.lpar_set.specs.SetTrace.{AcceptedSet, IsAcceptedSet, IsOfSet, no_partition, partition_at}
 use Rattle.lpar_set.specs.SetRun.{MemberState, with_pool, opening_set, set_replies}
 use Rattle.lpar_set.specs.SetLaws.{replies_of, served, RunsAsIfAlone}
 use Rattle.lpar_set.proofs.LinesOfTurns.{lines_are_turns}

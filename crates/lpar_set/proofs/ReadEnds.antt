@@ -29,21 +29,25 @@ pub record AreLeft (all now : List (Option Reading)) (begun : List ℕ) (i : ℕ
 running_here : (all : List (Option Reading)) (begun : List ℕ) (i : ℕ) (other : Reading) → i < length begun → AllByRecursion (IsRunningAt all other) begun → IsRunningAt all other (get_or begun i 0)
 running_here all begun i other inside running = All-get_or (IsRunningAt all other) begun i 0 inside (All-from_recursion (IsRunningAt all other) begun running)
 
+-- The next number is one of the list's places.
 pub taken_inside : (all now : List (Option Reading)) (begun : List ℕ) (i index : ℕ) → AreLeft all now begun i → i < length begun → index ≡ get_or begun i 0 → ((other : Reading) → AllByRecursion (IsRunningAt all other) begun) → index < length now
 taken_inside all now begun i index left inside is running =
     let within : get_or begun i 0 < length all = running_inside all (get_or begun i 0) (running_here all begun i opening_reading inside (running opening_reading)) in
     omega (arith, left.same, is, within)
 
+-- What is taken out for it is its reading.
 pub taken_is : (all now : List (Option Reading)) (begun : List ℕ) (i index : ℕ) (o : Option Reading) → AreLeft all now begun i → i < length begun → index ≡ get_or begun i 0 → ((other : Reading) → AllByRecursion (IsRunningAt all other) begun) → o ≡ get_or now index o → o ≡ get_or all (get_or begun i 0) None
 taken_is all now begun i index o left inside is running value =
     let within : index < length now = taken_inside all now begun i index left inside is running in
     value ∙ get_or_default now index o None within ∙ ap (λ (n : ℕ). get_or now n None) is ∙ left.left i (omega arith) inside
 
+-- Its `begin` has come.
 pub taken_running : (all : List (Option Reading)) (begun : List ℕ) (i : ℕ) (o : Option Reading) → i < length begun → o ≡ get_or all (get_or begun i 0) None → ((other : Reading) → AllByRecursion (IsRunningAt all other) begun) → (other : Reading) → is_running (unwrap_or o other).stage ≡ true
 taken_running all begun i o inside is running other =
     subst (λ (x : Option Reading). is_running (unwrap_or x other).stage ≡ true) (sym is) (running_here all begun i other inside (running other))
 
 -- ---- one partition more
+-- The readings of the numbers behind it are still there.
 pub more_left : (all now : List (Option Reading)) (begun : List ℕ) (i index : ℕ) (o : Option Reading) → AreLeft all now begun i → i < length begun → index ≡ get_or begun i 0 → AllPairs (λ (n m : ℕ). n ≢ m) begun → AreLeft all (slice_set now index o) begun (i + 1)
 more_left all now begun i index o left inside is apart = record {
   left = λ k behind within.
@@ -52,6 +56,7 @@ more_left all now begun i index o left inside is apart = record {
   same = length-set now index o ∙ left.same;
 }
 
+-- Its partition is one more of those of the lines.
 pub more_read : (all : List (Option Reading)) (begun : List ℕ) (i : ℕ) (o : Option Reading) (ps qs : List NumberedTrace) (p : NumberedTrace) (other : Reading) → i < length begun
     → o ≡ get_or all (get_or begun i 0) None → ps ≡ map (partition_or all other) (take i begun) → qs ≡ ps ++ p ∷ [] → p ≡ trace_read_so (unwrap_or o other) (get_or begun i 0)
     → qs ≡ map (partition_or all other) (take (i + 1) begun)
@@ -60,6 +65,7 @@ more_read all begun i o ps qs p other inside is before more one =
     let whole : map (partition_or all other) (take (i + 1) begun) ≡ map (partition_or all other) (take i begun) ++ partition_or all other (get_or begun i 0) ∷ [] = ap (map (partition_or all other)) (take_more begun i 0 inside) ∙ map-append (partition_or all other) (take i begun) (get_or begun i 0 ∷ []) in
     more ∙ ap (λ (x : NumberedTrace). ps ++ x ∷ []) here ∙ ap (λ (xs : List NumberedTrace). xs ++ partition_or all other (get_or begun i 0) ∷ []) before ∙ sym whole
 
+-- And one more that is accepted.
 pub more_accepted : (ps qs : List NumberedTrace) (p : NumberedTrace) → qs ≡ ps ++ p ∷ [] → AllByRecursion (λ (x : NumberedTrace). IsAccepted x.trace) ps → IsAccepted p.trace → AllByRecursion (λ (x : NumberedTrace). IsAccepted x.trace) qs
 more_accepted ps qs p more all one =
     let Accepted : NumberedTrace → Type 0 = λ x. IsAccepted x.trace in
@@ -73,6 +79,7 @@ running_or r other running =
     (let begun : HasBegun r (get_or r.begun k 8) = All-get_or (HasBegun r) r.begun k 8 inside (All-from_recursion (HasBegun r) r.begun running) in
     subst (λ (o : Option Reading). is_running (unwrap_or o other).stage ≡ true) (sym (begun_there r (get_or r.begun k 8) begun)) begun)))
 
+-- The end of the lines gives the set with these partitions.
 pub set_ended : (r : SetReading) (readings : List (Option Reading)) (begun : List ℕ) (partitions : List NumberedTrace) → readings ≡ r.readings → begun ≡ r.begun
     → true ≡ (list_any is_some readings && list_all has_begun readings)
     → ((other : Reading) → partitions ≡ map (partition_or r.readings other) begun)

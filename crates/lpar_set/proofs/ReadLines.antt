@@ -6,7 +6,6 @@ use Rattle.frame_grants.specs.declared.grant.Grant.{Grant}
 use Rattle.trace_read.specs.declared.given.Given.{Given}
 use Rattle.trace_read.specs.declared.given.Given.TheVariants as givens
 use Rattle.trace_read.specs.declared.stop.Stop.{Stop}
-use Rattle.trace_read.specs.declared.stop.Stop.TheVariants as stops
 use Rattle.trace_read.specs.declared.why.Why.{Why}
 use Rattle.trace_read.specs.Givens.{is_setting, given_of, refused_grant}
 use Rattle.trace_read.specs.Grammar.{Reading, after_text, reading_beside}
@@ -29,7 +28,8 @@ refusal_so : (r : SetReading) (number : ℕ) (o : Option Reading) (why : Why) (g
 refusal_so r number o why None = refl
 refusal_so r number o why (Some grant) = rw (stranger_so r number o grant) refl
 
-pub given_so : (r : SetReading) (number : ℕ) (o : Option Reading) (old new : Reading) (given : Given) → with_given (told_so r number o) number old new given ≡ with_given r number old new given
+-- Nor does what an accepted line adds.
+given_so : (r : SetReading) (number : ℕ) (o : Option Reading) (old new : Reading) (given : Given) → with_given (told_so r number o) number old new given ≡ with_given r number old new given
 unfolding with_given
 given_so r number o old new (givens.Grant grant) = simp set-set
 given_so r number o old new (givens.Begin order) = simp set-set
@@ -43,7 +43,8 @@ own_so r number o old ws (Ok new) = given_so r number o old new (given_of old.co
 own_so r number o old ws (Err why) = ap Err (refusal_so r number o why (refused_grant why ws))
 
 -- ---- a line by the partition's own reading
-pub own_taken : (r s : SetReading) (number : ℕ) (old new : Reading) (ws : List (List ℕ)) (given : Given) (result : Result (Unit {0}) Stop)
+-- An accepted line of a partition, whose new reading stands in the list.
+own_taken : (r s : SetReading) (number : ℕ) (old new : Reading) (ws : List (List ℕ)) (given : Given) (result : Result (Unit {0}) Stop)
     → after_text (record old { taken = r.taken }) ws ≡ Ok new → given ≡ given_of old.config ws
     → TakesTo (with_given (told_so r number (Some new)) number old new given) result s
     → TakesTo (after_own r number old ws (after_text (record old { taken = r.taken }) ws)) result s
@@ -51,18 +52,12 @@ unfolding after_own
 own_taken r s number old new ws given result said is taken =
     rw (said, ← is, ← given_so r number (Some new) old new given) taken
 
-pub own_refused : (r s : SetReading) (number : ℕ) (o : Option Reading) (old : Reading) (ws : List (List ℕ)) (why : Why) (grant : Option Grant) (told : Why)
-    → after_text (record old { taken = r.taken }) ws ≡ Err why → grant ≡ refused_grant why ws
-    → told ≡ refusal_beside (told_so r number o) number why grant
-    → TakesTo (after_own r number old ws (after_text (record old { taken = r.taken }) ws)) (Err (stops.Refused told)) s
-unfolding after_own
-own_refused r s number o old ws why grant told said is tells =
-    rw (said, tells, is) (ap Err (sym (refusal_so r number o why (refused_grant why ws))))
-
 -- ---- a line of a partition whose reading stands among the others
-pub opened_same : (r : SetReading) (number : ℕ) → number < length r.readings → reading_of (with_own r number) number ≡ reading_of r number
+-- A reading that stands in the list is the same as before.
+opened_same : (r : SetReading) (number : ℕ) → number < length r.readings → reading_of (with_own r number) number ≡ reading_of r number
 opened_same r number inside = ap (λ (o : Option Reading). unwrap_or o (reading_beside r.pool_base r.pool_order)) (get_or-set_same r.readings number (Some (reading_of r number)) None inside)
 
+-- So a line of the partition may be read after its reading was put there.
 pub member_opened : (r s : SetReading) (number : ℕ) (ws : List (List ℕ)) (result : Result (Unit {0}) Stop) → number < length r.readings
     → (is_setting ws && ltb 0 (length r.turns)) ≡ false
     → TakesTo (after_own (with_own r number) number (reading_of (with_own r number) number) ws (after_text (record (reading_of (with_own r number) number) { taken = r.taken }) ws)) result s
@@ -85,7 +80,7 @@ by_given r (givens.Begin order) old new moves low high place =
 by_given r givens.Run old new moves low high place = tt
 
 -- A `begin` asks for a table of the partition's order, behind a partition that has not begun.
-pub may_be_given : (r : SetReading) (old new : Reading) (ws : List (List ℕ)) (given : Given) → is_of_the_whole ws ≡ false
+may_be_given : (r : SetReading) (old new : Reading) (ws : List (List ℕ)) (given : Given) → is_of_the_whole ws ≡ false
     → after_text (record old { taken = r.taken }) ws ≡ Ok new → given ≡ given_of old.config ws
     → 18 ≤ old.config.order → old.config.order ≤ 22 → (is_running old.stage ≡ false → length r.begun < 8)
     → MayBeGiven r given
@@ -110,6 +105,7 @@ old_there v r number index o old at =
     let here : reading_of v index ≡ old = ap (λ (x : Option Reading). unwrap_or x (reading_beside v.pool_base v.pool_order)) there in
     subst (λ (x : SetReading). reading_of x number ≡ old) at.view (subst (λ (n : ℕ). reading_of v n ≡ old) at.placed here)
 
+-- What an accepted line of the reading at this index may add.
 pub own_may : (v r : SetReading) (number index : ℕ) (o : Option Reading) (old new : Reading) (ws : List (List ℕ)) (given : Given) → IsAt v r number index o old
     → (is_running (reading_of r number).stage ≡ false → length r.begun < 8)
     → is_of_the_whole ws ≡ false → 18 ≤ old.config.order → old.config.order ≤ 22
@@ -120,6 +116,7 @@ own_may v r number index o old new ws given at place allowed low high said is =
     may_be_given (told_so v index (Some new)) old new ws given allowed said is low high
     (λ stopped. subst (λ (x : SetReading). length x.begun < 8) (sym at.view) (place (subst (λ (x : Reading). is_running x.stage ≡ false) (sym same) stopped)))
 
+-- What is added for it is what the line says.
 pub own_adds : (v r s : SetReading) (number index line : ℕ) (o : Option Reading) (old new : Reading) (ws : List (List ℕ)) (given : Given) (result : Result (Unit {0}) Stop) → IsAt v r number index o old
     → line ≡ length old.lines
     → after_text (record old { taken = v.taken }) ws ≡ Ok new → given ≡ given_of old.config ws
@@ -134,22 +131,14 @@ own_adds v r s number index line o old new ws given result at count said is adds
     let mine : TakesTo (after_own r number old ws (after_text (record old { taken = r.taken }) ws)) result s = subst (λ (x : SetReading). TakesTo (after_own x number old ws (after_text (record old { taken = x.taken }) ws)) result s) at.view taken in
     subst (λ (x : Reading). TakesTo (after_own r number x ws (after_text (record x { taken = r.taken }) ws)) result s) (sym (old_there v r number index o old at)) mine
 
-pub own_refuses : (v r s : SetReading) (number index : ℕ) (o : Option Reading) (old kept : Reading) (ws : List (List ℕ)) (why told : Why) (grant : Option Grant) → IsAt v r number index o old
-    → after_text (record old { taken = v.taken }) ws ≡ Err why → grant ≡ refused_grant why ws
-    → told ≡ refusal_beside (told_so v index (Some kept)) number why grant
-    → TakesTo (after_own r number (reading_of r number) ws (after_text (record (reading_of r number) { taken = r.taken }) ws)) (Err (stops.Refused told)) s
-own_refuses v r s number index o old kept ws why told grant at said is tells =
-    let tells' : told ≡ refusal_beside (told_so v number (Some kept)) number why grant = subst (λ (n : ℕ). told ≡ refusal_beside (told_so v n (Some kept)) number why grant) at.placed tells in
-    let taken : TakesTo (after_own v number old ws (after_text (record old { taken = v.taken }) ws)) (Err (stops.Refused told)) s = own_refused v s number (Some kept) old ws why grant told said is tells' in
-    let mine : TakesTo (after_own r number old ws (after_text (record old { taken = r.taken }) ws)) (Err (stops.Refused told)) s = subst (λ (x : SetReading). TakesTo (after_own x number old ws (after_text (record old { taken = x.taken }) ws)) (Err (stops.Refused told)) s) at.view taken in
-    subst (λ (x : Reading). TakesTo (after_own r number x ws (after_text (record x { taken = r.taken }) ws)) (Err (stops.Refused told)) s) (sym (old_there v r number index o old at)) mine
-
 -- ---- a setting behind run lines
+-- Without run lines no setting is late.
 pub early_none : (ws : List (List ℕ)) (turns : List Turn) → length turns ≡ 0 → (is_setting ws && ltb 0 (length turns)) ≡ false
 early_none ws turns none = rw none (by (is_setting ws)) where
   by : (b : Bool) → (b && false) ≡ false
   by true = refl
   by false = refl
 
+-- Nor is a line that is none.
 pub early_run : (ws : List (List ℕ)) (turns : List Turn) → is_setting ws ≡ false → (is_setting ws && ltb 0 (length turns)) ≡ false
 early_run ws turns run = rw run refl

@@ -2,6 +2,7 @@
 use Rattle.lpar_set.specs.declared.set_reader.SetReader.TheInside.{Inside}
 use Rattle.lpar_set.specs.SetGrammar.{SetReading}
 
+-- What the fields say of the lines so far.
 abbrev pub fields_read : Inside → SetReading
 fields_read r = record {
   taken = r.taken;

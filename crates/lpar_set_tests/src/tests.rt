@@ -93,7 +93,7 @@ fn a_set_is_refused_for_its_reasons(rt: HostRuntime) -> Result<(), Fail> {
 
 /// The configuration of a partition of 64 processors, and a line of each of these.
 fn push_partition(input: &mut String, number: u64) -> Result<(), Fail> {
-    let machine = 0x20_0000_0000 + number * 0x1_0000_0000;
+    let machine = 0x20_0000_0000_u64 | (number << 32);
     write!(input, "{number} cpus 64\n{number} ram 0 {machine} 4096\n{number} begin\n")?;
     Ok(())
 }
@@ -106,10 +106,10 @@ fn eight_partitions_of_64_processors(rt: HostRuntime) -> Result<(), Fail> {
         push_partition(&mut input, number)?;
     }
     let mut wanted = String::new(alloc);
-    let mut line = 24;
-    for cpu in 0..64 {
-        for number in 0..8 {
-            line += 1;
+    for cpu in 0..64_u32 {
+        for number in 0..8_u32 {
+            // The configurations have 24 lines.
+            let line = 25 + cpu * 8 + number;
             write!(input, "{number} {cpu} slbclear\n")?;
             write!(wanted, "{number} {line} {cpu} slbclear ok\n")?;
         }

@@ -123,7 +123,13 @@ refusal_beside r number why (Some grant) =
     if meets_stranger r number grant then whys.Overlap else why
 
 -- After a line with these words, which the partition's own lines say so of.
-unfoldable pub after_own : SetReading → ℕ → Reading → List (List ℕ) → Result Reading Why → Result SetReading Why
+unfoldable pub after_own :
+    SetReading
+    → ℕ
+    → Reading
+    → List (List ℕ)
+    → Result Reading Why
+    → Result SetReading Why
 after_own r number old ws (Ok new) = with_given r number old new (given_of old.config ws)
 after_own r number old ws (Err why) = Err (refusal_beside r number why (refused_grant why ws))
 

@@ -29,6 +29,7 @@ pub mod Alone
 pub mod Turns
 pub mod SetSteps
 pub mod SetRuns
+pub mod EarlyLines
 pub mod ReadLines
 pub mod TakenSteps
 pub mod OwnLines

@@ -1,19 +1,20 @@
 -- What the code that reads a line of a set does is what the line says.
 use Rattle.std.specs.Prelude.{unwrap_or}
-use Rattle.std.proofs.Common.{◌≡◌, ◌∙◌, ℕ, ◌<◌, ◌≤◌, Bool, true, false, List, length, get_or, slice_set, Option, Some, None, Result, Ok, Err, refl, sym, ap, subst, ◌&&◌, ltb, arith}
+use Rattle.std.proofs.Common.{◌≡◌, ◌∙◌, ℕ, ◌<◌, ◌≤◌, true, false, List, length, get_or, slice_set, Option, Some, None, Result, Ok, Err, refl, sym, ap, subst, if◌then◌else◌, arith}
 use Rattle.std.proofs.lemmas.List.{set-set, get_or_default, get_or-set_same}
 use Rattle.frame_grants.specs.declared.grant.Grant.{Grant}
 use Rattle.trace_read.specs.declared.given.Given.{Given}
 use Rattle.trace_read.specs.declared.given.Given.TheVariants as givens
 use Rattle.trace_read.specs.declared.stop.Stop.{Stop}
 use Rattle.trace_read.specs.declared.why.Why.{Why}
-use Rattle.trace_read.specs.Givens.{is_setting, given_of, refused_grant}
+use Rattle.trace_read.specs.declared.why.Why.TheVariants.{Place}
+use Rattle.trace_read.specs.Givens.{given_of, refused_grant}
 use Rattle.trace_read.specs.Grammar.{Reading, after_text, reading_beside}
 use Rattle.trace_read.specs.Places.{is_running}
-use Rattle.lpar_set.specs.declared.turn.Turn.{Turn}
 use Rattle.lpar_set.specs.SetGrammar.{SetReading, is_of_the_whole, reading_of, meets_stranger, refusal_beside, with_given, after_own, after_member}
 use Rattle.lpar_set.specs.SetReadings.{reading_at}
-use Rattle.lpar_set.specs.SetRead.{TakesTo, MayBeGiven, with_own}
+use Rattle.lpar_set.specs.SetRead.{TakesTo, MayBeGiven, is_early, with_own}
+use Rattle.lpar_set.proofs.EarlyLines.{own_line, member_by}
 use Rattle.lpar_set.proofs.OwnLines.{HasMoved, Moves, own_moves}
 
 -- The set with something else in the place of a partition's reading.
@@ -59,15 +60,19 @@ opened_same r number inside = ap (λ (o : Option Reading). unwrap_or o (reading_
 
 -- So a line of the partition may be read after its reading was put there.
 pub member_opened : (r s : SetReading) (number : ℕ) (ws : List (List ℕ)) (result : Result (Unit {0}) Stop) → number < length r.readings
-    → (is_setting ws && ltb 0 (length r.turns)) ≡ false
+    → is_early r number ws ≡ false
     → TakesTo (after_own (with_own r number) number (reading_of (with_own r number) number) ws (after_text (record (reading_of (with_own r number) number) { taken = r.taken }) ws)) result s
     → TakesTo (after_member r number ws) result s
-unfolding after_member
 member_opened r s number ws result inside early taken =
     let old : Reading = reading_of r number in
-    rw early
-    (subst (λ (said : Result SetReading Why). TakesTo said result s) (own_so r number (Some old) old ws (after_text (record old { taken = r.taken }) ws))
+    let said : after_member r number ws ≡ own_line r number ws = member_by r number ws ∙ ap (λ b. if b then Err Place else own_line r number ws) early in
+    subst (λ (say : Result SetReading Why). TakesTo say result s) (sym said)
+    (subst (λ (say : Result SetReading Why). TakesTo say result s) (own_so r number (Some old) old ws (after_text (record old { taken = r.taken }) ws))
     (subst (λ (x : Reading). TakesTo (after_own (with_own r number) number x ws (after_text (record x { taken = r.taken }) ws)) result s) (opened_same r number inside) taken))
+
+-- A line that comes too early is refused for its place.
+pub member_early : (r : SetReading) (number : ℕ) (ws : List (List ℕ)) → is_early r number ws ≡ true → after_member r number ws ≡ Err Place
+member_early r number ws early = member_by r number ws ∙ ap (λ b. if b then Err Place else own_line r number ws) early
 
 -- ---- what a line may give
 by_given : (r : SetReading) (given : Given) (old new : Reading) → Moves given old new → 18 ≤ old.config.order → old.config.order ≤ 22 → (is_running old.stage ≡ false → length r.begun < 8) → MayBeGiven r given
@@ -130,15 +135,3 @@ own_adds v r s number index line o old new ws given result at count said is adds
     let taken : TakesTo (after_own v number old ws (after_text (record old { taken = v.taken }) ws)) result s = own_taken v s number old new ws given result said is here in
     let mine : TakesTo (after_own r number old ws (after_text (record old { taken = r.taken }) ws)) result s = subst (λ (x : SetReading). TakesTo (after_own x number old ws (after_text (record old { taken = x.taken }) ws)) result s) at.view taken in
     subst (λ (x : Reading). TakesTo (after_own r number x ws (after_text (record x { taken = r.taken }) ws)) result s) (sym (old_there v r number index o old at)) mine
-
--- ---- a setting behind run lines
--- Without run lines no setting is late.
-pub early_none : (ws : List (List ℕ)) (turns : List Turn) → length turns ≡ 0 → (is_setting ws && ltb 0 (length turns)) ≡ false
-early_none ws turns none = rw none (by (is_setting ws)) where
-  by : (b : Bool) → (b && false) ≡ false
-  by true = refl
-  by false = refl
-
--- Nor is a line that is none.
-pub early_run : (ws : List (List ℕ)) (turns : List Turn) → is_setting ws ≡ false → (is_setting ws && ltb 0 (length turns)) ≡ false
-early_run ws turns run = rw run refl

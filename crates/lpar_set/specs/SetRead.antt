@@ -1,5 +1,5 @@
 -- What the code that reads a set answers, and what it needs.
-use Rattle.std.specs.Prelude.{◌≡◌, ℕ, ◌<◌, ◌≤◌, ◌^◌, true, false, List, length, slice_index_or, slice_set, unwrap_or, Option, None, Some, Result, Ok, Err}
+use Rattle.std.specs.Prelude.{◌≡◌, ℕ, ◌<◌, ◌≤◌, ◌^◌, ◌&&◌, not, Bool, true, false, List, length, nat_lt, slice_index_or, slice_set, unwrap_or, Option, None, Some, Result, Ok, Err}
 use Rattle.trace_read.specs.declared.given.Given.{Given}
 use Rattle.trace_read.specs.declared.given.Given.TheVariants as givens
 use Rattle.trace_read.specs.declared.parser.TraceError.{TraceError}
@@ -7,6 +7,7 @@ use Rattle.trace_read.specs.declared.parser.TraceError.TheVariants as errors
 use Rattle.trace_read.specs.declared.stop.Stop.{Stop}
 use Rattle.trace_read.specs.declared.stop.Stop.TheVariants as stops
 use Rattle.trace_read.specs.declared.why.Why.{Why}
+use Rattle.trace_read.specs.Givens.{is_setting}
 use Rattle.trace_read.specs.Grammar.{Reading}
 use Rattle.trace_read.specs.Places.{is_running}
 use Rattle.lpar_set.specs.SetTrace.{NumberedTrace}
@@ -32,6 +33,11 @@ pub record IsReady (r : SetReading) : Type 0 where
       → number < 8
       → is_running (reading_of r number).stage ≡ false
       → length r.begun < 8
+
+-- A configuration line behind a run line of another partition, while its own has not begun. Once that has, its own reading refuses such a line.
+abbrev pub is_early : SetReading → ℕ → List (List ℕ) → Bool
+is_early r number ws =
+    (nat_lt 0 (length r.turns) && not (is_running (reading_of r number).stage)) && is_setting ws
 
 -- The reading of a partition stands among the others, whether a line has named it or not.
 abbrev pub with_own : SetReading → ℕ → SetReading

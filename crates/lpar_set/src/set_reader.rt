@@ -10,7 +10,7 @@ ghost use Rattle.lpar_set.specs.SetTrace.{IsAcceptedSet};
 ghost use Rattle.lpar_set.specs.SetGrammar as sets;
 ghost use Rattle.lpar_set.specs.SetGrammar.{is_of_the_whole, opening_set_reading, set_beside, reading_of, refusal_beside, with_shared, with_given, after_own, after_member, after_numbered_words, after_set_words, after_set_line, set_at_end};
 ghost use Rattle.lpar_set.specs.SetReadings.{IsSetReading, reading_at};
-ghost use Rattle.lpar_set.specs.SetRead.{TakesTo, IsReady, MayBeGiven, MayBegin, with_own};
+ghost use Rattle.lpar_set.specs.SetRead.{TakesTo, IsReady, MayBeGiven, MayBegin, is_early, with_own};
 
 use crate::set::SetTrace;
 use crate::set_end::{may_end, partitions_read};
@@ -253,6 +253,27 @@ impl<'a> SetReader<'a> {
         }
     }
 
+    // Whether the partition's `begin` has come.
+    fn has_begun(&self, number: u8) -> bool
+        requires { number < 8 }
+        ensures { result ≡ is_running (reading_of self.now number).stage }
+    {
+        match &self.readings[usize::from(number)] {
+            None => false,
+            Some(reader) => reader.is_running(),
+        }
+    }
+
+    // Whether a configuration line comes behind a run line of another partition. Once its own has begun
+    // its reading refuses it, so the form of most lines is looked at once.
+    fn is_early(&self, number: u8, words: &[&[u8]]) -> bool
+        requires { number < 8 }
+        ensures early { result ≡ is_early self.now number (texts words.now) }
+        ensures eight { length self.now.readings ≡ 8 }
+    {
+        !self.turns.is_empty() && !self.has_begun(number) && is_setting(words)
+    }
+
     // A line of a partition.
     #[tactic(auto, unfolding(crate::specs::SetGrammar::after_member))]
     fn take_member(&mut self, alloc: Global, number: u8, words: &[&[u8]]) -> Result<(), Stop>
@@ -261,7 +282,7 @@ impl<'a> SetReader<'a> {
         requires allowed { is_of_the_whole (texts words.now) ≡ false }
         ensures { TakesTo (after_member self.old number (texts words.now)) result self.new }
     {
-        if is_setting(words) && !self.turns.is_empty() {
+        if self.is_early(number, words) {
             return Err(Stop::Refused(Why::Place));
         }
         self.open(alloc, number);

@@ -42,10 +42,22 @@ const REFUSED: &[(&str, u32, Why)] = &[
     ("0\nshared 0x1000000000 19\n", 2, Why::Place),
     ("shared 0x1000000000 17\n", 1, Why::Range),
     ("0 begin\n0 0 slbclear\n1 begin\n", 3, Why::Place),
-    ("0 ram 0x0 0x2000000000 0x1000\n1 ram 0x0 0x2000000000 0x1000\n", 2, Why::Overlap),
-    ("0 ram 0x0 0x2000000000 0x1000\n1 ram 0x0 0x1000000000 0x1000001000\n", 2, Why::Overlap),
+    (
+        "0 ram 0x0 0x2000000000 0x1000\n1 ram 0x0 0x2000000000 0x1000\n",
+        2,
+        Why::Overlap,
+    ),
+    (
+        "0 ram 0x0 0x2000000000 0x1000\n1 ram 0x0 0x1000000000 0x1000001000\n",
+        2,
+        Why::Overlap,
+    ),
     ("0 ram 0x0 0x1000000000 0x1000\n", 1, Why::Tables),
-    ("shared 0x1000000000 19\n0 begin\n1 begin\n2 begin\n", 4, Why::Small),
+    (
+        "shared 0x1000000000 19\n0 begin\n1 begin\n2 begin\n",
+        4,
+        Why::Small,
+    ),
     ("0 order 18\n", 2, Why::Begin),
     ("0 begin\n1\n", 3, Why::Begin),
     ("# nobody\n", 2, Why::Begin),
@@ -94,7 +106,10 @@ fn a_set_is_refused_for_its_reasons(rt: HostRuntime) -> Result<(), Fail> {
 /// The configuration of a partition of 64 processors, and a line of each of these.
 fn push_partition(input: &mut String, number: u64) -> Result<(), Fail> {
     let machine = 0x20_0000_0000_u64 | (number << 32);
-    write!(input, "{number} cpus 64\n{number} ram 0 {machine} 4096\n{number} begin\n")?;
+    write!(
+        input,
+        "{number} cpus 64\n{number} ram 0 {machine} 4096\n{number} begin\n"
+    )?;
     Ok(())
 }
 

@@ -37,6 +37,7 @@ complete -c papr-entries -l limit -x -d 'The largest order'
 complete -c papr-entries -l ram -x -d 'A grant of ram: LOGICAL MACHINE LENGTH'
 complete -c papr-entries -l io -x -d 'A grant of io: LOGICAL MACHINE LENGTH'
 complete -c papr-entries -s o -l output -r -d 'Write the trace to this file'
+complete -c papr-why -l set -d 'A set of partitions'
 for tool in papr-from-qemu papr-history papr-picture papr-receipts papr-why papr-bad-line papr-cut papr-entries
     complete -c $tool -s h -l help -d 'What the tool does'
 end

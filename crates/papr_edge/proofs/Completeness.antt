@@ -6,11 +6,11 @@ use Rattle.papr_edge.specs.declared.reason.Reason.{Reason}
 use Rattle.papr_edge.specs.declared.status.Status.{Status}
 use Rattle.papr_edge.specs.declared.status.Status.TheVariants.{Done, Usage, Refused, ReadFault, WriteFault, Memory, CheckNo}
 use Rattle.papr_edge.specs.Inputs.{JudgedInput, judged_input}
-use Rattle.papr_edge.specs.Reading.{Reads}
+use Rattle.papr_edge.specs.Reading.{Reads, RefusesLong}
 use Rattle.papr_edge.specs.Ends.{Run, EndsReading, WithDone, IsAnswered}
 use Rattle.papr_edge.specs.declared.command.Command.{Command}
 use Rattle.papr_edge.specs.declared.command.Command.TheVariants.{Check}
-use Rattle.papr_edge.proofs.Outcomes.{RefusesLong, long_judged}
+use Rattle.papr_edge.specs.InputLaws.{long_judged}
 
 -- What is read is the whole of what was left, or both are past the limit: they read alike.
 read_whole : {A : Type 0} (reads : List ℕ → Result A (ℕ × Reason)) (left bytes rest : List ℕ) → RefusesLong reads → left ≡ bytes ++ rest → (length bytes ≤ 2 ^ 24 → rest ≡ []) → reads bytes ≡ reads left

@@ -1,7 +1,5 @@
 -- How a command that reads ends: what was read and written, by the status.
-use Rattle.std.specs.Prelude.{◌≡◌, ℕ, List, [], ◌++◌, Option, Some, Result, Ok, Err, String, string_bytes}
-use Rattle.std.specs.declared.alloc.AllocError.{AllocError}
-use Rattle.std.specs.declared.alloc.Global.{Global}
+use Rattle.std.specs.Prelude.{◌≡◌, ◌⊎◌, ℕ, List, [], ◌++◌, Option, Some, Result, Ok, Err}
 use Rattle.trace_io.specs.Outside.{Took, Put}
 use Rattle.papr_edge.specs.Inputs.{refusal_text}
 use Rattle.papr_edge.specs.Reading.{Reads}
@@ -33,15 +31,6 @@ WritesPrefix run text =
     (front : List ℕ) × (rest : List ℕ) × (text ≡ front ++ rest) × Writes run front
 
 -- ---- texts of an input
--- The text of a result that may be given of the input.
-abbrev pub IsMade :
-    {A : Type 0}
-    → (A → Result (String Global) AllocError → Type 0)
-    → A
-    → List ℕ
-    → Type 0
-IsMade gives x text = (s : String Global) × gives x (Ok s) × (string_bytes s ≡ text)
-
 -- A text that may be written of an input comes with Done.
 abbrev pub WithDone : {A : Type 0} → (A → List ℕ → Type 0) → A → Status → List ℕ → Type 0
 WithDone says x Done text = says x text
@@ -107,6 +96,17 @@ EndsReading reads says run ReadFault = Writes run []
 EndsReading reads says run WriteFault = Stops reads says run
 EndsReading reads says run Memory = Writes run []
 EndsReading reads says run Usage = ⊥
+
+-- The same; but for an input that is taken too the status may be Refused, and then a text that may be written with it was.
+abbrev pub EndsAnswered :
+    {A : Type 0}
+    → (List ℕ → Result A (ℕ × Reason))
+    → (A → Status → List ℕ → Type 0)
+    → Run
+    → Status
+    → Type 0
+EndsAnswered reads says run Refused = Refuses reads run ⊎ Answers reads (λ x. says x Refused) run
+EndsAnswered reads says run status = EndsReading reads says run status
 
 -- The status of a command that was done: under `check` a text that isn't good has one of its own.
 abbrev pub IsAnswered : Option Command → Status → Type 0

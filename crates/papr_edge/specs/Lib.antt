@@ -3,4 +3,6 @@ pub mod Commands
 pub mod Inputs
 pub mod Reading
 pub mod Finish
+pub mod Answer
 pub mod Ends
+pub mod InputLaws

@@ -52,3 +52,10 @@ abbrev pub IsParsedInput : {A : Type 0} → Result A NoInput → Result A (ℕ �
 IsParsedInput (Ok x) said = said ≡ Ok x
 IsParsedInput (Err (missing.Refused line reason)) said = said ≡ Err (line, reason)
 IsParsedInput (Err other) said = Unit {0}
+
+-- More bytes than may be are refused as line 0, whatever they are.
+abbrev pub RefusesLong : {A : Type 0} → (List ℕ → Result A (ℕ × Reason)) → Type 0
+RefusesLong reads =
+    (bytes : List ℕ)
+    → most_bytes < length bytes
+    → reads bytes ≡ Err (0, reasons.Trace whys.Long)

@@ -1,27 +1,28 @@
 ghost use Rattle.std.specs.Prelude.{◌≡◌, ◌≢◌, ◌≤◌};
 ghost use Rattle.std.specs.Fn.{FnOnceReturnsAt};
 ghost use Rattle.trace_io.specs.Outside.{Rose};
-ghost use Rattle.papr_edge.specs.Inputs.{trace_input};
-ghost use Rattle.papr_edge.specs.Ends.{EndsReading, IsMade, WithDone};
+ghost use Rattle.papr_edge.specs.Answer.{IsMade};
+ghost use Rattle.papr_edge.specs.Ends.{EndsAnswered};
 
+use crate::answer::Answer;
 use crate::ending::{finish, refuse};
-use crate::reading::read_trace;
+use crate::input::Input;
+use crate::reading::read_input;
 use crate::status::Status;
 use std::alloc::{AllocError, Global};
 use trace_io::{Sink, Source};
-use trace_read::Trace;
 
-/// Reads the source to its end, and writes the text that is made of the trace, or the refusal.
-pub fn answer_input<S: Source, K: Sink, F: FnOnce(&Trace) -> Result<String, AllocError>>(
+/// Reads the source to its end, and writes the text that is made of the input, or the refusal.
+pub fn answer_input<I: Input, S: Source, K: Sink, F: FnOnce(&I) -> Result<Answer, AllocError>>(
     alloc: Global,
     source: &mut S,
     sink: &mut K,
-    text_of: F,
+    answer_of: F,
 ) -> Status
-    requires { F.IsAlwaysCallable text_of }
-    ensures outcome { EndsReading
-        trace_input
-        (WithDone (IsMade (FnOnceReturnsAt F.FnOnce text_of)))
+    requires { F.IsAlwaysCallable answer_of }
+    ensures outcome { EndsAnswered
+        I.reads
+        (IsMade (FnOnceReturnsAt F.FnOnce answer_of))
         (record {
           left = S.left source.old;
           left_after = S.left source.new;
@@ -40,9 +41,9 @@ pub fn answer_input<S: Source, K: Sink, F: FnOnce(&Trace) -> Result<String, Allo
     ensures source_faults { S.faults source.old ≤ S.faults source.new }
     ensures sink_faults { K.faults sink.old ≤ K.faults sink.new }
 {
-    match read_trace(alloc, source) {
-        Ok(trace) => match text_of(&trace) {
-            Ok(text) => finish(sink, text.as_bytes(), Status::Done),
+    match read_input::<I, S>(alloc, source) {
+        Ok(input) => match answer_of(&input) {
+            Ok(answer) => finish(sink, answer.as_bytes(), answer.status()),
             Err(_) => Status::Memory,
         },
         Err(error) => refuse(alloc, sink, error),

@@ -2,18 +2,22 @@
 //! written and an input refused, and the statuses.
 #![tactic(auto)]
 
+mod answer;
 mod answering;
 mod command;
 mod cutting;
 mod ending;
+mod input;
 mod reading;
 mod reason;
 mod status;
 
+pub use answer::Answer;
 pub use answering::answer_input;
 pub use command::{Command, command_of};
 pub use cutting::{cut, line_count};
 pub use ending::{finish, refuse};
-pub use reading::{NoInput, parse_input, read_bytes, read_trace};
+pub use input::Input;
+pub use reading::{NoInput, read_bytes, read_input};
 pub use reason::Reason;
 pub use status::Status;

@@ -1,14 +1,13 @@
 ghost use Rattle.std.specs.Prelude.{◌≡◌, ◌≢◌, ◌≤◌, IfOk, IfErr, Err, length};
 ghost use Rattle.trace_io.specs.Outside.{Rose};
 ghost use Rattle.trace_read.specs.Grammar.{most_bytes};
-ghost use Rattle.trace_read.specs.Trace.{IsAccepted};
-ghost use Rattle.papr_edge.specs.Inputs.{trace_input};
-ghost use Rattle.papr_edge.specs.Reading.{Reads, IsInput, WasLong, IsParsedInput};
+ghost use Rattle.papr_edge.specs.Reading.{Reads, IsInput, WasLong};
 
+use crate::input::Input;
 use crate::reason::Reason;
 use std::alloc::Global;
 use trace_io::{ReadAllError, Source, read_all};
-use trace_read::{MOST_BYTES, Trace, TraceError, Why, parse};
+use trace_read::{MOST_BYTES, TraceError, Why};
 
 /// Why there is no input.
 #[derive(Clone, Copy, PartialEq, Eq, Debug)]
@@ -57,22 +56,13 @@ pub fn read_bytes<S: Source>(alloc: Global, source: &mut S) -> Result<Vec<u8>, N
     })
 }
 
-/// The trace that the bytes are, or why they are none.
-pub fn parse_input(alloc: Global, bytes: &[u8]) -> Result<Trace, NoInput>
-    ensures parsed { IsParsedInput result (trace_input bytes.now) }
-    ensures accepted { IfOk result IsAccepted }
-    ensures no_fault { result ≢ Err NoInput.Fault }
-{
-    Ok(parse(alloc, bytes)?)
-}
-
-/// Reads the source to its end, and gives the trace that it is.
-pub fn read_trace<S: Source>(alloc: Global, source: &mut S) -> Result<Trace, NoInput>
-    ensures input { IsInput trace_input result (S.left source.old) (S.left source.new) }
+/// Reads the source to its end, and gives the input that it is.
+pub fn read_input<I: Input, S: Source>(alloc: Global, source: &mut S) -> Result<I, NoInput>
+    ensures input { IsInput I.reads result (S.left source.old) (S.left source.new) }
     ensures fault { result ≡ Err NoInput.Fault → Rose (S.faults source.old) (S.faults source.new) }
     ensures no_fault { result ≢ Err NoInput.Fault → S.faults source.new ≡ S.faults source.old }
     ensures faults { S.faults source.old ≤ S.faults source.new }
 {
     let bytes = read_bytes(alloc, source)?;
-    parse_input(alloc, &bytes)
+    I::parse(alloc, &bytes)
 }

@@ -7,30 +7,20 @@ use Rattle.papr_edge.specs.declared.reason.Reason.{Reason}
 use Rattle.papr_edge.specs.declared.status.Status.{Status}
 use Rattle.papr_edge.specs.declared.status.Status.TheVariants.{Done, Usage, Refused, ReadFault, WriteFault, Memory, CheckNo}
 use Rattle.papr_edge.specs.Inputs.{trace_input}
-use Rattle.papr_edge.specs.Reading.{IsInput}
-use Rattle.papr_edge.specs.Finish.{Finishes, WritesNothing}
-use Rattle.papr_edge.specs.Ends.{Run, IsOutput, EndsReading, IsAnswered}
-use Rattle.papr_edge.proofs.Outcomes.{long_trace}
+use Rattle.papr_edge.specs.Ends.{Run, EndsAnswered, IsAnswered}
+use Rattle.papr_edge.specs.InputLaws.{long_trace}
 use Rattle.papr_edge.proofs.Completeness.{told_input}
-use Rattle.papr_top.specs.Images.{IsImage, EndsImage, HasImage, HasNoImage, image_output, layout_refusal_text}
+use Rattle.papr_top.specs.Images.{IsImage, EndsImage, HasImage, HasNoImage, image_output}
 
 -- It ends as a command that reads.
-pub as_image : (layout : Layout) (run : Run) (result : Status) → EndsReading trace_input (IsImage layout) run result → EndsImage layout run result
+pub as_image : (layout : Layout) (run : Run) (result : Status) → EndsAnswered trace_input (IsImage layout) run result → EndsImage layout run result
 as_image layout run Done ends = ends
 as_image layout run Usage ends = ends
-as_image layout run Refused ends = inl ends
+as_image layout run Refused ends = ends
 as_image layout run ReadFault ends = ends
 as_image layout run WriteFault ends = ends
 as_image layout run Memory ends = ends
 as_image layout run CheckNo ends = ends
-
--- The line of an entry was being written.
-pub entry_refused : (layout : Layout) (run : Run) (t : AcceptedTrace) (index faults faults_after : ℕ) (result : Status) → IsInput trace_input (Ok t) run.left run.left_after → image_output layout t ≡ Err index → Finishes Refused (layout_refusal_text index) run.taken run.taken_after faults faults_after result ⊎ WritesNothing Memory run.taken run.taken_after result → EndsImage layout run result
-entry_refused layout run t index faults faults_after result input unheld (inl (inl done)) =
-    subst (EndsImage layout run) (sym done.0) (inr (record { bytes = input.0; input = t; text = layout_refusal_text index; read = input.1; accepted = input.2; said = (index, unheld, refl); written = done.1 }))
-entry_refused layout run t index faults faults_after result input unheld (inl (inr stopped)) =
-    subst (EndsImage layout run) (sym stopped.0) (record { bytes = input.0; text = layout_refusal_text index; read = input.1; output = subst (λ parsed. IsOutput (IsImage layout) parsed (layout_refusal_text index)) (sym input.2) (Refused, (index, unheld, refl)); written = stopped.2 })
-entry_refused layout run t index faults faults_after result input unheld (inr ended) = subst (EndsImage layout run) (sym ended.0) ended.1
 
 -- ---- where the source tells its input
 abbrev pub IsHeld : Layout → Result AcceptedTrace (ℕ × Reason) → Type 0

@@ -1,3 +1,3 @@
 pub mod Verdicts
+pub mod Endings
 pub mod ImageEnds
-pub mod SetInputs

@@ -3,4 +3,5 @@ pub mod Judging
 pub mod Images
 pub mod Sets
 pub mod Top
+pub mod InputLaws
 pub mod Laws

@@ -1,8 +1,11 @@
 ghost use Rattle.std.specs.Prelude.{◌≡◌, ◌≤◌, IfOk, string_bytes};
 ghost use Rattle.trace_gen.specs.Generated.{generated_trace};
 ghost use Rattle.run_model.specs.SerialRun.{serial_replies};
+ghost use Rattle.papr_edge.specs.Answer.{IsAnswer};
+ghost use Rattle.papr_edge.specs.Ends.{WithDone};
 ghost use Rattle.papr_top.specs.Texts.{drill_text, IsAssured, IsSerialText, IsParallelText};
 
+use papr_edge::Answer;
 use reply_text::summary_of_counts;
 use std::alloc::{AllocError, Global};
 use std::sync::Wait;
@@ -12,22 +15,24 @@ use trace_read::Trace;
 use trace_runner::{Gate, parallel_to_text, run_counted, run_to_text};
 
 /// The text of the serial run.
-pub fn serial_text(alloc: Global, trace: &Trace) -> Result<String, AllocError>
-    ensures { IfOk result (λ s. IsSerialText trace.now (string_bytes s)) }
+pub fn run_answer(alloc: Global, trace: &Trace) -> Result<Answer, AllocError>
+    ensures { IfOk result (λ answer. IsAnswer (WithDone IsSerialText) trace.now answer) }
 {
-    run_to_text(alloc, trace)
+    let text = run_to_text(alloc, trace)?;
+    Ok(Answer::Done(text))
 }
 
 /// The text of a run with a thread for each processor that has lines.
-pub fn parallel_text<R: Threads + Wait + Sync, G: Gate + Sync>(
+pub fn par_answer<R: Threads + Wait + Sync, G: Gate + Sync>(
     rt: &R,
     alloc: Global,
     trace: &Trace,
     gate: &G,
-) -> Result<String, AllocError>
-    ensures { IfOk result (λ s. IsParallelText trace.now (string_bytes s)) }
+) -> Result<Answer, AllocError>
+    ensures { IfOk result (λ answer. IsAnswer (WithDone IsParallelText) trace.now answer) }
 {
-    parallel_to_text(rt, alloc, trace, gate)
+    let text = parallel_to_text(rt, alloc, trace, gate)?;
+    Ok(Answer::Done(text))
 }
 
 /// The summary of a generated trace.

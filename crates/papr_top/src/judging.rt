@@ -1,47 +1,56 @@
-ghost use Rattle.std.specs.Prelude.{◌≡◌, ◌≢◌, ◌≤◌, IfOk, Err, length, string_bytes};
-ghost use Rattle.trace_io.specs.Outside.{Rose};
-ghost use Rattle.trace_read.specs.Grammar.{most_bytes};
-ghost use Rattle.papr_edge.specs.Inputs.{judged_input};
-ghost use Rattle.papr_edge.specs.Ends.{EndsReading};
-ghost use Rattle.papr_top.specs.Judging.{IsVerdictText, verdict_text, status_with};
-ghost use Rattle.papr_top.specs.Judging.{IsJudged, IsVerdictOfInput};
+ghost use Rattle.std.specs.Prelude.{◌≡◌, ◌≢◌, IfOk, Err, string_bytes};
+ghost use Rattle.papr_edge.specs.Answer.{IsAnswer};
+ghost use Rattle.papr_top.specs.Judging.{IsVerdictText, verdict_text};
 
 use history_check::{Verdict, check_replies};
-use papr_edge::{
-    NoInput, Reason, Status, cut, finish, line_count, parse_input, read_bytes, refuse,
-};
+use papr_edge::{Answer, Input, NoInput, Reason, cut, line_count};
 use std::alloc::{AllocError, Global};
 use std::fmt::Write;
-use trace_io::{Sink, Source};
+use std::marker::Model;
+use trace_read::{MOST_BYTES, Trace, Why};
 
-/// Whether the text behind the line `replies` is that of a good run of the trace before it.
-fn judge(alloc: Global, bytes: &[u8]) -> Result<Verdict, NoInput>
-    requires { length bytes.now ≤ most_bytes }
-    ensures judged { IsJudged bytes.now result }
-    ensures no_fault { result ≢ Err NoInput.Fault }
-{
-    let Some((trace, text)) = cut(bytes) else {
-        return Err(NoInput::Refused {
-            line: line_count(bytes) + 1,
-            reason: Reason::NoReplies,
-        });
-    };
-    let trace = parse_input(alloc, trace)?;
-    match check_replies(alloc, &trace, text) {
-        Ok(verdict) => Ok(verdict),
-        Err(_) => Err(NoInput::Memory),
-    }
+/// A trace, and the text that is to be judged as its replies, as `check` reads them.
+#[derive(Drop)]
+pub struct Judged {
+    trace: Trace,
+    text: Vec<u8>,
 }
 
-/// Reads the source to its end, and judges the text that it holds behind a trace.
-fn read_verdict<S: Source>(alloc: Global, source: &mut S) -> Result<Verdict, NoInput>
-    ensures verdict { IsVerdictOfInput result (S.left source.old) (S.left source.new) }
-    ensures fault { result ≡ Err NoInput.Fault → Rose (S.faults source.old) (S.faults source.new) }
-    ensures no_fault { result ≢ Err NoInput.Fault → S.faults source.new ≡ S.faults source.old }
-    ensures faults { S.faults source.old ≤ S.faults source.new }
-{
-    let bytes = read_bytes(alloc, source)?;
-    judge(alloc, &bytes)
+impl Model for Judged {
+    ghost use Rattle.papr_edge.specs.Inputs.{JudgedInput};
+
+    ghost Value = { JudgedInput };
+
+    ghost view = { λ input. record { trace = input.trace; text = input.text.items } };
+}
+
+impl Input for Judged {
+    ghost use Rattle.papr_edge.specs.Inputs.{judged_input};
+    ghost use Rattle.papr_edge.specs.InputLaws.{long_judged};
+
+    ghost reads = { judged_input };
+
+    fn parse(alloc: Global, bytes: &[u8]) -> Result<Self, NoInput> {
+        if bytes.len() > MOST_BYTES {
+            return Err(NoInput::Refused {
+                line: 0,
+                reason: Reason::Trace(Why::Long),
+            });
+        }
+        let Some((trace, text)) = cut(bytes) else {
+            return Err(NoInput::Refused {
+                line: line_count(bytes) + 1,
+                reason: Reason::NoReplies,
+            });
+        };
+        let trace = Trace::parse(alloc, trace)?;
+        match text.to_vec(alloc) {
+            Ok(text) => Ok(Judged { trace, text }),
+            Err(_) => Err(NoInput::Memory),
+        }
+    }
+
+    ghost refuses_long = { long_judged };
 }
 
 /// The line that tells a verdict.
@@ -56,45 +65,14 @@ fn verdict_line(alloc: Global, verdict: Verdict) -> Result<String, AllocError>
     Ok(out)
 }
 
-/// The status that comes with a verdict.
-fn status_of(verdict: Verdict) -> Status
-    ensures { result ≡ status_with verdict }
+/// The verdict on the text behind the trace.
+pub fn verdict_answer(alloc: Global, input: &Judged) -> Result<Answer, AllocError>
+    ensures { IfOk result (λ answer. IsAnswer IsVerdictText input.now answer) }
 {
+    let verdict = check_replies(alloc, &input.trace, &input.text)?;
+    let line = verdict_line(alloc, verdict)?;
     match verdict {
-        Verdict::Good => Status::Done,
-        Verdict::Bad(_) => Status::CheckNo,
-    }
-}
-
-/// `check`: reads the source to its end, and writes the verdict on the text behind its trace, or the
-/// refusal.
-pub fn check<S: Source, K: Sink>(alloc: Global, source: &mut S, sink: &mut K) -> Status
-    ensures outcome { EndsReading
-        judged_input
-        IsVerdictText
-        (record {
-          left = S.left source.old;
-          left_after = S.left source.new;
-          taken = K.taken sink.old;
-          taken_after = K.taken sink.new;
-        })
-        result }
-    ensures read_fault { result ≡ Status.ReadFault
-        → Rose (S.faults source.old) (S.faults source.new) }
-    ensures write_fault { result ≡ Status.WriteFault
-        → Rose (K.faults sink.old) (K.faults sink.new) }
-    ensures no_read_fault { result ≢ Status.ReadFault
-        → S.faults source.new ≡ S.faults source.old }
-    ensures no_write_fault { result ≢ Status.WriteFault
-        → K.faults sink.new ≡ K.faults sink.old }
-    ensures source_faults { S.faults source.old ≤ S.faults source.new }
-    ensures sink_faults { K.faults sink.old ≤ K.faults sink.new }
-{
-    match read_verdict(alloc, source) {
-        Ok(verdict) => match verdict_line(alloc, verdict) {
-            Ok(text) => finish(sink, text.as_bytes(), status_of(verdict)),
-            Err(_) => Status::Memory,
-        },
-        Err(error) => refuse(alloc, sink, error),
+        Verdict::Good => Ok(Answer::Done(line)),
+        Verdict::Bad(_) => Ok(Answer::CheckNo(line)),
     }
 }

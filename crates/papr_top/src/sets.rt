@@ -1,62 +1,45 @@
-ghost use Rattle.std.specs.Prelude.{◌≡◌, ◌≢◌, ◌≤◌, Err};
-ghost use Rattle.trace_io.specs.Outside.{Rose};
-ghost use Rattle.papr_edge.specs.Ends.{EndsReading, WithDone};
-ghost use Rattle.papr_edge.specs.Reading.{IsInput, IsParsedInput};
-ghost use Rattle.papr_top.specs.Sets.{set_input, IsSetText};
+ghost use Rattle.std.specs.Prelude.{◌≡◌, ◌≢◌, IfOk, Err};
+ghost use Rattle.papr_edge.specs.Answer.{IsAnswer};
+ghost use Rattle.papr_edge.specs.Ends.{WithDone};
+ghost use Rattle.papr_top.specs.Sets.{IsSetText};
 
 use lpar_set::{SetTrace, parse_set, set_to_text};
-use papr_edge::{NoInput, Status, finish, read_bytes, refuse};
-use std::alloc::Global;
-use trace_io::{Sink, Source};
+use papr_edge::{Answer, Input, NoInput};
+use std::alloc::{AllocError, Global};
+use std::marker::Model;
 
-/// The set that the bytes are, or why they are none.
-fn set_of_bytes(alloc: Global, bytes: &[u8]) -> Result<SetTrace, NoInput>
-    ensures parsed { IsParsedInput result (set_input bytes.now) }
-    ensures no_fault { result ≢ Err NoInput.Fault }
-{
-    Ok(parse_set(alloc, bytes)?)
+/// A set of partitions, as `set` reads it.
+#[derive(Drop)]
+pub struct SetInput {
+    set: SetTrace,
 }
 
-/// Reads the source to its end, and gives the set that it is.
-fn read_set<S: Source>(alloc: Global, source: &mut S) -> Result<SetTrace, NoInput>
-    ensures input { IsInput set_input result (S.left source.old) (S.left source.new) }
-    ensures fault { result ≡ Err NoInput.Fault → Rose (S.faults source.old) (S.faults source.new) }
-    ensures no_fault { result ≢ Err NoInput.Fault → S.faults source.new ≡ S.faults source.old }
-    ensures faults { S.faults source.old ≤ S.faults source.new }
-{
-    let bytes = read_bytes(alloc, source)?;
-    set_of_bytes(alloc, &bytes)
+impl Model for SetInput {
+    ghost use Rattle.lpar_set.specs.SetTrace.{AcceptedSet};
+
+    ghost Value = { AcceptedSet };
+
+    ghost view = { λ input. input.set };
 }
 
-/// `set`: reads the source to its end, and writes the replies of the run of the set that it is, or the
-/// refusal.
-pub fn set<S: Source, K: Sink>(alloc: Global, source: &mut S, sink: &mut K) -> Status
-    ensures outcome { EndsReading
-        set_input
-        (WithDone IsSetText)
-        (record {
-          left = S.left source.old;
-          left_after = S.left source.new;
-          taken = K.taken sink.old;
-          taken_after = K.taken sink.new;
-        })
-        result }
-    ensures read_fault { result ≡ Status.ReadFault
-        → Rose (S.faults source.old) (S.faults source.new) }
-    ensures write_fault { result ≡ Status.WriteFault
-        → Rose (K.faults sink.old) (K.faults sink.new) }
-    ensures no_read_fault { result ≢ Status.ReadFault
-        → S.faults source.new ≡ S.faults source.old }
-    ensures no_write_fault { result ≢ Status.WriteFault
-        → K.faults sink.new ≡ K.faults sink.old }
-    ensures source_faults { S.faults source.old ≤ S.faults source.new }
-    ensures sink_faults { K.faults sink.old ≤ K.faults sink.new }
-{
-    match read_set(alloc, source) {
-        Ok(set) => match set_to_text(alloc, &set) {
-            Ok(text) => finish(sink, text.as_bytes(), Status::Done),
-            Err(_) => Status::Memory,
-        },
-        Err(error) => refuse(alloc, sink, error),
+impl Input for SetInput {
+    ghost use Rattle.papr_top.specs.Sets.{set_input};
+    ghost use Rattle.papr_top.specs.InputLaws.{long_set};
+
+    ghost reads = { set_input };
+
+    fn parse(alloc: Global, bytes: &[u8]) -> Result<Self, NoInput> {
+        let set = parse_set(alloc, bytes)?;
+        Ok(SetInput { set })
     }
+
+    ghost refuses_long = { long_set };
+}
+
+/// The text of the run of a set.
+pub fn set_answer(alloc: Global, input: &SetInput) -> Result<Answer, AllocError>
+    ensures { IfOk result (λ answer. IsAnswer (WithDone IsSetText) input.now answer) }
+{
+    let text = set_to_text(alloc, &input.set)?;
+    Ok(Answer::Done(text))
 }

@@ -6,10 +6,10 @@ ghost use Rattle.papr_edge.specs.Commands as words_of;
 ghost use Rattle.papr_edge.specs.Ends.{IsAnswered};
 ghost use Rattle.papr_top.specs.Top.{IsOutcome, HasInput, HasRefusedInput, EndsDrill};
 
-use crate::answer::{parallel_text, serial_text, summary};
-use crate::imaging::image;
-use crate::judging::check;
-use crate::sets::set;
+use crate::answer::{par_answer, run_answer, summary};
+use crate::imaging::image_answer;
+use crate::judging::verdict_answer;
+use crate::sets::set_answer;
 use papr_edge::{Command, Status, answer_input, command_of, finish};
 use std::alloc::Global;
 use std::sync::Wait;
@@ -107,10 +107,20 @@ pub fn papr_serial<S: Source, K: Sink>(
     ensures sink_faults { K.faults sink.old ≤ K.faults sink.new }
 {
     match command_of(words) {
-        Some(Command::Run) => answer_input(alloc, source, sink, |trace| serial_text(alloc, trace)),
-        Some(Command::Check) => check(alloc, source, sink),
-        Some(Command::Set) => set(alloc, source, sink),
-        Some(Command::Image(layout)) => image(alloc, layout, source, sink),
+        Some(Command::Run) => answer_input(alloc, source, sink, |trace| run_answer(alloc, trace)),
+        Some(Command::Check) => answer_input(
+            alloc,
+            source,
+            sink,
+            |input| verdict_answer(alloc, input),
+        ),
+        Some(Command::Set) => answer_input(alloc, source, sink, |input| set_answer(alloc, input)),
+        Some(Command::Image(layout)) => answer_input(
+            alloc,
+            source,
+            sink,
+            |trace| image_answer(alloc, layout, trace),
+        ),
         Some(Command::Drill { seed, lines }) => drill(alloc, seed, lines, sink),
         None | Some(Command::Par) => finish(sink, b"papr: usage\n", Status::Usage),
     }
@@ -178,7 +188,7 @@ pub fn papr<R: Threads + Wait + Sync, S: Source, K: Sink, G: Gate + Sync>(
             alloc,
             source,
             sink,
-            |trace| parallel_text(rt, alloc, trace, gate),
+            |trace| par_answer(rt, alloc, trace, gate),
         ),
         _ => papr_serial(alloc, words, source, sink),
     }

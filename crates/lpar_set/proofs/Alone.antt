@@ -1,5 +1,5 @@
 -- Each partition of a set is answered as it would be with the pool to itself, until a PREPARE is refused for lack of room.
-use Rattle.std.proofs.Common.{◌≡◌, ℕ, ◌<◌, List, length, sym, ◌∙◌, subst}
+use Rattle.std.proofs.Common.{◌≡◌, ℕ, ◌<◌, List, map, length, sym, ◌∙◌, subst}
 use Rattle.std.proofs.lemmas.List.Elements.{All-get_or, All-from_recursion}
 use Rattle.pool_range.specs.Ranges.{IsPoolRange}
 use Rattle.hpt_pool.specs.Pool.{no_blocks}
@@ -8,7 +8,8 @@ use Rattle.run_model.specs.RunState.{opening_run}
 use Rattle.lpar_set.specs.OpeningTables.{opening_place, with_opening}
 use Rattle.lpar_set.specs.SetTrace.{AcceptedSet, IsAcceptedSet, IsOfSet, no_partition, partition_at}
 use Rattle.lpar_set.specs.SetRun.{MemberState, with_pool, opening_set, set_replies}
-use Rattle.lpar_set.specs.SetLaws.{replies_of, served, RunsAsIfAlone}
+use Rattle.lpar_set.specs.SetLaws.{replies_of, served, without_place, RunsAsIfAlone}
+use Rattle.lpar_set.proofs.FirstLines.{first_replies}
 use Rattle.lpar_set.proofs.LinesOfTurns.{lines_are_turns}
 use Rattle.lpar_set.proofs.Moved.{moved}
 use Rattle.lpar_set.proofs.SetKept.{opening_keeps}
@@ -47,4 +48,6 @@ pub runs_as_if_alone : (s : AcceptedSet) → IsAcceptedSet s → (k : ℕ) → k
 runs_as_if_alone s is k within =
     let u = opening_run (partition_at s k).trace.config in
     let rs = served (replies_of k s.turns (set_replies s)) in
-    subst (λ (ls : List TraceLine). RunsLike rs u ls) (lines_are_turns s is k within) (turns_alone s k (opening_set s) u s.turns within (opens_running s is) is.turns (opens_alike s k is within))
+    let t = (partition_at s k).trace in
+    let alike : RunsLike rs u t.lines = subst (λ (ls : List TraceLine). RunsLike rs u ls) (lines_are_turns s is k within) (turns_alone s k (opening_set s) u s.turns within (opens_running s is) is.turns (opens_alike s k is within)) in
+    subst (λ qs. map without_place rs ≡ map without_place qs) (first_replies u t.lines (length rs)) alike

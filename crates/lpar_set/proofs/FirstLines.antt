@@ -1,5 +1,5 @@
 -- The first lines of an accepted trace make one, so replies as of their serial run assure what it does.
-use Rattle.std.proofs.Common.{◌≡◌, ℕ, zero, suc, ◌<◌, ◌≤◌, ◌^◌, List, [], ◌∷◌, Bool, true, false, take, length, ◌⊎◌, inl, inr, arith, length-take}
+use Rattle.std.proofs.Common.{◌≡◌, refl, ap, sym, subst, map, ℕ, zero, suc, ◌<◌, ◌≤◌, ◌^◌, List, [], ◌∷◌, Bool, true, false, take, length, ◌⊎◌, inl, inr, arith, length-take}
 use Rattle.std.specs.Prelude.{cond, count_by}
 use Rattle.std.specs.List.{AllByRecursion}
 use Rattle.std.proofs.lemmas.Bool.{cases_Bool}
@@ -9,11 +9,12 @@ use Rattle.trace_line.specs.Lines.{IsTrace, IsSpelt, is_quiet, is_dump}
 use Rattle.trace_read.specs.Trace.{AcceptedTrace, IsAccepted}
 use Rattle.trace_reply.specs.declared.reply.Reply.{Reply}
 use Rattle.trace_reply.specs.Replies.{AreReplies}
-use Rattle.run_model.specs.SerialRun.{serial_replies}
+use Rattle.run_model.specs.RunState.{RunState, opening_run}
+use Rattle.run_model.specs.SerialRun.{run_line, replies_from, serial_replies}
 use Rattle.run_model.specs.Assurances.{Assures}
 use Rattle.run_model.proofs.GoodAssured.{serial_assures}
 use Rattle.run_model.proofs.SerialGood.{serial_good}
-use Rattle.lpar_set.specs.SetLaws.{is_no_mem, served, first_lines, RunsAsIfAlone}
+use Rattle.lpar_set.specs.SetLaws.{is_no_mem, served, first_lines, without_place, RunsAsIfAlone}
 use Rattle.lpar_set.proofs.ErasedPlaces.{assured_like}
 
 -- ---- the limits of a trace
@@ -39,6 +40,12 @@ first_accepted n t is =
     } in
     record { configured = is.configured; sound = is.sound; entries = is.entries; lines = lines }
 
+-- The first lines have the first replies.
+pub first_replies : (w : RunState) (ls : List TraceLine) (n : ℕ) → replies_from w (take n ls) ≡ take n (replies_from w ls)
+first_replies w ls zero = refl
+first_replies w [] (suc n) = refl
+first_replies w (l ∷ ls) (suc n) = ap (λ rs. (run_line w l).0 ∷ rs) (first_replies (run_line w l).1 ls n)
+
 -- ---- the lines before the first H_NO_MEM
 -- The replies before it are those to the first lines.
 pub served_kinds : (ls : List TraceLine) (rs : List Reply) → AreReplies ls rs → AreReplies (take (length (served rs)) ls) (served rs)
@@ -54,4 +61,5 @@ pub served_assured : (t : AcceptedTrace) (rs : List Reply) → IsAccepted t → 
 served_assured t rs is kinds alone =
     let first = first_lines (length (served rs)) t in
     let accepted : IsAccepted first = first_accepted (length (served rs)) t is in
-    assured_like first (served rs) (serial_replies first) (served_kinds t.lines rs kinds) (serial_good first accepted).kinds alone (serial_assures first accepted)
+    let like : map without_place (served rs) ≡ map without_place (serial_replies first) = subst (λ qs. map without_place (served rs) ≡ map without_place qs) (sym (first_replies (opening_run t.config) t.lines (length (served rs)))) alone in
+    assured_like first (served rs) (serial_replies first) (served_kinds t.lines rs kinds) (serial_good first accepted).kinds like (serial_assures first accepted)

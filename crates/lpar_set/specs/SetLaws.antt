@@ -7,6 +7,8 @@ use Rattle.frame_grants.specs.declared.grant.Grant.{Grant}
 use Rattle.frame_grants.specs.Ranges.{range_within}
 use Rattle.entry_model.specs.declared.access_reply.Outcome.{Outcome}
 use Rattle.entry_model.specs.declared.access_reply.Outcome.TheVariants.{At}
+use Rattle.entry_model.specs.declared.device_reply.DeviceOutcome.{DeviceOutcome}
+use Rattle.entry_model.specs.declared.device_reply.DeviceOutcome.TheVariants as devices
 use Rattle.trace_read.specs.Trace.{AcceptedTrace}
 use Rattle.trace_reply.specs.declared.reply.Reply.{Reply}
 use Rattle.trace_reply.specs.declared.reply.Reply.TheVariants as replies
@@ -51,10 +53,10 @@ without_place other = other
 abbrev pub first_lines : ℕ → AcceptedTrace → AcceptedTrace
 first_lines n t = record t { lines = take n t.lines }
 
--- The replies are those of the serial run of the trace's first lines, which has the whole pool to itself, but that the place in a dump may differ.
+-- The replies are the first ones of the serial run of the trace, which has the whole pool to itself, but that the place in a dump may differ.
 abbrev pub RunsAsIfAlone : AcceptedTrace → List Reply → Type 0
 RunsAsIfAlone t rs =
-    map without_place rs ≡ map without_place (serial_replies (first_lines (length rs) t))
+    map without_place rs ≡ map without_place (take (length rs) (serial_replies t))
 
 -- ---- addresses
 -- The grant's machine range has the address.
@@ -80,13 +82,19 @@ abbrev pub EndsAtHome : AcceptedSet → ℕ → Outcome → Type 0
 EndsAtHome s k (At address) = IsOwnAddress s k address
 EndsAtHome s k other = Unit {0}
 
--- The reply shows no other machine address at an access.
+-- So does a device's.
+abbrev pub DeviceEndsAtHome : AcceptedSet → ℕ → DeviceOutcome → Type 0
+DeviceEndsAtHome s k (devices.At address) = IsOwnAddress s k address
+DeviceEndsAtHome s k other = Unit {0}
+
+-- The reply shows no other machine address at an access, of a processor or of a device.
 abbrev pub StaysAtHome : AcceptedSet → ℕ → Reply → Type 0
 StaysAtHome s k (replies.Access r) = EndsAtHome s k r.outcome
+StaysAtHome s k (replies.Device r) = DeviceEndsAtHome s k r.outcome
 StaysAtHome s k other = Unit {0}
 
 -- ---- what a set assures each partition
--- Its replies, one for each of its lines and of the line's kind, show at accesses machine addresses of its own alone. Up to its first H_NO_MEM they are those of its trace alone, and assure what good runs do: no store is lost, committed resizes keep the bolted pages, and accesses land in its grants.
+-- Its replies, one for each of its lines and of the line's kind, show at accesses machine addresses of its own alone. Up to its first H_NO_MEM they are the first ones of its trace alone, and assure what good runs do: no store is lost, committed resizes keep the bolted pages, and accesses land in its grants.
 pub record IsPartitionAssured (s : AcceptedSet) (k : ℕ) (rs : List Reply) : Type 0 where
   pub kinds : AreReplies (partition_at s k).trace.lines rs
   pub at_home : AllByRecursion (StaysAtHome s k) rs

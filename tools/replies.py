@@ -72,7 +72,7 @@ class Reply:
     line: int
     cpu: Optional[int]  # none of a dump
     call: str
-    ending: str  # a code, or `at`, `denied`, `masked`, `nopage`, `nosegment`, `ok`, `refused`
+    ending: str  # a code, or `at`, `denied`, `masked`, `nopage`, `nosegment`, `nowindow`, `ok`, `refused`
     words: list[str]
     receipts: list[Receipt] = field(default_factory=list)
 

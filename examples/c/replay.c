@@ -174,6 +174,8 @@ static void call_line(uint64_t number, const uint64_t *a)
             r.rc = prepare(&guest, a[0], a[1]);
         else if (number == H_RESIZE_HPT_COMMIT)
             r.rc = commit(&guest, a[0], a[1]);
+        else if (number == H_GET_TCE || number == H_PUT_TCE)
+            r.rc = -4; /* there is no DMA window */
     }
     printf("%" PRId64, r.rc);
     for (uint32_t i = 0; i < r.words; i++)
@@ -186,6 +188,7 @@ static uint64_t number_of(const char *name)
     static const struct { const char *name; uint64_t number; } calls[] = {
         {"H_REMOVE", H_REMOVE}, {"H_ENTER", H_ENTER}, {"H_READ", H_READ},
         {"H_CLEAR_MOD", H_CLEAR_MOD}, {"H_CLEAR_REF", H_CLEAR_REF}, {"H_PROTECT", H_PROTECT},
+        {"H_GET_TCE", H_GET_TCE}, {"H_PUT_TCE", H_PUT_TCE},
         {"H_BULK_REMOVE", H_BULK_REMOVE}, {"H_RESIZE_HPT_PREPARE", H_RESIZE_HPT_PREPARE},
         {"H_RESIZE_HPT_COMMIT", H_RESIZE_HPT_COMMIT}};
     for (size_t i = 0; i < sizeof calls / sizeof *calls; i++)
@@ -214,6 +217,8 @@ static void run_line(unsigned long n, const struct line *l)
         guest.iamr[cpu] = l->value[2], puts("ok");
     else if (!strcmp(name, "load") || !strcmp(name, "store") || !strcmp(name, "fetch"))
         access_line(cpu, name, l->value[2], !strcmp(l->word[3], "user"));
+    else if (!strcmp(name, "dmaread") || !strcmp(name, "dmawrite"))
+        puts("nowindow");
     else if (!strcmp(name, "hcall"))
         call_line(l->value[2], l->value + 3);
     else

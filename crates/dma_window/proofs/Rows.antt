@@ -6,7 +6,7 @@ use Rattle.frame_grants.specs.Grants.{machine_range}
 use Rattle.entry_model.specs.Reply.{entered_state}
 use Rattle.entry_model.specs.State.{empty_state}
 use Rattle.dma_window.specs.declared.window.Window.{Window}
-use Rattle.dma_window.specs.declared.accesses.DeviceOutcome.TheVariants.{At, Denied, Ungranted}
+use Rattle.entry_model.specs.declared.device_reply.DeviceOutcome.TheVariants.{At, Denied, Ungranted}
 use Rattle.dma_window.specs.Windows.{entry_at, is_ram}
 use Rattle.dma_window.specs.Entries.{first_word, second_word, tce_of}
 use Rattle.dma_window.specs.Devices.{outcome_by}

@@ -8,8 +8,8 @@ use Rattle.frame_grants.specs.declared.grant.Grant.{Grant}
 use Rattle.frame_grants.specs.declared.grant.Kind.{Kind}
 use Rattle.frame_grants.specs.Grants.{machine_range}
 use Rattle.frame_grants.proofs.Landing.{part_range}
-use Rattle.dma_window.specs.declared.accesses.DeviceOutcome.{DeviceOutcome}
-use Rattle.dma_window.specs.declared.accesses.DeviceOutcome.TheVariants as outcomes
+use Rattle.entry_model.specs.declared.device_reply.DeviceOutcome.{DeviceOutcome}
+use Rattle.entry_model.specs.declared.device_reply.DeviceOutcome.TheVariants as outcomes
 use Rattle.dma_window.specs.Windows.{page_bytes, is_ram_kind, is_ram}
 use Rattle.dma_window.specs.Entries.{address_of, permits}
 use Rattle.dma_window.specs.Devices.{logical_of, landing_at, outcome_by}

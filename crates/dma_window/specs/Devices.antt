@@ -6,10 +6,11 @@ use Rattle.frame_grants.specs.Grants.{machine_range}
 use Rattle.entry_model.specs.declared.operation.Op.TheVariants.{Read}
 use Rattle.entry_model.specs.declared.receipt.Receipt.{Receipt}
 use Rattle.entry_model.specs.Trial.{IsTrial, call}
+use Rattle.entry_model.specs.Replies.{no_window_reply}
 use Rattle.dma_window.specs.declared.window.Window.{Window}
-use Rattle.dma_window.specs.declared.accesses.DeviceReply.{DeviceReply}
-use Rattle.dma_window.specs.declared.accesses.DeviceOutcome.{DeviceOutcome}
-use Rattle.dma_window.specs.declared.accesses.DeviceOutcome.TheVariants.{At, Denied, NoWindow, Ungranted}
+use Rattle.entry_model.specs.declared.device_reply.DeviceReply.{DeviceReply}
+use Rattle.entry_model.specs.declared.device_reply.DeviceOutcome.{DeviceOutcome}
+use Rattle.entry_model.specs.declared.device_reply.DeviceOutcome.TheVariants.{At, Denied, NoWindow, Ungranted}
 use Rattle.dma_window.specs.Windows.{page_bytes, entry_at, is_ram}
 use Rattle.dma_window.specs.Entries.{address_of, permits, tce_of}
 
@@ -48,10 +49,6 @@ pub record IsDeviceReplyAt
   where
     pub trial : IsTrial (λ answer. true) (call Read entry ∷ []) reply.receipts
     pub outcome : reply.outcome ≡ outcome_of grants ioba write reply.receipts
-
--- The reply where the window doesn't have the address.
-abbrev pub no_window_reply : DeviceReply
-no_window_reply = record { outcome = NoWindow; receipts = [] }
 
 -- The reply to an access, by the entry of the page, if the window has one.
 abbrev pub IsDeviceReplyBy :

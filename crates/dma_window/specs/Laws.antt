@@ -8,7 +8,7 @@ use Rattle.entry_model.specs.declared.hreply.HReply.{HReply}
 use Rattle.entry_model.specs.Reply.{entered_state}
 use Rattle.entry_model.specs.Trial.{IsReplyOf}
 use Rattle.dma_window.specs.declared.window.Window.{Window}
-use Rattle.dma_window.specs.declared.accesses.DeviceOutcome.TheVariants.{Ungranted}
+use Rattle.entry_model.specs.declared.device_reply.DeviceOutcome.TheVariants.{Ungranted}
 use Rattle.dma_window.specs.Windows.{is_ram}
 use Rattle.dma_window.specs.Entries.{address_of, permits, first_word, second_word, tce_of}
 use Rattle.dma_window.specs.Calls.{put_tce_plan}

@@ -12,7 +12,7 @@ mod tce_calls;
 mod tests;
 mod window;
 
-pub use accesses::{DeviceOutcome, DeviceReply, device};
+pub use accesses::device;
 pub use laws::{busy_exactly_where_taken, kept_words_are_read_back, ungranted_exactly_where};
 pub use tce::tce_of;
 pub use tce_calls::{get_tce, put_tce};

@@ -2,7 +2,7 @@ ghost use Rattle.std.specs.Prelude.{◌≡◌, IfOk};
 ghost use Rattle.dma_window.specs.Windows.{IsWindow};
 
 use super::*;
-use entry_model::{Answer, EntryState, EntryStore, HReply};
+use entry_model::{Answer, DeviceOutcome, DeviceReply, EntryState, EntryStore, HReply};
 use frame_grants::{Grant, Grants, Kind};
 use papr_codes::Rc;
 use papr_table::PlainTable;

@@ -10,6 +10,7 @@
 mod access_reply;
 mod accessing;
 mod answering;
+mod device_reply;
 mod hreply;
 mod laws;
 mod line;
@@ -22,6 +23,7 @@ mod trial;
 
 pub use access_reply::{AccessEnd, AccessReply, By, Outcome};
 pub use answering::reply;
+pub use device_reply::{DeviceOutcome, DeviceReply};
 pub use hreply::{HReply, Registers};
 pub use laws::{
     accesses_only_raise_bits, decided_is_valid, empty_stays_empty, fronts_compose,

@@ -148,10 +148,12 @@ reach_alike set s s' want ea user (replies.Access r) (replies.Access q) e h k m 
 reach_alike set s s' want ea user (replies.Access r) (replies.Hcall q) e h k m = absurd k
 reach_alike set s s' want ea user (replies.Access r) (replies.Segment q) e h k m = absurd k
 reach_alike set s s' want ea user (replies.Access r) replies.MaskSet e h k m = absurd k
+reach_alike set s s' want ea user (replies.Access r) (replies.Device q) e h k m = absurd k
 reach_alike set s s' want ea user (replies.Access r) (replies.Dump q) e h k m = absurd k
 reach_alike set s s' want ea user (replies.Hcall r) q e h k m = absurd h
 reach_alike set s s' want ea user (replies.Segment r) q e h k m = absurd h
 reach_alike set s s' want ea user replies.MaskSet q e h k m = absurd h
+reach_alike set s s' want ea user (replies.Device r) q e h k m = absurd h
 reach_alike set s s' want ea user (replies.Dump r) q e h k m = absurd h
 
 call_alike : (set : AccessContext) (number : ℕ) (args : List ℕ) (spelt : Bool) (r q : Reply) → IsCallReply set (acts.Call number args spelt) r → IsCallReply set (acts.Call number args spelt) q → ShowsSame r q → AllAlike (LinePairs r q)
@@ -161,10 +163,12 @@ call_alike set number args spelt (replies.Hcall h) (replies.Hcall k) a b s =
 call_alike set number args spelt (replies.Hcall h) (replies.Access k) a b s = absurd b
 call_alike set number args spelt (replies.Hcall h) (replies.Segment k) a b s = absurd b
 call_alike set number args spelt (replies.Hcall h) replies.MaskSet a b s = absurd b
+call_alike set number args spelt (replies.Hcall h) (replies.Device k) a b s = absurd b
 call_alike set number args spelt (replies.Hcall h) (replies.Dump k) a b s = absurd b
 call_alike set number args spelt (replies.Access h) q a b s = absurd a
 call_alike set number args spelt (replies.Segment h) q a b s = absurd a
 call_alike set number args spelt replies.MaskSet q a b s = absurd a
+call_alike set number args spelt (replies.Device h) q a b s = absurd a
 call_alike set number args spelt (replies.Dump h) q a b s = absurd a
 
 dump_is_quiet : is_quiet acts.Dump ≡ false → ⊥
@@ -176,6 +180,7 @@ line_alike set s s' (acts.Call number args spelt) r q n e h h' k k' m = call_ali
 line_alike set s s' (acts.Access want ea user) r q n e h h' k k' m = reach_alike set s s' want ea user r q e h' k' m
 line_alike set s s' (acts.SlbMte rb rs) r q n e h h' k k' m = subst (λ x. AllAlike (LinePairs x q)) (sym h) tt
 line_alike set s s' acts.SlbClear r q n e h h' k k' m = subst (λ x. AllAlike (LinePairs x q)) (sym h) tt
+line_alike set s s' (acts.Device write liobn ioba) r q n e h h' k k' m = subst (λ x. AllAlike (LinePairs x q)) (sym h) tt
 line_alike set s s' (acts.SetMask name value) r q n e h h' k k' m = subst (λ x. AllAlike (LinePairs x q)) (sym h) tt
 line_alike set s s' acts.Dump r q n e h h' k k' m = absurd (dump_is_quiet n)
 
@@ -184,6 +189,7 @@ access_keeps s want ea user (replies.Access r) = refl
 access_keeps s want ea user (replies.Hcall r) = refl
 access_keeps s want ea user (replies.Segment r) = refl
 access_keeps s want ea user replies.MaskSet = refl
+access_keeps s want ea user (replies.Device r) = refl
 access_keeps s want ea user (replies.Dump r) = refl
 
 pub kept_after : (s s' : Processor) (act : Act) (r q : Reply) → segments_and_masks s ≡ segments_and_masks s' → segments_and_masks (processor_after s act r) ≡ segments_and_masks (processor_after s' act q)
@@ -193,6 +199,7 @@ kept_after s s' (acts.SlbMte rb rs) r q e = λ i. (slots_or (mte_refusal rb rs) 
 kept_after s s' acts.SlbClear r q e = λ i. (buffer.no_slots, (e i).1)
 kept_after s s' (acts.SetMask name value) r q e = λ i. ((e i).0, with_mask (e i).1 name value)
 kept_after s s' acts.Dump r q e = e
+kept_after s s' (acts.Device write liobn ioba) r q e = e
 
 -- ---- one line: the same processor and the same states before
 hcall_same : (plan : Plan) (h k : HReply) → IsReplyOf plan h → IsReplyOf plan k → SameMarks h.receipts k.receipts → AllBefore (zip h.receipts k.receipts) → h ≡ k
@@ -206,10 +213,12 @@ call_same set number args spelt (replies.Hcall h) (replies.Hcall k) a b s z = ap
 call_same set number args spelt (replies.Hcall h) (replies.Access k) a b s z = absurd b
 call_same set number args spelt (replies.Hcall h) (replies.Segment k) a b s z = absurd b
 call_same set number args spelt (replies.Hcall h) replies.MaskSet a b s z = absurd b
+call_same set number args spelt (replies.Hcall h) (replies.Device k) a b s z = absurd b
 call_same set number args spelt (replies.Hcall h) (replies.Dump k) a b s z = absurd b
 call_same set number args spelt (replies.Access h) q a b s z = absurd a
 call_same set number args spelt (replies.Segment h) q a b s z = absurd a
 call_same set number args spelt replies.MaskSet q a b s z = absurd a
+call_same set number args spelt (replies.Device h) q a b s z = absurd a
 call_same set number args spelt (replies.Dump h) q a b s z = absurd a
 
 access_same : (r q : AccessReply) → r.outcome ≡ q.outcome → r.by ≡ q.by → r.receipts ≡ q.receipts → r ≡ q
@@ -236,10 +245,12 @@ reach_same set s want ea user (replies.Access r) (replies.Access q) h k m z = ap
 reach_same set s want ea user (replies.Access r) (replies.Hcall q) h k m z = absurd k
 reach_same set s want ea user (replies.Access r) (replies.Segment q) h k m z = absurd k
 reach_same set s want ea user (replies.Access r) replies.MaskSet h k m z = absurd k
+reach_same set s want ea user (replies.Access r) (replies.Device q) h k m z = absurd k
 reach_same set s want ea user (replies.Access r) (replies.Dump q) h k m z = absurd k
 reach_same set s want ea user (replies.Hcall r) q h k m z = absurd h
 reach_same set s want ea user (replies.Segment r) q h k m z = absurd h
 reach_same set s want ea user replies.MaskSet q h k m z = absurd h
+reach_same set s want ea user (replies.Device r) q h k m z = absurd h
 reach_same set s want ea user (replies.Dump r) q h k m z = absurd h
 
 pub line_same : (set : AccessContext) (s : Processor) (act : Act) (r q : Reply) → is_quiet act ≡ false → IsCallReply set act r → IsReplyToAccess set s act r → IsCallReply set act q → IsReplyToAccess set s act q → ShowsSame r q → AllBefore (LinePairs r q) → r ≡ q
@@ -247,5 +258,6 @@ line_same set s (acts.Call number args spelt) r q n h h' k k' m z = call_same se
 line_same set s (acts.Access want ea user) r q n h h' k k' m z = reach_same set s want ea user r q h' k' m z
 line_same set s (acts.SlbMte rb rs) r q n h h' k k' m z = h ∙ sym k
 line_same set s acts.SlbClear r q n h h' k k' m z = h ∙ sym k
+line_same set s (acts.Device write liobn ioba) r q n h h' k k' m z = h ∙ sym k
 line_same set s (acts.SetMask name value) r q n h h' k k' m z = h ∙ sym k
 line_same set s acts.Dump r q n h h' k k' m z = absurd (dump_is_quiet n)

@@ -7,7 +7,7 @@ use Rattle.std.proofs.lemmas.Bool.{cond_both}
 use Rattle.papr_codes.specs.Hcalls.{hcall_of, hcall_name}
 use Rattle.papr_codes.specs.ReturnCodes.{rc_code}
 use Rattle.papr_codes.specs.declared.calls.Hcall.{Hcall}
-use Rattle.papr_codes.specs.declared.calls.Hcall.TheVariants.{Remove, Enter, Read, ClearMod, ClearRef, Protect, BulkRemove, Prepare, Commit, Other}
+use Rattle.papr_codes.specs.declared.calls.Hcall.TheVariants.{Remove, Enter, Read, ClearMod, ClearRef, Protect, GetTce, PutTce, BulkRemove, Prepare, Commit, Other}
 use Rattle.storage_prot.specs.declared.want.Want.{Want}
 use Rattle.storage_prot.specs.declared.want.Want.TheVariants as wants
 use Rattle.trace_line.specs.declared.line.TraceLine.{TraceLine}
@@ -18,11 +18,11 @@ use Rattle.trace_reply.specs.declared.shown.Shown.{Shown}
 use Rattle.trace_reply.specs.declared.reply.Reply.{Reply}
 use Rattle.trace_reply.specs.declared.reply.Reply.TheVariants as replies
 use Rattle.trace_reply.specs.Replies.{IsOfKind, receipts_in}
-use Rattle.reply_text.specs.Text.{mask_word, head_text, name_of, want_word, code_text, word_text, outcome_text, way_text, reply_text}
+use Rattle.reply_text.specs.Text.{mask_word, head_text, name_of, want_word, code_text, word_text, outcome_text, way_text, reply_text, device_outcome_text}
 use Rattle.receipt_text.specs.Receipts.{receipts_text}
 use Rattle.receipt_text.specs.Cuts.{lacks}
 use Rattle.receipt_text.proofs.Bytes.{lacks_decimal}
-use Rattle.history_check.proofs.TextMarks.{IsFront, both_front, code_front, words_front, outcome_front, way_front}
+use Rattle.history_check.proofs.TextMarks.{IsFront, both_front, code_front, words_front, outcome_front, way_front, device_front}
 use Rattle.authority_mask.specs.declared.masks.MaskName.{MaskName}
 use Rattle.authority_mask.specs.declared.masks.MaskName.TheVariants as masks
 
@@ -37,6 +37,8 @@ call_front Read = plain_front _ refl refl
 call_front ClearMod = plain_front _ refl refl
 call_front ClearRef = plain_front _ refl refl
 call_front Protect = plain_front _ refl refl
+call_front GetTce = plain_front _ refl refl
+call_front PutTce = plain_front _ refl refl
 call_front BulkRemove = plain_front _ refl refl
 call_front Prepare = plain_front _ refl refl
 call_front Commit = plain_front _ refl refl
@@ -56,6 +58,8 @@ name_front (acts.Call number args spelt) = cond_both spelt (hcall_name (hcall_of
 name_front (acts.Access want ea user) = want_front want
 name_front (acts.SlbMte rb rs) = plain_front _ refl refl
 name_front acts.SlbClear = plain_front _ refl refl
+name_front (acts.Device true liobn ioba) = plain_front _ refl refl
+name_front (acts.Device false liobn ioba) = plain_front _ refl refl
 name_front (acts.SetMask name value) = mask_front name
 name_front acts.Dump = plain_front _ refl refl
 
@@ -76,6 +80,9 @@ pub record IsLine (l : TraceLine) (r : Reply) : Type 0 where
 
 hcall_ends : (h a b c : List ℕ) → h ++ (((a ++ b) ++ c) ++ 10 ∷ []) ≡ ((h ++ (a ++ b)) ++ c) ++ 10 ∷ []
 hcall_ends h a b c = sym (append_assoc h ((a ++ b) ++ c) (10 ∷ [])) ∙ ap (λ z. z ++ 10 ∷ []) (sym (append_assoc h (a ++ b) c))
+
+device_ends : (h a c : List ℕ) → h ++ ((a ++ c) ++ 10 ∷ []) ≡ ((h ++ a) ++ c) ++ 10 ∷ []
+device_ends h a c = sym (append_assoc h (a ++ c) (10 ∷ [])) ∙ ap (λ z. z ++ 10 ∷ []) (sym (append_assoc h a c))
 
 -- A reply without receipts whose word says how it ended.
 worded_line : (l : TraceLine) (r : Reply) (word : List ℕ) → IsFront word → reply_text l r ≡ head_text l.number l.cpu (name_of l.act) ++ (word ++ 10 ∷ []) → receipts_text (receipts_in r) ≡ [] → IsLine l r
@@ -98,6 +105,7 @@ no_dump_reply (acts.Call number args spelt) shown plain kind = kind
 no_dump_reply (acts.Access want ea user) shown plain kind = kind
 no_dump_reply (acts.SlbMte rb rs) shown plain kind = kind
 no_dump_reply acts.SlbClear shown plain kind = kind
+no_dump_reply (acts.Device write liobn ioba) shown plain kind = kind
 no_dump_reply (acts.SetMask name value) shown plain kind = kind
 
 pub line_of : (l : TraceLine) (r : Reply) → is_quiet l.act ≡ false → IsOfKind l.act r → IsLine l r
@@ -116,6 +124,14 @@ line_of l (replies.Access r) plain kind =
       front = head ++ words;
       is_front = both_front head words (head_front l.number l.cpu (name_of l.act) (name_front l.act)) (both_front (outcome_text r.outcome) (way_text r.by) (outcome_front r.outcome) (way_front r.by));
       text = hcall_ends head (outcome_text r.outcome) (way_text r.by) (receipts_text r.receipts);
+    }
+line_of l (replies.Device r) plain kind =
+    let head = head_text l.number l.cpu (name_of l.act) in
+    let words = device_outcome_text r.outcome in
+    record {
+      front = head ++ words;
+      is_front = both_front head words (head_front l.number l.cpu (name_of l.act) (name_front l.act)) (device_front r.outcome);
+      text = device_ends head words (receipts_text r.receipts);
     }
 line_of l (replies.Segment accepted) plain kind = segment_line l accepted
 line_of l replies.MaskSet plain kind = worded_line l replies.MaskSet (codes " ok") (plain_front _ refl refl) refl refl

@@ -141,6 +141,7 @@ line_shows context p (acts.Call number args spelt) (replies.Hcall h) n call acce
 line_shows context p (acts.Call number args spelt) (replies.Access r) n call access = absurd call
 line_shows context p (acts.Call number args spelt) (replies.Segment r) n call access = absurd call
 line_shows context p (acts.Call number args spelt) replies.MaskSet n call access = absurd call
+line_shows context p (acts.Call number args spelt) (replies.Device r) n call access = absurd call
 line_shows context p (acts.Call number args spelt) (replies.Dump r) n call access = absurd call
 line_shows context p (acts.Access want ea user) (replies.Access r) n call access =
     let shown = access_shows context (cached_line p.cache) (request want ea user p.masks) (segment_of p.slots ea) r access in
@@ -148,8 +149,10 @@ line_shows context p (acts.Access want ea user) (replies.Access r) n call access
 line_shows context p (acts.Access want ea user) (replies.Hcall r) n call access = absurd access
 line_shows context p (acts.Access want ea user) (replies.Segment r) n call access = absurd access
 line_shows context p (acts.Access want ea user) replies.MaskSet n call access = absurd access
+line_shows context p (acts.Access want ea user) (replies.Device r) n call access = absurd access
 line_shows context p (acts.Access want ea user) (replies.Dump r) n call access = absurd access
 line_shows context p (acts.SlbMte rb rs) r n call access = subst (LineShows context (acts.SlbMte rb rs)) (sym call) (record { steps = refl; few = inl (omega arith) })
 line_shows context p acts.SlbClear r n call access = subst (LineShows context acts.SlbClear) (sym call) (record { steps = refl; few = inl (omega arith) })
 line_shows context p (acts.SetMask name value) r n call access = subst (LineShows context (acts.SetMask name value)) (sym call) (record { steps = refl; few = inl (omega arith) })
+line_shows context p (acts.Device write liobn ioba) r n call access = subst (LineShows context (acts.Device write liobn ioba)) (sym call) (record { steps = refl; few = inl (omega arith) })
 line_shows context p acts.Dump r n call access = absurd (dump_is_quiet n)

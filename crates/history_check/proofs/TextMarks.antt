@@ -10,6 +10,9 @@ use Rattle.entry_model.specs.declared.hreply.HReply.{HReply}
 use Rattle.entry_model.specs.declared.access_reply.AccessReply.{AccessReply}
 use Rattle.entry_model.specs.declared.access_reply.Outcome.{Outcome}
 use Rattle.entry_model.specs.declared.access_reply.Outcome.TheVariants as outcomes
+use Rattle.entry_model.specs.declared.device_reply.DeviceOutcome.{DeviceOutcome}
+use Rattle.entry_model.specs.declared.device_reply.DeviceOutcome.TheVariants as devices
+use Rattle.entry_model.specs.declared.device_reply.DeviceReply.{DeviceReply}
 use Rattle.entry_model.specs.declared.access_reply.By.{By}
 use Rattle.entry_model.specs.declared.access_reply.By.TheVariants.{Hit, Walk}
 use Rattle.trace_line.specs.declared.line.TraceLine.{TraceLine}
@@ -19,7 +22,7 @@ use Rattle.trace_line.specs.Lines.{is_quiet}
 use Rattle.trace_reply.specs.declared.reply.Reply.{Reply}
 use Rattle.trace_reply.specs.declared.reply.Reply.TheVariants as replies
 use Rattle.trace_reply.specs.Replies.{receipts_in, IsOfKind}
-use Rattle.reply_text.specs.Text.{word_text, code_text, hcall_text, outcome_text, way_text, access_text, verdict_text, head_text, name_of, reply_text}
+use Rattle.reply_text.specs.Text.{word_text, code_text, hcall_text, outcome_text, way_text, access_text, verdict_text, head_text, name_of, reply_text, device_outcome_text, device_text}
 use Rattle.receipt_text.specs.Receipts.{mark_of, receipt_text, receipts_text}
 use Rattle.history_check.specs.ReplyMarks.{SameWay, ShowsSame}
 use Rattle.receipt_text.specs.Cuts.{lacks}
@@ -94,6 +97,9 @@ line_parts a b rs qs x y f g h k e =
 joined : (a b c x : List ℕ) → (((a ++ b) ++ c) ++ 10 ∷ []) ++ x ≡ (a ++ b) ++ (c ++ 10 ∷ x)
 joined a b c x = append_assoc ((a ++ b) ++ c) (10 ∷ []) x ∙ append_assoc (a ++ b) c (10 ∷ x)
 
+one_joined : (a c x : List ℕ) → ((a ++ c) ++ 10 ∷ []) ++ x ≡ a ++ (c ++ 10 ∷ x)
+one_joined a c x = append_assoc (a ++ c) (10 ∷ []) x ∙ append_assoc a c (10 ∷ x)
+
 -- ---- hypervisor calls
 signed_lacks : (c : ℕ) (z : ℤ) → IsNoDigit c → (45 == c) ≡ false → lacks c (signed_decimal z) ≡ true
 signed_lacks c (pos n) h k = lacks_decimal c n h
@@ -153,6 +159,18 @@ access_shows r q x y s t e =
     let m = line_parts (outcome_text r.outcome ++ way_text r.by) (outcome_text q.outcome ++ way_text q.by) r.receipts q.receipts x y (both_front (outcome_text r.outcome) (way_text r.by) (outcome_front r.outcome) (way_front r.by)) (both_front (outcome_text q.outcome) (way_text q.by) (outcome_front q.outcome) (way_front q.by)) s t (sym (joined (outcome_text r.outcome) (way_text r.by) (receipts_text r.receipts) x) ∙ e ∙ joined (outcome_text q.outcome) (way_text q.by) (receipts_text q.receipts) y) in
     (ways_same (outcome_text r.outcome) (outcome_text q.outcome) r.by q.by m.0, m.1, m.2)
 
+-- ---- accesses of devices
+pub device_front : (o : DeviceOutcome) → IsFront (device_outcome_text o)
+device_front (devices.At address) = record { no_end = lacks_hex 10 address (inl (omega arith)); no_bar = lacks_hex 124 address (inr (omega arith)) }
+device_front devices.Denied = record { no_end = refl; no_bar = refl }
+device_front devices.NoWindow = record { no_end = refl; no_bar = refl }
+device_front (devices.Ungranted address) = record { no_end = lacks_hex 10 address (inl (omega arith)); no_bar = lacks_hex 124 address (inr (omega arith)) }
+
+device_shows : (r q : DeviceReply) (x y : List ℕ) → AreShort r.receipts → AreShort q.receipts → device_text r ++ x ≡ device_text q ++ y → (map mark_of r.receipts ≡ map mark_of q.receipts) × (x ≡ y)
+device_shows r q x y s t e =
+    let m = line_parts (device_outcome_text r.outcome) (device_outcome_text q.outcome) r.receipts q.receipts x y (device_front r.outcome) (device_front q.outcome) s t (sym (one_joined (device_outcome_text r.outcome) (receipts_text r.receipts) x) ∙ e ∙ one_joined (device_outcome_text q.outcome) (receipts_text q.receipts) y) in
+    (m.1, m.2)
+
 segment_shows : (a b : Bool) (x y : List ℕ) → verdict_text a ++ x ≡ verdict_text b ++ y → x ≡ y
 segment_shows true true x y e = cc
 segment_shows false false x y e = cc
@@ -163,6 +181,7 @@ segment_shows false true x y e = cc
 abbrev tail_text : Reply → List ℕ
 tail_text (replies.Hcall h) = hcall_text h
 tail_text (replies.Access r) = access_text r
+tail_text (replies.Device r) = device_text r
 tail_text (replies.Segment accepted) = verdict_text accepted
 tail_text replies.MaskSet = codes " ok\n"
 tail_text (replies.Dump shown) = []
@@ -174,6 +193,7 @@ tail_shows : (act : Act) (r q : Reply) (x y : List ℕ) → is_quiet act ≡ fal
 unfolding is_quiet
 tail_shows (acts.Call number args spelt) (replies.Hcall r) (replies.Hcall q) x y n h k s t e = let m = hcall_shows r q x y s t e in (record { way = tt; marks = m.0 }, m.1)
 tail_shows (acts.Access want ea user) (replies.Access r) (replies.Access q) x y n h k s t e = let m = access_shows r q x y s t e in (record { way = m.0; marks = m.1 }, m.2)
+tail_shows (acts.Device write liobn ioba) (replies.Device r) (replies.Device q) x y n h k s t e = let m = device_shows r q x y s t e in (record { way = tt; marks = m.0 }, m.1)
 tail_shows (acts.SlbMte rb rs) (replies.Segment r) (replies.Segment q) x y n h k s t e = (record { way = tt; marks = refl }, segment_shows r q x y e)
 tail_shows acts.SlbClear (replies.Segment r) (replies.Segment q) x y n h k s t e = (record { way = tt; marks = refl }, segment_shows r q x y e)
 tail_shows (acts.SetMask name value) replies.MaskSet replies.MaskSet x y n h k s t e = (record { way = tt; marks = refl }, segment_shows true true x y e)
@@ -182,6 +202,8 @@ tail_shows (acts.Call number args spelt) (replies.Hcall r) other x y n h k s t e
 tail_shows (acts.Call number args spelt) other q x y n h k s t e = absurd h
 tail_shows (acts.Access want ea user) (replies.Access r) other x y n h k s t e = absurd k
 tail_shows (acts.Access want ea user) other q x y n h k s t e = absurd h
+tail_shows (acts.Device write liobn ioba) (replies.Device r) other x y n h k s t e = absurd k
+tail_shows (acts.Device write liobn ioba) other q x y n h k s t e = absurd h
 tail_shows (acts.SlbMte rb rs) (replies.Segment r) other x y n h k s t e = absurd k
 tail_shows (acts.SlbMte rb rs) other q x y n h k s t e = absurd h
 tail_shows acts.SlbClear (replies.Segment r) other x y n h k s t e = absurd k
@@ -197,12 +219,14 @@ no_dump : (act : Act) (r : Reply) → is_quiet act ≡ false → IsOfKind act r 
 unfolding is_quiet
 no_dump (acts.Call number args spelt) (replies.Hcall r) n h l e = refl
 no_dump (acts.Access want ea user) (replies.Access r) n h l e = refl
+no_dump (acts.Device write liobn ioba) (replies.Device r) n h l e = refl
 no_dump (acts.SlbMte rb rs) (replies.Segment r) n h l e = refl
 no_dump acts.SlbClear (replies.Segment r) n h l e = refl
 no_dump (acts.SetMask name value) replies.MaskSet n h l e = refl
 no_dump acts.Dump r n h l e = cc
 no_dump (acts.Call number args spelt) other n h l e = absurd h
 no_dump (acts.Access want ea user) other n h l e = absurd h
+no_dump (acts.Device write liobn ioba) other n h l e = absurd h
 no_dump (acts.SlbMte rb rs) other n h l e = absurd h
 no_dump acts.SlbClear other n h l e = absurd h
 no_dump (acts.SetMask name value) other n h l e = absurd h

@@ -36,7 +36,9 @@ pub fn receipts_of(place: &ReplyPlace) -> &[Receipt]
     ensures { result.now ≡ receipts_in (reply_in place.now) }
 {
     match &place.end {
-        ReplyEnd::Hcall(_) | ReplyEnd::Access(_) => place.receipts.as_slice(),
+        ReplyEnd::Hcall(_) | ReplyEnd::Access(_) | ReplyEnd::Device(_) => {
+            place.receipts.as_slice()
+        }
         ReplyEnd::Segment(_) | ReplyEnd::MaskSet | ReplyEnd::Dump(_) => &[],
     }
 }

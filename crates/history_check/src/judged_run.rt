@@ -3,14 +3,13 @@ ghost use Rattle.tlb_model.specs.Processor.{new_processor};
 ghost use Rattle.trace_line.specs.Lines.{is_quiet};
 ghost use Rattle.trace_reply.specs.declared.reply.Reply.{Reply};
 ghost use Rattle.trace_reply.specs.Replies.{lines_with_replies};
-ghost use Rattle.run_model.specs.RunState.{opening_run, run_quiet_line, run_resize, without_cache, is_success};
+ghost use Rattle.run_model.specs.RunState.{opening_run, run_quiet_line, run_resize, shown_of, without_cache};
 ghost use Rattle.run_model.specs.Sections.{section_end};
 ghost use Rattle.history_check.specs.FoundSection.{ArePlain, AreOnProcessors, IsFound};
 
 use crate::context::Context;
 use crate::processor::Processor;
 use crate::section::section_found;
-use crate::shown::shown_table;
 use entry_model::HReply;
 use papr_codes::{Hcall, Rc};
 use partition::Partition;
@@ -18,7 +17,7 @@ use std::alloc::{AllocError, Global};
 use std::marker::Model;
 use trace_line::{Act, TraceLine};
 use trace_read::Config;
-use trace_reply::Reply;
+use trace_reply::{Reply, Shown};
 
 /// What a run carries between two sections, as its replies tell of it.
 #[derive(Drop)]
@@ -138,8 +137,23 @@ impl JudgedRun {
                 let reply = self.resize(alloc, Hcall::of_number(number), &args)?;
                 Ok(Reply::Hcall(reply))
             }
-            _ => Ok(Reply::Dump(shown_table(alloc, &self.partition)?)),
+            _ => Ok(Reply::Dump(self.shown(alloc)?)),
         }
+    }
+
+    // The table, as a dump shows it.
+    #[tactic(auto, unfolding(run_model::specs::RunState::shown_of))]
+    fn shown(&self, alloc: Global) -> Result<Shown, AllocError>
+        ensures { IfOk result (λ shown. shown ≡ shown_of self.now.memory) }
+    {
+        let order = self.partition.order();
+        Shown::of_table(
+            alloc,
+            self.partition.table(),
+            order,
+            self.partition.place(),
+            self.partition.states(),
+        )
     }
 
     // One of the two resize calls. A committed resize clears each processor's cache.

@@ -20,7 +20,6 @@ mod processor;
 mod reading;
 mod replay;
 mod section;
-mod shown;
 mod steps;
 mod verdict;
 

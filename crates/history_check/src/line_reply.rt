@@ -17,7 +17,7 @@ use crate::calls::call_on;
 use crate::context::Context;
 use crate::fitting::fitting;
 use crate::processor::Processor;
-use entry_model::{AccessEnd, EntryState, Outcome, Receipts};
+use entry_model::{AccessEnd, DeviceOutcome, EntryState, Outcome, Receipts};
 use hpt_walk::Request;
 use papr_codes::Hcall;
 use slb_model::{Segment, Slb};
@@ -177,6 +177,10 @@ fn put_other(
             };
             let end = uncached_end(context, processor, &request, found, receipts);
             place.end = ReplyEnd::Access(end);
+        }
+        Act::Device { .. } => {
+            receipts.clear();
+            place.end = ReplyEnd::Device(DeviceOutcome::NoWindow);
         }
         Act::SlbMte { rb, rs } => place.end = ReplyEnd::Segment(is_accepted(rb, rs)),
         Act::SlbClear => place.end = ReplyEnd::Segment(true),

@@ -50,6 +50,7 @@ same_reply (acts.Call number args spelt) (replies.Hcall h) q kind = refl
 same_reply (acts.Access want ea user) (replies.Access a) q kind = refl
 same_reply (acts.SlbMte rb rs) (replies.Segment accepted) q kind = refl
 same_reply acts.SlbClear (replies.Segment accepted) q kind = refl
+same_reply (acts.Device write liobn ioba) (replies.Device r) q kind = refl
 same_reply (acts.SetMask name value) replies.MaskSet q kind = refl
 same_reply act r q kind = absurd kind
 
@@ -114,6 +115,7 @@ commits_erased call (replies.Hcall h) = refl
 commits_erased call (replies.Access a) = refl
 commits_erased call (replies.Segment accepted) = refl
 commits_erased call replies.MaskSet = refl
+commits_erased call (replies.Device r) = refl
 commits_erased calls.Commit (replies.Dump shown) = refl
 commits_erased call (replies.Dump shown) = refl
 
@@ -155,6 +157,7 @@ unworn_reply (replies.Hcall h) = refl
 unworn_reply (replies.Access a) = refl
 unworn_reply (replies.Segment accepted) = refl
 unworn_reply replies.MaskSet = refl
+unworn_reply (replies.Device r) = refl
 unworn_reply (replies.Dump shown) = refl
 
 unworn_erased : (rs : List Reply) → AllByRecursion IsUnworn (map without_place rs) ≡ AllByRecursion IsUnworn rs

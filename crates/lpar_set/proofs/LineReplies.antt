@@ -14,6 +14,7 @@ use Rattle.entry_model.specs.declared.line.Line.{Line}
 use Rattle.entry_model.specs.declared.receipt.Receipt.{Receipt}
 use Rattle.entry_model.specs.declared.access_reply.Outcome.{Outcome}
 use Rattle.entry_model.specs.declared.access_reply.Outcome.TheVariants.{At}
+use Rattle.entry_model.specs.declared.device_reply.DeviceOutcome.TheVariants.{NoWindow}
 use Rattle.entry_model.specs.Receipt.{is_at, found_of}
 use Rattle.hpt_walk.specs.declared.request.Request.{Request}
 use Rattle.hpt_walk.specs.Access.{AccessContext, landing_at, logical_of, refused_by, refusing_mask, outcome_by, outcome_of, request}
@@ -59,9 +60,10 @@ unfolding outcome_of
 outcome_granted grants ea rs = found_granted grants ea (found_of rs)
 
 -- ---- the reply to a line
--- An access in the reply ends at such an address, if at one.
+-- An access in the reply ends at such an address, if at one. A device finds no window.
 abbrev pub IsGrantedReply : List Grant → Reply → Type 0
 IsGrantedReply grants (replies.Access r) = IsGranted grants r.outcome
+IsGrantedReply grants (replies.Device r) = r.outcome ≡ NoWindow
 IsGrantedReply grants other = Unit {0}
 
 -- The reply is of the line's kind, too.
@@ -82,6 +84,7 @@ busy_suits context p states (acts.Call number args spelt) q = (tt, tt)
 busy_suits context p states (acts.Access want ea user) q = segment_suits context p states (request want ea user p.masks) (segment_of p.slots ea)
 busy_suits context p states (acts.SlbMte rb rs) q = (tt, tt)
 busy_suits context p states acts.SlbClear q = (tt, tt)
+busy_suits context p states (acts.Device write liobn ioba) q = (tt, refl)
 busy_suits context p states (acts.SetMask name value) q = (tt, tt)
 busy_suits context p states acts.Dump q = cc
 

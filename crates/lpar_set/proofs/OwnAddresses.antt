@@ -20,7 +20,7 @@ use Rattle.lpar_set.specs.declared.turn.Turn.{Turn}
 use Rattle.lpar_set.specs.OpeningTables.{with_opening}
 use Rattle.lpar_set.specs.SetTrace.{NumberedTrace, AcceptedSet, IsAcceptedSet, IsOfSet, no_partition, partition_at, line_of}
 use Rattle.lpar_set.specs.SetRun.{MemberState, SetState, no_member, with_pool, without_pool, member_at, set_line, opening_members, opening_set, replies_from, set_replies}
-use Rattle.lpar_set.specs.SetLaws.{IsInGrant, IsOwnAddress, EndsAtHome, StaysAtHome, replies_of}
+use Rattle.lpar_set.specs.SetLaws.{IsInGrant, IsOwnAddress, EndsAtHome, DeviceEndsAtHome, StaysAtHome, replies_of}
 use Rattle.lpar_set.proofs.LineReplies.{IsGranted, IsGrantedReply, line_reply}
 use Rattle.trace_reply.specs.declared.reply.Reply.TheVariants as replies
 
@@ -109,6 +109,7 @@ ends_at_home s is k inside other h = tt
 
 stays_at_home : (s : AcceptedSet) → IsAcceptedSet s → (k : ℕ) → k < length s.partitions → (r : Reply) → IsGrantedReply (grants_in (partition_at s k)) r → StaysAtHome s k r
 stays_at_home s is k inside (replies.Access r) h = ends_at_home s is k inside r.outcome h
+stays_at_home s is k inside (replies.Device r) h = subst (DeviceEndsAtHome s k) (sym h) tt
 stays_at_home s is k inside other h = tt
 
 line_at_home : (s : AcceptedSet) → IsAcceptedSet s → (w : SetState) (k : ℕ) (l : TraceLine) → HasGrants s w → k < length s.partitions → StaysAtHome s k (set_line w k l).0

@@ -11,6 +11,7 @@ ghost use Rattle.run_model.specs.Processors.{processor_after, gone_line_of};
 ghost use Rattle.run_model.specs.LineReplies.{IsCallReply, IsReplyToAccess};
 ghost use Rattle.run_model.specs.SerialRun.{line_result};
 
+use entry_model::DeviceOutcome;
 use frame_grants::Grants;
 use papr_codes::Hcall;
 use papr_table::PlainTable;
@@ -85,6 +86,10 @@ fn apply_act(
         Act::Access { want, ea, user } => {
             let end = cpu.access_into(table, grants, ea, want, user, &mut place.receipts);
             place.end = ReplyEnd::Access(end);
+        }
+        Act::Device { .. } => {
+            place.receipts.clear();
+            place.end = ReplyEnd::Device(DeviceOutcome::NoWindow);
         }
         Act::SlbMte { rb, rs } => place.end = ReplyEnd::Segment(cpu.mte(rb, rs).is_ok()),
         Act::SlbClear => {

@@ -18,7 +18,6 @@ use hpt_resize::{Current, Resize};
 use papr_codes::{Hcall, Rc};
 use papr_table::PlainTable;
 use partition::opening_states;
-use run_model::valid_states;
 use std::alloc::{AllocError, Global};
 use std::marker::Model;
 use std::mem;
@@ -180,13 +179,13 @@ impl Member {
             result
             (λ shown. (pool : PoolState) → shown ≡ shown_of (with_pool pool self.now).memory) }
     {
-        let states = valid_states(alloc, self.current.states.as_slice())?;
-        Ok(Shown {
-            number: self.current.number,
-            order: self.current.order,
-            place: self.current.place,
-            states,
-        })
+        Shown::of_table(
+            alloc,
+            self.current.number,
+            self.current.order,
+            self.current.place,
+            self.current.states.as_slice(),
+        )
     }
 
     // One of the two resize calls.

@@ -1,6 +1,6 @@
 -- Worked values of the definitions, which the checker computes.
 use Rattle.std.proofs.Common.{◌≡◌, ◌+◌, ◌^◌, refl, true, false, codes, pos, negsuc}
-use Rattle.papr_codes.specs.declared.calls.Hcall.TheVariants.{Remove, Enter, Read, ClearMod, ClearRef, Protect, BulkRemove, Prepare, Commit, Other}
+use Rattle.papr_codes.specs.declared.calls.Hcall.TheVariants.{Remove, Enter, Read, ClearMod, ClearRef, Protect, GetTce, PutTce, BulkRemove, Prepare, Commit, Other}
 use Rattle.papr_codes.specs.declared.codes.Rc.TheVariants.{LongBusy, PtegFull, Resource}
 use Rattle.papr_codes.specs.Hcalls.{row_of, hcall_of, hcall_number, hcall_name}
 use Rattle.papr_codes.specs.ReturnCodes.{rc_code}
@@ -42,10 +42,18 @@ commit_is_880 : hcall_of 880 ≡ Commit
 unfolding row_of hcall_of
 commit_is_880 = refl
 
--- H_GET_TCE has no row.
-no_row_for_28 : hcall_of 28 ≡ Other 28
+twenty_eight_is_get_tce : hcall_of 28 ≡ GetTce
 unfolding row_of hcall_of
-no_row_for_28 = refl
+twenty_eight_is_get_tce = refl
+
+thirty_two_is_put_tce : hcall_of 32 ≡ PutTce
+unfolding row_of hcall_of
+thirty_two_is_put_tce = refl
+
+-- H_STUFF_TCE has no row.
+no_row_for_312 : hcall_of 312 ≡ Other 312
+unfolding row_of hcall_of
+no_row_for_312 = refl
 
 prepare_number : hcall_number Prepare ≡ 876
 prepare_number = refl

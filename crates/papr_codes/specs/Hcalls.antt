@@ -1,8 +1,8 @@
--- The hypervisor calls on the page table: their numbers and their names.
+-- The hypervisor calls on the page table and on DMA windows: their numbers and their names.
 use Rattle.std.specs.Prelude.{ℕ, ◌==◌, Bool, true, false, List, [], ◌∷◌, Option, find, codes}
 use Rattle.std.specs.Option.{option_map_or}
 use Rattle.papr_codes.specs.declared.calls.Hcall.{Hcall}
-use Rattle.papr_codes.specs.declared.calls.Hcall.TheVariants.{Remove, Enter, Read, ClearMod, ClearRef, Protect, BulkRemove, Prepare, Commit, Other}
+use Rattle.papr_codes.specs.declared.calls.Hcall.TheVariants.{Remove, Enter, Read, ClearMod, ClearRef, Protect, GetTce, PutTce, BulkRemove, Prepare, Commit, Other}
 
 -- Each number of the table, with its call.
 abbrev pub hcall_rows : List (ℕ × Hcall)
@@ -13,6 +13,8 @@ hcall_rows =
     ∷ (0x10, ClearMod)
     ∷ (0x14, ClearRef)
     ∷ (0x18, Protect)
+    ∷ (0x1C, GetTce)
+    ∷ (0x20, PutTce)
     ∷ (0x124, BulkRemove)
     ∷ (0x36C, Prepare)
     ∷ (0x370, Commit)
@@ -34,6 +36,8 @@ hcall_number Read = 0x0C
 hcall_number ClearMod = 0x10
 hcall_number ClearRef = 0x14
 hcall_number Protect = 0x18
+hcall_number GetTce = 0x1C
+hcall_number PutTce = 0x20
 hcall_number BulkRemove = 0x124
 hcall_number Prepare = 0x36C
 hcall_number Commit = 0x370
@@ -47,6 +51,8 @@ is_named Read = true
 is_named ClearMod = true
 is_named ClearRef = true
 is_named Protect = true
+is_named GetTce = true
+is_named PutTce = true
 is_named BulkRemove = true
 is_named Prepare = true
 is_named Commit = true
@@ -60,6 +66,8 @@ hcall_name Read = codes "H_READ"
 hcall_name ClearMod = codes "H_CLEAR_MOD"
 hcall_name ClearRef = codes "H_CLEAR_REF"
 hcall_name Protect = codes "H_PROTECT"
+hcall_name GetTce = codes "H_GET_TCE"
+hcall_name PutTce = codes "H_PUT_TCE"
 hcall_name BulkRemove = codes "H_BULK_REMOVE"
 hcall_name Prepare = codes "H_RESIZE_HPT_PREPARE"
 hcall_name Commit = codes "H_RESIZE_HPT_COMMIT"

@@ -16,6 +16,10 @@ pub enum Hcall {
     ClearRef,
     /// H_PROTECT
     Protect,
+    /// H_GET_TCE
+    GetTce,
+    /// H_PUT_TCE
+    PutTce,
     /// H_BULK_REMOVE
     BulkRemove,
     /// H_RESIZE_HPT_PREPARE
@@ -41,6 +45,8 @@ impl Hcall {
             0x10 => Hcall::ClearMod,
             0x14 => Hcall::ClearRef,
             0x18 => Hcall::Protect,
+            0x1C => Hcall::GetTce,
+            0x20 => Hcall::PutTce,
             0x124 => Hcall::BulkRemove,
             0x36C => Hcall::Prepare,
             0x370 => Hcall::Commit,
@@ -61,6 +67,8 @@ impl Hcall {
             Hcall::ClearMod => 0x10,
             Hcall::ClearRef => 0x14,
             Hcall::Protect => 0x18,
+            Hcall::GetTce => 0x1C,
+            Hcall::PutTce => 0x20,
             Hcall::BulkRemove => 0x124,
             Hcall::Prepare => 0x36C,
             Hcall::Commit => 0x370,
@@ -79,6 +87,8 @@ impl Hcall {
             Hcall::ClearMod => "H_CLEAR_MOD",
             Hcall::ClearRef => "H_CLEAR_REF",
             Hcall::Protect => "H_PROTECT",
+            Hcall::GetTce => "H_GET_TCE",
+            Hcall::PutTce => "H_PUT_TCE",
             Hcall::BulkRemove => "H_BULK_REMOVE",
             Hcall::Prepare => "H_RESIZE_HPT_PREPARE",
             Hcall::Commit => "H_RESIZE_HPT_COMMIT",

@@ -1,7 +1,7 @@
 use super::*;
 
 /// The numbers, names and calls of LoPAR and of Linux's `hvcall.h`.
-const CALLS: [(u64, &str, Hcall); 10] = [
+const CALLS: [(u64, &str, Hcall); 12] = [
     (4, "H_REMOVE", Hcall::Remove),
     (8, "H_ENTER", Hcall::Enter),
     (12, "H_READ", Hcall::Read),
@@ -11,7 +11,9 @@ const CALLS: [(u64, &str, Hcall); 10] = [
     (292, "H_BULK_REMOVE", Hcall::BulkRemove),
     (876, "H_RESIZE_HPT_PREPARE", Hcall::Prepare),
     (880, "H_RESIZE_HPT_COMMIT", Hcall::Commit),
-    (28, "hcall", Hcall::Other(28)),
+    (28, "H_GET_TCE", Hcall::GetTce),
+    (32, "H_PUT_TCE", Hcall::PutTce),
+    (312, "hcall", Hcall::Other(312)),
 ];
 
 #[test]

@@ -4,7 +4,7 @@ use Rattle.std.specs.Fmt.{digits, signed_decimal}
 use Rattle.papr_codes.specs.Hcalls.{hcall_name}
 use Rattle.papr_codes.specs.ReturnCodes.{rc_code}
 use Rattle.papr_codes.specs.declared.calls.Hcall.{Hcall}
-use Rattle.papr_codes.specs.declared.calls.Hcall.TheVariants.{Remove, Enter, Read, ClearMod, ClearRef, Protect, BulkRemove, Prepare, Commit, Other}
+use Rattle.papr_codes.specs.declared.calls.Hcall.TheVariants.{Remove, Enter, Read, ClearMod, ClearRef, Protect, GetTce, PutTce, BulkRemove, Prepare, Commit, Other}
 use Rattle.papr_codes.specs.declared.codes.Rc.{Rc}
 use Rattle.papr_codes.specs.declared.codes.Rc.TheVariants as rc
 
@@ -16,6 +16,8 @@ hcall_name_short Read = omega arith
 hcall_name_short ClearMod = omega arith
 hcall_name_short ClearRef = omega arith
 hcall_name_short Protect = omega arith
+hcall_name_short GetTce = omega arith
+hcall_name_short PutTce = omega arith
 hcall_name_short BulkRemove = omega arith
 hcall_name_short Prepare = omega arith
 hcall_name_short Commit = omega arith

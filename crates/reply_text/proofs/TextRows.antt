@@ -11,10 +11,11 @@ use Rattle.entry_model.specs.State.{State, empty_state}
 use Rattle.entry_model.specs.declared.operation.Op.{Op}
 use Rattle.entry_model.specs.declared.access_reply.By.TheVariants.{Hit, Walk}
 use Rattle.entry_model.specs.declared.access_reply.Outcome.TheVariants.{At, Denied, Masked, NoPage, NoSegment, Ungranted}
+use Rattle.entry_model.specs.declared.device_reply.DeviceOutcome.TheVariants as devices
 use Rattle.entry_model.specs.Receipt.{receipt_of}
 use Rattle.entry_model.specs.Reply.{has_base}
 use Rattle.trace_line.specs.declared.line.TraceLine.{TraceLine}
-use Rattle.trace_line.specs.declared.act.Act.TheVariants.{Call, Access, SlbMte, SlbClear, SetMask, Dump}
+use Rattle.trace_line.specs.declared.act.Act.TheVariants.{Call, Device, Access, SlbMte, SlbClear, SetMask, Dump}
 use Rattle.authority_mask.specs.declared.masks.MaskName.TheVariants.{Amr, Iamr}
 use Rattle.trace_reply.specs.declared.reply.Reply.{Reply}
 use Rattle.reply_text.specs.Summary.{summary_text, counts_text, row_text, entries_text}
@@ -85,6 +86,22 @@ masked_made = replies.MaskSet ∷ replies.MaskSet ∷ replies.Access (record { o
 masks_told : text_from masked_lines masked_made ≡ codes "6 0 amr ok\n7 0 iamr ok\n8 0 fetch masked iamr hit\n"
 unfolding digits masked_lines masked_made text_from head_text
 masks_told = refl
+
+-- Accesses of devices.
+device_lines : List TraceLine
+device_lines = record { number = 6; cpu = 0; act = Device false 1 0x5008 } ∷ record { number = 7; cpu = 0; act = Device true 1 0x5008 } ∷ record { number = 8; cpu = 1; act = Device true 2 0 } ∷ record { number = 9; cpu = 1; act = Device false 1 0 } ∷ []
+
+device_made : List Reply
+device_made =
+    replies.Device (record { outcome = devices.At 0x2000003008; receipts = receipt_of 5 (empty_state 1) ops.Read ∷ [] })
+    ∷ replies.Device (record { outcome = devices.Denied; receipts = receipt_of 5 (empty_state 1) ops.Read ∷ [] })
+    ∷ replies.Device (record { outcome = devices.NoWindow; receipts = [] })
+    ∷ replies.Device (record { outcome = devices.Ungranted 0x7000; receipts = [] })
+    ∷ []
+
+devices_told : text_from device_lines device_made ≡ codes "6 0 dmaread at 0x2000003008 | 0x5.1.0.read\n7 0 dmawrite denied | 0x5.1.0.read\n8 1 dmawrite nowindow\n9 1 dmaread ungranted 0x7000\n"
+unfolding digits device_lines device_made text_from head_text
+devices_told = refl
 
 -- ---- the summary
 -- Of no replies, of four, and of those above. A hit that is denied is a hit; an access that is ungranted is an access alone.

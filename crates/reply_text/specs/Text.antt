@@ -10,6 +10,8 @@ use Rattle.entry_model.specs.State.{State}
 use Rattle.entry_model.specs.declared.access_reply.AccessReply.{AccessReply}
 use Rattle.entry_model.specs.declared.access_reply.Outcome.{Outcome}
 use Rattle.entry_model.specs.declared.access_reply.By.{By}
+use Rattle.entry_model.specs.declared.device_reply.DeviceOutcome.{DeviceOutcome}
+use Rattle.entry_model.specs.declared.device_reply.DeviceReply.{DeviceReply}
 use Rattle.entry_model.specs.declared.hreply.HReply.{HReply}
 use Rattle.entry_model.specs.Reply.{words_of}
 use Rattle.number_text.specs.Numbers.{hex}
@@ -23,6 +25,7 @@ use Rattle.storage_prot.specs.declared.want.Want.TheVariants as wants
 use Rattle.authority_mask.specs.declared.masks.MaskName.TheVariants as masks
 use Rattle.entry_model.specs.declared.access_reply.Outcome.TheVariants as outcomes
 use Rattle.entry_model.specs.declared.access_reply.By.TheVariants as ways
+use Rattle.entry_model.specs.declared.device_reply.DeviceOutcome.TheVariants as device_outcomes
 use Rattle.trace_line.specs.declared.act.Act.TheVariants as acts
 use Rattle.trace_reply.specs.declared.reply.Reply.TheVariants as replies
 
@@ -38,11 +41,16 @@ abbrev pub mask_word : MaskName → List ℕ
 mask_word masks.Amr = codes "amr"
 mask_word masks.Iamr = codes "iamr"
 
+-- The word of a device's access.
+abbrev pub device_word : Bool → List ℕ
+device_word write = if write then codes "dmawrite" else codes "dmaread"
+
 -- The word behind the processor: a call's name where the line spelt it, else `hcall`.
 abbrev pub name_of : Act → List ℕ
 name_of (acts.Call number args spelt) =
     if spelt then hcall_name (hcall_of number) else codes "hcall"
 name_of (acts.Access want ea user) = want_word want
+name_of (acts.Device write liobn ioba) = device_word write
 name_of (acts.SlbMte rb rs) = codes "slbmte"
 name_of acts.SlbClear = codes "slbclear"
 name_of (acts.SetMask name value) = mask_word name
@@ -85,6 +93,18 @@ way_text None = []
 -- Where it ended, by what, and the receipts.
 abbrev pub access_text : AccessReply → List ℕ
 access_text r = outcome_text r.outcome ++ way_text r.by ++ receipts_text r.receipts ++ codes "\n"
+
+-- ---- accesses of devices
+-- Where a device's access ended.
+abbrev pub device_outcome_text : DeviceOutcome → List ℕ
+device_outcome_text (device_outcomes.At address) = codes " at " ++ hex address
+device_outcome_text device_outcomes.Denied = codes " denied"
+device_outcome_text device_outcomes.NoWindow = codes " nowindow"
+device_outcome_text (device_outcomes.Ungranted address) = codes " ungranted " ++ hex address
+
+-- Where it ended, and the receipts.
+abbrev pub device_text : DeviceReply → List ℕ
+device_text r = device_outcome_text r.outcome ++ receipts_text r.receipts ++ codes "\n"
 
 -- ---- the segment lookaside buffer
 -- Whether a change of the segment lookaside buffer was accepted.
@@ -134,6 +154,7 @@ dump_text line shown =
 abbrev pub reply_text : TraceLine → Reply → List ℕ
 reply_text l (replies.Hcall h) = head_text l.number l.cpu (name_of l.act) ++ hcall_text h
 reply_text l (replies.Access r) = head_text l.number l.cpu (name_of l.act) ++ access_text r
+reply_text l (replies.Device r) = head_text l.number l.cpu (name_of l.act) ++ device_text r
 reply_text l (replies.Segment accepted) =
     head_text l.number l.cpu (name_of l.act) ++ verdict_text accepted
 reply_text l replies.MaskSet = head_text l.number l.cpu (name_of l.act) ++ codes " ok\n"

@@ -25,7 +25,9 @@ impl ReplyKind {
         match reply {
             Reply::Hcall(reply) => ReplyKind::Call(reply.rc),
             Reply::Access(reply) => ReplyKind::Access(reply.outcome, reply.by),
-            Reply::Segment(_) | Reply::MaskSet | Reply::Dump(_) => ReplyKind::Other,
+            Reply::Device(_) | Reply::Segment(_) | Reply::MaskSet | Reply::Dump(_) => {
+                ReplyKind::Other
+            }
         }
     }
 
@@ -36,7 +38,9 @@ impl ReplyKind {
         match &place.end {
             ReplyEnd::Hcall(registers) => ReplyKind::Call(registers.rc),
             ReplyEnd::Access(end) => ReplyKind::Access(end.outcome, end.by),
-            ReplyEnd::Segment(_) | ReplyEnd::MaskSet | ReplyEnd::Dump(_) => ReplyKind::Other,
+            ReplyEnd::Device(_) | ReplyEnd::Segment(_) | ReplyEnd::MaskSet | ReplyEnd::Dump(_) => {
+                ReplyKind::Other
+            }
         }
     }
 }

@@ -5,10 +5,10 @@ ghost use Rattle.papr_codes.specs.ReturnCodes.{rc_code};
 ghost use Rattle.trace_reply.specs.Places.{reply_in};
 ghost use Rattle.trace_reply.specs.Replies.{is_dump};
 ghost use Rattle.number_text.specs.Room.{TakesAtMost};
-ghost use Rattle.reply_text.specs.Text.{want_word, mask_word, name_of, head_text, word_text, code_text, hcall_text, outcome_text, way_text, access_text, verdict_text, entry_text, dump_head, table_text, dump_text, reply_text, text_from};
+ghost use Rattle.reply_text.specs.Text.{want_word, mask_word, name_of, head_text, word_text, code_text, hcall_text, outcome_text, way_text, access_text, device_word, device_outcome_text, device_text, verdict_text, entry_text, dump_head, table_text, dump_text, reply_text, text_from};
 
 use authority_mask::MaskName;
-use entry_model::{By, EntryState, Outcome, Receipts, ReplyWords};
+use entry_model::{By, DeviceOutcome, EntryState, Outcome, Receipts, ReplyWords};
 use number_text::{put_decimal, put_hexadecimal, put_signed};
 use papr_codes::{Hcall, Rc};
 use receipt_text::put_receipts;
@@ -48,6 +48,14 @@ fn mask_name(name: MaskName) -> &'static str
     }
 }
 
+/// The word of a device's access.
+fn device_name(write: bool) -> &'static str
+    ensures value { result.now ≡ device_word write }
+    ensures short { length result.now ≤ 8 }
+{
+    if write { "dmawrite" } else { "dmaread" }
+}
+
 /// The word behind the processor in a reply's line.
 #[tactic(auto, using(crate::proofs::Lengths::hcall_name_short))]
 fn name(act: &Act) -> &'static str
@@ -62,6 +70,7 @@ fn name(act: &Act) -> &'static str
         } => Hcall::of_number(number).name(),
         Act::Call { .. } => "hcall",
         Act::Access { want, .. } => want_name(want),
+        Act::Device { write, .. } => device_name(write),
         Act::SlbMte { .. } => "slbmte",
         Act::SlbClear => "slbclear",
         Act::SetMask { name, .. } => mask_name(name),
@@ -186,6 +195,42 @@ fn put_access(
 {
     put_outcome(out, outcome)?;
     out.push_str(way(by))?;
+    put_receipts(out, receipts.as_slice())?;
+    out.push_str("\n")
+}
+
+/// Where a device's access ended.
+fn put_device_outcome(out: &mut String, outcome: DeviceOutcome) -> Result<(), AllocError>
+    ensures text { OnOk
+        result
+        (string_bytes out.new ≡ string_bytes out.old ++ device_outcome_text outcome) }
+    ensures kept { OnErr result (StartsWith (string_bytes out.new) (string_bytes out.old)) }
+    ensures room { TakesAtMost 29 result out.old out.new }
+{
+    match outcome {
+        DeviceOutcome::At(address) => put_hexadecimal(out, " at ", address),
+        DeviceOutcome::Denied => out.push_str(" denied"),
+        DeviceOutcome::NoWindow => out.push_str(" nowindow"),
+        DeviceOutcome::Ungranted(address) => put_hexadecimal(out, " ungranted ", address),
+    }
+}
+
+/// Where a device's access ended, and its receipts.
+#[tactic(auto, using(number_text::proofs::Prefixes::starts_before))]
+fn put_device(
+    out: &mut String,
+    outcome: DeviceOutcome,
+    receipts: &Receipts,
+) -> Result<(), AllocError>
+    ensures text { OnOk
+        result
+        (string_bytes out.new
+        ≡ string_bytes out.old
+        ++ device_text (record { outcome = outcome; receipts = receipts.now })) }
+    ensures kept { OnErr result (StartsWith (string_bytes out.new) (string_bytes out.old)) }
+    ensures room { TakesAtMost 576 result out.old out.new }
+{
+    put_device_outcome(out, outcome)?;
     put_receipts(out, receipts.as_slice())?;
     out.push_str("\n")
 }
@@ -321,6 +366,10 @@ pub fn put_reply(out: &mut String, line: &TraceLine, reply: &Reply) -> Result<()
             put_head(out, line)?;
             put_access(out, reply.outcome, reply.by, &reply.receipts)
         }
+        Reply::Device(reply) => {
+            put_head(out, line)?;
+            put_device(out, reply.outcome, &reply.receipts)
+        }
         Reply::Segment(accepted) => {
             put_head(out, line)?;
             put_verdict(out, *accepted)
@@ -357,6 +406,10 @@ pub fn put_place(out: &mut String, line: &TraceLine, place: &ReplyPlace) -> Resu
         ReplyEnd::Access(end) => {
             put_head(out, line)?;
             put_access(out, end.outcome, end.by, &place.receipts)
+        }
+        ReplyEnd::Device(outcome) => {
+            put_head(out, line)?;
+            put_device(out, *outcome, &place.receipts)
         }
         ReplyEnd::Segment(accepted) => {
             put_head(out, line)?;

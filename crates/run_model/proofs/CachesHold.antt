@@ -110,10 +110,12 @@ line_fresh : (set : AccessContext) (processor : Processor) (act : Act) (r : Repl
 line_fresh set processor (acts.Call number args spelt) r a b w run h = h
 line_fresh set processor (acts.SlbMte rb rs) r a b w run h = h
 line_fresh set processor acts.SlbClear r a b w run h = h
+line_fresh set processor (acts.Device write liobn ioba) r a b w run h = h
 line_fresh set processor (acts.SetMask name value) r a b w run h = h
 line_fresh set processor acts.Dump r a b w run h = h
 line_fresh set processor (acts.Access want ea user) (replies.Access r) a b w run h = segment_fresh set processor (request want ea user processor.masks) (segment_of processor.slots ea) r a b w run h
 line_fresh set processor (acts.Access want ea user) (replies.Hcall r) a b w run h = h
+line_fresh set processor (acts.Access want ea user) (replies.Device r) a b w run h = h
 line_fresh set processor (acts.Access want ea user) (replies.Segment r) a b w run h = h
 line_fresh set processor (acts.Access want ea user) replies.MaskSet a b w run h = h
 line_fresh set processor (acts.Access want ea user) (replies.Dump r) a b w run h = h

@@ -138,16 +138,20 @@ hcall_shows set calls.Read args reply is = plan_never calls.Read (h_read_plan se
 hcall_shows set calls.ClearRef args reply is = plan_never calls.ClearRef _ reply (single_never set.order _ ops.ClearRef second_word (λ answer. refl)) is
 hcall_shows set calls.ClearMod args reply is = clear_mod_shows set.order _ reply is
 hcall_shows set calls.BulkRemove args reply is = bulk_remove_shows set.order args reply is
+hcall_shows set calls.GetTce args reply is = plan_never calls.GetTce (plan_of_code rc.Parameter) reply tt is
+hcall_shows set calls.PutTce args reply is = plan_never calls.PutTce (plan_of_code rc.Parameter) reply tt is
 hcall_shows set other args reply is = plan_never other (plan_of_code rc.Function) reply tt is
 
 line_shows : (set : AccessContext) (act : Act) (reply : Reply) → IsCallReply set act reply → ShowsClearedBits act reply
 line_shows set (acts.Call number args spelt) (replies.Hcall h) is = hcall_shows set (hcall_of number) args h is
 line_shows set (acts.Call number args spelt) (replies.Access r) is = tt
+line_shows set (acts.Call number args spelt) (replies.Device r) is = tt
 line_shows set (acts.Call number args spelt) (replies.Segment accepted) is = tt
 line_shows set (acts.Call number args spelt) replies.MaskSet is = tt
 line_shows set (acts.Call number args spelt) (replies.Dump shown) is = tt
 line_shows set (acts.Access want ea user) reply is = tt
 line_shows set (acts.SlbMte rb rs) reply is = tt
+line_shows set (acts.Device write liobn ioba) reply is = tt
 line_shows set acts.SlbClear reply is = tt
 line_shows set (acts.SetMask name value) reply is = tt
 line_shows set acts.Dump reply is = tt

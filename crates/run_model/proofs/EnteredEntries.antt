@@ -126,6 +126,7 @@ result_kept set p states (acts.Call number args spelt) h = plan_kept set.grants 
 result_kept set p states (acts.Access want ea user) h = segment_kept set p states (request want ea user p.masks) (segment_of p.slots ea) h
 result_kept set p states (acts.SlbMte rb rs) h = h
 result_kept set p states acts.SlbClear h = h
+result_kept set p states (acts.Device write liobn ioba) h = h
 result_kept set p states (acts.SetMask name value) h = h
 result_kept set p states acts.Dump h = h
 

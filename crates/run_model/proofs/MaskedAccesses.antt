@@ -85,6 +85,7 @@ after_zero p (acts.Access want ea user) (replies.Access r) is h = h
 after_zero p (acts.Access want ea user) other is h = h
 after_zero p (acts.SlbMte rb rs) reply is h = h
 after_zero p acts.SlbClear reply is h = h
+after_zero p (acts.Device write liobn ioba) reply is h = h
 after_zero p (acts.Call number args spelt) reply is h = h
 after_zero p acts.Dump reply is h = h
 

@@ -98,14 +98,19 @@ line_is : (set : AccessContext) (processor : Processor) (act : Act) (r : Reply) 
 unfolding line_result is_quiet
 line_is set processor (acts.Call number args spelt) (replies.Hcall h) a b q call acc gone run = ap call_result (plan_is (hcall_plan set (hcall_of number) args) a b h call run)
 line_is set processor (acts.Call number args spelt) (replies.Access r) a b q call acc gone run = absurd call
+line_is set processor (acts.Call number args spelt) (replies.Device r) a b q call acc gone run = absurd call
 line_is set processor (acts.Call number args spelt) (replies.Segment x) a b q call acc gone run = absurd call
 line_is set processor (acts.Call number args spelt) replies.MaskSet a b q call acc gone run = absurd call
 line_is set processor (acts.Call number args spelt) (replies.Dump x) a b q call acc gone run = absurd call
 line_is set processor (acts.Access want ea user) (replies.Access r) a b q call acc gone run = segment_is set processor (request want ea user processor.masks) (segment_of processor.slots ea) r a b acc gone run
 line_is set processor (acts.Access want ea user) (replies.Hcall r) a b q call acc gone run = absurd acc
+line_is set processor (acts.Access want ea user) (replies.Device r) a b q call acc gone run = absurd acc
 line_is set processor (acts.Access want ea user) (replies.Segment r) a b q call acc gone run = absurd acc
 line_is set processor (acts.Access want ea user) replies.MaskSet a b q call acc gone run = absurd acc
 line_is set processor (acts.Access want ea user) (replies.Dump r) a b q call acc gone run = absurd acc
+line_is set processor (acts.Device write liobn ioba) r a b q call acc gone run =
+    let stays : b ≡ a = subst (λ (x : Reply). IsRun a (receipts_in x) b) call run in
+    λ i. (call i, stays i)
 line_is set processor (acts.SlbMte rb rs) r a b q call acc gone run =
     let stays : b ≡ a = subst (λ (x : Reply). IsRun a (receipts_in x) b) call run in
     λ i. (call i, stays i)

@@ -25,7 +25,8 @@ use Rattle.hpt_resize.proofs.StateBack.{state_back}
 use Rattle.run_model.specs.EnteredEntries.{CanBeEntered}
 use Rattle.run_model.specs.Laws.{ImagesOpenAgain}
 use Rattle.run_model.specs.OpeningAgain.{image_entry, memory_after, opening_states, with_image_entry}
-use Rattle.run_model.specs.RunState.{opening_run, valid_from, shown_of}
+use Rattle.trace_reply.specs.ShownTable.{valid_from}
+use Rattle.run_model.specs.RunState.{opening_run, shown_of}
 use Rattle.run_model.proofs.EnteredEntries.{entries_can_be_entered}
 use Rattle.run_model.proofs.ReadAgain.{line_read}
 use Rattle.run_model.proofs.TableSizes.{small_index, serial_sized}

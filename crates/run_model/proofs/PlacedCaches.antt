@@ -166,12 +166,14 @@ segment_lands granted set p a (Some seg) r apart same is placed low h =
 line_lands : (granted : GrantedMemory) (set : AccessContext) (p : Processor) (act : Act) (reply : Reply) → AreApart granted → set.grants ≡ granted.grants → ProcessorPlaced set.order p → FromLowStamp granted.grants top (receipts_in reply) → IsReplyToAccess set p act reply → LandsAndPlaces granted set.order p act reply
 line_lands granted set p (acts.Access want ea user) (replies.Access r) apart same placed low h = segment_lands granted set p (request want ea user p.masks) (segment_of p.slots ea) r apart same (segment_page p.slots ea) placed low h
 line_lands granted set p (acts.Access want ea user) (replies.Hcall r) apart same placed low h = absurd h
+line_lands granted set p (acts.Access want ea user) (replies.Device r) apart same placed low h = absurd h
 line_lands granted set p (acts.Access want ea user) (replies.Segment r) apart same placed low h = absurd h
 line_lands granted set p (acts.Access want ea user) replies.MaskSet apart same placed low h = absurd h
 line_lands granted set p (acts.Access want ea user) (replies.Dump r) apart same placed low h = absurd h
 line_lands granted set p (acts.Call number args spelt) reply apart same placed low h = (tt, placed)
 line_lands granted set p (acts.SlbMte rb rs) reply apart same placed low h = (tt, placed)
 line_lands granted set p acts.SlbClear reply apart same placed low h = (tt, placed)
+line_lands granted set p (acts.Device write liobn ioba) reply apart same placed low h = (tt, placed)
 line_lands granted set p (acts.SetMask name value) reply apart same placed low h = (tt, placed)
 line_lands granted set p acts.Dump reply apart same placed low h = (tt, placed)
 

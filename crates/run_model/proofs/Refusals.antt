@@ -187,4 +187,6 @@ hcall_leaves set calls.Read args reply is refused = without_leaves false reply.r
 hcall_leaves set calls.ClearRef args reply is refused = without_leaves false reply.receipts (single_without set.order _ ops.ClearRef second_word reply is refused)
 hcall_leaves set calls.ClearMod args reply is refused = without_leaves false reply.receipts (single_without set.order _ ops.ClearMod second_word reply is refused)
 hcall_leaves set calls.BulkRemove args reply is refused = bulk_leaves set.order args reply is refused
+hcall_leaves set calls.GetTce args reply is refused = without_leaves false reply.receipts (answered_without rc.Parameter reply is refused)
+hcall_leaves set calls.PutTce args reply is refused = without_leaves false reply.receipts (answered_without rc.Parameter reply is refused)
 hcall_leaves set other args reply is refused = without_leaves false reply.receipts (answered_without rc.Function reply is refused)

@@ -194,6 +194,8 @@ line_leaves granted context p (acts.Call number args spelt) (replies.Hcall h) ca
     record { entries = hcall_leaves context (hcall_of number) args h call refused; slots = refl; cache = refl }
 line_leaves granted context p (acts.Access want ea user) (replies.Access r) call access lands refused =
     access_all context p want ea user (segment_of p.slots ea) r refl access (lands_nowhere granted context.order ea (segment_of p.slots ea) (found_of r.receipts) r.outcome lands (false_of_not (ends_at r.outcome) refused))
+line_leaves granted context p (acts.Device write liobn ioba) (replies.Device r) call access lands refused =
+    subst (λ (x : Reply). LeavesAll p (acts.Device write liobn ioba) x) (sym call) (record { entries = tt; slots = refl; cache = refl })
 line_leaves granted context p (acts.SlbMte rb rs) (replies.Segment accepted) call access lands refused =
     let told : accepted ≡ is_none (mte_refusal rb rs) = cc in
     mte_all p rb rs accepted told (false_of_not accepted refused)

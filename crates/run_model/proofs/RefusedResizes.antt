@@ -125,6 +125,7 @@ quiet_leaves w (acts.Call number args spelt) refused = resize_leaves w number ar
 quiet_leaves w (acts.Access want ea user) refused = absurd (false≢true refused)
 quiet_leaves w (acts.SlbMte rb rs) refused = absurd (false≢true refused)
 quiet_leaves w acts.SlbClear refused = absurd (false≢true refused)
+quiet_leaves w (acts.Device write liobn ioba) refused = absurd (false≢true refused)
 quiet_leaves w (acts.SetMask name value) refused = absurd (false≢true refused)
 quiet_leaves w acts.Dump refused = absurd (false≢true refused)
 

@@ -9,6 +9,7 @@ use Rattle.hpt_pool.specs.Pool.{block_at, lowest_place, multiples, taken_without
 use Rattle.entry_model.specs.State.{State, empty_state}
 use Rattle.entry_model.specs.declared.receipt.Receipt.{Receipt}
 use Rattle.entry_model.specs.Receipt.{receipt_of, after_of}
+use Rattle.entry_model.specs.Replies.{no_window_reply}
 use Rattle.entry_model.specs.Trial.{trial_run, plan_run}
 use Rattle.page_grants.specs.Suited.{suits_grants}
 use Rattle.h_enter.specs.Checks.{h_enter_plan}
@@ -18,7 +19,7 @@ use Rattle.hpt_resize.specs.Resize.{outcome_of_prepare}
 use Rattle.hpt_resize.specs.TableMemory.{prepare_result}
 use Rattle.tlb_model.specs.Processor.{new_processor}
 use Rattle.trace_line.specs.declared.act.Act.{Act}
-use Rattle.trace_line.specs.declared.act.Act.TheVariants.{Call, SlbMte}
+use Rattle.trace_line.specs.declared.act.Act.TheVariants.{Call, Device, SlbMte}
 use Rattle.trace_line.specs.declared.line.TraceLine.{TraceLine}
 use Rattle.trace_line.specs.Lines.{is_quiet}
 use Rattle.trace_reply.specs.declared.reply.Reply.{Reply}
@@ -52,6 +53,29 @@ enter_is_refused = refl
 enter_leaves : (run_line with_entry enter).1 ≡ with_entry
 unfolding enter with_entry entry run_line line_result hcall_plan is_quiet hcall_of row_of plan_run trial_run candidates suits_grants h_enter_plan machine_range new_processor
 enter_leaves = refl
+
+-- ---- a device, and H_PUT_TCE, where there is no window
+device : TraceLine
+device = record { number = 5; cpu = 0; act = Device true 1 0x5008 }
+
+device_finds_no_window : reply_to device ≡ replies.Device no_window_reply
+unfolding device reply_to with_entry entry run_line line_result is_quiet new_processor
+device_finds_no_window = refl
+
+device_is_refused : is_refused device.act (reply_to device) ≡ true
+unfolding device reply_to with_entry entry run_line line_result is_quiet new_processor
+device_is_refused = refl
+
+put : TraceLine
+put = calls 5 0x20 (1 ∷ 0x5000 ∷ 0x3001 ∷ [])
+
+put_finds_no_window : reply_to put ≡ reply_of_code Parameter
+unfolding put reply_to with_entry entry run_line line_result hcall_plan is_quiet hcall_of row_of plan_run trial_run new_processor
+put_finds_no_window = refl
+
+put_leaves : (run_line with_entry put).1 ≡ with_entry
+unfolding put with_entry entry run_line line_result hcall_plan is_quiet hcall_of row_of plan_run trial_run new_processor
+put_leaves = refl
 
 -- ---- H_BULK_REMOVE of entries 0 and 1, and an ill-formed third pair
 bulk_remove : TraceLine

@@ -83,6 +83,8 @@ resize_after w calls.Read args h = same_after w.memory h
 resize_after w calls.ClearMod args h = same_after w.memory h
 resize_after w calls.ClearRef args h = same_after w.memory h
 resize_after w calls.Protect args h = same_after w.memory h
+resize_after w calls.GetTce args h = same_after w.memory h
+resize_after w calls.PutTce args h = same_after w.memory h
 resize_after w calls.BulkRemove args h = same_after w.memory h
 resize_after w (calls.Other number) args h = same_after w.memory h
 
@@ -90,6 +92,7 @@ pub quiet_after : (w : RunState) (act : Act) → MemoryStands w.memory → IsAft
 unfolding run_quiet_line
 quiet_after w (acts.Call number args spelt) h = resize_after w (hcall_of number) args h
 quiet_after w (acts.Access want ea user) h = same_after w.memory h
+quiet_after w (acts.Device write liobn ioba) h = same_after w.memory h
 quiet_after w (acts.SlbMte rb rs) h = same_after w.memory h
 quiet_after w acts.SlbClear h = same_after w.memory h
 quiet_after w (acts.SetMask name value) h = same_after w.memory h

@@ -74,6 +74,8 @@ hcall_tame set calls.Read args = h_read_tame (IsSuited set.grants) set.order _ _
 hcall_tame set calls.ClearRef args = h_clear_ref_tame (IsSuited set.grants) set.order _
 hcall_tame set calls.ClearMod args = h_clear_mod_tame (IsSuited set.grants) set.order _
 hcall_tame set calls.BulkRemove args = h_bulk_remove_tame (IsSuited set.grants) set.order args
+hcall_tame set calls.GetTce args = answered_tame (IsSuited set.grants) rc.Parameter (λ e. cc)
+hcall_tame set calls.PutTce args = answered_tame (IsSuited set.grants) rc.Parameter (λ e. cc)
 hcall_tame set other args = answered_tame (IsSuited set.grants) rc.Function (λ e. cc)
 
 -- ---- lines
@@ -133,5 +135,6 @@ line_tame granted set processor (acts.Access want ea user) (replies.Access r) sa
 line_tame granted set processor (acts.SlbMte rb rs) (replies.Segment accepted) same kind call acc = record { enters = tt; few = omega arith; safe = λ low_stamp. tt }
 line_tame granted set processor acts.SlbClear (replies.Segment accepted) same kind call acc = record { enters = tt; few = omega arith; safe = λ low_stamp. tt }
 line_tame granted set processor (acts.SetMask name value) replies.MaskSet same kind call acc = record { enters = tt; few = omega arith; safe = λ low_stamp. tt }
+line_tame granted set processor (acts.Device write liobn ioba) (replies.Device r) same kind call acc = subst (λ (x : Reply). IsTameLine granted x) (sym call) (record { enters = tt; few = omega arith; safe = λ low_stamp. tt })
 line_tame granted set processor acts.Dump (replies.Dump shown) same kind call acc = record { enters = tt; few = omega arith; safe = λ low_stamp. tt }
 line_tame granted set processor act reply same kind call acc = absurd kind

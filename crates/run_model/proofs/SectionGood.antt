@@ -190,6 +190,8 @@ resize_size w calls.Read args = refl
 resize_size w calls.ClearMod args = refl
 resize_size w calls.ClearRef args = refl
 resize_size w calls.Protect args = refl
+resize_size w calls.GetTce args = refl
+resize_size w calls.PutTce args = refl
 resize_size w calls.BulkRemove args = refl
 resize_size w (calls.Other number) args = refl
 
@@ -197,6 +199,7 @@ pub quiet_size : (w : RunState) (act : Act) → length (run_quiet_line w act).1.
 unfolding run_quiet_line
 quiet_size w (acts.Call number args spelt) = resize_size w (hcall_of number) args
 quiet_size w (acts.Access want ea user) = refl
+quiet_size w (acts.Device write liobn ioba) = refl
 quiet_size w (acts.SlbMte rb rs) = refl
 quiet_size w acts.SlbClear = refl
 quiet_size w (acts.SetMask name value) = refl

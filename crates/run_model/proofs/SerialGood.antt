@@ -48,6 +48,7 @@ on_kind set processor states (acts.Call number args spelt) q = tt
 on_kind set processor states (acts.Access want ea user) q = segment_kind set processor states (request want ea user processor.masks) (segment_of processor.slots ea)
 on_kind set processor states (acts.SlbMte rb rs) q = tt
 on_kind set processor states acts.SlbClear q = tt
+on_kind set processor states (acts.Device write liobn ioba) q = tt
 on_kind set processor states (acts.SetMask name value) q = tt
 on_kind set processor states acts.Dump q = cc
 
@@ -61,6 +62,8 @@ resize_kind w calls.Read number args spelt = tt
 resize_kind w calls.ClearMod number args spelt = tt
 resize_kind w calls.ClearRef number args spelt = tt
 resize_kind w calls.Protect number args spelt = tt
+resize_kind w calls.GetTce number args spelt = tt
+resize_kind w calls.PutTce number args spelt = tt
 resize_kind w calls.BulkRemove number args spelt = tt
 resize_kind w (calls.Other other) number args spelt = tt
 
@@ -69,6 +72,7 @@ unfolding run_quiet_line is_quiet
 quiet_kind w (acts.Call number args spelt) q = resize_kind w (hcall_of number) number args spelt
 quiet_kind w acts.Dump q = tt
 quiet_kind w (acts.Access want ea user) q = cc
+quiet_kind w (acts.Device write liobn ioba) q = cc
 quiet_kind w (acts.SlbMte rb rs) q = cc
 quiet_kind w acts.SlbClear q = cc
 quiet_kind w (acts.SetMask name value) q = cc

@@ -65,6 +65,8 @@ hcall_within set calls.ClearRef args low = h_clear_ref_within set.order (get_or 
 hcall_within set calls.ClearMod args low = h_clear_mod_within set.order (get_or args 1 0) low
 hcall_within set calls.BulkRemove args low = h_bulk_remove_within set.order args low
 hcall_within set calls.Prepare args low = tt
+hcall_within set calls.GetTce args low = tt
+hcall_within set calls.PutTce args low = tt
 hcall_within set calls.Commit args low = tt
 hcall_within set (calls.Other number) args low = tt
 
@@ -118,6 +120,7 @@ IsAnswer set processor a other = ⊥
 answers : (set : AccessContext) (processor : Processor) (want : Want) (ea : ℕ) (user : Bool) (reply : Reply) → IsAnswer set processor (request want ea user processor.masks) reply → IsReplyToAccess set processor (acts.Access want ea user) reply
 answers set processor want ea user (replies.Access r) h = h
 answers set processor want ea user (replies.Hcall r) h = absurd h
+answers set processor want ea user (replies.Device r) h = absurd h
 answers set processor want ea user (replies.Segment accepted) h = absurd h
 answers set processor want ea user replies.MaskSet h = absurd h
 answers set processor want ea user (replies.Dump shown) h = absurd h
@@ -167,6 +170,7 @@ line_meets set processor l states (acts.Call number args spelt) e q size low fre
     record { call = m.0; access = tt; gone = tt; run = m.1 }
 line_meets set processor l states (acts.SlbMte rb rs) e q size low fresh = record { call = refl; access = tt; gone = tt; run = refl }
 line_meets set processor l states acts.SlbClear e q size low fresh = record { call = refl; access = tt; gone = tt; run = refl }
+line_meets set processor l states (acts.Device write liobn ioba) e q size low fresh = record { call = refl; access = tt; gone = tt; run = refl }
 line_meets set processor l states (acts.SetMask name value) e q size low fresh = record { call = refl; access = tt; gone = tt; run = refl }
 line_meets set processor l states (acts.Access want ea user) e q size low fresh =
     let m = segment_meets set processor (request want ea user processor.masks) states (segment_of processor.slots ea) refl size low fresh in

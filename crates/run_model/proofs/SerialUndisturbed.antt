@@ -58,6 +58,8 @@ resize_sound w calls.Read args h = h
 resize_sound w calls.ClearMod args h = h
 resize_sound w calls.ClearRef args h = h
 resize_sound w calls.Protect args h = h
+resize_sound w calls.GetTce args h = h
+resize_sound w calls.PutTce args h = h
 resize_sound w calls.BulkRemove args h = h
 resize_sound w (calls.Other number) args h = h
 
@@ -66,6 +68,7 @@ unfolding run_quiet_line
 quiet_sound w (acts.Call number args spelt) h = resize_sound w (hcall_of number) args h
 quiet_sound w (acts.Access want ea user) h = h
 quiet_sound w (acts.SlbMte rb rs) h = h
+quiet_sound w (acts.Device write liobn ioba) h = h
 quiet_sound w acts.SlbClear h = h
 quiet_sound w (acts.SetMask name value) h = h
 quiet_sound w acts.Dump h = h

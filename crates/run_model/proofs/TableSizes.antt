@@ -80,6 +80,7 @@ result_length set p states (acts.Call number args spelt) = plan_length (hcall_pl
 result_length set p states (acts.Access want ea user) = segment_length set p states (request want ea user p.masks) (segment_of p.slots ea)
 result_length set p states (acts.SlbMte rb rs) = refl
 result_length set p states acts.SlbClear = refl
+result_length set p states (acts.Device write liobn ioba) = refl
 result_length set p states (acts.SetMask name value) = refl
 result_length set p states acts.Dump = refl
 

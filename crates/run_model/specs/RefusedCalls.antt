@@ -5,6 +5,7 @@ use Rattle.papr_codes.specs.declared.calls.Hcall.{Hcall}
 use Rattle.papr_codes.specs.declared.codes.Rc.{Rc}
 use Rattle.papr_codes.specs.Hcalls.{hcall_of}
 use Rattle.entry_model.specs.declared.access_reply.Outcome.{Outcome}
+use Rattle.entry_model.specs.declared.device_reply.DeviceOutcome.{DeviceOutcome}
 use Rattle.entry_model.specs.declared.line.Line.{Line}
 use Rattle.entry_model.specs.declared.operation.Answer.{Answer}
 use Rattle.entry_model.specs.declared.receipt.Receipt.{Receipt}
@@ -24,6 +25,7 @@ use Rattle.run_model.specs.GoodRun.{EachLine}
 use Rattle.papr_codes.specs.declared.calls.Hcall.TheVariants as calls
 use Rattle.papr_codes.specs.declared.codes.Rc.TheVariants as rc
 use Rattle.entry_model.specs.declared.access_reply.Outcome.TheVariants as outcomes
+use Rattle.entry_model.specs.declared.device_reply.DeviceOutcome.TheVariants as device_outcomes
 use Rattle.entry_model.specs.declared.operation.Answer.TheVariants as answers
 use Rattle.trace_line.specs.declared.act.Act.TheVariants as acts
 use Rattle.trace_reply.specs.declared.reply.Reply.TheVariants as replies
@@ -40,10 +42,16 @@ abbrev pub ends_at : Outcome → Bool
 ends_at (outcomes.At address) = true
 ends_at other = false
 
--- A hypervisor call by its code, an access that doesn't end At, or an slbmte whose words were refused.
+-- A device's access was allowed.
+abbrev pub device_ends_at : DeviceOutcome → Bool
+device_ends_at (device_outcomes.At address) = true
+device_ends_at other = false
+
+-- A hypervisor call by its code, an access of a processor or a device that doesn't end At, or an slbmte whose words were refused.
 abbrev pub is_refused : Act → Reply → Bool
 is_refused (acts.Call number args spelt) (replies.Hcall h) = is_refusal h.rc
 is_refused (acts.Access want ea user) (replies.Access r) = not (ends_at r.outcome)
+is_refused (acts.Device write liobn ioba) (replies.Device r) = not (device_ends_at r.outcome)
 is_refused (acts.SlbMte rb rs) (replies.Segment accepted) = not accepted
 is_refused act reply = false
 

@@ -1,5 +1,5 @@
 -- All that a run carries from line to line, and the quiet lines.
-use Rattle.std.specs.Prelude.{ℕ, ◌+◌, ◌∷◌, List, [], map, replicate, if◌then◌else◌, slice_index, Bool, true, false}
+use Rattle.std.specs.Prelude.{ℕ, List, [], map, replicate, if◌then◌else◌, slice_index, Bool, true, false}
 use Rattle.frame_grants.specs.declared.grant.Grant.{Grant}
 use Rattle.entry_model.specs.State.{State}
 use Rattle.tlb_model.specs.Cache.{empty_cache}
@@ -13,6 +13,7 @@ use Rattle.trace_read.specs.Configuration.{Configuration}
 use Rattle.trace_line.specs.declared.act.Act.{Act}
 use Rattle.trace_reply.specs.declared.shown.Shown.{Shown}
 use Rattle.trace_reply.specs.declared.reply.Reply.{Reply}
+use Rattle.trace_reply.specs.ShownTable.{table_shown}
 use Rattle.entry_model.specs.Trial.{plan_of_code, reply_by}
 use Rattle.papr_codes.specs.declared.calls.Hcall.TheVariants as calls
 use Rattle.papr_codes.specs.declared.codes.Rc.TheVariants as rc
@@ -48,20 +49,10 @@ opening_run c = record {
 }
 
 -- ---- dumps
--- The valid entries from an index on, each with its index.
-abbrev pub valid_from : ℕ → List State → List (ℕ × State)
-valid_from entry [] = []
-valid_from entry (s ∷ ss) =
-    if s.valid then (entry, s) ∷ valid_from (entry + 1) ss else valid_from (entry + 1) ss
-
 -- What a dump shows of the table.
 unfoldable pub shown_of : TableMemory → Shown
-shown_of memory = record {
-  number = memory.table.number;
-  order = memory.table.order;
-  place = memory.table.place;
-  states = valid_from 0 memory.table.states;
-}
+shown_of memory =
+    table_shown memory.table.number memory.table.order memory.table.place memory.table.states
 
 -- ---- quiet lines
 -- A processor that has forgotten its cached translations.

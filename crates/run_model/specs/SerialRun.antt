@@ -8,6 +8,7 @@ use Rattle.entry_model.specs.declared.hreply.HReply.{HReply}
 use Rattle.entry_model.specs.declared.access_reply.By.{By}
 use Rattle.entry_model.specs.declared.access_reply.By.TheVariants.{Hit, Walk}
 use Rattle.entry_model.specs.Receipt.{is_no_match}
+use Rattle.entry_model.specs.Replies.{no_window_reply}
 use Rattle.entry_model.specs.Run.{state_at}
 use Rattle.entry_model.specs.Trial.{trial_run, plan_run}
 use Rattle.tlb_model.specs.Cache.{cached_line}
@@ -75,6 +76,8 @@ line_result context p states (acts.Call number args spelt) =
     call_result (plan_run (hcall_plan context (hcall_of number) args) states)
 line_result context p states (acts.Access want ea user) =
     result_by_segment context p states (request want ea user p.masks) (segment_of p.slots ea)
+line_result context p states (acts.Device write liobn ioba) =
+    (replies.Device no_window_reply, states)
 line_result context p states (acts.SlbMte rb rs) =
     (replies.Segment (is_none (mte_refusal rb rs)), states)
 line_result context p states (acts.SetMask name value) = (replies.MaskSet, states)

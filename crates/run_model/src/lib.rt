@@ -1,15 +1,13 @@
 //! What a run of a trace is: what a partition and its processors carry from line to line, the serial
 //! run, the sections between quiet lines, the good runs, and what follows of a run from its being good.
 //!
-//! The calls are those of LoPAR on the page frame table, and the accesses those of the Power ISA
-//! (Book III, hashed page table translation). `laws` has the theorems. Two calls
-//! run: `make_call`, which picks the hypervisor call of a line by its number, and `valid_states`, which
-//! finds what a dump shows of a table.
+//! The calls are those of LoPAR on the page frame table and on DMA windows, and the accesses those of
+//! the Power ISA (Book III, hashed page table translation). `laws` has the theorems. One call
+//! runs: `make_call`, which picks the hypervisor call of a line by its number.
 #![tactic(auto)]
 
 mod calls;
 mod laws;
-mod valid;
 
 pub use calls::make_call;
 pub use laws::{
@@ -18,4 +16,3 @@ pub use laws::{
     parallel_is_good, reached_entries_can_be_entered, refused_lines_change_nothing,
     refused_resizes_change_nothing, resizes_keep_bolted_pages, serial_is_good, serial_is_parallel,
 };
-pub use valid::valid_states;

@@ -32,6 +32,12 @@ pub enum Act {
         name: MaskName,
         value: u64,
     },
+    /// An access of a device, a read or a write, at a bus address of the DMA window with this number.
+    Device {
+        write: bool,
+        liobn: u64,
+        ioba: u64,
+    },
     /// Shows the table.
     Dump,
 }

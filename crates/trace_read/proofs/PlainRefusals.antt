@@ -167,6 +167,8 @@ plain_act verbs.Numbered ws =
     plain_steps _ _ (plain_number ws 2) (λ number. plain_steps _ _ (plain_arguments ws 3) (λ args. plain_ok _))
 plain_act (verbs.Access want) ws =
     plain_steps _ _ (plain_number ws 2) (λ ea. plain_steps _ _ (plain_mode ws 3) (λ user. plain_ok _))
+plain_act (verbs.Device write) ws =
+    plain_steps _ _ (plain_number ws 2) (λ liobn. plain_steps _ _ (plain_number ws 3) (λ ioba. plain_ok _))
 plain_act verbs.SlbMte ws =
     plain_steps _ _ (plain_number ws 2) (λ rb. plain_steps _ _ (plain_number ws 3) (λ rs. plain_ok _))
 plain_act verbs.SlbClear ws = plain_ok _

@@ -8,7 +8,7 @@ use Rattle.papr_codes.specs.Hcalls.{hcall_of, row_of}
 use Rattle.storage_prot.specs.declared.want.Want.TheVariants.{Load, Store, Fetch}
 use Rattle.trace_line.specs.declared.act.Act.{Act}
 use Rattle.authority_mask.specs.declared.masks.MaskName.TheVariants.{Amr, Iamr}
-use Rattle.trace_line.specs.declared.act.Act.TheVariants.{Call, Access, SlbMte, SlbClear, SetMask, Dump}
+use Rattle.trace_line.specs.declared.act.Act.TheVariants.{Call, Access, Device, SlbMte, SlbClear, SetMask, Dump}
 use Rattle.trace_line.specs.declared.line.TraceLine.{TraceLine}
 use Rattle.trace_read.specs.declared.why.Why.TheVariants as whys
 use Rattle.trace_read.specs.Acts.{number_at, arguments_from, mode_at, act_by, run_act, dump_act}
@@ -42,6 +42,11 @@ read_one = refl
 read_each : trace_of (codes "cpus 2\nbegin\n1 load 0x5000 user\n0 store 1 priv\n1 fetch 2 user\n0 slbmte 3 4\n1 slbclear\ndump\n0 H_RESIZE_HPT_PREPARE 0 19\n") ≡ Ok (record { config = record default_settings { cpus = 2 }; lines = run_line 3 1 (Access Load 0x5000 true) ∷ run_line 4 0 (Access Store 1 false) ∷ run_line 5 1 (Access Fetch 2 true) ∷ run_line 6 0 (SlbMte 3 4) ∷ run_line 7 1 SlbClear ∷ run_line 8 0 Dump ∷ run_line 9 0 (Call 0x36C (0 ∷ 19 ∷ 0 ∷ 0 ∷ 0 ∷ 0 ∷ 0 ∷ 0 ∷ []) true) ∷ [] })
 unfolding trace_of after_lines after_line after_text after_words after_form form_of form_named run_form verb_of call_named other_verb number_within with_order with_limit with_cpus pool_named with_pool grant_named with_granted with_begin number_at number_of range_refusal add_refusal grant_refusals with_grant run_act dump_act act_by arguments_from mode_at after_act may_add is_quiet hcall_of row_of run_line
 read_each = refl
+
+-- A window's calls, and a device's accesses.
+read_device : trace_of (codes "begin\n0 H_PUT_TCE 0x1 0x5000 0x3001\n0 H_GET_TCE 1 0\n0 dmaread 0x1 0x5008\n0 dmawrite 2 0\n") ≡ Ok (record { config = default_settings; lines = run_line 2 0 (Call 0x20 (1 ∷ 0x5000 ∷ 0x3001 ∷ 0 ∷ 0 ∷ 0 ∷ 0 ∷ 0 ∷ []) true) ∷ run_line 3 0 (Call 0x1C (1 ∷ 0 ∷ 0 ∷ 0 ∷ 0 ∷ 0 ∷ 0 ∷ 0 ∷ []) true) ∷ run_line 4 0 (Device false 1 0x5008) ∷ run_line 5 0 (Device true 2 0) ∷ [] })
+unfolding trace_of after_lines after_line after_text after_words after_form form_of form_named run_form verb_of call_named other_verb number_within with_order with_limit with_cpus pool_named with_pool grant_named with_granted with_begin number_at number_of range_refusal add_refusal grant_refusals with_grant run_act dump_act act_by arguments_from mode_at after_act may_add is_quiet hcall_of row_of run_line
+read_device = refl
 
 -- The masks of a processor.
 read_masks : trace_of (codes "begin\n0 amr 0x2000000000000000\n0 iamr 3\n") ≡ Ok (record { config = default_settings; lines = run_line 2 0 (SetMask Amr 0x2000000000000000) ∷ run_line 3 0 (SetMask Iamr 3) ∷ [] })

@@ -17,6 +17,7 @@ abbrev pub takes : Verb → ℕ → Bool
 takes (verbs.Named hcall args) count = count == args + 2
 takes verbs.Numbered count = nat_le 3 count && nat_le count 11
 takes (verbs.Access want) count = count == 4
+takes (verbs.Device write) count = count == 4
 takes verbs.SlbMte count = count == 4
 takes verbs.SlbClear count = count == 2
 takes (verbs.SetMask name) count = count == 3
@@ -60,6 +61,10 @@ act_by (verbs.Access want) ws = do
   ea ← number_at ws 2
   user ← mode_at ws 3
   Ok (acts.Access want ea user)
+act_by (verbs.Device write) ws = do
+  liobn ← number_at ws 2
+  ioba ← number_at ws 3
+  Ok (acts.Device write liobn ioba)
 act_by verbs.SlbMte ws = do
   rb ← number_at ws 2
   rs ← number_at ws 3

@@ -1,5 +1,5 @@
 -- The words by which lines are known.
-use Rattle.std.specs.Prelude.{ℕ, ◌&&◌, Bool, IsTrue, List, [], ◌∷◌, codes, nat_le, slice_index, Option, Some, None, Result, Ok, Err, find, if◌then◌else◌}
+use Rattle.std.specs.Prelude.{ℕ, ◌&&◌, Bool, true, false, IsTrue, List, [], ◌∷◌, codes, nat_le, slice_index, Option, Some, None, Result, Ok, Err, find, if◌then◌else◌}
 use Rattle.std.specs.Str.{bytes_eq}
 use Rattle.frame_grants.specs.declared.grant.Kind.TheVariants.{Ram, Io}
 use Rattle.papr_codes.specs.declared.calls.Hcall.{Hcall}
@@ -26,6 +26,8 @@ call_rows =
     ∷ (calls.ClearRef, 2)
     ∷ (calls.ClearMod, 2)
     ∷ (calls.BulkRemove, 8)
+    ∷ (calls.PutTce, 3)
+    ∷ (calls.GetTce, 2)
     ∷ (calls.Prepare, 2)
     ∷ (calls.Commit, 2)
     ∷ []
@@ -41,6 +43,8 @@ other_verb word =
     else if bytes_eq (codes "load") word then Some (verbs.Access Load)
     else if bytes_eq (codes "store") word then Some (verbs.Access Store)
     else if bytes_eq (codes "fetch") word then Some (verbs.Access Fetch)
+    else if bytes_eq (codes "dmaread") word then Some (verbs.Device false)
+    else if bytes_eq (codes "dmawrite") word then Some (verbs.Device true)
     else if bytes_eq (codes "slbmte") word then Some verbs.SlbMte
     else if bytes_eq (codes "slbclear") word then Some verbs.SlbClear
     else if bytes_eq (codes "amr") word then Some (verbs.SetMask Amr)

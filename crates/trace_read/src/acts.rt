@@ -79,6 +79,11 @@ fn act(verb: Verb, words: &[&[u8]]) -> Result<Act, Why>
             ea: number_at(words, 2)?,
             user: mode_at(words, 3)?,
         }),
+        Verb::Device { write } => Ok(Act::Device {
+            write,
+            liobn: number_at(words, 2)?,
+            ioba: number_at(words, 3)?,
+        }),
         Verb::SlbMte => Ok(Act::SlbMte {
             rb: number_at(words, 2)?,
             rs: number_at(words, 3)?,

@@ -191,7 +191,10 @@ impl Reader {
         requires few { number ≤ 2 ^ 17 }
         requires place { is_first self.old.stage ≡ true }
         ensures { ReadsTo
-            (set_to (record self.old { taken = number }) Stage.Limit (with_order self.old.config (texts words.now)))
+            (set_to
+            (record self.old { taken = number })
+            Stage.Limit
+            (with_order self.old.config (texts words.now)))
             Given.Setting
             result
             self.old
@@ -208,7 +211,10 @@ impl Reader {
         requires few { number ≤ 2 ^ 17 }
         requires place { may_have_entries self.old.stage ≡ false }
         ensures { ReadsTo
-            (set_to (record self.old { taken = number }) Stage.Cpus (with_limit self.old.config (texts words.now)))
+            (set_to
+            (record self.old { taken = number })
+            Stage.Cpus
+            (with_limit self.old.config (texts words.now)))
             Given.Setting
             result
             self.old
@@ -225,7 +231,10 @@ impl Reader {
         requires few { number ≤ 2 ^ 17 }
         requires place { may_have_entries self.old.stage ≡ false }
         ensures { ReadsTo
-            (set_to (record self.old { taken = number }) Stage.Pool (with_cpus self.old.config (texts words.now)))
+            (set_to
+            (record self.old { taken = number })
+            Stage.Pool
+            (with_cpus self.old.config (texts words.now)))
             Given.Setting
             result
             self.old
@@ -242,7 +251,10 @@ impl Reader {
         requires few { number ≤ 2 ^ 17 }
         requires place { may_have_entries self.old.stage ≡ false }
         ensures { ReadsTo
-            (set_to (record self.old { taken = number }) Stage.Grants (with_pool self.old.config (texts words.now)))
+            (set_to
+            (record self.old { taken = number })
+            Stage.Grants
+            (with_pool self.old.config (texts words.now)))
             Given.Setting
             result
             self.old
@@ -260,7 +272,10 @@ impl Reader {
         requires few { number ≤ 2 ^ 17 }
         requires place { may_have_entries self.old.stage ≡ false }
         ensures { ReadsTo
-            (set_to (record self.old { taken = number }) Stage.Grants (with_granted self.old.config kind (texts words.now)))
+            (set_to
+            (record self.old { taken = number })
+            Stage.Grants
+            (with_granted self.old.config kind (texts words.now)))
             (given_by (Form.Grant kind) self.old.config (texts words.now))
             result
             self.old
@@ -278,7 +293,10 @@ impl Reader {
         requires few { number ≤ 2 ^ 17 }
         requires place { is_running self.old.stage ≡ false }
         ensures { ReadsTo
-            (set_to (record self.old { taken = number }) Stage.Entries (with_entry self.old.config (texts words.now)))
+            (set_to
+            (record self.old { taken = number })
+            Stage.Entries
+            (with_entry self.old.config (texts words.now)))
             Given.Setting
             result
             self.old
@@ -295,7 +313,10 @@ impl Reader {
         requires few { number ≤ 2 ^ 17 }
         requires place { is_running self.old.stage ≡ false }
         ensures { ReadsTo
-            (set_to (record self.old { taken = number }) Stage.Lines (with_begin self.old.config (texts words.now)))
+            (set_to
+            (record self.old { taken = number })
+            Stage.Lines
+            (with_begin self.old.config (texts words.now)))
             (Given.Begin self.old.config.order)
             result
             self.old

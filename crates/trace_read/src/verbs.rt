@@ -16,6 +16,8 @@ pub enum Verb {
     Numbered,
     /// `load`, `store` or `fetch`
     Access(Want),
+    /// `dmaread`, or else `dmawrite`
+    Device { write: bool },
     /// `slbmte`
     SlbMte,
     /// `slbclear`
@@ -32,7 +34,7 @@ impl Verb {
         match self {
             Verb::Named(_, args) => count == usize::from(*args) + 2,
             Verb::Numbered => 3 <= count && count <= 11,
-            Verb::Access(_) | Verb::SlbMte => count == 4,
+            Verb::Access(_) | Verb::Device { .. } | Verb::SlbMte => count == 4,
             Verb::SlbClear => count == 2,
             Verb::SetMask(_) => count == 3,
         }
@@ -53,6 +55,8 @@ fn call(word: &[u8]) -> Option<(Hcall, u8)>
         (Hcall::ClearRef, 2),
         (Hcall::ClearMod, 2),
         (Hcall::BulkRemove, 8),
+        (Hcall::PutTce, 3),
+        (Hcall::GetTce, 2),
         (Hcall::Prepare, 2),
         (Hcall::Commit, 2),
     ]
@@ -74,6 +78,10 @@ fn other(word: &[u8]) -> Option<Verb>
         Some(Verb::Access(Want::Store))
     } else if is(word, "fetch") {
         Some(Verb::Access(Want::Fetch))
+    } else if is(word, "dmaread") {
+        Some(Verb::Device { write: false })
+    } else if is(word, "dmawrite") {
+        Some(Verb::Device { write: true })
     } else if is(word, "slbmte") {
         Some(Verb::SlbMte)
     } else if is(word, "slbclear") {

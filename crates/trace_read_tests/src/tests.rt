@@ -39,6 +39,10 @@ begin
 1 load 0x5000 user
 0 store 1 priv
 0 fetch 1 priv
+1 H_PUT_TCE 1 0x5000 0x3001
+1 H_GET_TCE 1 0x5000
+0 dmaread 1 0x5008
+1 dmawrite 2 0
 0 slbmte 0x8000000 0x1000
 0 slbclear
  \tdump";
@@ -53,6 +57,10 @@ fn call(number: u64, args: [u64; 8], spelt: bool) -> Act {
 
 fn access(want: Want, ea: u64, user: bool) -> Act {
     Act::Access { want, ea, user }
+}
+
+fn device(write: bool, liobn: u64, ioba: u64) -> Act {
+    Act::Device { write, liobn, ioba }
 }
 
 #[test]
@@ -91,9 +99,13 @@ fn each_kind_of_line_is_read(rt: HostRuntime) -> Result<(), Fail> {
         (14, 1, access(Want::Load, 0x5000, true)),
         (15, 0, access(Want::Store, 1, false)),
         (16, 0, access(Want::Fetch, 1, false)),
-        (17, 0, segment),
-        (18, 0, Act::SlbClear),
-        (19, 0, Act::Dump),
+        (17, 1, call(0x20, [1, 0x5000, 0x3001, 0, 0, 0, 0, 0], true)),
+        (18, 1, call(0x1C, [1, 0x5000, 0, 0, 0, 0, 0, 0], true)),
+        (19, 0, device(false, 1, 0x5008)),
+        (20, 1, device(true, 2, 0)),
+        (21, 0, segment),
+        (22, 0, Act::SlbClear),
+        (23, 0, Act::Dump),
     ];
     assert_eq!(rt; lines.len(), expected.len());
     for (line, (number, cpu, act)) in lines.iter().zip(expected) {
@@ -118,6 +130,12 @@ const REFUSED: &[(&str, (u32, &str))] = &[
     ("5\n", (1, "place")),
     ("5x\n", (1, "place")),
     ("begin\n5x\n", (2, "count")),
+    ("begin\n0 H_PUT_TCE 1 0\n", (2, "count")),
+    ("begin\n0 H_GET_TCE 1 0 0\n", (2, "count")),
+    ("begin\n0 dmaread 1\n", (2, "count")),
+    ("begin\n0 dmawrite 1 x\n", (2, "number")),
+    ("begin\n1 dmaread 1 0\n", (2, "cpu")),
+    ("0 dmaread 1 0\n", (1, "place")),
     ("dump\n", (1, "place")),
     ("cpus 1\nlimit 20\n", (2, "place")),
     ("order 18\norder 18\n", (2, "place")),

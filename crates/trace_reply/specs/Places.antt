@@ -1,7 +1,7 @@
 -- Places that the replies to many lines take in turn.
 use Rattle.std.specs.Prelude.{List}
 use Rattle.entry_model.specs.declared.receipt.Receipt.{Receipt}
-use Rattle.entry_model.specs.Replies.{reply_with, access_reply_with}
+use Rattle.entry_model.specs.Replies.{reply_with, access_reply_with, device_reply_with}
 use Rattle.trace_reply.specs.declared.place.ReplyEnd.{ReplyEnd}
 use Rattle.trace_reply.specs.declared.place.ReplyPlace.{ReplyPlace}
 use Rattle.trace_reply.specs.declared.reply.Reply.{Reply}
@@ -12,6 +12,7 @@ use Rattle.trace_reply.specs.declared.reply.Reply.TheVariants as replies
 abbrev pub reply_ended : ReplyEnd → List Receipt → Reply
 reply_ended (ends.Hcall registers) rs = replies.Hcall (reply_with registers rs)
 reply_ended (ends.Access end) rs = replies.Access (access_reply_with end rs)
+reply_ended (ends.Device outcome) rs = replies.Device (device_reply_with outcome rs)
 reply_ended (ends.Segment accepted) rs = replies.Segment accepted
 reply_ended ends.MaskSet rs = replies.MaskSet
 reply_ended (ends.Dump shown) rs = replies.Dump shown

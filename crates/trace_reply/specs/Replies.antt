@@ -11,6 +11,7 @@ use Rattle.trace_reply.specs.declared.reply.Reply.TheVariants as replies
 abbrev pub IsOfKind : Act → Reply → Type 0
 IsOfKind (acts.Call number args spelt) (replies.Hcall h) = Unit {0}
 IsOfKind (acts.Access want ea user) (replies.Access r) = Unit {0}
+IsOfKind (acts.Device write liobn ioba) (replies.Device r) = Unit {0}
 IsOfKind (acts.SlbMte rb rs) (replies.Segment accepted) = Unit {0}
 IsOfKind acts.SlbClear (replies.Segment accepted) = Unit {0}
 IsOfKind (acts.SetMask name value) replies.MaskSet = Unit {0}
@@ -33,6 +34,7 @@ AreReplies (l ∷ ls) (r ∷ rs) = IsOfKind l.act r × AreReplies ls rs
 abbrev pub receipts_in : Reply → List Receipt
 receipts_in (replies.Hcall h) = h.receipts
 receipts_in (replies.Access r) = r.receipts
+receipts_in (replies.Device r) = r.receipts
 receipts_in (replies.Segment accepted) = []
 receipts_in replies.MaskSet = []
 receipts_in (replies.Dump shown) = []

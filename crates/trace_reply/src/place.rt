@@ -3,7 +3,9 @@ ghost use Rattle.trace_reply.specs.Places.{reply_in};
 
 use crate::reply::Reply;
 use crate::shown::Shown;
-use entry_model::{AccessEnd, AccessReply, HReply, Receipts, Registers};
+use entry_model::{
+    AccessEnd, AccessReply, DeviceOutcome, DeviceReply, HReply, Receipts, Registers,
+};
 
 /// What a reply tells beside its receipts.
 #[derive(Drop)]
@@ -12,6 +14,8 @@ pub enum ReplyEnd {
     Hcall(Registers),
     /// Of an access to memory.
     Access(AccessEnd),
+    /// Of an access of a device.
+    Device(DeviceOutcome),
     /// Of a change of the segment lookaside buffer: whether it was accepted.
     Segment(bool),
     /// Of the setting of an authority mask.
@@ -64,6 +68,10 @@ impl ReplyPlace {
                 self.end = ReplyEnd::Access(AccessEnd { outcome, by });
                 self.receipts = receipts;
             }
+            Reply::Device(DeviceReply { outcome, receipts }) => {
+                self.end = ReplyEnd::Device(outcome);
+                self.receipts = receipts;
+            }
             Reply::Segment(accepted) => self.end = ReplyEnd::Segment(accepted),
             Reply::MaskSet => self.end = ReplyEnd::MaskSet,
             Reply::Dump(shown) => self.end = ReplyEnd::Dump(shown),
@@ -78,6 +86,7 @@ impl ReplyPlace {
         match end {
             ReplyEnd::Hcall(registers) => Reply::Hcall(registers.into_reply(receipts)),
             ReplyEnd::Access(end) => Reply::Access(end.into_reply(receipts)),
+            ReplyEnd::Device(outcome) => Reply::Device(outcome.into_reply(receipts)),
             ReplyEnd::Segment(accepted) => Reply::Segment(accepted),
             ReplyEnd::MaskSet => Reply::MaskSet,
             ReplyEnd::Dump(shown) => Reply::Dump(shown),

@@ -1,5 +1,5 @@
 use crate::shown::Shown;
-use entry_model::{AccessReply, HReply};
+use entry_model::{AccessReply, DeviceReply, HReply};
 
 /// The reply to a run line.
 #[derive(Drop)]
@@ -8,6 +8,8 @@ pub enum Reply {
     Hcall(HReply),
     /// Of an access to memory.
     Access(AccessReply),
+    /// Of an access of a device.
+    Device(DeviceReply),
     /// Of a change of the segment lookaside buffer: whether it was accepted.
     Segment(bool),
     /// Of the setting of an authority mask, which is never refused.

@@ -1,4 +1,5 @@
-ghost use Rattle.std.specs.Prelude.{◌≡◌, ◌++◌, [], ◌∷◌, OnOk, OnErr};
+ghost use Rattle.std.specs.Prelude.{◌≡◌, ◌≤◌, ◌^◌, ◌++◌, [], ◌∷◌, length, IfOk, OnOk, OnErr};
+ghost use Rattle.trace_reply.specs.ShownTable.{valid_from, table_shown};
 
 use entry_model::EntryState;
 use std::alloc::{AllocError, Global};
@@ -53,4 +54,42 @@ pub struct Shown {
     pub order: u8,
     pub place: u64,
     pub states: ShownStates,
+}
+
+/// The valid entries of a table, each with its index.
+fn valid_states(alloc: Global, states: &[EntryState]) -> Result<ShownStates, AllocError>
+    requires { length states.now ≤ 2 ^ 18 }
+    ensures { IfOk result (λ shown. shown ≡ valid_from 0 states.now) }
+{
+    let mut shown = ShownStates::new(alloc);
+    for i in 0..states.len() {
+        let state = states[i];
+        if state.valid {
+            shown.push(i as u32, state)?;
+        }
+    }
+    Ok(shown)
+}
+
+impl Shown {
+    /// What a dump shows of the table of this number, order and place, with these entries. The only
+    /// error is want of memory.
+    pub fn of_table(
+        alloc: Global,
+        number: u32,
+        order: u8,
+        place: u64,
+        states: &[EntryState],
+    ) -> Result<Shown, AllocError>
+        requires { length states.now ≤ 2 ^ 18 }
+        ensures { IfOk result (λ shown. shown ≡ table_shown number order place states.now) }
+    {
+        let states = valid_states(alloc, states)?;
+        Ok(Shown {
+            number,
+            order,
+            place,
+            states,
+        })
+    }
 }

@@ -59,6 +59,7 @@ quiet_kind w (acts.Call number args spelt) q = resize_kind w (hcall_of number) n
 quiet_kind w acts.Dump q = tt
 quiet_kind w (acts.Access want ea user) q = let clash : false ≡ true = q in cc
 quiet_kind w (acts.SlbMte rb rs) q = let clash : false ≡ true = q in cc
+quiet_kind w (acts.Device write liobn ioba) q = let clash : false ≡ true = q in cc
 quiet_kind w acts.SlbClear q = let clash : false ≡ true = q in cc
 quiet_kind w (acts.SetMask name value) q = let clash : false ≡ true = q in cc
 

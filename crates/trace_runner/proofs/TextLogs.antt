@@ -107,10 +107,12 @@ no_dump act (replies.Hcall h) kind q = refl
 no_dump act (replies.Access a) kind q = refl
 no_dump act (replies.Segment accepted) kind q = refl
 no_dump act replies.MaskSet kind q = refl
+no_dump act (replies.Device r) kind q = refl
 no_dump acts.Dump (replies.Dump shown) kind q = let clash : true ≡ false = q in cc
 no_dump (acts.Call number args spelt) (replies.Dump shown) kind q = absurd kind
 no_dump (acts.Access want ea user) (replies.Dump shown) kind q = absurd kind
 no_dump (acts.SlbMte rb rs) (replies.Dump shown) kind q = absurd kind
+no_dump (acts.Device write liobn ioba) (replies.Dump shown) kind q = absurd kind
 no_dump acts.SlbClear (replies.Dump shown) kind q = absurd kind
 no_dump (acts.SetMask name value) (replies.Dump shown) kind q = absurd kind
 

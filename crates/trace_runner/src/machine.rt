@@ -6,7 +6,6 @@ ghost use Rattle.run_model.specs.SerialRun.{run_line};
 ghost use Rattle.trace_reply.specs.Places.{reply_in};
 
 use crate::act::run_alone;
-use crate::dump::shown_table;
 use entry_model::HReply;
 use papr_codes::{Hcall, Rc};
 use papr_table::PlainTable;
@@ -98,10 +97,18 @@ impl Machine {
     }
 
     /// The table, as a dump shows it.
+    #[tactic(auto, unfolding(run_model::specs::RunState::shown_of))]
     pub fn shown(&self, alloc: Global) -> Result<Shown, AllocError>
         ensures { IfOk result (λ shown. shown ≡ shown_of self.now.memory) }
     {
-        shown_table(alloc, &self.partition)
+        let order = self.partition.order();
+        Shown::of_table(
+            alloc,
+            self.partition.table(),
+            order,
+            self.partition.place(),
+            self.partition.states(),
+        )
     }
 
     // A line that isn't quiet, by its processor.

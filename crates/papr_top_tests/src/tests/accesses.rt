@@ -55,6 +55,12 @@ pub const WALKS: &[Row] = &[
         ],
     },
     Row {
+        name: "of a device, without a window",
+        config: BASIS,
+        lines: &["0 dmaread 0x2 0x0", "0 H_PUT_TCE 0x2 0x0 0x3001"],
+        replies: &["4 0 dmaread nowindow", "5 0 H_PUT_TCE -4"],
+    },
+    Row {
         name: "without a segment",
         config: BASIS,
         lines: &["0 load 0x5000 priv"],

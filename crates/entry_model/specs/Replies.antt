@@ -21,6 +21,6 @@ access_reply_with end rs = record { outcome = end.outcome; by = end.by; receipts
 abbrev pub device_reply_with : DeviceOutcome → List Receipt → DeviceReply
 device_reply_with outcome rs = record { outcome = outcome; receipts = rs }
 
--- The reply where no window has the address.
+-- The reply where no window has the number, or the one that has it lacks the address.
 abbrev pub no_window_reply : DeviceReply
 no_window_reply = device_reply_with NoWindow []

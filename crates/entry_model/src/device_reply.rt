@@ -9,7 +9,7 @@ pub enum DeviceOutcome {
     At(u64),
     /// The TCE of the page lacks the permission, or none is set.
     Denied,
-    /// No window has the address.
+    /// No window has this number, or the one that has it lacks the address.
     NoWindow,
     /// The access is allowed, but no single grant of ram holds the page of this logical address.
     Ungranted(u64),

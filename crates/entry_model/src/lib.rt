@@ -1,5 +1,5 @@
-//! One page table entry by itself: its state, the operations on it, their answers and receipts, and
-//! the trait of all stores of entries.
+//! One page table entry by itself: its state, the operations on it, their answers and receipts, the
+//! replies that are made of receipts, and the trait of all stores of entries.
 //!
 //! The operations are those of LoPAR's page frame table calls on one entry, and the access of a
 //! processor by the entry's translation (Power ISA Book III, hashed page table translation and the

@@ -1,4 +1,5 @@
-//! The numbers of the hypervisor calls on the page table, their return codes and their flags.
+//! The numbers of the hypervisor calls on the page table and on DMA windows, their return codes and
+//! their flags.
 //!
 //! They are those of the Linux on Power Architecture Reference (LoPAR); the two resize calls have
 //! the numbers that Linux uses.

@@ -13,7 +13,7 @@ use Rattle.partition.specs.PartitionState.{PartitionState, opening_partition}
 
 -- ---- the opening table
 config : ℕ → Configuration
-config order = record { order = order; limit = 22; cpus = 1; granted = no_grants 0x1000000000 24; entries = [] }
+config order = record { order = order; limit = 22; cpus = 1; granted = no_grants 0x1000000000 24; entries = []; windows = [] }
 
 at_the_base_of_the_pool : (opening_partition (config 18)).memory.table.place ≡ 0x1000000000
 unfolding opening_partition opening_memory lowest_place multiples config

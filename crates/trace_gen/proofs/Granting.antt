@@ -4,6 +4,7 @@ use Rattle.std.specs.Result.{IsOk}
 use Rattle.frame_grants.specs.Grants.{GrantedMemory, no_grants, add_refusal, refusals, with_grant}
 use Rattle.frame_grants.specs.declared.error.GrantError.{GrantError}
 use Rattle.frame_grants.specs.declared.grant.Grant.{Grant}
+use Rattle.bus_window.specs.Windows.{BusWindow}
 use Rattle.table_image.specs.declared.entry.ImageEntry.{ImageEntry}
 use Rattle.trace_read.specs.Configuration.{Configuration, IsConfigured, AreOpeningEntries}
 use Rattle.trace_gen.specs.Generated.{whole_ram, generated_config}
@@ -23,8 +24,8 @@ unfolding generated_config with_grant
 granted_is (Ok x) old new is ok made = made ∙ ap (λ (g : GrantedMemory). with_grant g whole_ram) is
 granted_is (Err e) old new is ok made = absurd (cc)
 
-abbrev pub config_with : GrantedMemory → List ImageEntry → Configuration
-config_with granted entries = record { order = 18; limit = 22; cpus = 4; granted = granted; entries = entries }
+abbrev pub config_with : GrantedMemory → List ImageEntry → List BusWindow → Configuration
+config_with granted entries windows = record { order = 18; limit = 22; cpus = 4; granted = granted; entries = entries; windows = windows }
 
 pub configured : (granted : GrantedMemory) → granted ≡ generated_config.granted → IsConfigured 18 22 4 0x1000000000 24 granted
 unfolding generated_config
@@ -45,6 +46,9 @@ configured granted is = record {
 pub none_named : (grants : List Grant) (entries : List ImageEntry) → entries ≡ [] → AreOpeningEntries 18 grants entries
 none_named grants entries is = subst (AreOpeningEntries 18 grants) (sym is) (record { each = tt; rising = tt })
 
-pub config_is : (granted : GrantedMemory) (entries : List ImageEntry) → granted ≡ generated_config.granted → entries ≡ [] → config_with granted entries ≡ generated_config
+pub config_is : (granted : GrantedMemory) (entries : List ImageEntry) (windows : List BusWindow) → granted ≡ generated_config.granted → entries ≡ [] → windows ≡ [] → config_with granted entries windows ≡ generated_config
 unfolding generated_config
-config_is granted entries is none = ap (λ (es : List ImageEntry). config_with granted es) none ∙ ap (λ (g : GrantedMemory). config_with g []) is
+config_is granted entries windows is no_entry no_window =
+    ap (λ (ws : List BusWindow). config_with granted entries ws) no_window
+    ∙ ap (λ (es : List ImageEntry). config_with granted es []) no_entry
+    ∙ ap (λ (g : GrantedMemory). config_with g [] []) is

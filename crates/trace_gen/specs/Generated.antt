@@ -21,7 +21,7 @@ use Rattle.trace_line.specs.declared.act.Act.TheVariants as acts
 abbrev pub whole_ram : Grant
 whole_ram = record { logical = 0; machine = 0x2000000000; length = 0x40000000; kind = Ram }
 
--- Four processors, a table of the lowest order, and a pool of 16 MB.
+-- Four processors, a table of the lowest order, a pool of 16 MB, and no window.
 unfoldable pub generated_config : Configuration
 generated_config = record {
   order = 18;
@@ -29,6 +29,7 @@ generated_config = record {
   cpus = 4;
   granted = record { pool_base = 0x1000000000; pool_order = 24; grants = whole_ram ∷ [] };
   entries = [];
+  windows = [];
 }
 
 -- ---- the parts of a word

@@ -8,7 +8,7 @@ use rand_core::{Rng, SeedableRng};
 use rand_xoshiro::Xoshiro256PlusPlus;
 use std::alloc::{AllocError, Global};
 use trace_line::TraceLines;
-use trace_read::{Config, EntryLines, Trace};
+use trace_read::{Config, EntryLines, Trace, WindowLines};
 
 /// How many processors run the lines.
 const PROCESSORS: u32 = 4;
@@ -53,6 +53,7 @@ fn config(alloc: Global) -> Config
         pool_order: 24,
         grants,
         entries: EntryLines::new(alloc),
+        windows: WindowLines::new(),
     }
 }
 

@@ -1,8 +1,8 @@
 -- The run lines of a trace, and what holds of them.
-use Rattle.std.specs.Prelude.{◌≡◌, ℕ, ◌^◌, ◌≤◌, ◌<◌, Bool, true, false, List, length, count_by, IsTrue}
+use Rattle.std.specs.Prelude.{◌≡◌, ℕ, ◌^◌, ◌≤◌, ◌<◌, Bool, true, false, List, length, count_by, IsTrue, Option, Some, None, slice_index}
 use Rattle.std.specs.List.{AllByRecursion}
 use Rattle.papr_codes.specs.declared.calls.Hcall.{Hcall}
-use Rattle.papr_codes.specs.declared.calls.Hcall.TheVariants.{Prepare, Commit}
+use Rattle.papr_codes.specs.declared.calls.Hcall.TheVariants.{Prepare, Commit, PutTce, GetTce}
 use Rattle.papr_codes.specs.Hcalls.{hcall_of, is_named}
 use Rattle.trace_line.specs.declared.act.Act.{Act}
 use Rattle.trace_line.specs.declared.act.Act.TheVariants as acts
@@ -25,6 +25,19 @@ is_quiet other = false
 abbrev pub is_dump : Act → Bool
 is_dump acts.Dump = true
 is_dump other = false
+
+-- ---- lines on DMA windows
+-- The number of a window that a call names: the first argument of H_PUT_TCE and H_GET_TCE.
+abbrev pub bus_of_call : Hcall → List ℕ → Option ℕ
+bus_of_call PutTce args = Some (slice_index args 0)
+bus_of_call GetTce args = Some (slice_index args 0)
+bus_of_call other args = None
+
+-- The number of a window that a line names: such a call's, or that of a device's access.
+unfoldable pub bus_of : Act → Option ℕ
+bus_of (acts.Call number args spelt) = bus_of_call (hcall_of number) args
+bus_of (acts.Device write liobn ioba) = Some liobn
+bus_of other = None
 
 -- ---- what holds of the run lines
 -- A call that is spelt is one of those that have a name.

@@ -32,7 +32,8 @@ pub enum Act {
         name: MaskName,
         value: u64,
     },
-    /// An access of a device, a read or a write, at a bus address of the DMA window with this number.
+    /// An access of a device, a read or a write, at a bus address of the DMA window with this
+    /// number.
     Device {
         write: bool,
         liobn: u64,
@@ -43,7 +44,7 @@ pub enum Act {
 }
 
 impl Act {
-    ghost use Rattle.trace_line.specs.Lines.{is_quiet, is_dump};
+    ghost use Rattle.trace_line.specs.Lines.{is_quiet, is_dump, bus_of};
 
     /// Whether no call of a processor runs at this line: the resize calls, by name or by number, and
     /// dumps.
@@ -65,5 +66,20 @@ impl Act {
         ensures { result ≡ is_dump self.now }
     {
         matches!(self, Act::Dump)
+    }
+    /// The number of the DMA window that the line names: that of a TCE call, by name or by number, or of
+    /// a device's access. `None` for any other line.
+    #[tactic(auto, unfolding(crate::specs::Lines::bus_of))]
+    pub fn bus(&self) -> Option<u64>
+        ensures { result ≡ bus_of self.now }
+    {
+        match *self {
+            Act::Call { number, args, .. } => match Hcall::of_number(number) {
+                Hcall::PutTce | Hcall::GetTce => Some(args[0]),
+                _ => None,
+            },
+            Act::Device { liobn, .. } => Some(liobn),
+            _ => None,
+        }
     }
 }

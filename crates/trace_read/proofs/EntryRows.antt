@@ -44,6 +44,7 @@ opening entries =
           grants = record { logical = 0; machine = 0x2000000000; length = 0x40000000; kind = Ram } ∷ [];
         };
         entries = entries;
+        windows = [];
       };
       lines = [];
     })

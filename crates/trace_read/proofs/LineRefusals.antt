@@ -25,7 +25,7 @@ use Rattle.trace_read.specs.Settings.{grant_named, with_granted, with_checked_gr
 use Rattle.trace_read.specs.TextLines.{raw_lines, without_cr, is_printable, words_of, is_remark}
 use Rattle.trace_read.specs.Trace.{AcceptedTrace}
 use Rattle.trace_read.specs.Whys.{◌>>=◌, guard}
-use Rattle.trace_read.proofs.PlainRefusals.{is_apart, IsPlain, plain_ok, plain_steps, plain_guard, plain_form, plain_order, plain_limit, plain_cpus, plain_pool, plain_grant, plain_entry, plain_begin, plain_run, plain_dump, plain_room}
+use Rattle.trace_read.proofs.PlainRefusals.{is_apart, IsPlain, plain_ok, plain_steps, plain_guard, plain_form, plain_order, plain_limit, plain_cpus, plain_pool, plain_grant, plain_entry, plain_window, plain_begin, plain_run, plain_dump, plain_room}
 
 -- ---- reasons that fit a line
 -- A grant meets the pool.
@@ -94,6 +94,7 @@ form_fitting forms.Cpus r ws = plain_fitting false _ (set_plain r stages.Pool _ 
 form_fitting forms.Pool r ws = plain_fitting false _ (set_plain r stages.Grants _ (plain_pool r.config ws))
 form_fitting (forms.Grant kind) r ws = fitting_steps _ (with_granted r.config kind ws) _ (granted_fitting r.config kind ws) (λ config. plain_fitting _ _ (plain_ok _))
 form_fitting forms.Entry r ws = plain_fitting false _ (set_plain r stages.Entries _ (plain_entry r.config ws))
+form_fitting forms.Window r ws = plain_fitting false _ (set_plain r stages.Windows _ (plain_window r.config ws))
 form_fitting forms.Begin r ws = plain_fitting false _ (set_plain r stages.Lines _ (plain_begin r.config ws))
 form_fitting (forms.Run verb) r ws = plain_fitting false _ (act_plain r _ (plain_run r.config.cpus verb ws))
 form_fitting forms.Dump r ws = plain_fitting false _ (act_plain r _ (plain_dump ws))

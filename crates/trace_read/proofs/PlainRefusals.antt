@@ -2,6 +2,7 @@
 use Rattle.std.proofs.Common.{◌≡◌, ℕ, ◌+◌, Bool, true, false, List, [], ◌∷◌, length, Option, Some, None, Result, Ok, Err, refl, if◌then◌else◌, ltb, leb, eqb, ◌&&◌, not}
 use Rattle.std.specs.Prelude.{codes, slice_index_or}
 use Rattle.std.specs.Str.{bytes_eq}
+use Rattle.bus_window.specs.Windows.{window_of_parts}
 use Rattle.frame_grants.specs.declared.grant.Kind.{Kind}
 use Rattle.hpte_fields.specs.TableSize.{entry_count}
 use Rattle.table_image.specs.Layouts.{entry_words}
@@ -20,6 +21,7 @@ use Rattle.trace_read.specs.Forms.{verb_of, form_named, run_form, form_of, begin
 use Rattle.trace_read.specs.Numbers.{number_of}
 use Rattle.trace_read.specs.Settings.{number_within, with_order, with_limit, with_cpus, pool_named, with_pool, grant_named, with_begin}
 use Rattle.trace_read.specs.Whys.{◌>>=◌, guard, required}
+use Rattle.trace_read.specs.Windows.{has_number, window_named, with_window}
 
 -- A grant meets the pool, or a partition is at fault.
 abbrev pub is_apart : Why → Bool
@@ -152,6 +154,21 @@ plain_named c ws =
 pub plain_entry : (c : Configuration) (ws : List (List ℕ)) → IsPlain (with_entry c ws)
 unfolding with_entry
 plain_entry c ws = plain_steps _ _ (plain_named c ws) (λ entry. plain_ok _)
+
+plain_named_window : (c : Configuration) (ws : List (List ℕ)) → IsPlain (window_named c ws)
+unfolding window_named
+plain_named_window c ws =
+    plain_steps _ _ (plain_guard (eqb (length ws) 4) whys.Count refl)
+    (λ counted. plain_steps _ _ (plain_number ws 1)
+    (λ liobn. plain_steps _ _ (plain_number ws 2)
+    (λ base. plain_steps _ _ (plain_number ws 3)
+    (λ pages. plain_steps _ _ (plain_required (window_of_parts liobn base pages) whys.Window refl)
+    (λ window. plain_steps _ _ (plain_guard (not (has_number c.windows window.liobn)) whys.Window refl)
+    (λ fresh. plain_steps _ _ (plain_guard (ltb (length c.windows) 4) whys.Window refl) (λ room. plain_ok _)))))))
+
+pub plain_window : (c : Configuration) (ws : List (List ℕ)) → IsPlain (with_window c ws)
+unfolding with_window
+plain_window c ws = plain_steps _ _ (plain_named_window c ws) (λ window. plain_ok _)
 
 pub plain_begin : (c : Configuration) (ws : List (List ℕ)) → IsPlain (with_begin c ws)
 unfolding with_begin

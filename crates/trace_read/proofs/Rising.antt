@@ -12,7 +12,7 @@ use Rattle.trace_read.specs.Configuration.{AreRising, AreOpeningEntries, IsOpeni
 use Rattle.trace_read.specs.Entries.{is_above, is_stored}
 
 -- What holds of each and of one more.
-all_push : {A : Type 0} (P : A → Type 0) (xs : List A) (x : A) → AllByRecursion P xs → P x
+pub all_push : {A : Type 0} (P : A → Type 0) (xs : List A) (x : A) → AllByRecursion P xs → P x
     → AllByRecursion P (xs ++ x ∷ [])
 all_push P [] x each here = (here, tt)
 all_push P (y ∷ ys) x each here = (each.0, all_push P ys x each.1 here)

@@ -24,17 +24,17 @@ run_line number cpu act = record { number = number; cpu = cpu; act = act }
 
 -- ---- accepted
 -- Nothing but `begin`: every value is the default.
-defaults : trace_of (codes "begin") ≡ Ok (record { config = record { order = 18; limit = 22; cpus = 1; granted = record { pool_base = 0x1000000000; pool_order = 24; grants = [] }; entries = [] }; lines = [] })
+defaults : trace_of (codes "begin") ≡ Ok (record { config = record { order = 18; limit = 22; cpus = 1; granted = record { pool_base = 0x1000000000; pool_order = 24; grants = [] }; entries = []; windows = [] }; lines = [] })
 unfolding trace_of after_lines after_line after_text after_words after_form form_of form_named run_form verb_of call_named other_verb number_within with_order with_limit with_cpus pool_named with_pool grant_named with_granted with_begin number_at number_of range_refusal add_refusal grant_refusals with_grant run_act dump_act act_by arguments_from mode_at after_act may_add is_quiet hcall_of row_of
 defaults = refl
 
 -- Every configuration line; the grant lies where the default pool would.
-configured : trace_of (codes "order 19\nlimit 20\ncpus 64\npool 0x2000000000 20\nram 0x0 0x1000000000 0x1000\nbegin\n") ≡ Ok (record { config = record { order = 19; limit = 20; cpus = 64; granted = record { pool_base = 0x2000000000; pool_order = 20; grants = record { logical = 0; machine = 0x1000000000; length = 0x1000; kind = Ram } ∷ [] }; entries = [] }; lines = [] })
+configured : trace_of (codes "order 19\nlimit 20\ncpus 64\npool 0x2000000000 20\nram 0x0 0x1000000000 0x1000\nbegin\n") ≡ Ok (record { config = record { order = 19; limit = 20; cpus = 64; granted = record { pool_base = 0x2000000000; pool_order = 20; grants = record { logical = 0; machine = 0x1000000000; length = 0x1000; kind = Ram } ∷ [] }; entries = []; windows = [] }; lines = [] })
 unfolding trace_of after_lines after_line after_text after_words after_form form_of form_named run_form verb_of call_named other_verb number_within with_order with_limit with_cpus pool_named with_pool grant_named with_granted with_begin number_at number_of range_refusal add_refusal grant_refusals with_grant run_act dump_act act_by arguments_from mode_at after_act may_add is_quiet hcall_of row_of
 configured = refl
 
 -- Blanks, a remark, and CR at the lines' ends, also of the last line, which has no LF.
-read_one : trace_of (codes "order 18\r\nram 0x0 0x2000000000 0X40000000\n\n# remark\nbegin\n0\t H_ENTER 0x0 32 0x1001 0x3012\r") ≡ Ok (record { config = record { order = 18; limit = 22; cpus = 1; granted = record { pool_base = 0x1000000000; pool_order = 24; grants = record { logical = 0; machine = 0x2000000000; length = 0x40000000; kind = Ram } ∷ [] }; entries = [] }; lines = run_line 6 0 (Call 8 (0 ∷ 32 ∷ 0x1001 ∷ 0x3012 ∷ 0 ∷ 0 ∷ 0 ∷ 0 ∷ []) true) ∷ [] })
+read_one : trace_of (codes "order 18\r\nram 0x0 0x2000000000 0X40000000\n\n# remark\nbegin\n0\t H_ENTER 0x0 32 0x1001 0x3012\r") ≡ Ok (record { config = record { order = 18; limit = 22; cpus = 1; granted = record { pool_base = 0x1000000000; pool_order = 24; grants = record { logical = 0; machine = 0x2000000000; length = 0x40000000; kind = Ram } ∷ [] }; entries = []; windows = [] }; lines = run_line 6 0 (Call 8 (0 ∷ 32 ∷ 0x1001 ∷ 0x3012 ∷ 0 ∷ 0 ∷ 0 ∷ 0 ∷ []) true) ∷ [] })
 unfolding trace_of after_lines after_line after_text after_words after_form form_of form_named run_form verb_of call_named other_verb number_within with_order with_limit with_cpus pool_named with_pool grant_named with_granted with_begin number_at number_of range_refusal add_refusal grant_refusals with_grant run_act dump_act act_by arguments_from mode_at after_act may_add is_quiet hcall_of row_of run_line
 read_one = refl
 

@@ -18,6 +18,7 @@ use Rattle.trace_read.specs.Places.{comes_at}
 use Rattle.trace_read.specs.Settings.{with_order, with_limit, with_cpus, with_pool, with_granted, with_begin}
 use Rattle.trace_read.specs.TextLines.{without_cr, is_printable, words_of, is_remark}
 use Rattle.trace_read.specs.Whys.{◌>>=◌, guard}
+use Rattle.trace_read.specs.Windows.{with_window}
 
 -- What is accepted at the end of steps was accepted at the first.
 kept : {A : Type 0} (n : ℕ) (said : Result A Why) (f : A → Result Reading Why) (s : Reading)
@@ -51,6 +52,7 @@ form_taken forms.Cpus r ws s e = set_taken r stages.Pool (with_cpus r.config ws)
 form_taken forms.Pool r ws s e = set_taken r stages.Grants (with_pool r.config ws) s e
 form_taken (forms.Grant kind) r ws s e = set_taken r stages.Grants (with_granted r.config kind ws) s e
 form_taken forms.Entry r ws s e = set_taken r stages.Entries (with_entry r.config ws) s e
+form_taken forms.Window r ws s e = set_taken r stages.Windows (with_window r.config ws) s e
 form_taken forms.Begin r ws s e = set_taken r stages.Lines (with_begin r.config ws) s e
 form_taken (forms.Run verb) r ws s e = act_taken r (run_act r.config.cpus verb ws) s e
 form_taken forms.Dump r ws s e = act_taken r (dump_act ws) s e

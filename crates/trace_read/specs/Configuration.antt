@@ -1,19 +1,21 @@
 -- The configuration of a partition.
-use Rattle.std.specs.Prelude.{◌≡◌, ℕ, ◌<◌, ◌≤◌, List, [], ◌∷◌, Some}
+use Rattle.std.specs.Prelude.{◌≡◌, ℕ, ◌<◌, ◌≤◌, List, [], ◌∷◌, length, Some}
 use Rattle.std.specs.List.{AllByRecursion}
+use Rattle.bus_window.specs.Windows.{BusWindow, IsWindow}
 use Rattle.hpte_fields.specs.TableSize.{entry_count}
 use Rattle.frame_grants.specs.declared.grant.Grant.{Grant}
 use Rattle.frame_grants.specs.Grants.{GrantedMemory}
 use Rattle.page_grants.specs.Suited.{entered_words}
 use Rattle.table_image.specs.declared.entry.ImageEntry.{ImageEntry}
 
--- The order of the opening table, the highest order that the guest may ask for, the number of processors, the grants beside the pool of table memory, and the entries that are valid in the opening table.
+-- The order of the opening table, the highest order that the guest may ask for, the number of processors, the grants beside the pool of table memory, the entries that are valid in the opening table, and the windows through which devices reach memory.
 pub record Configuration : Type 0 where
   pub order : ℕ
   pub limit : ℕ
   pub cpus : ℕ
   pub granted : GrantedMemory
   pub entries : List ImageEntry
+  pub windows : List BusWindow
 
 -- Orders are from 18 to 22, there are 1 to 64 processors, and the pool is the one that the grants stand beside.
 pub record AreSettings
@@ -54,3 +56,16 @@ pub record AreOpeningEntries (order : ℕ) (grants : List Grant) (entries : List
   where
     pub each : AllByRecursion (IsOpeningEntry order grants) entries
     pub rising : AreRising entries
+
+-- ---- the windows
+-- No two have the same number.
+abbrev pub NumbersDiffer : List BusWindow → Type 0
+NumbersDiffer [] = Unit {0}
+NumbersDiffer (w ∷ ws) =
+    AllByRecursion (λ (later : BusWindow). ¬ (w.liobn ≡ later.liobn)) ws × NumbersDiffer ws
+
+-- There can be each, there are at most four, and their numbers differ.
+pub record AreWindows (windows : List BusWindow) : Type 0 where
+  pub each : AllByRecursion IsWindow windows
+  pub few : length windows ≤ 4
+  pub differ : NumbersDiffer windows

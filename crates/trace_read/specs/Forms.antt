@@ -75,6 +75,7 @@ form_named word =
     else if bytes_eq (codes "ram") word then Some (forms.Grant Ram)
     else if bytes_eq (codes "io") word then Some (forms.Grant Io)
     else if bytes_eq (codes "entry") word then Some forms.Entry
+    else if bytes_eq (codes "window") word then Some forms.Window
     else if bytes_eq (codes "begin") word then Some forms.Begin
     else if bytes_eq (codes "dump") word then Some forms.Dump
     else None

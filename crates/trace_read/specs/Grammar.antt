@@ -19,6 +19,7 @@ use Rattle.trace_read.specs.Places.{is_running, is_first, may_have_entries, come
 use Rattle.trace_read.specs.Settings.{settings_beside, with_order, with_limit, with_cpus, with_pool, with_granted, with_begin}
 use Rattle.trace_line.specs.Lines.{IsTrace}
 use Rattle.trace_read.specs.Trace.{AcceptedTrace}
+use Rattle.trace_read.specs.Windows.{with_window}
 use Rattle.trace_read.specs.Whys.{◌>>=◌, guard}
 
 -- The lines so far: how many were read, what may come next, and what they have given.
@@ -68,6 +69,7 @@ after_form forms.Cpus r ws = set_to r stages.Pool (with_cpus r.config ws)
 after_form forms.Pool r ws = set_to r stages.Grants (with_pool r.config ws)
 after_form (forms.Grant kind) r ws = set_to r stages.Grants (with_granted r.config kind ws)
 after_form forms.Entry r ws = set_to r stages.Entries (with_entry r.config ws)
+after_form forms.Window r ws = set_to r stages.Windows (with_window r.config ws)
 after_form forms.Begin r ws = set_to r stages.Lines (with_begin r.config ws)
 after_form (forms.Run verb) r ws = after_act r (run_act r.config.cpus verb ws)
 after_form forms.Dump r ws = after_act r (dump_act ws)

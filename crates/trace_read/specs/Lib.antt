@@ -8,6 +8,7 @@ pub mod Forms
 pub mod Acts
 pub mod Settings
 pub mod Entries
+pub mod Windows
 pub mod Counts
 pub mod Places
 pub mod Grammar

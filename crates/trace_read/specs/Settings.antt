@@ -11,7 +11,7 @@ use Rattle.trace_read.specs.Acts.{number_at}
 use Rattle.trace_read.specs.Configuration.{Configuration}
 use Rattle.trace_read.specs.Whys.{◌>>=◌, guard, why_of_grant}
 
--- A table of 2 ^ 18 bytes that may grow to 2 ^ 22, one processor, no grant beside this pool, and no entry.
+-- A table of 2 ^ 18 bytes that may grow to 2 ^ 22, one processor, no grant beside this pool, no entry, and no window.
 abbrev pub settings_beside : ℕ → ℕ → Configuration
 settings_beside pool_base pool_order = record {
   order = 18;
@@ -19,6 +19,7 @@ settings_beside pool_base pool_order = record {
   cpus = 1;
   granted = no_grants pool_base pool_order;
   entries = [];
+  windows = [];
 }
 
 -- Those beside a pool of 2 ^ 24 bytes.

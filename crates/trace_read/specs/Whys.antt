@@ -27,6 +27,7 @@ why_word whys.Many = codes "many"
 why_word whys.Overlap = codes "overlap"
 why_word whys.Tables = codes "tables"
 why_word whys.Entry = codes "entry"
+why_word whys.Window = codes "window"
 why_word whys.Small = codes "small"
 why_word whys.Begin = codes "begin"
 

@@ -1,4 +1,5 @@
 use crate::entries::EntryLines;
+use crate::windows::WindowLines;
 use frame_grants::Grants;
 use std::marker::Model;
 
@@ -19,6 +20,8 @@ pub struct Config {
     pub grants: Grants,
     /// The valid entries of the opening table.
     pub entries: EntryLines,
+    /// The windows through which devices reach memory.
+    pub windows: WindowLines,
 }
 
 impl Model for Config {
@@ -33,6 +36,7 @@ impl Model for Config {
           cpus = c.cpus;
           granted = c.grants;
           entries = c.entries;
+          windows = c.windows;
         } };
 
     ghost invariant = { λ c.

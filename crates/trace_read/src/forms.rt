@@ -23,6 +23,8 @@ pub enum Form {
     Grant(Kind),
     /// `entry LAYOUT INDEX DIGITS`
     Entry,
+    /// `window LIOBN BASE PAGES`
+    Window,
     /// `begin`
     Begin,
     /// A processor, and what it does, where the line says so.
@@ -76,6 +78,8 @@ fn named_form(word: &[u8]) -> Option<Form>
         Some(Form::Grant(Kind::Io))
     } else if is(word, "entry") {
         Some(Form::Entry)
+    } else if is(word, "window") {
+        Some(Form::Window)
     } else if is(word, "begin") {
         Some(Form::Begin)
     } else if is(word, "dump") {
@@ -115,7 +119,7 @@ pub fn line_form(words: &[&[u8]]) -> Result<Form, Why>
 }
 
 /// Whether the words are of a configuration line's form: `order`, `limit`, `cpus`, `pool`, `ram`,
-/// `io`, `entry` or `begin`, whatever stands behind this first word.
+/// `io`, `entry`, `window` or `begin`, whatever stands behind this first word.
 pub fn is_setting(words: &[&[u8]]) -> bool
     ensures { result ≡ is_setting (texts words.now) }
 {

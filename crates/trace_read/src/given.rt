@@ -6,7 +6,7 @@ use frame_grants::Grant;
 pub enum Given {
     /// Nothing: a remark, or a line without words.
     Remark,
-    /// A value of the configuration, or an entry of the opening table.
+    /// A value of the configuration, an entry of the opening table, or a window.
     Setting,
     /// Memory: the grant that the line names.
     Grant(Grant),

@@ -23,6 +23,7 @@ mod trace;
 mod trace_reader;
 mod verbs;
 mod why;
+mod windows;
 
 pub use config::Config;
 pub use entries::EntryLines;
@@ -39,3 +40,4 @@ pub use stop::Stop;
 pub use trace::Trace;
 pub use trace_reader::{MOST_LINES, POOL_BASE, POOL_ORDER, TraceReader};
 pub use why::Why;
+pub use windows::WindowLines;

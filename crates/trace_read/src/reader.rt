@@ -5,10 +5,11 @@ ghost use Rattle.trace_read.specs.Entries.{with_entry};
 ghost use Rattle.trace_read.specs.Forms.{form_of, IsNamedForm};
 ghost use Rattle.trace_read.specs.Givens.{given_by, given_if};
 ghost use Rattle.trace_read.specs.Grammar.{reading_beside, after_text, after_words, after_form, set_to, after_act, with_run_line};
-ghost use Rattle.trace_read.specs.Places.{is_first, is_running, may_have_entries, comes_at};
+ghost use Rattle.trace_read.specs.Places.{is_first, is_running, may_have_entries, may_have_windows, comes_at};
 ghost use Rattle.trace_read.specs.Read.{Reads, ReadsTo};
 ghost use Rattle.trace_read.specs.Settings.{with_order, with_limit, with_cpus, with_pool, with_granted, with_begin};
 ghost use Rattle.trace_read.specs.TextLines.{texts};
+ghost use Rattle.trace_read.specs.Windows.{with_window};
 ghost use Rattle.trace_line.specs.Lines.{IsSpelt};
 
 use crate::acts::{dump_act, run_act};
@@ -180,6 +181,7 @@ impl Reader {
             Form::Pool => self.take_pool(number, words),
             Form::Grant(kind) => self.take_grant(number, kind, words),
             Form::Entry => self.take_entry(number, words),
+            Form::Window => self.take_window(number, words),
             Form::Begin => self.take_begin(number, words),
             Form::Run(verb) => self.take_run(number, verb, words),
             Form::Dump => self.take_dump(number, words),
@@ -291,7 +293,7 @@ impl Reader {
     fn take_entry(&mut self, number: u32, words: &[&[u8]]) -> Result<Given, Stop>
         requires next { self.old.taken < number }
         requires few { number ≤ 2 ^ 17 }
-        requires place { is_running self.old.stage ≡ false }
+        requires place { may_have_windows self.old.stage ≡ false }
         ensures { ReadsTo
             (set_to
             (record self.old { taken = number })
@@ -304,6 +306,26 @@ impl Reader {
     {
         self.settings.take_entry(words)?;
         self.stage = Stage::Entries;
+        self.taken = number;
+        Ok(Given::Setting)
+    }
+
+    fn take_window(&mut self, number: u32, words: &[&[u8]]) -> Result<Given, Stop>
+        requires next { self.old.taken < number }
+        requires few { number ≤ 2 ^ 17 }
+        requires place { is_running self.old.stage ≡ false }
+        ensures { ReadsTo
+            (set_to
+            (record self.old { taken = number })
+            Stage.Windows
+            (with_window self.old.config (texts words.now)))
+            Given.Setting
+            result
+            self.old
+            self.new }
+    {
+        self.settings.take_window(words)?;
+        self.stage = Stage::Windows;
         self.taken = number;
         Ok(Given::Setting)
     }

@@ -1,9 +1,11 @@
-ghost use Rattle.std.specs.Prelude.{◌≡◌, ◌≤◌, ◌++◌, [], ◌∷◌, IfOk, OnOk};
+ghost use Rattle.std.specs.Prelude.{◌≡◌, ◌<◌, ◌≤◌, ◌++◌, [], ◌∷◌, false, length, IfOk, OnOk};
 ghost use Rattle.trace_read.specs.Configuration.{AreOpeningEntries};
 ghost use Rattle.trace_read.specs.Entries.{entry_named, with_entry};
 ghost use Rattle.trace_read.specs.Read.{ReadsTo};
 ghost use Rattle.trace_read.specs.TextLines.{texts};
+ghost use Rattle.trace_read.specs.Windows.{has_number, window_named, with_window};
 ghost use Rattle.trace_read.specs.Settings.{settings_beside, number_within, with_order, with_limit, with_cpus, with_pool, with_checked_grant, with_begin, SetsTo};
+ghost use Rattle.bus_window.specs.Windows.{IsWindow};
 ghost use Rattle.frame_grants.specs.Grants.{add_refusal};
 ghost use Rattle.pool_range.specs.Ranges.{IsPoolRange};
 
@@ -14,6 +16,8 @@ use crate::entry_line::{is_above, is_stored, layout_named, words_spelt};
 use crate::pool_line::pool_named;
 use crate::stop::Stop;
 use crate::why::{Why, grant_why};
+use crate::windows::WindowLines;
+use bus_window::Window;
 use frame_grants::{Grant, Grants};
 use hpte_fields::entry_count;
 use std::alloc::Global;
@@ -47,6 +51,7 @@ pub struct Settings {
     pool_order: u8,
     grants: Grants,
     entries: EntryLines,
+    windows: WindowLines,
 }
 
 impl Model for Settings {
@@ -61,6 +66,7 @@ impl Model for Settings {
           cpus = s.cpus;
           granted = s.grants;
           entries = s.entries;
+          windows = s.windows;
         } };
 
     ghost invariant = { λ s.
@@ -82,6 +88,7 @@ impl Settings {
             pool_order,
             grants: Grants::new(pool_base, pool_order),
             entries: EntryLines::new(alloc),
+            windows: WindowLines::new(),
         }
     }
 
@@ -191,6 +198,42 @@ impl Settings {
         Ok(())
     }
 
+    /// The window that a line names.
+    #[tactic(auto, unfolding(crate::specs::Windows::window_named))]
+    fn window_named(&self, words: &[&[u8]]) -> Result<Window, Why>
+        ensures window { result ≡ window_named self.now (texts words.now) }
+        ensures room { IfOk result (λ _. length self.now.windows < 4) }
+        ensures possible { IfOk result IsWindow }
+        ensures fresh { IfOk
+            result
+            (λ window. has_number self.now.windows window.liobn ≡ false) }
+    {
+        if words.len() != 4 {
+            return Err(Why::Count);
+        }
+        let liobn = number_at(words, 1)?;
+        let base = number_at(words, 2)?;
+        let pages = number_at(words, 3)?;
+        let window = Window::new(liobn, base, pages).ok_or(Why::Window)?;
+        if self.windows.has_number(window.liobn()) {
+            return Err(Why::Window);
+        }
+        if !self.windows.has_room() {
+            return Err(Why::Window);
+        }
+        Ok(window)
+    }
+
+    /// `window LIOBN BASE PAGES`
+    #[tactic(auto, unfolding(crate::specs::Windows::with_window))]
+    pub fn take_window(&mut self, words: &[&[u8]]) -> Result<(), Why>
+        ensures { SetsTo (with_window self.old (texts words.now)) result self.old self.new }
+    {
+        let window = self.window_named(words)?;
+        self.windows.push(window);
+        Ok(())
+    }
+
     /// `begin`
     #[tactic(auto, unfolding(crate::specs::Settings::with_begin))]
     pub fn take_begin(&mut self, words: &[&[u8]]) -> Result<(), Why>
@@ -243,6 +286,7 @@ impl Settings {
             pool_order,
             grants,
             entries,
+            windows,
         } = self;
         Config {
             order,
@@ -252,6 +296,7 @@ impl Settings {
             pool_order,
             grants,
             entries,
+            windows,
         }
     }
 }

@@ -16,8 +16,10 @@ pub enum Stage {
     Pool,
     /// `ram` and `io`
     Grants,
-    /// `entry` and `begin`
+    /// `entry`
     Entries,
+    /// `window` and `begin`
+    Windows,
     /// Run lines: the configuration has ended.
     Lines,
 }
@@ -38,9 +40,13 @@ impl Stage {
             Form::Order => matches!(self, Stage::Order),
             Form::Limit => matches!(self, Stage::Order | Stage::Limit),
             Form::Cpus => matches!(self, Stage::Order | Stage::Limit | Stage::Cpus),
-            Form::Pool => !matches!(self, Stage::Grants | Stage::Entries | Stage::Lines),
-            Form::Grant(_) => !matches!(self, Stage::Entries | Stage::Lines),
-            Form::Entry | Form::Begin => !self.is_running(),
+            Form::Pool => !matches!(
+                self,
+                Stage::Grants | Stage::Entries | Stage::Windows | Stage::Lines
+            ),
+            Form::Grant(_) => !matches!(self, Stage::Entries | Stage::Windows | Stage::Lines),
+            Form::Entry => !matches!(self, Stage::Windows | Stage::Lines),
+            Form::Window | Form::Begin => !self.is_running(),
             Form::Run(_) | Form::Dump => self.is_running(),
         }
     }

@@ -29,6 +29,7 @@ impl Trace {
     {
         let _limit = self.config.limit;
         let _grants = self.config.grants.list();
+        let _windows = self.config.windows.as_slice();
         let _lines = &self.lines;
     }
 }

@@ -46,6 +46,9 @@ pub enum Why {
     Tables,
     /// The words of `entry` name no entry that may stand in the opening table behind those before.
     Entry,
+    /// The numbers of `window` make no window, its number is an earlier window's, or there are four
+    /// windows already.
+    Window,
     /// At `begin`, the pool has no room for the opening table.
     Small,
     /// The input ended without `begin`; reported one past the last line.
@@ -78,6 +81,7 @@ impl Why {
             Why::Overlap => "overlap",
             Why::Tables => "tables",
             Why::Entry => "entry",
+            Why::Window => "window",
             Why::Small => "small",
             Why::Begin => "begin",
         }

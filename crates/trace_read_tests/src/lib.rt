@@ -7,3 +7,5 @@ mod entry_lines;
 mod numbered;
 #[cfg(test)]
 mod tests;
+#[cfg(test)]
+mod window_lines;

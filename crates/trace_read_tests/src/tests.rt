@@ -1,3 +1,4 @@
+use bus_window::Window;
 use std::alloc::Global;
 use std::test::Fail;
 use storage_prot::Want;
@@ -32,6 +33,8 @@ io 0x10000 0x200000 0x1000
 entry old 0x20 0000000000001001000000000000a192
 # begin
 entry\tnew 0x7fff 00000000000010030400000000002012
+window 1 0x5000 2
+window 2 0 1
 begin
 1 H_ENTER 0x0 0X20 0x1001 4096\r
 
@@ -82,6 +85,10 @@ fn the_configuration_is_read(rt: HostRuntime) -> Result<(), Fail> {
     for (entry, words) in entries.iter().zip(expected) {
         assert_eq!(rt; (entry.index, entry.dword0, entry.dword1), words);
     }
+    let windows = config.windows.as_slice();
+    assert_eq!(rt; windows.len(), 2);
+    assert_eq!(rt; Some(windows[0]), Window::new(1, 0x5000, 2));
+    assert_eq!(rt; Some(windows[1]), Window::new(2, 0, 1));
     Ok(())
 }
 
@@ -94,18 +101,18 @@ fn each_kind_of_line_is_read(rt: HostRuntime) -> Result<(), Fail> {
         rs: 0x1000,
     };
     let expected = [
-        (11, 1, call(8, [0, 0x20, 0x1001, 4096, 0, 0, 0, 0], true)),
-        (13, 0, call(0x36C, [1, 0, 0, 0, 0, 0, 0, 0], false)),
-        (14, 1, access(Want::Load, 0x5000, true)),
-        (15, 0, access(Want::Store, 1, false)),
-        (16, 0, access(Want::Fetch, 1, false)),
-        (17, 1, call(0x20, [1, 0x5000, 0x3001, 0, 0, 0, 0, 0], true)),
-        (18, 1, call(0x1C, [1, 0x5000, 0, 0, 0, 0, 0, 0], true)),
-        (19, 0, device(false, 1, 0x5008)),
-        (20, 1, device(true, 2, 0)),
-        (21, 0, segment),
-        (22, 0, Act::SlbClear),
-        (23, 0, Act::Dump),
+        (13, 1, call(8, [0, 0x20, 0x1001, 4096, 0, 0, 0, 0], true)),
+        (15, 0, call(0x36C, [1, 0, 0, 0, 0, 0, 0, 0], false)),
+        (16, 1, access(Want::Load, 0x5000, true)),
+        (17, 0, access(Want::Store, 1, false)),
+        (18, 0, access(Want::Fetch, 1, false)),
+        (19, 1, call(0x20, [1, 0x5000, 0x3001, 0, 0, 0, 0, 0], true)),
+        (20, 1, call(0x1C, [1, 0x5000, 0, 0, 0, 0, 0, 0], true)),
+        (21, 0, device(false, 1, 0x5008)),
+        (22, 1, device(true, 2, 0)),
+        (23, 0, segment),
+        (24, 0, Act::SlbClear),
+        (25, 0, Act::Dump),
     ];
     assert_eq!(rt; lines.len(), expected.len());
     for (line, (number, cpu, act)) in lines.iter().zip(expected) {

@@ -20,7 +20,7 @@ unwrap-place-requires c =
     has_place c.in_ok-pool.pool c.config.inside.pool_base c.config.inside.pool_order c.config.inside.order c.take.result (c.in_ok-pool.ensures ∙ (λ i. no_blocks (c.accepted-range.ensures.base i) (c.accepted-range.ensures.order i))) pool c.config.invariant.0.settings.at_least c.config.invariant.0.room c.take.ensures.lowest
 
 abbrev config : goal.After-none → Configuration
-config c = record { order = c.config.inside.order; limit = c.config.inside.limit; cpus = c.config.inside.cpus; granted = c.config.inside.grants; entries = c.config.inside.entries }
+config c = record { order = c.config.inside.order; limit = c.config.inside.limit; cpus = c.config.inside.cpus; granted = c.config.inside.grants; entries = c.config.inside.entries; windows = c.config.inside.windows }
 
 opening : (c : goal.After-none) → c.in_ok-states.states.items ≡ with_entries (empty_states c.config.inside.order) c.config.inside.entries
 opening c = c.in_ok-states.ensures ∙ ap (λ (x : Configuration). with_entries (empty_states x.order) x.entries) (sym c.config.view_is)

@@ -1,5 +1,5 @@
 -- When H_PUT_TCE answers H_BUSY.
-use Rattle.std.proofs.Common.{◌≡◌, ℕ, ◌↔◌, ◌⊎◌, inl, inr, List, [], ◌∷◌, Bool, true, false, not, Option, Some, None, refl, ap, sym, ◌∙◌, subst}
+use Rattle.std.proofs.Common.{◌≡◌, ℕ, ◌↔◌, inl, inr, List, [], ◌∷◌, Bool, true, false, not, Option, Some, None, refl, ap, sym, ◌∙◌}
 use Rattle.std.specs.Prelude.{◌||◌, ◌+◌, ◌==◌, if◌then◌else◌, MatchBool}
 use Rattle.std.specs.Option.{option_map_or}
 use Rattle.frame_grants.specs.declared.grant.Grant.{Grant}
@@ -14,19 +14,19 @@ use Rattle.entry_model.specs.declared.hreply.HReply.{HReply}
 use Rattle.entry_model.specs.State.{State, empty_state}
 use Rattle.entry_model.specs.Reply.{reply_of, is_found}
 use Rattle.entry_model.specs.Receipt.{is_worn}
-use Rattle.entry_model.specs.Trial.{Plan, IsTrial, IsReplyOf, call, plan_of_code}
-use Rattle.dma_window.specs.declared.window.Window.{Window}
-use Rattle.dma_window.specs.Windows.{entry_at, is_ram}
+use Rattle.entry_model.specs.Trial.{IsTrial, IsReplyOf, call, plan_of_code}
+use Rattle.bus_window.specs.Windows.{BusWindow, entry_at}
+use Rattle.dma_window.specs.Pages.{is_ram}
 use Rattle.dma_window.specs.Entries.{address_of, permits, first_word, second_word, no_test}
 use Rattle.dma_window.specs.Calls.{code_of, code_by_last, clear_plan, replace_plan, put_plan_at, put_tce_plan}
 use Rattle.dma_window.specs.Laws.{HasTaken}
 
 -- ---- answers
-busy_is_taken : (answer : Answer) → code_of answer ≡ rc.Busy → answer ≡ answers.Taken
+pub busy_is_taken : (answer : Answer) → code_of answer ≡ rc.Busy → answer ≡ answers.Taken
 busy_is_taken answers.Taken e = refl
 busy_is_taken other e = cc
 
-abbrev removal_by : Bool → Bool → State → State → Answer × State
+abbrev pub removal_by : Bool → Bool → State → State → Answer × State
 removal_by found worn s next = if found then (if worn then (answers.Worn, s) else (answers.Removed, next)) else (answers.NotFound, s)
 
 one_of_three : (found worn : Bool) (s next : State) → (removal_by found worn s next).0 ≡ answers.Taken → ⊥
@@ -35,13 +35,13 @@ one_of_three true false s next e = cc
 one_of_three false worn s next e = cc
 
 -- A removal is never answered Taken.
-removal_not_taken : (r : Receipt) → r.op ≡ ops.Remove no_test → r.answer ≡ answers.Taken → ⊥
+pub removal_not_taken : (r : Receipt) → r.op ≡ ops.Remove no_test → r.answer ≡ answers.Taken → ⊥
 removal_not_taken r op taken =
     let told : (reply_of r.before (ops.Remove no_test)).0 ≡ answers.Taken = sym (r.lawful ∙ ap (λ o. (reply_of r.before o).0) op) ∙ taken in
     one_of_three (is_found r.before no_test) (r.before.stamp == 0xFFFFFFFF) r.before (record (empty_state 0) { stamp = r.before.stamp + 1 }) told
 
 -- ---- trials
-abbrev goes : Answer → Bool
+abbrev pub goes : Answer → Bool
 goes answer = not (is_worn answer)
 
 abbrev BusyWhere : List Receipt → Type 0
@@ -98,6 +98,6 @@ at_busy : (grants : List Grant) (tce : ℕ) (entry : Option ℕ) (reply : HReply
 at_busy grants tce None reply h = refused_busy reply h
 at_busy grants tce (Some entry) reply h = put_busy (permits tce false || permits tce true) (is_ram grants (address_of tce)) entry (ops.Enter (first_word tce) (second_word tce)) reply h
 
-pub busy_exactly : (grants : List Grant) (window : Window) (ioba tce : ℕ) (reply : HReply) → IsReplyOf (put_tce_plan grants window ioba tce) reply → (reply.rc ≡ rc.Busy) ↔ HasTaken reply.receipts
+pub busy_exactly : (grants : List Grant) (window : BusWindow) (ioba tce : ℕ) (reply : HReply) → IsReplyOf (put_tce_plan grants window ioba tce) reply → (reply.rc ≡ rc.Busy) ↔ HasTaken reply.receipts
 unfolding put_tce_plan
 busy_exactly grants window ioba tce reply h = at_busy grants tce (entry_at window ioba) reply h

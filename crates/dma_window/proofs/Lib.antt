@@ -1,5 +1,8 @@
 pub mod KeptWords
 pub mod BusyCalls
+pub mod Alone
+pub mod TceCalls
 pub mod TwoCalls
 pub mod Ungranted
+pub mod Landings
 mod Rows

@@ -1,13 +1,12 @@
 -- The reply of a call that empties its entry and enters words into it.
-use Rattle.std.proofs.Common.{◌≡◌, ℕ, List, [], ◌∷◌, Bool, true, false, not, refl, ap, sym, subst}
+use Rattle.std.proofs.Common.{◌≡◌, ℕ, List, [], ◌∷◌, Bool, true, false, not, refl, sym, subst}
 use Rattle.std.specs.Prelude.{MatchBool}
 use Rattle.papr_codes.specs.declared.codes.Rc.{Rc}
 use Rattle.entry_model.specs.declared.operation.Op.{Op}
 use Rattle.entry_model.specs.declared.operation.Op.TheVariants.{Remove}
 use Rattle.entry_model.specs.declared.receipt.Receipt.{Receipt}
-use Rattle.entry_model.specs.declared.hreply.HReply.{HReply}
 use Rattle.entry_model.specs.Receipt.{IsReceiptOf, is_worn}
-use Rattle.entry_model.specs.Trial.{IsTrial, IsReplyOf}
+use Rattle.entry_model.specs.Trial.{IsReplyOf}
 use Rattle.dma_window.specs.Entries.{no_test}
 use Rattle.dma_window.specs.Calls.{code_of, replace_plan}
 

@@ -1,16 +1,16 @@
 -- When a device's access ends outside the grants.
-use Rattle.std.proofs.Common.{◌≡◌, ℕ, ◌↔◌, ◌⊎◌, inl, inr, ◌+◌, ◌%◌, ◌<◌, Bool, true, false, List, Option, Some, None, refl, ap, sym, ◌∙◌, arith}
+use Rattle.std.proofs.Common.{◌≡◌, ℕ, ◌↔◌, ◌⊎◌, inl, inr, ◌%◌, ◌<◌, Bool, true, false, List, Option, Some, None, refl, arith}
 use Rattle.std.specs.Prelude.{IsTrue}
 use Rattle.std.specs.Option.{option_map_or}
-use Rattle.std.proofs.lemmas.Bool.{cases_Bool, false≢true}
+use Rattle.std.proofs.lemmas.Bool.{cases_Bool}
 use Rattle.std.proofs.Math.Nat.{mod-lt}
 use Rattle.frame_grants.specs.declared.grant.Grant.{Grant}
 use Rattle.frame_grants.specs.declared.grant.Kind.{Kind}
 use Rattle.frame_grants.specs.Grants.{machine_range}
 use Rattle.frame_grants.proofs.Landing.{part_range}
-use Rattle.entry_model.specs.declared.device_reply.DeviceOutcome.{DeviceOutcome}
 use Rattle.entry_model.specs.declared.device_reply.DeviceOutcome.TheVariants as outcomes
-use Rattle.dma_window.specs.Windows.{page_bytes, is_ram_kind, is_ram}
+use Rattle.bus_window.specs.Windows.{page_bytes}
+use Rattle.dma_window.specs.Pages.{is_ram_kind, is_ram}
 use Rattle.dma_window.specs.Entries.{address_of, permits}
 use Rattle.dma_window.specs.Devices.{logical_of, landing_at, outcome_by}
 

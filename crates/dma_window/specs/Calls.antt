@@ -1,5 +1,5 @@
 -- H_PUT_TCE and H_GET_TCE: the operations on entries that each makes, and the reply that their receipts give.
-use Rattle.std.specs.Prelude.{ℕ, Bool, true, false, not, ◌||◌, List, [], ◌∷◌, map, Option, Some, None, if◌then◌else◌}
+use Rattle.std.specs.Prelude.{ℕ, true, false, not, ◌||◌, List, [], ◌∷◌, map, if◌then◌else◌}
 use Rattle.std.specs.Option.{option_map_or}
 use Rattle.frame_grants.specs.declared.grant.Grant.{Grant}
 use Rattle.papr_codes.specs.declared.codes.Rc.{Rc}
@@ -11,8 +11,8 @@ use Rattle.entry_model.specs.declared.operation.Op.TheVariants.{Enter, Remove, R
 use Rattle.entry_model.specs.declared.receipt.Receipt.{Receipt}
 use Rattle.entry_model.specs.Receipt.{is_worn}
 use Rattle.entry_model.specs.Trial.{Plan, call, plan_of_code}
-use Rattle.dma_window.specs.declared.window.Window.{Window}
-use Rattle.dma_window.specs.Windows.{entry_at, is_ram}
+use Rattle.bus_window.specs.Windows.{BusWindow, entry_at}
+use Rattle.dma_window.specs.Pages.{is_ram}
 use Rattle.dma_window.specs.Entries.{address_of, permits, first_word, second_word, tce_of, no_test}
 
 -- ---- replies
@@ -56,7 +56,7 @@ put_plan_at grants tce entry =
     else clear_plan entry
 
 -- H_PARAMETER where the address lies outside the window.
-unfoldable pub put_tce_plan : List Grant → Window → ℕ → ℕ → Plan
+unfoldable pub put_tce_plan : List Grant → BusWindow → ℕ → ℕ → Plan
 put_tce_plan grants window ioba tce =
     option_map_or (put_plan_at grants tce) (entry_at window ioba) (plan_of_code rc.Parameter)
 
@@ -70,6 +70,6 @@ get_plan_at entry = record {
 }
 
 -- H_PARAMETER where the address lies outside the window.
-unfoldable pub get_tce_plan : Window → ℕ → Plan
+unfoldable pub get_tce_plan : BusWindow → ℕ → Plan
 get_tce_plan window ioba =
     option_map_or get_plan_at (entry_at window ioba) (plan_of_code rc.Parameter)

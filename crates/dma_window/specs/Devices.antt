@@ -7,11 +7,11 @@ use Rattle.entry_model.specs.declared.operation.Op.TheVariants.{Read}
 use Rattle.entry_model.specs.declared.receipt.Receipt.{Receipt}
 use Rattle.entry_model.specs.Trial.{IsTrial, call}
 use Rattle.entry_model.specs.Replies.{no_window_reply}
-use Rattle.dma_window.specs.declared.window.Window.{Window}
+use Rattle.bus_window.specs.Windows.{BusWindow, page_bytes, entry_at}
 use Rattle.entry_model.specs.declared.device_reply.DeviceReply.{DeviceReply}
 use Rattle.entry_model.specs.declared.device_reply.DeviceOutcome.{DeviceOutcome}
 use Rattle.entry_model.specs.declared.device_reply.DeviceOutcome.TheVariants.{At, Denied, NoWindow, Ungranted}
-use Rattle.dma_window.specs.Windows.{page_bytes, entry_at, is_ram}
+use Rattle.dma_window.specs.Pages.{is_ram}
 use Rattle.dma_window.specs.Entries.{address_of, permits, tce_of}
 
 -- The logical address: the TCE's page, and the bus address's offset in it.
@@ -58,6 +58,6 @@ IsDeviceReplyBy grants ioba write reply (Some entry) =
     IsDeviceReplyAt grants ioba write reply entry
 
 -- The reply to an access of a device.
-abbrev pub IsDeviceReply : List Grant → Window → ℕ → Bool → DeviceReply → Type 0
+abbrev pub IsDeviceReply : List Grant → BusWindow → ℕ → Bool → DeviceReply → Type 0
 IsDeviceReply grants window ioba write reply =
     IsDeviceReplyBy grants ioba write reply (entry_at window ioba)

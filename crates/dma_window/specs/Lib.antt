@@ -1,4 +1,4 @@
-pub mod Windows
+pub mod Pages
 pub mod Entries
 pub mod Calls
 pub mod Devices

@@ -1,9 +1,10 @@
 ghost use Rattle.std.specs.Prelude.{◌≡◌, ◌%◌, ◌<◌};
-ghost use Rattle.dma_window.specs.Windows.{IsWindow};
+ghost use Rattle.entry_model.specs.Replies.{device_reply_with};
 ghost use Rattle.dma_window.specs.Devices as devices;
 
+use crate::making::make;
 use crate::tce::{PAGE, address, is_ram, permits, tce_of};
-use crate::window::Window;
+use bus_window::Window;
 use entry_model::{DeviceOutcome, DeviceReply, EntryStore, Op, Receipts};
 use frame_grants::Grants;
 
@@ -25,6 +26,33 @@ fn outcome_by(grants: &Grants, tce: u64, ioba: u64, write: bool) -> DeviceOutcom
     }
 }
 
+/// [`device`] with its receipt put into `receipts`, in place of what was there.
+// Out of line: docs/PERFORMANCE.md says why.
+#[inline(never)]
+pub fn device_into<T: EntryStore>(
+    store: &mut T,
+    grants: &Grants,
+    window: &Window,
+    ioba: u64,
+    write: bool,
+    receipts: &mut Receipts,
+) -> DeviceOutcome
+    ensures made { T.made store.old store.new receipts.new }
+    ensures reply { devices.IsDeviceReply
+        grants.now.grants
+        window.now
+        ioba
+        write
+        (device_reply_with result receipts.new) }
+{
+    receipts.clear();
+    let Some(entry) = window.entry_at(ioba) else {
+        return DeviceOutcome::NoWindow;
+    };
+    let read = make(store, entry, Op::Read, receipts);
+    outcome_by(grants, tce_of(&read.before), ioba, write)
+}
+
 /// An access of a device at a bus address, a read or a write, by the TCE of the page there. It leaves
 /// the window as it is.
 pub fn device<T: EntryStore>(
@@ -34,17 +62,10 @@ pub fn device<T: EntryStore>(
     ioba: u64,
     write: bool,
 ) -> DeviceReply
-    requires order { T.table_order store.old ≡ 18 }
-    requires window { IsWindow window.now }
     ensures made { T.made store.old store.new result.receipts }
     ensures reply { devices.IsDeviceReply grants.now.grants window.now ioba write result }
 {
-    let Some(entry) = window.entry_at(ioba) else {
-        return DeviceOutcome::NoWindow.into_reply(Receipts::new());
-    };
-    let made = store.apply(entry, Op::Read);
-    let read = &made;
     let mut receipts = Receipts::new();
-    receipts.push(*read);
-    outcome_by(grants, tce_of(&read.before), ioba, write).into_reply(receipts)
+    let outcome = device_into(store, grants, window, ioba, write, &mut receipts);
+    outcome.into_reply(receipts)
 }

@@ -2,7 +2,7 @@ ghost use Rattle.std.specs.Prelude.{◌≡◌, ◌+◌, ◌&&◌, if◌then◌el
 ghost use Rattle.entry_model.specs.Receipt.{IsNormal};
 ghost use Rattle.entry_model.specs.declared.operation.Op.TheVariants.{Enter, Remove};
 ghost use Rattle.dma_window.specs.Entries as entries;
-ghost use Rattle.dma_window.specs.Windows.{is_ram};
+ghost use Rattle.dma_window.specs.Pages.{is_ram};
 
 use entry_model::{EntryState, Op, Test};
 use frame_grants::{Grants, Kind};
@@ -109,7 +109,7 @@ fn second_word(tce: u64) -> u64
 }
 
 /// Whether one grant of ram holds the page at this logical address.
-#[tactic(auto, unfolding(crate::specs::Windows::is_ram))]
+#[tactic(auto, unfolding(crate::specs::Pages::is_ram))]
 pub fn is_ram(grants: &Grants, page: u64) -> bool
     ensures { result ≡ is_ram grants.now.grants page }
 {

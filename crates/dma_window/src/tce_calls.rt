@@ -1,12 +1,13 @@
-ghost use Rattle.std.specs.Prelude.{◌≡◌, ◌≤◌, ◌<◌, ◌^◌, [], ◌∷◌};
+ghost use Rattle.std.specs.Prelude.{◌≡◌, ◌<◌, ◌^◌, []};
 ghost use Rattle.entry_model.specs.Receipt.{IsNormal, is_worn};
+ghost use Rattle.entry_model.specs.Replies.{reply_with};
 ghost use Rattle.entry_model.specs.Trial.{IsReplyOf};
-ghost use Rattle.dma_window.specs.Windows.{IsWindow};
 ghost use Rattle.dma_window.specs.Calls as plans;
 
+use crate::making::make;
 use crate::tce::{address, entering, is_ram, permits, removal, tce_of};
-use crate::window::Window;
-use entry_model::{Answer, EntryStore, HReply, Op, Receipts, ReplyWords};
+use bus_window::Window;
+use entry_model::{Answer, EntryStore, HReply, Op, Receipts, Registers, ReplyWords};
 use frame_grants::Grants;
 use papr_codes::Rc;
 
@@ -29,49 +30,87 @@ fn is_worn(answer: Answer) -> bool
 }
 
 /// Empties an entry.
-fn clear<T: EntryStore>(store: &mut T, entry: u32) -> HReply
-    requires order { T.table_order store.old ≡ 18 }
-    requires in_table { entry < 2 ^ 14 }
-    ensures made { T.made store.old store.new result.receipts }
-    ensures reply { IsReplyOf (plans.clear_plan entry) result }
+fn clear<T: EntryStore>(store: &mut T, entry: u32, receipts: &mut Receipts) -> Registers
+    requires in_window { entry < 2 ^ 14 }
+    requires empty { receipts.old ≡ [] }
+    ensures made { T.made store.old store.new receipts.new }
+    ensures reply { IsReplyOf (plans.clear_plan entry) (reply_with result receipts.new) }
 {
-    let made = store.apply(entry, removal());
-    let removed = &made;
-    let mut receipts = Receipts::new();
-    receipts.push(*removed);
-    HReply {
-        rc: code_of(removed.answer),
-        words: ReplyWords::new(),
-        receipts,
-    }
+    let removed = make(store, entry, removal(), receipts);
+    Registers::with_code(code_of(removed.answer))
 }
 
 /// Empties an entry, and enters these words into it.
-fn replace<T: EntryStore>(store: &mut T, entry: u32, op: Op) -> HReply
-    requires order { T.table_order store.old ≡ 18 }
-    requires in_table { entry < 2 ^ 14 }
+fn replace<T: EntryStore>(store: &mut T, entry: u32, op: Op, receipts: &mut Receipts) -> Registers
+    requires in_window { entry < 2 ^ 14 }
     requires normal { IsNormal op }
-    ensures made { T.made store.old store.new result.receipts }
-    ensures reply { IsReplyOf (plans.replace_plan entry op) result }
+    requires empty { receipts.old ≡ [] }
+    ensures made { T.made store.old store.new receipts.new }
+    ensures reply { IsReplyOf (plans.replace_plan entry op) (reply_with result receipts.new) }
 {
-    let made = store.apply(entry, removal());
-    let removed = &made;
-    let mut receipts = Receipts::new();
-    receipts.push(*removed);
+    let removed = make(store, entry, removal(), receipts);
     if is_worn(removed.answer) {
-        return HReply {
-            rc: Rc::Hardware,
-            words: ReplyWords::new(),
-            receipts,
-        };
+        return Registers::with_code(Rc::Hardware);
     }
-    let made = store.apply(entry, op);
-    let entered = &made;
-    receipts.push(*entered);
-    HReply {
-        rc: code_of(entered.answer),
-        words: ReplyWords::new(),
-        receipts,
+    let entered = make(store, entry, op, receipts);
+    Registers::with_code(code_of(entered.answer))
+}
+
+/// [`put_tce`] with its receipts put into `receipts`, in place of what was there.
+// Out of line: docs/PERFORMANCE.md says why.
+#[inline(never)]
+#[tactic(auto, unfolding(crate::specs::Calls::put_tce_plan))]
+pub fn put_tce_into<T: EntryStore>(
+    store: &mut T,
+    grants: &Grants,
+    window: &Window,
+    ioba: u64,
+    tce: u64,
+    receipts: &mut Receipts,
+) -> Registers
+    ensures made { T.made store.old store.new receipts.new }
+    ensures reply { IsReplyOf
+        (plans.put_tce_plan grants.now.grants window.now ioba tce)
+        (reply_with result receipts.new) }
+{
+    receipts.clear();
+    let Some(entry) = window.entry_at(ioba) else {
+        return Registers::with_code(Rc::Parameter);
+    };
+    if !permits(tce, false) && !permits(tce, true) {
+        return clear(store, entry, receipts);
+    }
+    if !is_ram(grants, address(tce)) {
+        return Registers::with_code(Rc::Parameter);
+    }
+    replace(store, entry, entering(tce), receipts)
+}
+
+/// [`get_tce`] with its receipt put into `receipts`, in place of what was there.
+// Out of line: docs/PERFORMANCE.md says why.
+#[inline(never)]
+#[tactic(auto, unfolding(crate::specs::Calls::get_tce_plan))]
+pub fn get_tce_into<T: EntryStore>(
+    store: &mut T,
+    window: &Window,
+    ioba: u64,
+    receipts: &mut Receipts,
+) -> Registers
+    ensures made { T.made store.old store.new receipts.new }
+    ensures reply { IsReplyOf
+        (plans.get_tce_plan window.now ioba)
+        (reply_with result receipts.new) }
+{
+    receipts.clear();
+    let Some(entry) = window.entry_at(ioba) else {
+        return Registers::with_code(Rc::Parameter);
+    };
+    let read = make(store, entry, Op::Read, receipts);
+    let mut words = ReplyWords::new();
+    words.push(tce_of(&read.before));
+    Registers {
+        rc: Rc::Success,
+        words,
     }
 }
 
@@ -81,7 +120,6 @@ fn replace<T: EntryStore>(store: &mut T, entry: u32, op: Op) -> HReply
 ///
 /// H_PARAMETER where the address lies outside the window, or the TCE permits something and no single
 /// grant of ram holds its page. H_HARDWARE where the entry's stamp is at its last value.
-#[tactic(auto, unfolding(crate::specs::Calls::put_tce_plan))]
 pub fn put_tce<T: EntryStore>(
     store: &mut T,
     grants: &Grants,
@@ -89,45 +127,22 @@ pub fn put_tce<T: EntryStore>(
     ioba: u64,
     tce: u64,
 ) -> HReply
-    requires order { T.table_order store.old ≡ 18 }
-    requires window { IsWindow window.now }
     ensures made { T.made store.old store.new result.receipts }
     ensures reply { IsReplyOf (plans.put_tce_plan grants.now.grants window.now ioba tce) result }
 {
-    let Some(entry) = window.entry_at(ioba) else {
-        return HReply::without_receipts(Rc::Parameter);
-    };
-    if !permits(tce, false) && !permits(tce, true) {
-        return clear(store, entry);
-    }
-    if !is_ram(grants, address(tce)) {
-        return HReply::without_receipts(Rc::Parameter);
-    }
-    replace(store, entry, entering(tce))
+    let mut receipts = Receipts::new();
+    let registers = put_tce_into(store, grants, window, ioba, tce, &mut receipts);
+    registers.into_reply(receipts)
 }
 
 /// H_GET_TCE (LoPAR): the TCE of the page at a bus address, in register 4. It is 0 where none is set.
 ///
 /// H_PARAMETER where the address lies outside the window.
-#[tactic(auto, unfolding(crate::specs::Calls::get_tce_plan))]
 pub fn get_tce<T: EntryStore>(store: &mut T, window: &Window, ioba: u64) -> HReply
-    requires order { T.table_order store.old ≡ 18 }
-    requires window { IsWindow window.now }
     ensures made { T.made store.old store.new result.receipts }
     ensures reply { IsReplyOf (plans.get_tce_plan window.now ioba) result }
 {
-    let Some(entry) = window.entry_at(ioba) else {
-        return HReply::without_receipts(Rc::Parameter);
-    };
-    let made = store.apply(entry, Op::Read);
-    let read = &made;
-    let mut words = ReplyWords::new();
-    words.push(tce_of(&read.before));
     let mut receipts = Receipts::new();
-    receipts.push(*read);
-    HReply {
-        rc: Rc::Success,
-        words,
-        receipts,
-    }
+    let registers = get_tce_into(store, window, ioba, &mut receipts);
+    registers.into_reply(receipts)
 }

@@ -1,7 +1,5 @@
-ghost use Rattle.std.specs.Prelude.{◌≡◌, IfOk};
-ghost use Rattle.dma_window.specs.Windows.{IsWindow};
-
-use super::*;
+use bus_window::Window;
+use dma_window::*;
 use entry_model::{Answer, DeviceOutcome, DeviceReply, EntryState, EntryStore, HReply};
 use frame_grants::{Grant, Grants, Kind};
 use papr_codes::Rc;
@@ -16,15 +14,11 @@ const ORDER: u8 = 18;
 const ENTRIES: usize = 16384;
 
 /// Two pages of a bus.
-const WINDOW: Window = Window {
-    liobn: 0x8000_0001,
-    base: 0x1_0000,
-    pages: 2,
-};
+fn window() -> Window {
+    Window::new(0x8000_0001, 0x1_0000, 2).unwrap_or_default()
+}
 
-fn empty_entries(alloc: Global) -> Result<PlainTable, AllocError>
-    ensures { IfOk result (λ t. t.order ≡ 18) }
-{
+fn empty_entries(alloc: Global) -> Result<PlainTable, AllocError> {
     let states = vec![in alloc; EntryState::empty(0); ENTRIES]?;
     Ok(PlainTable::open(states, ORDER))
 }
@@ -47,25 +41,16 @@ fn granted() -> Grants {
     grants
 }
 
-fn put<T: EntryStore>(store: &mut T, grants: &Grants, ioba: u64, tce: u64) -> HReply
-    requires { T.table_order store.old ≡ 18 }
-    ensures { T.table_order store.new ≡ 18 }
-{
-    put_tce(store, grants, &WINDOW, ioba, tce)
+fn put<T: EntryStore>(store: &mut T, grants: &Grants, ioba: u64, tce: u64) -> HReply {
+    put_tce(store, grants, &window(), ioba, tce)
 }
 
-fn get<T: EntryStore>(store: &mut T, ioba: u64) -> HReply
-    requires { T.table_order store.old ≡ 18 }
-    ensures { T.table_order store.new ≡ 18 }
-{
-    get_tce(store, &WINDOW, ioba)
+fn get<T: EntryStore>(store: &mut T, ioba: u64) -> HReply {
+    get_tce(store, &window(), ioba)
 }
 
-fn reach<T: EntryStore>(store: &mut T, grants: &Grants, ioba: u64, write: bool) -> DeviceReply
-    requires { T.table_order store.old ≡ 18 }
-    ensures { T.table_order store.new ≡ 18 }
-{
-    device(store, grants, &WINDOW, ioba, write)
+fn reach<T: EntryStore>(store: &mut T, grants: &Grants, ioba: u64, write: bool) -> DeviceReply {
+    device(store, grants, &window(), ioba, write)
 }
 
 #[test]
@@ -127,10 +112,7 @@ fn assert_refused<T: EntryStore>(
     grants: &Grants,
     ioba: u64,
     tce: u64,
-)
-    requires { T.table_order store.old ≡ 18 }
-    ensures { T.table_order store.new ≡ 18 }
-{
+) {
     let refused = put(store, grants, ioba, tce);
     assert_eq!(rt; refused.rc, Rc::Parameter, "{ioba:#x} {tce:#x}");
     assert_eq!(rt; refused.receipts.as_slice().len(), 0);

@@ -6,7 +6,7 @@ use Rattle.frame_grants.specs.Grants.{GrantedMemory, AreApart}
 use Rattle.entry_model.specs.State.{State}
 use Rattle.entry_model.specs.declared.receipt.Receipt.{Receipt}
 use Rattle.entry_model.specs.History.{Regrouped}
-use Rattle.entry_model.proofs.Heights.{weight, weight_append, weight_regrouped}
+use Rattle.entry_model.proofs.Heights.{weight, weight_regrouped}
 use Rattle.entry_model.proofs.Regroup.{regrouped_back}
 use Rattle.entry_model.proofs.PlanBounds.{EntersOnly}
 use Rattle.tlb_model.specs.Processor.{Processor}
@@ -17,14 +17,18 @@ use Rattle.trace_line.specs.Lines.{is_quiet}
 use Rattle.trace_read.specs.Trace.{AcceptedTrace, IsAccepted}
 use Rattle.trace_reply.specs.declared.reply.Reply.{Reply}
 use Rattle.trace_reply.specs.Replies.{RepliedLine, IsOfKind, AreReplies, receipts_in, lines_with_replies}
+use Rattle.run_model.specs.StoreContexts.{access_of, table_context}
 use Rattle.run_model.specs.Processors.{processors_after}
 use Rattle.run_model.specs.LineReplies.{IsCallReply}
 use Rattle.run_model.specs.RunState.{RunState, context_of, states_of, opening_run, run_quiet_line}
 use Rattle.run_model.specs.Histories.{receipts_by}
-use Rattle.run_model.specs.Sections.{receipts_made, section_end, sections_from, sections_of, cut, cut_before}
+use Rattle.run_model.specs.Quiet.{cut, cut_before}
+use Rattle.run_model.specs.Windows.{is_on_table, table_lines}
+use Rattle.run_model.specs.Sections.{receipts_made, section_end, sections_from, sections_of}
 use Rattle.run_model.specs.GoodRun.{AreLegal, CallsAreReplied, IsAccessLine, AccessesAreReplied, QuietIsReplied, IsGoodRun}
 use Rattle.run_model.specs.Landings.{AccessesLand, IsUnworn}
-use Rattle.run_model.proofs.Each.{each_map, each_append, each_front, each_back}
+use Rattle.run_model.proofs.Each.{each_map, each_front, each_back, each_filter, filter_length}
+use Rattle.run_model.proofs.LineReceipts.{each_receipt, weight_by_lines}
 use Rattle.run_model.proofs.LinesByProcessor.{Cpus, InFileOrder, file_lines, file_listed}
 use Rattle.run_model.proofs.SectionGood.{each_regrouped}
 use Rattle.run_model.proofs.SerialGood.{opening_processors}
@@ -44,19 +48,15 @@ AreTame granted ts = AllByRecursion (λ (t : RepliedLine). IsTameLine granted t.
 abbrev pub AreUnworn : List RepliedLine → Type 0
 AreUnworn ts = AllByRecursion (λ (t : RepliedLine). IsUnworn t.reply) ts
 
-lines_tame : (granted : GrantedMemory) (set : AccessContext) (b : List State) (cpus : ℕ) (processors : List Processor) (ts : List RepliedLine) → set.grants ≡ granted.grants → AllByRecursion (IsLine cpus) ts → InFileOrder (λ processor t. IsCallReply set t.line.act t.reply) processors ts → InFileOrder (IsAccessLine set b) processors ts → AreTame granted ts
+lines_tame : (granted : GrantedMemory) (set : AccessContext) (b : List State) (cpus : ℕ) (processors : List Processor) (ts : List RepliedLine) → set.grants ≡ granted.grants → AllByRecursion (IsLine cpus) ts → InFileOrder (λ processor t. IsCallReply (table_context set) t.line.act t.reply) processors ts → InFileOrder (IsAccessLine set b) processors ts → AreTame granted ts
 lines_tame granted set b cpus processors [] same lines calls accesses = tt
 lines_tame granted set b cpus processors (t ∷ ts) same lines calls accesses = (line_tame granted set _ t.line.act t.reply same lines.0.1 calls.0 accesses.0.reply, lines_tame granted set b cpus (processors_after processors t) ts same lines.1 calls.1 accesses.1)
 
 tame_enters : (granted : GrantedMemory) (ts : List RepliedLine) → AreTame granted ts → EnterGranted granted.grants (receipts_by ts)
-tame_enters granted [] h = tt
-tame_enters granted (t ∷ ts) h = each_append (λ (r : Receipt). EntersOnly (IsGrantedWords granted.grants) r.op) (receipts_in t.reply) (receipts_by ts) h.0.enters (tame_enters granted ts h.1)
+tame_enters granted ts h = each_receipt (λ (r : Receipt). EntersOnly (IsGrantedWords granted.grants) r.op) ts (each_map (λ (t : RepliedLine). IsTameLine granted t.reply) (λ (t : RepliedLine). EnterGranted granted.grants (receipts_in t.reply)) ts (λ t k. k.enters) h)
 
 tame_weight : (granted : GrantedMemory) (ts : List RepliedLine) → AreTame granted ts → weight (receipts_by ts) ≤ 32 * length ts
-tame_weight granted [] h = omega arith
-tame_weight granted (t ∷ ts) h =
-    let few : weight (receipts_in t.reply) ≤ 32 = h.0.few in
-    omega (arith, weight_append (receipts_in t.reply) (receipts_by ts), tame_weight granted ts h.1)
+tame_weight granted ts h = weight_by_lines ts (each_map (λ (t : RepliedLine). IsTameLine granted t.reply) (λ (t : RepliedLine). weight (receipts_in t.reply) ≤ 32) ts (λ t k. k.few) h)
 
 tame_safe : (granted : GrantedMemory) (ts : List RepliedLine) → AreTame granted ts → FromLowStamp granted.grants top (receipts_by ts) → AreUnworn ts
 tame_safe granted [] h low_stamp = tt
@@ -66,7 +66,7 @@ tame_safe granted (t ∷ ts) h low_stamp = (h.0.safe (each_front (λ (r : Receip
 section_safe : (granted : GrantedMemory) (n m cpus : ℕ) (w : RunState) (ts : List RepliedLine) (quiet : Option RepliedLine) → AreApart granted → IsLowStampRunState granted n cpus w → AllByRecursion (IsLine cpus) ts → n + 32 * length ts ≤ m → m ≤ top → AreLegal (record { before = w; replied_lines = ts; quiet = quiet }) → CallsAreReplied (record { before = w; replied_lines = ts; quiet = quiet }) → AccessesAreReplied (record { before = w; replied_lines = ts; quiet = quiet }) → AreUnworn ts × AccessesLand granted (record { before = w; replied_lines = ts; quiet = quiet }) × IsLowStampRunState granted m cpus (section_end w ts)
 section_safe granted n m cpus w ts quiet apart run_state lines low high legal calls accesses =
     let within : Cpus (length w.processors) ts = subst (λ k. Cpus k ts) (sym run_state.processors) (each_map (IsLine cpus) (λ (t : RepliedLine). t.line.cpu < cpus) ts (λ t h. h.0) lines) in
-    let tame : AreTame granted ts = lines_tame granted (context_of w) (states_of (section_end w ts)) cpus w.processors ts run_state.grants lines (file_lines (λ processor t. IsCallReply (context_of w) t.line.act t.reply) w.processors ts within calls) (file_lines (IsAccessLine (context_of w) (states_of (section_end w ts))) w.processors ts within accesses) in
+    let tame : AreTame granted ts = lines_tame granted (access_of (context_of w)) (states_of (section_end w ts)) cpus w.processors ts run_state.grants lines (file_lines (λ processor t. IsCallReply (context_of w) t.line.act t.reply) w.processors ts within calls) (file_lines (IsAccessLine (access_of (context_of w)) (states_of (section_end w ts))) w.processors ts within accesses) in
     let listed : Regrouped (receipts_by ts) (receipts_made w ts) = file_listed (length w.processors) ts within in
     let same : weight (receipts_by ts) ≡ weight (receipts_made w ts) = weight_regrouped listed in
     let enters : EnterGranted granted.grants (receipts_made w ts) = each_regrouped (λ (r : Receipt). EntersOnly (IsGrantedWords granted.grants) r.op) listed (tame_enters granted ts tame) in
@@ -138,38 +138,34 @@ cut_count [] = omega arith
 cut_count (t ∷ ts) = omega (arith, front_count t (cut ts), cut_count ts)
 
 -- ---- lines and their replies
-replied_lines_count : (ls : List TraceLine) (rs : List Reply) → length (lines_with_replies ls rs) ≤ length ls
+pub replied_lines_count : (ls : List TraceLine) (rs : List Reply) → length (lines_with_replies ls rs) ≤ length ls
 replied_lines_count [] rs = omega arith
 replied_lines_count (l ∷ ls) [] = omega arith
 replied_lines_count (l ∷ ls) (r ∷ rs) = omega (arith, replied_lines_count ls rs)
 
-replied_lines_lines : (cpus : ℕ) (ls : List TraceLine) (rs : List Reply) → AllByRecursion (λ (l : TraceLine). l.cpu < cpus) ls → AreReplies ls rs → AllByRecursion (IsLine cpus) (lines_with_replies ls rs)
+pub replied_lines_lines : (cpus : ℕ) (ls : List TraceLine) (rs : List Reply) → AllByRecursion (λ (l : TraceLine). l.cpu < cpus) ls → AreReplies ls rs → AllByRecursion (IsLine cpus) (lines_with_replies ls rs)
 replied_lines_lines cpus [] rs on kinds = tt
 replied_lines_lines cpus (l ∷ ls) [] on kinds = tt
 replied_lines_lines cpus (l ∷ ls) (r ∷ rs) on kinds = ((on.0, kinds.0), replied_lines_lines cpus ls rs on.1 kinds.1)
 
-replies_in : (P : Reply → Type 0) (ls : List TraceLine) (rs : List Reply) → AreReplies ls rs → AllByRecursion (λ (t : RepliedLine). P t.reply) (lines_with_replies ls rs) → AllByRecursion P rs
-replies_in P [] [] kinds h = tt
-replies_in P [] (r ∷ rs) kinds h = absurd kinds
-replies_in P (l ∷ ls) [] kinds h = tt
-replies_in P (l ∷ ls) (r ∷ rs) kinds h = (h.0, replies_in P ls rs kinds.1 h.1)
-
--- ---- a run
-run_safe : (t : AcceptedTrace) (rs : List Reply) → IsAccepted t → IsGoodRun t rs → AllByRecursion IsUnworn rs × AllByRecursion (AccessesLand t.config.granted) (sections_of t rs)
-run_safe t rs is good =
+-- ---- the lines on the page table
+table_safe : (t : AcceptedTrace) (rs : List Reply) → IsAccepted t → IsGoodRun t rs → AreUnworn (table_lines t rs) × AllByRecursion (AccessesLand t.config.granted) (sections_of t rs)
+table_safe t rs is good =
     let granted = t.config.granted in
     let cpus = t.config.cpus in
-    let replied_lines = lines_with_replies t.lines rs in
+    let all = lines_with_replies t.lines rs in
+    let on = λ (x : RepliedLine). is_on_table t.config.windows x.line.act in
+    let replied_lines = table_lines t rs in
     let c = cut replied_lines in
     let run_state : IsLowStampRunState granted 1 cpus (opening_run t.config) = record { grants = opening_grants t.config; processors = opening_processors t; states = opening_states t.config is.entries; placed = opening_placed t.config } in
-    let lines : InSections (IsLine cpus) c.0 c.1 = cut_in (IsLine cpus) replied_lines (replied_lines_lines cpus t.lines rs is.lines.on_cpus good.kinds) in
+    let lines : InSections (IsLine cpus) c.0 c.1 = cut_in (IsLine cpus) replied_lines (each_filter (IsLine cpus) on all (replied_lines_lines cpus t.lines rs is.lines.on_cpus good.kinds)) in
     let few : length t.lines ≤ 2 ^ 17 = is.lines.few in
-    let low : 1 + 32 * line_count c.0 c.1 ≤ top = omega (arith, cut_count replied_lines, replied_lines_count t.lines rs) in
+    let low : 1 + 32 * line_count c.0 c.1 ≤ top = omega (arith, cut_count replied_lines, filter_length on all, replied_lines_count t.lines rs) in
     let safe = sections_safe granted 1 cpus (opening_run t.config) c.0 c.1 is.sound.apart run_state lines low good.legal good.calls good.accesses good.quiets in
-    (replies_in IsUnworn t.lines rs good.kinds (cut_out (λ (x : RepliedLine). IsUnworn x.reply) replied_lines safe.0), safe.1)
+    (cut_out (λ (x : RepliedLine). IsUnworn x.reply) replied_lines safe.0, safe.1)
 
-pub all_unworn : (t : AcceptedTrace) (rs : List Reply) → IsAccepted t → IsGoodRun t rs → AllByRecursion IsUnworn rs
-all_unworn t rs is good = (run_safe t rs is good).0
+pub table_unworn : (t : AcceptedTrace) (rs : List Reply) → IsAccepted t → IsGoodRun t rs → AreUnworn (table_lines t rs)
+table_unworn t rs is good = (table_safe t rs is good).0
 
 pub accesses_land : (t : AcceptedTrace) (rs : List Reply) → IsAccepted t → IsGoodRun t rs → AllByRecursion (AccessesLand t.config.granted) (sections_of t rs)
-accesses_land t rs is good = (run_safe t rs is good).1
+accesses_land t rs is good = (table_safe t rs is good).1

@@ -12,17 +12,20 @@ use Rattle.storage_prot.specs.Protection.{permission, rows}
 use Rattle.hpt_hash.specs.Hash.{group_of}
 use Rattle.hpt_hash.specs.Entries.{page_at}
 use Rattle.entry_model.specs.State.{State}
+use Rattle.dma_window.specs.Pages.{is_ram}
+use Rattle.entry_model.specs.declared.device_reply.DeviceOutcome.TheVariants.{At, Ungranted}
 use Rattle.entry_model.specs.declared.operation.Op.{Op}
 use Rattle.entry_model.specs.declared.operation.Op.TheVariants.{Remove, Read, ClearRef, ClearMod, Access}
 use Rattle.entry_model.specs.declared.receipt.Receipt.{Receipt}
 use Rattle.entry_model.specs.Receipt.{receipt_of}
-use Rattle.entry_model.specs.Reply.{has_base}
+use Rattle.entry_model.specs.Reply.{entered_state, has_base}
 use Rattle.hpt_resize.specs.Rehash.{carried_page, target_of}
 use Rattle.run_model.specs.RunState.{reply_of_code}
 use Rattle.run_model.specs.Histories.{closing_states}
 use Rattle.run_model.specs.Sections.{Section, section_end}
 use Rattle.run_model.specs.ShownStores.{clears, stores, shows_changed, ShowsChange, StoresAreShown, carried_to, StaysShown}
 use Rattle.run_model.specs.CommittedResizes.{commits_by}
+use Rattle.run_model.specs.DeviceLandings.{IsDeviceLanding, DeviceLandsBy}
 use Rattle.run_model.specs.Landings.{IsLanding}
 use Rattle.papr_codes.specs.declared.calls.Hcall.TheVariants as calls
 use Rattle.trace_line.specs.declared.act.Act.TheVariants as acts
@@ -191,3 +194,34 @@ lands_elsewhere h = let no : 0x2000003234 ≡ 0x2000003235 = ap (λ x. option_ma
 lands_by_another_page : IsLanding granted 18 0x1234 (virtual_page false 0x801 12 2) (made true store) 0x2000003234 → ⊥
 unfolding made entry store group_of
 lands_by_another_page h = let no : 3 ≡ 0 = h.of_page.group in absurd (omega (arith, no))
+
+-- ---- devices
+-- A read of the entry whose TCE permits reads of the page at 0x3000.
+read_tce : Receipt
+read_tce = receipt_of 1 (record (entered_state 0x09 0x3010) { stamp = 1 }) Read
+
+device_lands : IsDeviceLanding granted false 0x10234 read_tce 0x2000003234
+unfolding granted read_tce is_ram machine_range
+device_lands = record {
+  permitted = refl;
+  in_ram = refl;
+  kind = Ram;
+  in_grant = refl;
+  off_pool = λ inside. absurd (omega (arith, inside.to_end));
+}
+
+-- It permits no write.
+no_write_by_it : IsDeviceLanding granted true 0x10234 read_tce 0x2000003234 → ⊥
+unfolding read_tce
+no_write_by_it h = let no : false ≡ true = h.permitted in cc
+
+device_lands_elsewhere : IsDeviceLanding granted false 0x10234 read_tce 0x2000003235 → ⊥
+unfolding granted read_tce machine_range
+device_lands_elsewhere h = let no : 0x2000003234 ≡ 0x2000003235 = ap (λ x. option_map_or (λ (y : ℕ × Kind). y.0) x 0) h.in_grant in absurd (omega (arith, no))
+
+-- None ends outside the grants, and none lands without a receipt.
+never_ungranted : DeviceLandsBy granted false 0x10234 (Ungranted 0x3234) (read_tce ∷ []) → ⊥
+never_ungranted h = h
+
+never_without_receipt : DeviceLandsBy granted false 0x10234 (At 0x2000003234) [] → ⊥
+never_without_receipt h = h

@@ -23,6 +23,7 @@ use Rattle.entry_model.proofs.LineLaws.{run_holds, run_shows}
 use Rattle.tlb_model.proofs.CachedPages.{all_filter, all_put_last, all_in_set_of, all_written, all_cached_weaker, all_empty}
 use Rattle.hpt_walk.specs.Walk.{walk_calls}
 use Rattle.hpt_walk.specs.Translations.{TranslatesItsPage}
+use Rattle.run_model.specs.StoreContexts.{StoreContext, access_of}
 use Rattle.hpt_walk.specs.Access.{AccessContext, IsWalk, IsByWay, IsAccessReply, request, mode_for}
 use Rattle.hpt_walk.specs.declared.request.Request.{Request}
 use Rattle.tlb_model.specs.CacheAfter.{kept_line, set_with, after_walk, cache_after}
@@ -130,7 +131,7 @@ empty_fresh states = no_cache states
 pub processor_fresh : (states : List State) (processors : List Processor) (cpu : ℕ) → AllByRecursion (ProcessorFresh states) processors → ProcessorFresh states (processor_at processors cpu)
 processor_fresh states processors cpu h = each_at (ProcessorFresh states) processors cpu new_processor (empty_fresh states) h
 
-pub sound_on : (set : AccessContext) (processors : List Processor) (a b : List State) (t : RepliedLine) → IsSound set.order processors a → IsUndisturbed set (processor_at processors t.line.cpu) a t b → IsSound set.order (processors_after processors t) b
+pub sound_on : (set : StoreContext) (processors : List Processor) (a b : List State) (t : RepliedLine) → IsSound set.order processors a → IsUndisturbed set (processor_at processors t.line.cpu) a t b → IsSound set.order (processors_after processors t) b
 sound_on set processors a b t h replied_line =
     let on : AllByRecursion (ProcessorFresh b) processors = each_map (ProcessorFresh a) (ProcessorFresh b) processors (processor_on a b (receipts_in t.reply) replied_line.run) h.fresh in
-    record { size = run-length a b (receipts_in t.reply) replied_line.run ∙ h.size; low = h.low; fresh = each_set (ProcessorFresh b) processors t.line.cpu _ (line_fresh set (processor_at processors t.line.cpu) t.line.act t.reply a b replied_line.access replied_line.run (processor_fresh b processors t.line.cpu on)) on }
+    record { size = run-length a b (receipts_in t.reply) replied_line.run ∙ h.size; low = h.low; fresh = each_set (ProcessorFresh b) processors t.line.cpu _ (line_fresh (access_of set) (processor_at processors t.line.cpu) t.line.act t.reply a b replied_line.access replied_line.run (processor_fresh b processors t.line.cpu on)) on }

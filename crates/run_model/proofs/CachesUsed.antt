@@ -27,6 +27,7 @@ use Rattle.trace_read.specs.Trace.{AcceptedTrace}
 use Rattle.trace_line.specs.declared.act.Act.{Act}
 use Rattle.trace_reply.specs.declared.reply.Reply.{Reply}
 use Rattle.trace_reply.specs.Replies.{RepliedLine, receipts_in}
+use Rattle.run_model.specs.StoreContexts.{access_of}
 use Rattle.run_model.specs.Processors.{processor_at, processor_after, gone_line_of}
 use Rattle.run_model.specs.LineReplies.{IsReplyToAccess}
 use Rattle.run_model.specs.RunState.{context_of, states_of}
@@ -110,7 +111,7 @@ lines_use context states p (t ∷ ts) h order =
 
 -- ---- sections
 section_uses : (s : Section) → AreInOrder s → AccessesAreReplied s → AccessesUseCaches s
-section_uses s order replied = λ cpu. lines_use (context_of s.before) (states_of (section_end s.before s.replied_lines)) (processor_at s.before.processors cpu) (lines_of_processor cpu s.replied_lines) (replied cpu) (λ e. (pair_of (state_at (opening_states s) e), order cpu e))
+section_uses s order replied = λ cpu. lines_use (access_of (context_of s.before)) (states_of (section_end s.before s.replied_lines)) (processor_at s.before.processors cpu) (lines_of_processor cpu s.replied_lines) (replied cpu) (λ e. (pair_of (state_at (opening_states s) e), order cpu e))
 
 sections_use : (ss : List Section) → AllByRecursion AreInOrder ss → AllByRecursion AccessesAreReplied ss → AllByRecursion AccessesUseCaches ss
 sections_use [] order replied = tt

@@ -29,6 +29,7 @@ use Rattle.trace_line.specs.declared.act.Act.{Act}
 use Rattle.trace_read.specs.Trace.{AcceptedTrace}
 use Rattle.trace_reply.specs.declared.reply.Reply.{Reply}
 use Rattle.trace_reply.specs.Replies.{RepliedLine}
+use Rattle.run_model.specs.StoreContexts.{access_of, table_context}
 use Rattle.run_model.specs.Processors.{processor_after}
 use Rattle.run_model.specs.LineReplies.{hcall_plan, IsCallReply}
 use Rattle.run_model.specs.RunState.{context_of}
@@ -129,7 +130,7 @@ bulk_remove_shows : (order : ℕ) (args : List ℕ) (reply : HReply) → IsReply
 bulk_remove_shows order args reply is = each_map (ShowsRemoved reply.words) (ShowsWhatItClears calls.BulkRemove reply.words) reply.receipts (pair_shows reply.words) (removals_shown order args reply is)
 
 -- ---- each call
-hcall_shows : (set : AccessContext) (h : Hcall) (args : List ℕ) (reply : HReply) → IsReplyOf (hcall_plan set h args) reply → AllByRecursion (ShowsWhatItClears h reply.words) reply.receipts
+hcall_shows : (set : AccessContext) (h : Hcall) (args : List ℕ) (reply : HReply) → IsReplyOf (hcall_plan (table_context set) h args) reply → AllByRecursion (ShowsWhatItClears h reply.words) reply.receipts
 unfolding hcall_plan h_protect_plan h_clear_ref_plan
 hcall_shows set calls.Enter args reply is = plan_never calls.Enter (h_enter_plan set.order set.grants _ _ _ _) reply (enter_never set.order set.grants _ _ _ _) is
 hcall_shows set calls.Remove args reply is = remove_shows set.order _ _ _ reply is
@@ -142,7 +143,7 @@ hcall_shows set calls.GetTce args reply is = plan_never calls.GetTce (plan_of_co
 hcall_shows set calls.PutTce args reply is = plan_never calls.PutTce (plan_of_code rc.Parameter) reply tt is
 hcall_shows set other args reply is = plan_never other (plan_of_code rc.Function) reply tt is
 
-line_shows : (set : AccessContext) (act : Act) (reply : Reply) → IsCallReply set act reply → ShowsClearedBits act reply
+line_shows : (set : AccessContext) (act : Act) (reply : Reply) → IsCallReply (table_context set) act reply → ShowsClearedBits act reply
 line_shows set (acts.Call number args spelt) (replies.Hcall h) is = hcall_shows set (hcall_of number) args h is
 line_shows set (acts.Call number args spelt) (replies.Access r) is = tt
 line_shows set (acts.Call number args spelt) (replies.Device r) is = tt
@@ -157,12 +158,12 @@ line_shows set (acts.SetMask name value) reply is = tt
 line_shows set acts.Dump reply is = tt
 
 -- ---- a run
-lines_show : (set : AccessContext) (p : Processor) (ts : List RepliedLine) → EachLineOfProcessor (λ q t. IsCallReply set t.line.act t.reply) p ts → EachLineOfProcessor (λ q t. ShowsClearedBits t.line.act t.reply) p ts
+lines_show : (set : AccessContext) (p : Processor) (ts : List RepliedLine) → EachLineOfProcessor (λ q t. IsCallReply (table_context set) t.line.act t.reply) p ts → EachLineOfProcessor (λ q t. ShowsClearedBits t.line.act t.reply) p ts
 lines_show set p [] h = tt
 lines_show set p (t ∷ ts) h = (line_shows set t.line.act t.reply h.0, lines_show set (processor_after p t.line.act t.reply) ts h.1)
 
 section_shows : (s : Section) → CallsAreReplied s → ClearedBitsAreShown s
-section_shows s h = λ cpu. lines_show (context_of s.before) _ _ (h cpu)
+section_shows s h = λ cpu. lines_show (access_of (context_of s.before)) _ _ (h cpu)
 
 pub cleared_are_shown : (t : AcceptedTrace) (rs : List Reply) → IsGoodRun t rs → AllByRecursion ClearedBitsAreShown (sections_of t rs)
 cleared_are_shown t rs good = each_map CallsAreReplied ClearedBitsAreShown (sections_of t rs) section_shows good.calls

@@ -37,11 +37,14 @@ use Rattle.trace_line.specs.declared.act.Act.{Act}
 use Rattle.trace_line.specs.declared.line.TraceLine.{TraceLine}
 use Rattle.trace_line.specs.Lines.{is_quiet}
 use Rattle.trace_reply.specs.declared.reply.Reply.{Reply}
+use Rattle.run_model.specs.StoreContexts.{access_of, table_context}
 use Rattle.run_model.specs.EnteredEntries.{CanBeEntered}
 use Rattle.run_model.specs.Laws.{EntriesCanBeEntered}
 use Rattle.run_model.specs.LineReplies.{hcall_plan}
 use Rattle.run_model.specs.Processors.{processor_at}
 use Rattle.run_model.specs.RunState.{RunState, context_of, states_of, opening_run, run_resize, run_quiet_line}
+use Rattle.run_model.specs.Windows.{trace_lines_on_table}
+use Rattle.run_model.proofs.SerialStores.{opened_after}
 use Rattle.run_model.specs.SerialRun.{current_line, result_by_line, result_by_segment, line_result, with_result, run_line, state_after_lines}
 use Rattle.run_model.proofs.Each.{each_map, each_at, each_set}
 use Rattle.run_model.proofs.OpeningEntries.{each_opening}
@@ -92,7 +95,7 @@ unfolding h_enter_plan
 enter_enters order grants flags ptex pteh ptel =
     cond_both (nat_lt ptex (entry_count order)) (words_plan flags ptex (entered_words grants pteh ptel)) (plan_of_code Parameter) (λ (p : Plan). EnterStored grants p.calls) (λ _. words_enter grants flags ptex (entered_words grants pteh ptel) (entered_again grants pteh ptel)) (λ _. tt)
 
-hcall_enters : (set : AccessContext) (h : Hcall) (args : List ℕ) → EnterStored set.grants (hcall_plan set h args).calls
+hcall_enters : (set : AccessContext) (h : Hcall) (args : List ℕ) → EnterStored set.grants (hcall_plan (table_context set) h args).calls
 unfolding hcall_plan
 hcall_enters set calls.Enter args = enter_enters set.order set.grants _ _ _ _
 hcall_enters set calls.Remove args = (h_remove_tame (AreStored set.grants) set.order _ _ _).enters
@@ -120,9 +123,9 @@ segment_kept : (set : AccessContext) (p : Processor) (states : List State) (a : 
 segment_kept set p states a None h = h
 segment_kept set p states a (Some seg) h = line_kept set states seg a (current_line states (cached_line p.cache seg.page)) h
 
-result_kept : (set : AccessContext) (p : Processor) (states : List State) (act : Act) → AreKept set.grants states → Keeps set.grants (line_result set p states act)
+result_kept : (set : AccessContext) (p : Processor) (states : List State) (act : Act) → AreKept set.grants states → Keeps set.grants (line_result (table_context set) p states act)
 unfolding line_result
-result_kept set p states (acts.Call number args spelt) h = plan_kept set.grants (hcall_plan set (hcall_of number) args) states (hcall_enters set (hcall_of number) args) h
+result_kept set p states (acts.Call number args spelt) h = plan_kept set.grants (hcall_plan (table_context set) (hcall_of number) args) states (hcall_enters set (hcall_of number) args) h
 result_kept set p states (acts.Access want ea user) h = segment_kept set p states (request want ea user p.masks) (segment_of p.slots ea) h
 result_kept set p states (acts.SlbMte rb rs) h = h
 result_kept set p states acts.SlbClear h = h
@@ -153,7 +156,7 @@ quiet_kept grants w other h = h
 plain_kept : (grants : List Grant) (w : RunState) (l : TraceLine) → IsKeptRun grants w → IsKeptRun grants (with_result w l (line_result (context_of w) (processor_at w.processors l.cpu) (states_of w) l.act)).1
 plain_kept grants w l h =
     let own : AreKept w.grants (states_of w) = subst (λ g. AreKept g (states_of w)) (sym h.same) h.states in
-    record { same = h.same; states = subst (λ g. AreKept g (line_result (context_of w) (processor_at w.processors l.cpu) (states_of w) l.act).1) h.same (result_kept (context_of w) (processor_at w.processors l.cpu) (states_of w) l.act own) }
+    record { same = h.same; states = subst (λ g. AreKept g (line_result (context_of w) (processor_at w.processors l.cpu) (states_of w) l.act).1) h.same (result_kept (access_of (context_of w)) (processor_at w.processors l.cpu) (states_of w) l.act own) }
 
 one_kept : (grants : List Grant) (w : RunState) (l : TraceLine) → IsKeptRun grants w → IsKeptRun grants (run_line w l).1
 unfolding run_line
@@ -180,5 +183,6 @@ can_be_entered grants s h = record { canonical = h.1; stored = λ valid. stored_
 pub entries_can_be_entered : EntriesCanBeEntered
 entries_can_be_entered t lines is =
     let grants = t.config.granted.grants in
-    let run = all_kept grants (opening_run t.config) lines (opening_kept t.config is.entries) in
-    each_map (IsKept grants) (CanBeEntered grants) (states_of (state_after_lines (opening_run t.config) lines)) (can_be_entered grants) run.states
+    let own = trace_lines_on_table t.config.windows lines in
+    let run = all_kept grants (opening_run t.config) own (opening_kept t.config is.entries) in
+    subst (λ w. AllByRecursion (CanBeEntered grants) (states_of w)) (sym (opened_after t lines)) (each_map (IsKept grants) (CanBeEntered grants) (states_of (state_after_lines (opening_run t.config) own)) (can_be_entered grants) run.states)

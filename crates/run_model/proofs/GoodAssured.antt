@@ -5,8 +5,9 @@ use Rattle.std.proofs.Common.{List}
 use Rattle.run_model.specs.SerialRun.{serial_replies}
 use Rattle.run_model.specs.GoodRun.{IsGoodRun}
 use Rattle.run_model.specs.Assurances.{Assures}
-use Rattle.run_model.proofs.SerialGood.{serial_good}
-use Rattle.run_model.proofs.AllSafe.{accesses_land, all_unworn}
+use Rattle.run_model.proofs.StoresGood.{serial_good}
+use Rattle.run_model.proofs.AllSafe.{accesses_land}
+use Rattle.run_model.proofs.WindowsSafe.{all_unworn, devices_land}
 use Rattle.run_model.proofs.ClearedBits.{cleared_are_shown}
 use Rattle.run_model.proofs.StoresKept.{no_store_is_lost, no_set_bit_is_lost}
 use Rattle.run_model.proofs.SectionChain.{resizes_keep_bolted_pages}
@@ -18,6 +19,7 @@ good_assures t rs is good = record {
   cleared = cleared_are_shown t rs good;
   pages = resizes_keep_bolted_pages t rs is good;
   landings = accesses_land t rs is good;
+  devices = devices_land t rs is good;
   unworn = all_unworn t rs is good;
 }
 

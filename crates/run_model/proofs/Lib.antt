@@ -1,7 +1,10 @@
 pub mod Each
 pub mod LinesByProcessor
+pub mod LineReceipts
+pub mod StoreLines
 pub mod Undisturbed
 pub mod SectionGood
+pub mod WindowCalls
 pub mod OneReply
 pub mod CachesHold
 pub mod SerialReplies
@@ -11,6 +14,9 @@ pub mod SerialGood
 pub mod ParallelGood
 pub mod SerialParallel
 pub mod OneProcessor
+pub mod WindowStands
+pub mod SerialStores
+pub mod StoresGood
 pub mod CachesUsed
 pub mod Resized
 pub mod SectionChain
@@ -28,9 +34,14 @@ pub mod TableSizes
 mod ReadAgain
 mod OpeningAgain
 pub mod AllSafe
+pub mod CallLines
+pub mod WindowStates
+pub mod WindowsSafe
+pub mod BusyLines
 pub mod ClearedBits
 pub mod Refusals
 pub mod RefusedLines
+pub mod RefusedWindows
 pub mod RefusedResizes
 pub mod SmallPartition
 mod AssuranceRows
@@ -39,6 +50,7 @@ mod HistoryRows
 mod SectionRows
 mod ParallelRows
 mod RefusedRows
+mod WindowRows
 mod OpeningAgainRows
 pub mod ProcessorLists
 pub mod MaskedAccesses

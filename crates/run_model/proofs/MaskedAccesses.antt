@@ -21,11 +21,14 @@ use Rattle.trace_read.specs.Trace.{AcceptedTrace}
 use Rattle.trace_reply.specs.declared.reply.Reply.{Reply}
 use Rattle.trace_reply.specs.declared.reply.Reply.TheVariants as replies
 use Rattle.trace_reply.specs.Replies.{RepliedLine, lines_with_replies}
+use Rattle.run_model.specs.StoreContexts.{access_of}
 use Rattle.run_model.specs.Processors.{processor_at, processor_after}
 use Rattle.run_model.specs.LineReplies.{IsReplyToAccess}
 use Rattle.run_model.specs.RunState.{RunState, context_of, states_of, opening_run, run_quiet_line, run_resize, without_cache}
 use Rattle.run_model.specs.Histories.{lines_of_processor}
-use Rattle.run_model.specs.Sections.{Section, QuietPart, section_end, processor_after_lines, cut, sections_from, sections_of}
+use Rattle.run_model.specs.Quiet.{QuietPart, cut}
+use Rattle.run_model.specs.Windows.{is_on_table, table_lines}
+use Rattle.run_model.specs.Sections.{Section, section_end, processor_after_lines, sections_from, sections_of}
 use Rattle.run_model.specs.GoodRun.{EachLineOfProcessor, IsAccessLine, AccessesAreReplied, IsGoodRun}
 use Rattle.run_model.specs.MaskedAccesses.{IsMaskedByItsEntry, MasksRefuse, SetsZero, HasNoMasked, IsUnmasked, NoneIsMasked}
 use Rattle.run_model.proofs.Each.{each_at, each_filter}
@@ -42,7 +45,7 @@ lines_masked context states p (t ∷ ts) h =
     (line_masked context p t.line.act t.reply h.0.reply, lines_masked context states (processor_after p t.line.act t.reply) ts h.1)
 
 section_masked : (s : Section) → AccessesAreReplied s → MasksRefuse s
-section_masked s replied = λ cpu. lines_masked (context_of s.before) (states_of (section_end s.before s.replied_lines)) (processor_at s.before.processors cpu) (lines_of_processor cpu s.replied_lines) (replied cpu)
+section_masked s replied = λ cpu. lines_masked (access_of (context_of s.before)) (states_of (section_end s.before s.replied_lines)) (processor_at s.before.processors cpu) (lines_of_processor cpu s.replied_lines) (replied cpu)
 
 sections_masked : (ss : List Section) → AllByRecursion AccessesAreReplied ss → AllByRecursion MasksRefuse ss
 sections_masked [] replied = tt
@@ -116,7 +119,7 @@ unfolding section_end
 section_unmasked s h zeros replied = (λ cpu. (one cpu).0, after_each HasZeroMasks 0 s.before.processors s.replied_lines (λ k within. subst (λ n. HasZeroMasks (processor_after_lines (processor_at s.before.processors k) (lines_of_processor n s.replied_lines))) (omega arith) (one k).1)) where
   one : (cpu : ℕ) → EachLineOfProcessor IsUnmasked (processor_at s.before.processors cpu) (lines_of_processor cpu s.replied_lines) × HasZeroMasks (processor_after_lines (processor_at s.before.processors cpu) (lines_of_processor cpu s.replied_lines))
   one cpu =
-      lines_unmasked (context_of s.before) (states_of (section_end s.before s.replied_lines)) (processor_at s.before.processors cpu) (lines_of_processor cpu s.replied_lines)
+      lines_unmasked (access_of (context_of s.before)) (states_of (section_end s.before s.replied_lines)) (processor_at s.before.processors cpu) (lines_of_processor cpu s.replied_lines)
       (each_at HasZeroMasks s.before.processors cpu new_processor new_zero h)
       (each_filter IsZeroLine _ s.replied_lines zeros)
       (replied cpu)
@@ -150,5 +153,6 @@ sections_unmasked w ts (q ∷ qs) h zeros replied =
 pub zero_masks_refuse : (t : AcceptedTrace) (rs : List Reply) → AllByRecursion (λ (l : TraceLine). SetsZero l.act) t.lines → IsGoodRun t rs → AllByRecursion NoneIsMasked (sections_of t rs)
 unfolding opening_run
 zero_masks_refuse t rs zeros good =
-    let ts = lines_with_replies t.lines rs in
-    sections_unmasked (opening_run t.config) (cut ts).0 (cut ts).1 (all_new_zero t.config.cpus) (cut_zero ts (replied_zero t.lines rs zeros)) good.accesses
+    let ts = table_lines t rs in
+    let on = λ (x : RepliedLine). is_on_table t.config.windows x.line.act in
+    sections_unmasked (opening_run t.config) (cut ts).0 (cut ts).1 (all_new_zero t.config.cpus) (cut_zero ts (each_filter IsZeroLine on (lines_with_replies t.lines rs) (replied_zero t.lines rs zeros))) good.accesses

@@ -14,27 +14,26 @@ use Rattle.entry_model.specs.History.{IsLegal, history, by_place, put_in, preced
 use Rattle.entry_model.proofs.Regroup.{history_regrouped, regrouped_back}
 use Rattle.entry_model.proofs.Sorted.{rises, flag, place_same}
 use Rattle.entry_model.proofs.RunHistory.{run_chain}
-use Rattle.hpt_walk.specs.Access.{AccessContext}
+use Rattle.run_model.specs.StoreContexts.{StoreContext, access_of}
+use Rattle.run_model.specs.StoreSections.{StoreSection, made_in, closing_of}
+use Rattle.run_model.specs.Quiet.{cut, cut_before}
 use Rattle.tlb_model.specs.Processor.{Processor}
 use Rattle.trace_line.specs.declared.line.TraceLine.{TraceLine}
 use Rattle.trace_line.specs.Lines.{is_quiet}
-use Rattle.trace_read.specs.Trace.{AcceptedTrace, IsAccepted}
+use Rattle.trace_read.specs.Trace.{AcceptedTrace}
 use Rattle.trace_reply.specs.declared.reply.Reply.{Reply}
 use Rattle.trace_reply.specs.Replies.{RepliedLine, receipts_in, lines_with_replies}
 use Rattle.run_model.specs.Processors.{processor_at, processor_after, processors_after, gone_line_of}
 use Rattle.run_model.specs.LineReplies.{IsCallReply}
-use Rattle.run_model.specs.RunState.{RunState, context_of, states_of, opening_run, run_quiet_line}
-use Rattle.run_model.specs.SerialRun.{serial_replies}
+use Rattle.run_model.specs.RunState.{RunState, context_of, states_of, run_quiet_line}
 use Rattle.run_model.specs.Histories.{lines_of_processor, receipts_by, closing_states, closing_from, Event, made, gone, InOrder, gone_events, events_by}
 use Rattle.entry_model.specs.Fronts.{pair_beyond}
-use Rattle.run_model.specs.Sections.{Section, receipts_made, section_end, cut, cut_before, sections_from, sections_of}
-use Rattle.run_model.specs.GoodRun.{IsGoodRun, AreLegal, AreInOrder, CallsAreReplied, IsAccessLine, AccessesAreReplied, QuietIsReplied, IsGoodSection}
+use Rattle.run_model.specs.Sections.{Section, receipts_made, section_end, sections_from, sections_of, table_section}
+use Rattle.run_model.specs.GoodRun.{IsGoodRun, AreLegal, AreInOrder, CallsAreReplied, IsAccessLine, AccessesAreReplied, QuietIsReplied, IsGoodTo, IsGoodSection}
 use Rattle.run_model.specs.Laws.{HasOneProcessor}
 use Rattle.run_model.proofs.Undisturbed.{AreUndisturbed, Stands, state_behind}
-use Rattle.run_model.proofs.SectionGood.{closed_is, each_regrouped, AllCpus, quiet_size, processors_on_size}
-use Rattle.run_model.proofs.SerialGood.{cut_cpus, opening_processors}
+use Rattle.run_model.proofs.SectionGood.{closed_is, each_regrouped, AllCpus, OnCpus, RunsAlone, quiet_size, processors_on_size}
 use Rattle.run_model.proofs.LinesByProcessor.{Cpus, InFileOrder, own_yes, processor_own, cpus_after, file_lines, file_listed}
-use Rattle.run_model.proofs.OneReply.{replies_are}
 
 -- ---- receipts of one entry and one processor, in its order
 abbrev pub Rising : ℕ → List Receipt → Type 0
@@ -191,7 +190,7 @@ gone_now a b rs evs more (Some line) run order rest end =
     let rise = receipts_rising line.entry (max o.0 (pair_beyond line)) rs evs more high (rest line.entry) in
     left_now line.stamp (max o.0 (pair_beyond line)) (state_at a line.entry) (state_at b line.entry) (of_entry line.entry (rs ++ more)) (omega arith) rise (run_chain line.entry a b (rs ++ more) run) end
 
-pub replied_lines_stand : (set : AccessContext) (c : ℕ) (processors : List Processor) (a b : List State) (ts : List RepliedLine) → OneCpu c ts → Cpus (length processors) ts → IsRun a (receipts_by ts) b → ((e : ℕ) → (p : ℕ) × InOrder e p (events_by (processor_at processors c) ts)) → InFileOrder (λ processor t. IsCallReply set t.line.act t.reply) processors ts → InFileOrder (IsAccessLine set b) processors ts → AreUndisturbed set processors a ts b
+pub replied_lines_stand : (set : StoreContext) (c : ℕ) (processors : List Processor) (a b : List State) (ts : List RepliedLine) → OneCpu c ts → Cpus (length processors) ts → IsRun a (receipts_by ts) b → ((e : ℕ) → (p : ℕ) × InOrder e p (events_by (processor_at processors c) ts)) → InFileOrder (λ processor t. IsCallReply set t.line.act t.reply) processors ts → InFileOrder (IsAccessLine (access_of set) b) processors ts → AreUndisturbed set processors a ts b
 replied_lines_stand set c processors a b [] one within run order calls reaches = run
 replied_lines_stand set c processors a b (t ∷ ts) one within run order calls reaches =
     let processor = processor_at processors t.line.cpu in
@@ -212,24 +211,28 @@ pub closing_size : (a : List State) (rs : List Receipt) → length (closing_stat
 unfolding closing_states
 closing_size a rs = closing_from_size 0 a rs
 
+pub section_alone : (c : ℕ) (s : StoreSection) → OneCpu c s.replied_lines → OnCpus s → IsGoodTo s (closing_of s) → RunsAlone s (closing_of s)
+section_alone c s one within h =
+    let a = s.opening in
+    let b = closing_of s in
+    let ts = s.replied_lines in
+    let rs = receipts_by ts in
+    let back = regrouped_back (file_listed (length s.processors) ts within) in
+    let order : (e : ℕ) → InOrder e (pair_of (state_at a e)) (events_by (processor_at s.processors c) ts) = λ e. subst (λ l. InOrder e (pair_of (state_at a e)) (events_by (processor_at s.processors c) l)) (own_all c ts one) (h.1 c e) in
+    let sorted : (e : ℕ) → history e rs ≡ of_entry e rs = λ e. sorted_is (pair_of (state_at a e)) (of_entry e rs) (replied_lines_rising e (pair_of (state_at a e)) (processor_at s.processors c) ts (order e)) in
+    let legal : (e : ℕ) → e < length a → IsLegal (state_at a e) (of_entry e rs) (state_at b e) = λ e k. subst (λ l. IsLegal (state_at a e) l (state_at b e)) (sorted e) (history_regrouped e (state_at a e) (state_at b e) (made_in s) rs back (h.0.legal e k)) in
+    let run : IsRun a rs b = chain_run a b rs (closing_size a (made_in s)) (each_regrouped (λ (r : Receipt). r.entry < length a) back h.0.in_table) legal in
+    replied_lines_stand s.context c s.processors a b ts one within run (λ e. (pair_of (state_at a e), order e)) (file_lines (λ processor t. IsCallReply s.context t.line.act t.reply) s.processors ts within h.2) (file_lines (IsAccessLine (access_of s.context) b) s.processors ts within h.3)
+
 section_stands : (c : ℕ) (w : RunState) (ts : List RepliedLine) (quiet : Option RepliedLine) → OneCpu c ts → Cpus (length w.processors) ts → IsGoodSection (record { before = w; replied_lines = ts; quiet = quiet }) → AreUndisturbed (context_of w) w.processors (states_of w) ts (closing_states (states_of w) (receipts_made w ts))
 unfolding section_end
-section_stands c w ts quiet one within h =
-    let a = (states_of w) in
-    let b = closing_states a (receipts_made w ts) in
-    let rs = receipts_by ts in
-    let back = regrouped_back (file_listed (length w.processors) ts within) in
-    let order : (e : ℕ) → InOrder e (pair_of (state_at a e)) (events_by (processor_at w.processors c) ts) = λ e. subst (λ l. InOrder e (pair_of (state_at a e)) (events_by (processor_at w.processors c) l)) (own_all c ts one) (h.1 c e) in
-    let sorted : (e : ℕ) → history e rs ≡ of_entry e rs = λ e. sorted_is (pair_of (state_at a e)) (of_entry e rs) (replied_lines_rising e (pair_of (state_at a e)) (processor_at w.processors c) ts (order e)) in
-    let legal : (e : ℕ) → e < length a → IsLegal (state_at a e) (of_entry e rs) (state_at b e) = λ e k. subst (λ l. IsLegal (state_at a e) l (state_at b e)) (sorted e) (history_regrouped e (state_at a e) (state_at b e) (receipts_made w ts) rs back (h.0.legal e k)) in
-    let run : IsRun a rs b = chain_run a b rs (closing_size a (receipts_made w ts)) (each_regrouped (λ (r : Receipt). r.entry < length a) back h.0.in_table) legal in
-    replied_lines_stand (context_of w) c w.processors a b ts one within run (λ e. (pair_of (state_at a e), order e)) (file_lines (λ processor t. IsCallReply (context_of w) t.line.act t.reply) w.processors ts within h.2) (file_lines (IsAccessLine (context_of w) b) w.processors ts within h.3)
+section_stands c w ts quiet one within h = section_alone c (table_section w ts) one within (h.0, h.1, h.2, h.3)
 
 -- every section has this processor
 abbrev pub AllOne : ℕ → List RepliedLine → List (RepliedLine × List RepliedLine) → Type 0
 AllOne c ts qs = OneCpu c ts × AllByRecursion (λ (q : RepliedLine × List RepliedLine). OneCpu c q.1) qs
 
-sections_stand : (n c : ℕ) (w : RunState) (ts : List RepliedLine) (qs : List (RepliedLine × List RepliedLine)) → length w.processors ≡ n → AllCpus n ts qs → AllOne c ts qs → AllByRecursion IsGoodSection (sections_from w ts qs) → Stands w ts qs
+pub sections_stand : (n c : ℕ) (w : RunState) (ts : List RepliedLine) (qs : List (RepliedLine × List RepliedLine)) → length w.processors ≡ n → AllCpus n ts qs → AllOne c ts qs → AllByRecursion IsGoodSection (sections_from w ts qs) → Stands w ts qs
 sections_stand n c w ts [] size cpus one h = (closing_states (states_of w) (receipts_made w ts), section_stands c w ts None one.0 (subst (λ k. Cpus k ts) (sym size) cpus.0) h.0)
 sections_stand n c w ts (q ∷ qs) size cpus one h =
     let b = closing_states (states_of w) (receipts_made w ts) in
@@ -248,10 +251,18 @@ front_one c t x h k = at (cases_Bool (is_quiet t.line.act)) where
   at (inl q) = rw q (tt, (k.0, k.1))
   at (inr q) = rw q ((h q, k.0), k.1)
 
-cut_one : (c : ℕ) (ls : List TraceLine) (rs : List Reply) → HasOneProcessor c ls → AllOne c (cut (lines_with_replies ls rs)).0 (cut (lines_with_replies ls rs)).1
-cut_one c [] rs h = (tt, tt)
-cut_one c (l ∷ ls) [] h = (tt, tt)
-cut_one c (l ∷ ls) (r ∷ rs) h = front_one c (record { line = l; reply = r }) (cut (lines_with_replies ls rs)) h.0 (cut_one c ls rs h.1)
+-- All lines but quiet ones have this processor.
+abbrev pub OneCpuButQuiet : ℕ → List RepliedLine → Type 0
+OneCpuButQuiet c ts = AllByRecursion (λ (t : RepliedLine). is_quiet t.line.act ≡ false → t.line.cpu ≡ c) ts
+
+pub cut_one : (c : ℕ) (ts : List RepliedLine) → OneCpuButQuiet c ts → AllOne c (cut ts).0 (cut ts).1
+cut_one c [] h = (tt, tt)
+cut_one c (t ∷ ts) h = front_one c t (cut ts) h.0 (cut_one c ts h.1)
+
+pub lines_of_one : (c : ℕ) (ls : List TraceLine) (rs : List Reply) → HasOneProcessor c ls → OneCpuButQuiet c (lines_with_replies ls rs)
+lines_of_one c [] rs h = tt
+lines_of_one c (l ∷ ls) [] h = tt
+lines_of_one c (l ∷ ls) (r ∷ rs) h = (h.0, lines_of_one c ls rs h.1)
 
 -- the parts of one section together
 pub together : (t : AcceptedTrace) (rs : List Reply) → IsGoodRun t rs → AllByRecursion IsGoodSection (sections_of t rs)
@@ -259,9 +270,3 @@ together t rs g = zip (sections_of t rs) g.legal g.in_order g.calls g.accesses g
   zip : (ss : List Section) → AllByRecursion AreLegal ss → AllByRecursion AreInOrder ss → AllByRecursion CallsAreReplied ss → AllByRecursion AccessesAreReplied ss → AllByRecursion QuietIsReplied ss → AllByRecursion IsGoodSection ss
   zip [] a b c d e = tt
   zip (s ∷ ss) a b c d e = ((a.0, b.0, c.0, d.0, e.0), zip ss a.1 b.1 c.1 d.1 e.1)
-
--- The one good run of a trace of one processor is the serial run.
-pub one_good_run : (t : AcceptedTrace) (cpu : ℕ) (rs : List Reply) → IsAccepted t → HasOneProcessor cpu t.lines → IsGoodRun t rs → rs ≡ serial_replies t
-one_good_run t cpu rs is one g =
-    let x = cut (lines_with_replies t.lines rs) in
-    replies_are (opening_run t.config) t.lines rs g.kinds (sections_stand t.config.cpus cpu (opening_run t.config) x.0 x.1 (opening_processors t) (cut_cpus t.config.cpus t.lines rs is.lines.on_cpus) (cut_one cpu t.lines rs one) (together t rs g))

@@ -34,8 +34,10 @@ use Rattle.run_model.specs.LineReplies.{hcall_plan, IsCallReply, IsReplyToAccess
 use Rattle.run_model.specs.RunState.{RunState, context_of, states_of, run_quiet_line}
 use Rattle.hpt_resize.specs.TableMemory.{with_states}
 use Rattle.run_model.specs.SerialRun.{is_current, current_line, access_result, result_by_line, result_by_segment, call_result, line_result, with_result, run_line, replies_from}
+use Rattle.run_model.proofs.WindowCalls.{device_is}
+use Rattle.run_model.specs.StoreContexts.{StoreContext, access_of}
 use Rattle.run_model.proofs.Undisturbed.{IsUndisturbed, state_behind, Stands}
-use Rattle.run_model.specs.Sections.{cut, cut_before}
+use Rattle.run_model.specs.Quiet.{cut, cut_before}
 use Rattle.trace_line.specs.declared.act.Act.TheVariants as acts
 use Rattle.trace_reply.specs.declared.reply.Reply.TheVariants as replies
 
@@ -94,7 +96,7 @@ segment_is set processor a None r states b h gone run =
 segment_is set processor a (Some seg) r states b h gone run = way_is set seg a (cached_line processor.cache seg.page) r.by r states b refl h gone run
 
 -- ---- a line
-line_is : (set : AccessContext) (processor : Processor) (act : Act) (r : Reply) (a b : List State) → is_quiet act ≡ false → IsCallReply set act r → IsReplyToAccess set processor act r → IsPassed a (gone_line_of processor act r) → IsRun a (receipts_in r) b → (r, b) ≡ line_result set processor a act
+line_is : (set : StoreContext) (processor : Processor) (act : Act) (r : Reply) (a b : List State) → is_quiet act ≡ false → IsCallReply set act r → IsReplyToAccess (access_of set) processor act r → IsPassed a (gone_line_of processor act r) → IsRun a (receipts_in r) b → (r, b) ≡ line_result set processor a act
 unfolding line_result is_quiet
 line_is set processor (acts.Call number args spelt) (replies.Hcall h) a b q call acc gone run = ap call_result (plan_is (hcall_plan set (hcall_of number) args) a b h call run)
 line_is set processor (acts.Call number args spelt) (replies.Access r) a b q call acc gone run = absurd call
@@ -102,15 +104,13 @@ line_is set processor (acts.Call number args spelt) (replies.Device r) a b q cal
 line_is set processor (acts.Call number args spelt) (replies.Segment x) a b q call acc gone run = absurd call
 line_is set processor (acts.Call number args spelt) replies.MaskSet a b q call acc gone run = absurd call
 line_is set processor (acts.Call number args spelt) (replies.Dump x) a b q call acc gone run = absurd call
-line_is set processor (acts.Access want ea user) (replies.Access r) a b q call acc gone run = segment_is set processor (request want ea user processor.masks) (segment_of processor.slots ea) r a b acc gone run
+line_is set processor (acts.Access want ea user) (replies.Access r) a b q call acc gone run = segment_is (access_of set) processor (request want ea user processor.masks) (segment_of processor.slots ea) r a b acc gone run
 line_is set processor (acts.Access want ea user) (replies.Hcall r) a b q call acc gone run = absurd acc
 line_is set processor (acts.Access want ea user) (replies.Device r) a b q call acc gone run = absurd acc
 line_is set processor (acts.Access want ea user) (replies.Segment r) a b q call acc gone run = absurd acc
 line_is set processor (acts.Access want ea user) replies.MaskSet a b q call acc gone run = absurd acc
 line_is set processor (acts.Access want ea user) (replies.Dump r) a b q call acc gone run = absurd acc
-line_is set processor (acts.Device write liobn ioba) r a b q call acc gone run =
-    let stays : b ≡ a = subst (λ (x : Reply). IsRun a (receipts_in x) b) call run in
-    λ i. (call i, stays i)
+line_is set processor (acts.Device write liobn ioba) r a b q call acc gone run = device_is set.grants set.window ioba write r a b call run
 line_is set processor (acts.SlbMte rb rs) r a b q call acc gone run =
     let stays : b ≡ a = subst (λ (x : Reply). IsRun a (receipts_in x) b) call run in
     λ i. (call i, stays i)
@@ -122,7 +122,7 @@ line_is set processor (acts.SetMask name value) r a b q call acc gone run =
     λ i. (call i, stays i)
 line_is set processor acts.Dump r a b q call acc gone run = cc
 
-pub replied_line_is : (set : AccessContext) (processor : Processor) (a b : List State) (t : RepliedLine) → is_quiet t.line.act ≡ false → IsUndisturbed set processor a t b → (t.reply, b) ≡ line_result set processor a t.line.act
+pub replied_line_is : (set : StoreContext) (processor : Processor) (a b : List State) (t : RepliedLine) → is_quiet t.line.act ≡ false → IsUndisturbed set processor a t b → (t.reply, b) ≡ line_result set processor a t.line.act
 replied_line_is set processor a b t q h = line_is set processor t.line.act t.reply a b q h.call h.access h.gone h.run
 
 -- ---- all lines

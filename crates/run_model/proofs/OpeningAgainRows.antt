@@ -20,6 +20,7 @@ one_entry = record {
     grants = record { logical = 0; machine = 0x2000000000; length = 0x40000000; kind = Ram } ∷ [];
   };
   entries = record { index = 0x20; dword0 = 0x1001; dword1 = 0x3192 } ∷ [];
+  windows = [];
 }
 
 -- An entry with B = 1 that has changed seven times, with R set.

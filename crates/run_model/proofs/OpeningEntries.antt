@@ -1,6 +1,5 @@
 -- What holds of an empty entry and of each entry that is valid at first holds of each opening state.
-use Rattle.std.specs.Prelude.{replicate}
-use Rattle.std.proofs.Common.{◌≡◌, ℕ, zero, suc, List, [], ◌∷◌, Some}
+use Rattle.std.proofs.Common.{◌≡◌, ℕ, List, [], ◌∷◌, Some}
 use Rattle.std.specs.List.{AllByRecursion}
 use Rattle.frame_grants.specs.declared.grant.Grant.{Grant}
 use Rattle.hpte_fields.specs.TableSize.{entry_count}
@@ -14,13 +13,9 @@ use Rattle.hpt_walk.proofs.Granted.{IsGranted, reply_granted, empty_granted}
 use Rattle.hpt_resize.specs.TableMemory.{opening_memory, empty_states, with_entries}
 use Rattle.hpt_resize.proofs.OpeningStates.{with_entry}
 use Rattle.run_model.specs.RunState.{states_of, opening_run}
-use Rattle.run_model.proofs.Each.{each_map, each_set}
+use Rattle.run_model.proofs.Each.{each_map, each_set, each_replicate}
 use Rattle.run_model.proofs.SafeReplies.{suited_granted}
 use Rattle.entry_model.specs.declared.operation.Op.TheVariants as ops
-
-each_replicate : (P : State → Type 0) (s : State) (count : ℕ) → P s → AllByRecursion P (replicate count s)
-each_replicate P s zero h = tt
-each_replicate P s (suc count) h = (h, each_replicate P s count h)
 
 each_with_entries : (P : State → Type 0) (states : List State) (es : List ImageEntry) → AllByRecursion P states → AllByRecursion (λ (e : ImageEntry). P (entered_state e.dword0 e.dword1)) es → AllByRecursion P (with_entries states es)
 each_with_entries P states [] h k = h
@@ -29,7 +24,7 @@ each_with_entries P states (e ∷ es) h k = each_with_entries P (with_entry stat
 pub each_opening : (P : State → Type 0) (c : Configuration) → P (empty_state 0) → ((e : ImageEntry) → IsOpeningEntry c.order c.granted.grants e → P (entered_state e.dword0 e.dword1)) → AreOpeningEntries c.order c.granted.grants c.entries → AllByRecursion P (states_of (opening_run c))
 unfolding opening_run opening_memory empty_states
 each_opening P c empty entered is =
-    each_with_entries P (empty_states c.order) c.entries (each_replicate P (empty_state 0) (entry_count c.order) empty)
+    each_with_entries P (empty_states c.order) c.entries (each_replicate P (entry_count c.order) (empty_state 0) empty)
     (each_map (IsOpeningEntry c.order c.granted.grants) (λ (e : ImageEntry). P (entered_state e.dword0 e.dword1)) c.entries entered is.each)
 
 -- The page of words that H_ENTER would store is granted.

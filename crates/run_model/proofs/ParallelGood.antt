@@ -10,21 +10,27 @@ use Rattle.entry_model.specs.declared.receipt.Receipt.{Receipt}
 use Rattle.entry_model.specs.Receipt.{after_of}
 use Rattle.entry_model.specs.Run.{state_at}
 use Rattle.entry_model.specs.CachedLines.{AllLater}
-use Rattle.entry_model.specs.History.{IsLegal, history, pair_of}
+use Rattle.entry_model.specs.History.{pair_of}
 use Rattle.entry_model.specs.Fronts.{front_at, opening_fronts, fronts_after, KeepsFronts, IsGone, pair_beyond}
 use Rattle.entry_model.proofs.FrontLaws.{keeps_below}
-use Rattle.hpt_walk.specs.Access.{AccessContext}
+use Rattle.run_model.specs.StoreContexts.{StoreContext, access_of}
+use Rattle.run_model.specs.StoreSections.{StoreSection, made_in, closing_of}
+use Rattle.run_model.specs.Windows.{table_lines, opening_window, window_section, window_sections_from, window_sections}
+use Rattle.run_model.specs.Quiet.{cut}
+use Rattle.bus_window.specs.Windows.{BusWindow}
+use Rattle.frame_grants.specs.declared.grant.Grant.{Grant}
 use Rattle.tlb_model.specs.Processor.{Processor}
 use Rattle.trace_read.specs.Trace.{AcceptedTrace}
 use Rattle.trace_reply.specs.declared.reply.Reply.{Reply}
 use Rattle.trace_reply.specs.Replies.{RepliedLine, AreReplies, receipts_in, lines_with_replies}
 use Rattle.run_model.specs.Processors.{processor_at, processor_after, gone_line_of}
 use Rattle.run_model.specs.LineReplies.{IsCallReply}
-use Rattle.run_model.specs.RunState.{RunState, context_of, states_of, opening_run, run_quiet_line}
+use Rattle.run_model.specs.RunState.{RunState, states_of, opening_run, run_quiet_line}
 use Rattle.run_model.specs.Histories.{lines_of_processor, Event, made, InOrder, gone_events, events_by}
-use Rattle.run_model.specs.Sections.{receipts_made, section_end, cut, sections_from, section_end_on}
-use Rattle.run_model.specs.GoodRun.{IsGoodRun, EachLineOfProcessor, IsAccessLine, IsGoodSection}
-use Rattle.run_model.specs.ParallelRun.{Works, AllWork, IsClosed, RunsParallel, IsParallel}
+use Rattle.run_model.specs.Sections.{section_end, table_section, sections_from, section_end_on}
+use Rattle.run_model.specs.GoodRun.{IsGoodRun, EachLineOfProcessor, IsAccessLine, IsGoodTo, IsGoodSection, IsGoodWindowSection}
+use Rattle.run_model.specs.ParallelRun.{Works, RunsApart, RunsParallel, WindowRunsParallel, WindowRuns, IsParallel}
+use Rattle.run_model.proofs.Each.{each_map}
 use Rattle.run_model.proofs.SectionGood.{closing_is, stamp_pair}
 use Rattle.run_model.proofs.SerialGood.{good_of}
 
@@ -81,21 +87,21 @@ line_order e p f g (Some line) rs evs within h past gone low rest = cond_both (l
       subst (λ k. InOrder k (max p (pair_beyond line)) (map (λ (r : Receipt). made r) rs ++ evs)) same all
 
 -- ---- a processor
-work_order : (set : AccessContext) (e p : ℕ) (f g : List ℕ) (processor : Processor) (ts : List RepliedLine) → Works set f processor ts g → p ≤ front_at f e → InOrder e p (events_by processor ts)
+work_order : (set : StoreContext) (e p : ℕ) (f g : List ℕ) (processor : Processor) (ts : List RepliedLine) → Works set f processor ts g → p ≤ front_at f e → InOrder e p (events_by processor ts)
 work_order set e p f g processor [] h low = tt
 work_order set e p f g processor (t ∷ ts) h low =
     let line = gone_line_of processor t.line.act t.reply in
     let later = events_by (processor_after processor t.line.act t.reply) ts in
     subst (InOrder e p) (sym (append_assoc (gone_events line) (map (λ (r : Receipt). made r) (receipts_in t.reply)) later)) (line_order e p f h.0 line (receipts_in t.reply) later h.1.in_table h.1.keeps h.1.comes_later h.1.gone low (λ q k. work_order set e q h.0 g (processor_after processor t.line.act t.reply) ts h.2 k))
 
-work_up : (set : AccessContext) (e : ℕ) (f g : List ℕ) (processor : Processor) (ts : List RepliedLine) → Works set f processor ts g → front_at f e ≤ front_at g e
+work_up : (set : StoreContext) (e : ℕ) (f g : List ℕ) (processor : Processor) (ts : List RepliedLine) → Works set f processor ts g → front_at f e ≤ front_at g e
 work_up set e f g processor [] h = subst (λ x. front_at f e ≤ front_at x e) (sym h) (omega arith)
 work_up set e f g processor (t ∷ ts) h =
     let first : front_at f e ≤ front_at h.0 e = (keeps_below f h.0 (receipts_in t.reply) h.1.keeps).low e in
     let rest : front_at h.0 e ≤ front_at g e = work_up set e h.0 g (processor_after processor t.line.act t.reply) ts h.2 in
     omega arith
 
-work_calls : (set : AccessContext) (f g : List ℕ) (processor : Processor) (ts : List RepliedLine) → Works set f processor ts g → EachLineOfProcessor (λ processor t. IsCallReply set t.line.act t.reply) processor ts
+work_calls : (set : StoreContext) (f g : List ℕ) (processor : Processor) (ts : List RepliedLine) → Works set f processor ts g → EachLineOfProcessor (λ processor t. IsCallReply set t.line.act t.reply) processor ts
 work_calls set f g processor [] h = tt
 work_calls set f g processor (t ∷ ts) h = (h.1.call, work_calls set h.0 g (processor_after processor t.line.act t.reply) ts h.2)
 
@@ -103,7 +109,7 @@ gone_closed : (f g : List ℕ) (b : List State) (line : Option Line) → IfSome 
 gone_closed f g b None h rise end = tt
 gone_closed f g b (Some line) h rise end = end line (omega (arith, rise line.entry))
 
-work_reaches : (set : AccessContext) (f g : List ℕ) (b : List State) (processor : Processor) (ts : List RepliedLine) → Works set f processor ts g → ((l : Line) → IsGone g l → l.stamp < (state_at b l.entry).stamp) → EachLineOfProcessor (IsAccessLine set b) processor ts
+work_reaches : (set : StoreContext) (f g : List ℕ) (b : List State) (processor : Processor) (ts : List RepliedLine) → Works set f processor ts g → ((l : Line) → IsGone g l → l.stamp < (state_at b l.entry).stamp) → EachLineOfProcessor (IsAccessLine (access_of set) b) processor ts
 work_reaches set f g b processor [] h end = tt
 work_reaches set f g b processor (t ∷ ts) h end =
     (record { reply = h.1.access; gone = gone_closed h.0 g b (gone_line_of processor t.line.act t.reply) h.1.gone (λ e. work_up set e h.0 g (processor_after processor t.line.act t.reply) ts h.2) end }, work_reaches set h.0 g b (processor_after processor t.line.act t.reply) ts h.2 end)
@@ -116,27 +122,47 @@ opening_front [] e = omega arith
 opening_front (s ∷ a) zero = omega arith
 opening_front (s ∷ a) (suc e) = opening_front a e
 
-joined_is : (w : RunState) (ts : List RepliedLine) (fronts : ℕ → List ℕ) (b : List State) → IsClosed w ts fronts b → section_end w ts ≡ section_end_on w ts b
-unfolding section_end
-joined_is w ts fronts b h = ap (section_end_on w ts) (closing_is (states_of w) b (receipts_made w ts) h.size h.legal)
-
-section_parallel : (w : RunState) (ts : List RepliedLine) (quiet : Option RepliedLine) (fronts : ℕ → List ℕ) (b : List State) → AllWork w ts fronts → IsClosed w ts fronts b → IfSome quiet (λ q. q.reply ≡ (run_quiet_line (section_end_on w ts b) q.line.act).0) → IsGoodSection (record { before = w; replied_lines = ts; quiet = quiet })
-section_parallel w ts quiet fronts b work h q =
-    let e : section_end_on w ts b ≡ section_end w ts = sym (joined_is w ts fronts b h) in
-    let set = context_of w in
-    let f = opening_fronts (states_of w) in (
-      record { in_table = h.in_table; legal = λ k low. subst (λ (v : RunState). IsLegal (state_at (states_of w) k) (history k (receipts_made w ts)) (state_at (states_of v) k)) e (h.legal k low) },
-      λ cpu k. work_order set k (pair_of (state_at (states_of w) k)) f (fronts cpu) (processor_at w.processors cpu) (lines_of_processor cpu ts) (work cpu) (opening_front (states_of w) k),
-      λ cpu. work_calls set f (fronts cpu) (processor_at w.processors cpu) (lines_of_processor cpu ts) (work cpu),
-      λ cpu. subst (λ (v : RunState). EachLineOfProcessor (IsAccessLine set (states_of v)) (processor_at w.processors cpu) (lines_of_processor cpu ts)) e (work_reaches set f (fronts cpu) b (processor_at w.processors cpu) (lines_of_processor cpu ts) (work cpu) (h.gone cpu)),
-      subst (λ v. IfSome quiet (λ q. q.reply ≡ (run_quiet_line v q.line.act).0)) e q,
+pub apart_good : (s : StoreSection) (b : List State) → RunsApart s b → IsGoodTo s b
+apart_good s b h =
+    let f = opening_fronts s.opening in (
+      record { in_table = h.closed.in_table; legal = h.closed.legal },
+      λ cpu k. work_order s.context k (pair_of (state_at s.opening k)) f (h.fronts cpu) (processor_at s.processors cpu) (lines_of_processor cpu s.replied_lines) (h.work cpu) (opening_front s.opening k),
+      λ cpu. work_calls s.context f (h.fronts cpu) (processor_at s.processors cpu) (lines_of_processor cpu s.replied_lines) (h.work cpu),
+      λ cpu. work_reaches s.context f (h.fronts cpu) b (processor_at s.processors cpu) (lines_of_processor cpu s.replied_lines) (h.work cpu) (h.closed.gone cpu),
     )
+
+pub apart_closes : (s : StoreSection) (b : List State) → RunsApart s b → closing_of s ≡ b
+apart_closes s b h = closing_is s.opening b (made_in s) h.closed.size h.closed.legal
+
+-- ---- a section of the page table
+joined_is : (w : RunState) (ts : List RepliedLine) (b : List State) → RunsApart (table_section w ts) b → section_end w ts ≡ section_end_on w ts b
+unfolding section_end
+joined_is w ts b h = ap (section_end_on w ts) (apart_closes (table_section w ts) b h)
+
+section_parallel : (w : RunState) (ts : List RepliedLine) (quiet : Option RepliedLine) (b : List State) → RunsApart (table_section w ts) b → IfSome quiet (λ q. q.reply ≡ (run_quiet_line (section_end_on w ts b) q.line.act).0) → IsGoodSection (record { before = w; replied_lines = ts; quiet = quiet })
+section_parallel w ts quiet b h q =
+    let e : section_end_on w ts b ≡ section_end w ts = sym (joined_is w ts b h) in
+    let g : IsGoodTo (table_section w ts) (states_of (section_end w ts)) = subst (λ (v : RunState). IsGoodTo (table_section w ts) (states_of v)) e (apart_good (table_section w ts) b h) in
+    (g.0, g.1, g.2, g.3, subst (λ v. IfSome quiet (λ q. q.reply ≡ (run_quiet_line v q.line.act).0)) e q)
 
 -- ---- all sections
 sections_parallel : (w : RunState) (ts : List RepliedLine) (qs : List (RepliedLine × List RepliedLine)) → RunsParallel w ts qs → AllByRecursion IsGoodSection (sections_from w ts qs)
-sections_parallel w ts [] h = (section_parallel w ts None h.0 h.1 h.2 h.3 tt, tt)
+sections_parallel w ts [] h = (section_parallel w ts None h.0 h.1 tt, tt)
 sections_parallel w ts (q ∷ qs) h =
-    (section_parallel w ts (Some q.0) h.0 h.1 h.2 h.3 h.4, subst (λ v. AllByRecursion IsGoodSection (sections_from (run_quiet_line v q.0.line.act).1 q.1 qs)) (sym (joined_is w ts h.0 h.1 h.3)) (sections_parallel (run_quiet_line (section_end_on w ts h.1) q.0.line.act).1 q.1 qs h.5))
+    (section_parallel w ts (Some q.0) h.0 h.1 h.2, subst (λ v. AllByRecursion IsGoodSection (sections_from (run_quiet_line v q.0.line.act).1 q.1 qs)) (sym (joined_is w ts h.0 h.1)) (sections_parallel (run_quiet_line (section_end_on w ts h.0) q.0.line.act).1 q.1 qs h.3))
+
+-- ---- the sections of a window
+windows_parallel : (grants : List Grant) (cpus : ℕ) (w : BusWindow) (opening : List State) (ts : List RepliedLine) (qs : List (RepliedLine × List RepliedLine)) → WindowRunsParallel grants cpus w opening ts qs → AllByRecursion IsGoodWindowSection (window_sections_from grants cpus w opening ts qs)
+windows_parallel grants cpus w opening ts [] h =
+    let s = window_section grants cpus w opening ts in
+    (subst (IsGoodTo s) (sym (apart_closes s h.0 h.1)) (apart_good s h.0 h.1), tt)
+windows_parallel grants cpus w opening ts (q ∷ qs) h =
+    let s = window_section grants cpus w opening ts in
+    let closes : h.0 ≡ closing_of s = sym (apart_closes s h.0 h.1) in
+    (subst (IsGoodTo s) closes (apart_good s h.0 h.1), subst (λ x. AllByRecursion IsGoodWindowSection (window_sections_from grants cpus w x q.1 qs)) closes (windows_parallel grants cpus w h.0 q.1 qs h.2))
 
 pub parallel_good : (t : AcceptedTrace) (rs : List Reply) → AreReplies t.lines rs → IsParallel t rs → IsGoodRun t rs
-parallel_good t rs kinds h = let c = cut (lines_with_replies t.lines rs) in good_of t rs kinds (sections_parallel (opening_run t.config) c.0 c.1 h)
+parallel_good t rs kinds h =
+    let c = cut (table_lines t rs) in
+    let d = cut (lines_with_replies t.lines rs) in
+    good_of t rs kinds (sections_parallel (opening_run t.config) c.0 c.1 h.table) (each_map (WindowRuns t rs) (λ w. AllByRecursion IsGoodWindowSection (window_sections t rs w)) t.config.windows (λ w k. windows_parallel t.config.granted.grants t.config.cpus w opening_window d.0 d.1 k) h.windows)

@@ -41,6 +41,7 @@ use Rattle.trace_line.specs.declared.act.Act.{Act}
 use Rattle.trace_reply.specs.declared.reply.Reply.{Reply}
 use Rattle.trace_reply.specs.Replies.{RepliedLine, receipts_in}
 use Rattle.hpt_resize.specs.TableMemory.{TableMemory, commit_result}
+use Rattle.run_model.specs.StoreContexts.{access_of}
 use Rattle.run_model.specs.Processors.{processor_at, processor_after}
 use Rattle.run_model.specs.LineReplies.{IsReplyToAccess}
 use Rattle.run_model.specs.RunState.{RunState, context_of, without_cache, run_resize, run_quiet_line}
@@ -49,7 +50,8 @@ use Rattle.run_model.specs.Sections.{processor_after_lines, processors_after_lin
 use Rattle.run_model.specs.GoodRun.{EachLineOfProcessor, IsAccessLine}
 use Rattle.run_model.specs.Landings.{IsLanding, Lands, LandsByItsEntry}
 use Rattle.run_model.proofs.ProcessorLists.{after_each}
-use Rattle.run_model.proofs.Each.{each_map, each_at, each_front, each_back, each_filter, each_of_map}
+use Rattle.run_model.proofs.Each.{each_map, each_at, each_filter, each_of_map}
+use Rattle.run_model.proofs.LineReceipts.{receipts_of_each}
 use Rattle.run_model.proofs.LowStamps.{IsLowStamp, top, FromLowStamp}
 use Rattle.run_model.proofs.Memories.{prepare_table}
 use Rattle.run_model.proofs.Resized.{memory_moves, Moves}
@@ -181,13 +183,6 @@ line_lands granted set p acts.Dump reply apart same placed low h = (tt, placed)
 abbrev pub LinesFromLowStamp : GrantedMemory → List RepliedLine → Type 0
 LinesFromLowStamp granted ts = AllByRecursion (λ (t : RepliedLine). FromLowStamp granted.grants top (receipts_in t.reply)) ts
 
-pub by_lines : (granted : GrantedMemory) (ts : List RepliedLine) → FromLowStamp granted.grants top (receipts_by ts) → LinesFromLowStamp granted ts
-by_lines granted [] low = tt
-by_lines granted (t ∷ ts) low = (
-  each_front (λ (r : Receipt). IsLowStamp granted.grants top r.before) (receipts_in t.reply) (receipts_by ts) low,
-  by_lines granted ts (each_back (λ (r : Receipt). IsLowStamp granted.grants top r.before) (receipts_in t.reply) (receipts_by ts) low),
-)
-
 lines_land : (granted : GrantedMemory) (set : AccessContext) (b : List State) (p : Processor) (ts : List RepliedLine) → AreApart granted → set.grants ≡ granted.grants → ProcessorPlaced set.order p → LinesFromLowStamp granted ts → EachLineOfProcessor (IsAccessLine set b) p ts → EachLineOfProcessor (λ q t. LandsByItsEntry granted set.order q t.line.act t.reply) p ts × ProcessorPlaced set.order (processor_after_lines p ts)
 lines_land granted set b p [] apart same placed low h = (tt, placed)
 lines_land granted set b p (t ∷ ts) apart same placed low h =
@@ -203,13 +198,13 @@ pub empty_placed : (order : ℕ) → ProcessorPlaced order new_processor
 unfolding new_processor
 empty_placed order = all_empty (StandsInItsGroup order)
 
-pub section_lands : (granted : GrantedMemory) (w : RunState) (b : List State) (ts : List RepliedLine) → AreApart granted → w.grants ≡ granted.grants → AllPlaced w → FromLowStamp granted.grants top (receipts_by ts) → ((cpu : ℕ) → EachLineOfProcessor (IsAccessLine (context_of w) b) (processor_at w.processors cpu) (lines_of_processor cpu ts)) → ((cpu : ℕ) → EachLineOfProcessor (λ p t. LandsByItsEntry granted w.memory.table.order p t.line.act t.reply) (processor_at w.processors cpu) (lines_of_processor cpu ts)) × AllByRecursion (ProcessorPlaced w.memory.table.order) (processors_after_lines 0 w.processors ts)
+pub section_lands : (granted : GrantedMemory) (w : RunState) (b : List State) (ts : List RepliedLine) → AreApart granted → w.grants ≡ granted.grants → AllPlaced w → FromLowStamp granted.grants top (receipts_by ts) → ((cpu : ℕ) → EachLineOfProcessor (IsAccessLine (access_of (context_of w)) b) (processor_at w.processors cpu) (lines_of_processor cpu ts)) → ((cpu : ℕ) → EachLineOfProcessor (λ p t. LandsByItsEntry granted w.memory.table.order p t.line.act t.reply) (processor_at w.processors cpu) (lines_of_processor cpu ts)) × AllByRecursion (ProcessorPlaced w.memory.table.order) (processors_after_lines 0 w.processors ts)
 section_lands granted w b ts apart same placed low h = (λ cpu. (one cpu).0, after_each (ProcessorPlaced w.memory.table.order) 0 w.processors ts (λ k within. subst (λ n. ProcessorPlaced w.memory.table.order (processor_after_lines (processor_at w.processors k) (lines_of_processor n ts))) (omega arith) (one k).1)) where
   one : (cpu : ℕ) → EachLineOfProcessor (λ p t. LandsByItsEntry granted w.memory.table.order p t.line.act t.reply) (processor_at w.processors cpu) (lines_of_processor cpu ts) × ProcessorPlaced w.memory.table.order (processor_after_lines (processor_at w.processors cpu) (lines_of_processor cpu ts))
   one cpu =
-      lines_land granted (context_of w) b (processor_at w.processors cpu) (lines_of_processor cpu ts) apart same
+      lines_land granted (access_of (context_of w)) b (processor_at w.processors cpu) (lines_of_processor cpu ts) apart same
       (each_at (ProcessorPlaced w.memory.table.order) w.processors cpu new_processor (empty_placed w.memory.table.order) placed)
-      (each_filter (λ (t : RepliedLine). FromLowStamp granted.grants top (receipts_in t.reply)) _ ts (by_lines granted ts low))
+      (each_filter (λ (t : RepliedLine). FromLowStamp granted.grants top (receipts_in t.reply)) _ ts (receipts_of_each (λ (r : Receipt). IsLowStamp granted.grants top r.before) ts low))
       (h cpu)
 
 -- ---- quiet lines

@@ -1,5 +1,6 @@
 -- The receipts of a hypervisor call that is refused leave their entries, but for pairs that a bulk removal has removed.
-use Rattle.std.specs.Prelude.{nat_lt, ◌==◌, ◌+◌, map, flat_map}
+use Rattle.std.specs.Prelude.{nat_lt, ◌==◌, ◌||◌, ◌+◌, if◌then◌else◌, map, flat_map, MatchBool}
+use Rattle.std.specs.Option.{option_map_or}
 use Rattle.std.proofs.Common.{◌≡◌, ℕ, List, [], ◌∷◌, Bool, true, false, ap, sym, ◌∙◌, refl, subst, ◌⊎◌, inl, inr, Option, Some, None}
 use Rattle.std.specs.List.{AllByRecursion}
 use Rattle.std.proofs.lemmas.Bool.{cases_Bool, cond_both, false≢true}
@@ -8,9 +9,15 @@ use Rattle.papr_codes.specs.declared.codes.Rc.{Rc}
 use Rattle.hpte_fields.specs.TableSize.{entry_count}
 use Rattle.hpte_fields.specs.Fields.{protected_word}
 use Rattle.frame_grants.specs.declared.grant.Grant.{Grant}
+use Rattle.bus_window.specs.Windows.{BusWindow, entry_at}
+use Rattle.dma_window.specs.Calls.{code_of as code_of_answer, code_by_last, clear_plan, replace_plan, put_plan_at, get_plan_at, put_tce_plan, get_tce_plan}
+use Rattle.dma_window.specs.Entries.{address_of, permits, first_word, second_word as second_word_of_tce, no_test}
+use Rattle.dma_window.specs.Pages.{is_ram}
+use Rattle.dma_window.proofs.BusyCalls.{goes as goes_on}
 use Rattle.entry_model.specs.State.{State, empty_state}
 use Rattle.entry_model.specs.declared.operation.Answer.{Answer}
 use Rattle.entry_model.specs.declared.operation.Op.{Op}
+use Rattle.entry_model.specs.declared.operation.Test.{Test}
 use Rattle.entry_model.specs.declared.receipt.Receipt.{Receipt}
 use Rattle.entry_model.specs.declared.hreply.HReply.{HReply}
 use Rattle.entry_model.specs.Receipt.{after_of, is_at, is_taken, is_worn}
@@ -24,8 +31,8 @@ use Rattle.h_update.specs.Bulk.{h_bulk_remove_plan}
 use Rattle.h_update.specs.Single.{both_words, second_word, code_and_words, told_by, single_plan, remove_test, protect_test, h_remove_plan, h_protect_plan, h_clear_ref_plan, h_clear_mod_plan, h_read_plan, read_entries}
 use Rattle.h_update.proofs.BulkCodes.{IsBulkCode, bulk_code}
 use Rattle.h_update.proofs.Shown.{ShowsRemoved, removals_shown}
-use Rattle.hpt_walk.specs.Access.{AccessContext}
-use Rattle.run_model.specs.LineReplies.{hcall_plan}
+use Rattle.run_model.specs.StoreContexts.{StoreContext}
+use Rattle.run_model.specs.LineReplies.{put_plan, get_plan, hcall_plan}
 use Rattle.run_model.specs.RefusedCalls.{is_refusal, is_removed, keeps_removals, LeavesEntry}
 use Rattle.run_model.proofs.Each.{each_map}
 use Rattle.papr_codes.specs.declared.calls.Hcall.TheVariants as calls
@@ -168,25 +175,92 @@ refused_keeps code (inl success) refused = let no : false ≡ true = subst (λ c
 refused_keeps code (inr (inl parameter)) refused = ap (keeps_removals calls.BulkRemove) parameter
 refused_keeps code (inr (inr hardware)) refused = ap (keeps_removals calls.BulkRemove) hardware
 
-removal_leaves : (words : List ℕ) (r : Receipt) → ShowsRemoved words r → LeavesEntry true r
-removal_leaves words r shown = λ off.
-    let stands : StandsUnless is_removed r.before (reply_of r.before (ops.Remove shown.test)) = where_stands is_removed (is_found r.before shown.test) r.before answers.Removed (empty_state 0) refl in
-    (subst (λ op. StandsUnless is_removed r.before (reply_of r.before op)) (sym shown.op) stands) (ap is_removed (sym r.lawful) ∙ off)
+removed_leaves : (r : Receipt) (test : Test) → r.op ≡ ops.Remove test → LeavesEntry true r
+removed_leaves r test removal = λ off.
+    let stands : StandsUnless is_removed r.before (reply_of r.before (ops.Remove test)) = where_stands is_removed (is_found r.before test) r.before answers.Removed (empty_state 0) refl in
+    (subst (λ op. StandsUnless is_removed r.before (reply_of r.before op)) (sym removal) stands) (ap is_removed (sym r.lawful) ∙ off)
 
 bulk_leaves : (order : ℕ) (args : List ℕ) (reply : HReply) → IsReplyOf (h_bulk_remove_plan order args) reply → is_refusal reply.rc ≡ true → AllByRecursion (LeavesEntry (keeps_removals calls.BulkRemove reply.rc)) reply.receipts
 bulk_leaves order args reply is refused =
-    subst (λ keeps. AllByRecursion (LeavesEntry keeps) reply.receipts) (sym (refused_keeps reply.rc (bulk_code order args reply is) refused)) (each_map (ShowsRemoved reply.words) (LeavesEntry true) reply.receipts (removal_leaves reply.words) (removals_shown order args reply is))
+    subst (λ keeps. AllByRecursion (LeavesEntry keeps) reply.receipts) (sym (refused_keeps reply.rc (bulk_code order args reply is) refused)) (each_map (ShowsRemoved reply.words) (LeavesEntry true) reply.receipts (λ r shown. removed_leaves r shown.test shown.op) (removals_shown order args reply is))
+
+-- ---- H_GET_TCE
+got_without : (entry : Option ℕ) → RefusedWithout (option_map_or get_plan_at entry (plan_of_code rc.Parameter))
+got_without None = answered_without rc.Parameter
+got_without (Some entry) = λ reply is refused. absurd (false≢true (code_of (get_plan_at entry) reply is refused))
+
+get_without : (window : Option BusWindow) (ioba : ℕ) → RefusedWithout (get_plan window ioba)
+unfolding get_tce_plan
+get_without None ioba = answered_without rc.Parameter
+get_without (Some w) ioba = got_without (entry_at w ioba)
+
+-- ---- H_PUT_TCE
+-- A code that refuses comes with no change of the last receipt's, and with it removals are kept.
+coded_by_tce : (answer : Answer) → is_refusal (code_of_answer answer) ≡ true → (is_change answer ≡ false) × (keeps_removals calls.PutTce (code_of_answer answer) ≡ true)
+coded_by_tce answers.Worn refused = (refl, refl)
+coded_by_tce answers.Taken refused = (refl, refl)
+coded_by_tce other refused = absurd (false≢true refused)
+
+last_keeps : (rs : List Receipt) → is_refusal (code_by_last rs) ≡ true → keeps_removals calls.PutTce (code_by_last rs) ≡ true
+last_keeps [] refused = absurd (false≢true refused)
+last_keeps (r ∷ []) refused = (coded_by_tce r.answer refused).1
+last_keeps (r ∷ x ∷ rs) refused = last_keeps (x ∷ rs) refused
+
+last_leaves : (r : Receipt) → is_refusal (code_of_answer r.answer) ≡ true → LeavesEntry true r
+last_leaves r refused = (without_leaves true (r ∷ []) ((coded_by_tce r.answer refused).0, tt)).0
+
+no_more : (goes : Bool) (x : Receipt) (rs : List Receipt) → MatchBool goes ⊥ ((x ∷ rs) ≡ []) → ⊥
+no_more true x rs h = h
+no_more false x rs h = cc
+
+no_third : (goes : Bool) (entry : ℕ) (op : Op) (x y : Receipt) (rs : List Receipt) → MatchBool goes (IsTrial goes_on (call op entry ∷ []) (x ∷ y ∷ rs)) ((x ∷ y ∷ rs) ≡ []) → ⊥
+no_third true entry op x y rs h = no_more (goes_on x.answer) y rs h.1
+no_third false entry op x y rs h = cc
+
+cleared_leave : (entry : ℕ) (rs : List Receipt) → IsTrial goes_on (clear_plan entry).calls rs → is_refusal (code_by_last rs) ≡ true → AllByRecursion (LeavesEntry true) rs
+cleared_leave entry [] trial refused = tt
+cleared_leave entry (r ∷ []) trial refused = (last_leaves r refused, tt)
+cleared_leave entry (r ∷ x ∷ rs) trial refused = absurd (no_more (goes_on r.answer) x rs trial.1)
+
+replaced_leave : (entry : ℕ) (op : Op) (rs : List Receipt) → IsTrial goes_on (replace_plan entry op).calls rs → is_refusal (code_by_last rs) ≡ true → AllByRecursion (LeavesEntry true) rs
+replaced_leave entry op [] trial refused = tt
+replaced_leave entry op (r ∷ []) trial refused = (last_leaves r refused, tt)
+replaced_leave entry op (r ∷ x ∷ []) trial refused = (removed_leaves r no_test trial.0.op, (last_leaves x refused, tt))
+replaced_leave entry op (r ∷ x ∷ y ∷ rs) trial refused = absurd (no_third (goes_on r.answer) entry op x y rs trial.1)
+
+-- A refused reply of this plan leaves the entries of its receipts, but for removals that its code keeps.
+abbrev PutLeaves : Plan → Type 0
+PutLeaves plan = (reply : HReply) → IsReplyOf plan reply → is_refusal reply.rc ≡ true → AllByRecursion (LeavesEntry (keeps_removals calls.PutTce reply.rc)) reply.receipts
+
+by_last : (reply : HReply) → reply.rc ≡ code_by_last reply.receipts → is_refusal reply.rc ≡ true → (is_refusal (code_by_last reply.receipts) ≡ true → AllByRecursion (LeavesEntry true) reply.receipts) → AllByRecursion (LeavesEntry (keeps_removals calls.PutTce reply.rc)) reply.receipts
+by_last reply same refused leave =
+    let last : is_refusal (code_by_last reply.receipts) ≡ true = subst (λ code. is_refusal code ≡ true) same refused in
+    subst (λ keeps. AllByRecursion (LeavesEntry keeps) reply.receipts) (sym (ap (keeps_removals calls.PutTce) same ∙ last_keeps reply.receipts last)) (leave last)
+
+put_leaves : (permitted ram : Bool) (entry : ℕ) (op : Op) → PutLeaves (if permitted then (if ram then replace_plan entry op else plan_of_code rc.Parameter) else clear_plan entry)
+put_leaves true true entry op reply is refused = by_last reply (ap (λ (x : Rc × List ℕ). x.0) is.told) refused (replaced_leave entry op reply.receipts is.trial)
+put_leaves true false entry op reply is refused = without_leaves _ reply.receipts (answered_without rc.Parameter reply is refused)
+put_leaves false ram entry op reply is refused = by_last reply (ap (λ (x : Rc × List ℕ). x.0) is.told) refused (cleared_leave entry reply.receipts is.trial)
+
+put_at_leaves : (grants : List Grant) (tce : ℕ) (entry : Option ℕ) → PutLeaves (option_map_or (put_plan_at grants tce) entry (plan_of_code rc.Parameter))
+put_at_leaves grants tce None reply is refused = without_leaves _ reply.receipts (answered_without rc.Parameter reply is refused)
+put_at_leaves grants tce (Some entry) reply is refused = put_leaves (permits tce false || permits tce true) (is_ram grants (address_of tce)) entry (ops.Enter (first_word tce) (second_word_of_tce tce)) reply is refused
+
+put_tce_leaves : (grants : List Grant) (window : Option BusWindow) (ioba tce : ℕ) → PutLeaves (put_plan grants window ioba tce)
+unfolding put_tce_plan
+put_tce_leaves grants None ioba tce reply is refused = without_leaves _ reply.receipts (answered_without rc.Parameter reply is refused)
+put_tce_leaves grants (Some w) ioba tce reply is refused = put_at_leaves grants tce (entry_at w ioba) reply is refused
 
 -- ---- each call
-pub hcall_leaves : (set : AccessContext) (h : Hcall) (args : List ℕ) (reply : HReply) → IsReplyOf (hcall_plan set h args) reply → is_refusal reply.rc ≡ true → AllByRecursion (LeavesEntry (keeps_removals h reply.rc)) reply.receipts
+pub hcall_leaves : (context : StoreContext) (h : Hcall) (args : List ℕ) (reply : HReply) → IsReplyOf (hcall_plan context h args) reply → is_refusal reply.rc ≡ true → AllByRecursion (LeavesEntry (keeps_removals h reply.rc)) reply.receipts
 unfolding hcall_plan h_remove_plan h_protect_plan h_clear_ref_plan h_clear_mod_plan
-hcall_leaves set calls.Enter args reply is refused = without_leaves false reply.receipts (enter_without set.order set.grants _ _ _ _ reply is refused)
-hcall_leaves set calls.Remove args reply is refused = without_leaves false reply.receipts (single_without set.order _ (ops.Remove (remove_test _ _)) both_words reply is refused)
-hcall_leaves set calls.Protect args reply is refused = without_leaves false reply.receipts (single_without set.order _ (ops.Protect (protect_test _ _) _) (λ r. []) reply is refused)
-hcall_leaves set calls.Read args reply is refused = without_leaves false reply.receipts (read_without set.order _ _ reply is refused)
-hcall_leaves set calls.ClearRef args reply is refused = without_leaves false reply.receipts (single_without set.order _ ops.ClearRef second_word reply is refused)
-hcall_leaves set calls.ClearMod args reply is refused = without_leaves false reply.receipts (single_without set.order _ ops.ClearMod second_word reply is refused)
-hcall_leaves set calls.BulkRemove args reply is refused = bulk_leaves set.order args reply is refused
-hcall_leaves set calls.GetTce args reply is refused = without_leaves false reply.receipts (answered_without rc.Parameter reply is refused)
-hcall_leaves set calls.PutTce args reply is refused = without_leaves false reply.receipts (answered_without rc.Parameter reply is refused)
-hcall_leaves set other args reply is refused = without_leaves false reply.receipts (answered_without rc.Function reply is refused)
+hcall_leaves context calls.Enter args reply is refused = without_leaves false reply.receipts (enter_without context.order context.grants _ _ _ _ reply is refused)
+hcall_leaves context calls.Remove args reply is refused = without_leaves false reply.receipts (single_without context.order _ (ops.Remove (remove_test _ _)) both_words reply is refused)
+hcall_leaves context calls.Protect args reply is refused = without_leaves false reply.receipts (single_without context.order _ (ops.Protect (protect_test _ _) _) (λ r. []) reply is refused)
+hcall_leaves context calls.Read args reply is refused = without_leaves false reply.receipts (read_without context.order _ _ reply is refused)
+hcall_leaves context calls.ClearRef args reply is refused = without_leaves false reply.receipts (single_without context.order _ ops.ClearRef second_word reply is refused)
+hcall_leaves context calls.ClearMod args reply is refused = without_leaves false reply.receipts (single_without context.order _ ops.ClearMod second_word reply is refused)
+hcall_leaves context calls.BulkRemove args reply is refused = bulk_leaves context.order args reply is refused
+hcall_leaves context calls.GetTce args reply is refused = without_leaves false reply.receipts (get_without context.window _ reply is refused)
+hcall_leaves context calls.PutTce args reply is refused = put_tce_leaves context.grants context.window _ _ reply is refused
+hcall_leaves context other args reply is refused = without_leaves false reply.receipts (answered_without rc.Function reply is refused)

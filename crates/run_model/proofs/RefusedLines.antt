@@ -39,6 +39,7 @@ use Rattle.trace_line.specs.declared.act.Act.{Act}
 use Rattle.trace_read.specs.Trace.{AcceptedTrace, IsAccepted}
 use Rattle.trace_reply.specs.declared.reply.Reply.{Reply}
 use Rattle.trace_reply.specs.Replies.{RepliedLine}
+use Rattle.run_model.specs.StoreContexts.{access_of, table_context}
 use Rattle.run_model.specs.Processors.{processor_after, slots_or}
 use Rattle.run_model.specs.LineReplies.{IsCallReply, IsReplyToAccess}
 use Rattle.run_model.specs.RunState.{context_of, states_of}
@@ -189,9 +190,9 @@ mte_all p rb rs accepted told off = record {
   cache = refl;
 }
 
-line_leaves : (granted : GrantedMemory) (context : AccessContext) (p : Processor) (act : Act) (reply : Reply) → IsCallReply context act reply → IsReplyToAccess context p act reply → LandsByItsEntry granted context.order p act reply → is_refused act reply ≡ true → LeavesAll p act reply
+line_leaves : (granted : GrantedMemory) (context : AccessContext) (p : Processor) (act : Act) (reply : Reply) → IsCallReply (table_context context) act reply → IsReplyToAccess context p act reply → LandsByItsEntry granted context.order p act reply → is_refused act reply ≡ true → LeavesAll p act reply
 line_leaves granted context p (acts.Call number args spelt) (replies.Hcall h) call access lands refused =
-    record { entries = hcall_leaves context (hcall_of number) args h call refused; slots = refl; cache = refl }
+    record { entries = hcall_leaves (table_context context) (hcall_of number) args h call refused; slots = refl; cache = refl }
 line_leaves granted context p (acts.Access want ea user) (replies.Access r) call access lands refused =
     access_all context p want ea user (segment_of p.slots ea) r refl access (lands_nowhere granted context.order ea (segment_of p.slots ea) (found_of r.receipts) r.outcome lands (false_of_not (ends_at r.outcome) refused))
 line_leaves granted context p (acts.Device write liobn ioba) (replies.Device r) call access lands refused =
@@ -202,7 +203,7 @@ line_leaves granted context p (acts.SlbMte rb rs) (replies.Segment accepted) cal
 line_leaves granted context p act reply call access lands refused = absurd (false≢true refused)
 
 -- ---- a run
-lines_leave : (granted : GrantedMemory) (context : AccessContext) (b : _) (p : Processor) (ts : List RepliedLine) → EachLineOfProcessor (λ q t. IsCallReply context t.line.act t.reply) p ts → EachLineOfProcessor (IsAccessLine context b) p ts → EachLineOfProcessor (λ q t. LandsByItsEntry granted context.order q t.line.act t.reply) p ts → EachLineOfProcessor (λ q t. is_refused t.line.act t.reply ≡ true → LeavesAll q t.line.act t.reply) p ts
+lines_leave : (granted : GrantedMemory) (context : AccessContext) (b : _) (p : Processor) (ts : List RepliedLine) → EachLineOfProcessor (λ q t. IsCallReply (table_context context) t.line.act t.reply) p ts → EachLineOfProcessor (IsAccessLine context b) p ts → EachLineOfProcessor (λ q t. LandsByItsEntry granted context.order q t.line.act t.reply) p ts → EachLineOfProcessor (λ q t. is_refused t.line.act t.reply ≡ true → LeavesAll q t.line.act t.reply) p ts
 lines_leave granted context b p [] calls accesses lands = tt
 lines_leave granted context b p (t ∷ ts) calls accesses lands =
     (line_leaves granted context p t.line.act t.reply calls.0 accesses.0.reply lands.0, lines_leave granted context b (processor_after p t.line.act t.reply) ts calls.1 accesses.1 lands.1)
@@ -210,7 +211,7 @@ lines_leave granted context b p (t ∷ ts) calls accesses lands =
 section_leaves : (granted : GrantedMemory) (s : Section) → CallsAreReplied s → AccessesAreReplied s → AccessesLand granted s → RefusedLinesLeave s
 unfolding section_end
 section_leaves granted s calls accesses lands = record {
-  lines = λ cpu. lines_leave granted (context_of s.before) (states_of (section_end s.before s.replied_lines)) _ _ (calls cpu) (accesses cpu) (lands cpu);
+  lines = λ cpu. lines_leave granted (access_of (context_of s.before)) (states_of (section_end s.before s.replied_lines)) _ _ (calls cpu) (accesses cpu) (lands cpu);
   grants = refl;
   memory = refl;
 }

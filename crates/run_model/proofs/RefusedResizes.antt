@@ -15,9 +15,11 @@ use Rattle.hpt_resize.specs.TableMemory.{TableMemory, prepare_result, commit_res
 use Rattle.trace_line.specs.declared.act.Act.{Act}
 use Rattle.trace_read.specs.Trace.{AcceptedTrace}
 use Rattle.trace_reply.specs.declared.reply.Reply.{Reply}
-use Rattle.trace_reply.specs.Replies.{RepliedLine, lines_with_replies}
+use Rattle.trace_reply.specs.Replies.{RepliedLine}
 use Rattle.run_model.specs.RunState.{RunState, is_success, opening_run, run_resize, run_quiet_line}
-use Rattle.run_model.specs.Sections.{section_end, cut, sections_from, sections_of}
+use Rattle.run_model.specs.Quiet.{cut}
+use Rattle.run_model.specs.Windows.{table_lines}
+use Rattle.run_model.specs.Sections.{section_end, sections_from, sections_of}
 use Rattle.run_model.specs.GoodRun.{QuietIsReplied, IsGoodRun}
 use Rattle.run_model.specs.RefusedCalls.{is_refusal, is_refused, drops_pending, memory_left, FoundNone, LeavesRun, RefusedQuietLinesLeave}
 use Rattle.papr_codes.specs.declared.calls.Hcall.TheVariants as calls
@@ -141,5 +143,5 @@ sections_leave w ts (q ∷ p ∷ qs) said =
 
 pub refused_resizes_leave : (t : AcceptedTrace) (rs : List Reply) → IsGoodRun t rs → RefusedQuietLinesLeave (sections_of t rs)
 refused_resizes_leave t rs good =
-    let c = cut (lines_with_replies t.lines rs) in
+    let c = cut (table_lines t rs) in
     sections_leave (opening_run t.config) c.0 c.1 good.quiets

@@ -1,16 +1,23 @@
 -- Worked refusals, and what they leave.
 use Rattle.std.specs.Prelude.{replicate}
-use Rattle.std.proofs.Common.{◌≡◌, [], ◌∷◌, true, false, Some, None, refl, ap}
+use Rattle.std.proofs.Common.{◌≡◌, ℕ, [], ◌∷◌, true, false, Some, None, inl, inr, refl, ap}
 use Rattle.std.specs.List.{AllByRecursion}
 use Rattle.papr_codes.specs.Hcalls.{hcall_of, row_of}
-use Rattle.papr_codes.specs.declared.codes.Rc.TheVariants.{LongBusy, NoMem, Parameter, PtegFull}
+use Rattle.papr_codes.specs.declared.codes.Rc.TheVariants.{Busy, LongBusy, NoMem, Parameter, PtegFull, Success}
 use Rattle.frame_grants.specs.Grants.{machine_range}
+use Rattle.bus_window.specs.Windows.{BusWindow, bus_window}
+use Rattle.dma_window.specs.Calls.{put_tce_plan}
+use Rattle.dma_window.specs.Entries.{first_word, second_word, no_test}
+use Rattle.dma_window.specs.Pages.{is_ram}
 use Rattle.hpt_pool.specs.Pool.{block_at, lowest_place, multiples, taken_without}
 use Rattle.entry_model.specs.State.{State, empty_state}
+use Rattle.entry_model.specs.declared.device_reply.DeviceOutcome.TheVariants.{Denied}
+use Rattle.entry_model.specs.declared.hreply.HReply.{HReply}
 use Rattle.entry_model.specs.declared.receipt.Receipt.{Receipt}
+use Rattle.entry_model.specs.Reply.{entered_state}
 use Rattle.entry_model.specs.Receipt.{receipt_of, after_of}
-use Rattle.entry_model.specs.Replies.{no_window_reply}
-use Rattle.entry_model.specs.Trial.{trial_run, plan_run}
+use Rattle.entry_model.specs.Replies.{device_reply_with, no_window_reply}
+use Rattle.entry_model.specs.Trial.{IsReplyOf, trial_run, plan_run}
 use Rattle.page_grants.specs.Suited.{suits_grants}
 use Rattle.h_enter.specs.Checks.{h_enter_plan}
 use Rattle.h_enter.specs.Enter.{candidates}
@@ -23,9 +30,11 @@ use Rattle.trace_line.specs.declared.act.Act.TheVariants.{Call, Device, SlbMte}
 use Rattle.trace_line.specs.declared.line.TraceLine.{TraceLine}
 use Rattle.trace_line.specs.Lines.{is_quiet}
 use Rattle.trace_reply.specs.declared.reply.Reply.{Reply}
-use Rattle.run_model.specs.LineReplies.{hcall_plan}
+use Rattle.trace_reply.specs.Replies.{receipts_in}
+use Rattle.run_model.specs.BusyCalls.{BusyWhereTaken}
+use Rattle.run_model.specs.LineReplies.{put_plan, hcall_plan}
 use Rattle.run_model.specs.RunState.{RunState, reply_of_code, run_resize, run_quiet_line}
-use Rattle.run_model.specs.SerialRun.{line_result, run_line}
+use Rattle.run_model.specs.SerialRun.{device_by_window, line_result, run_line}
 use Rattle.run_model.specs.RefusedCalls.{is_refused, keeps_removals_by, LeavesEntry, run_left, DropsAnother}
 use Rattle.run_model.proofs.SmallPartition.{small, memory_of, calls}
 use Rattle.entry_model.specs.declared.operation.Op.TheVariants as ops
@@ -76,6 +85,78 @@ put_finds_no_window = refl
 put_leaves : (run_line with_entry put).1 ≡ with_entry
 unfolding put with_entry entry run_line line_result hcall_plan is_quiet hcall_of row_of plan_run trial_run new_processor
 put_leaves = refl
+
+put_keeps_no_removals : keeps_removals_by put.act (reply_to put) ≡ false
+unfolding put reply_to with_entry entry run_line line_result hcall_plan is_quiet hcall_of row_of plan_run trial_run new_processor
+put_keeps_no_removals = refl
+
+-- ---- H_PUT_TCE on a window, while another call enters a TCE
+-- The window's entry 1 had the TCE 0x4001, which this call removes. Then it has the other call's, 0x6001.
+window : BusWindow
+window = bus_window 1 0x4000 2
+
+with_tce : ℕ → ℕ → State
+with_tce tce stamp = record (entered_state (first_word tce) (second_word tce)) { stamp = stamp }
+
+emptied : Receipt
+emptied = receipt_of 1 (with_tce 0x4001 7) (ops.Remove no_test)
+
+taken : Receipt
+taken = receipt_of 1 (with_tce 0x6001 9) (ops.Enter (first_word 0x3001) (second_word 0x3001))
+
+busy : HReply
+busy = record { rc = Busy; words = []; receipts = emptied ∷ taken ∷ [] }
+
+-- It is this call's reply.
+put_is_busy : IsReplyOf (put_plan (small 1).grants (Some window) 0x5008 0x3001) busy
+unfolding busy emptied taken with_tce window put_tce_plan is_ram machine_range
+put_is_busy = record { trial = (record { entry = refl; op = refl }, (record { entry = refl; op = refl }, tt)); told = refl }
+
+busy_where_taken : BusyWhereTaken put.act (replies.Hcall busy)
+unfolding put busy emptied taken with_tce hcall_of row_of
+busy_where_taken = ((λ _. inr (inl refl)), (λ _. refl))
+
+-- No other code may come with these receipts.
+success_where_taken : BusyWhereTaken put.act (replies.Hcall (record busy { rc = Success })) → ⊥
+unfolding put busy emptied taken with_tce hcall_of row_of
+success_where_taken h = let no : Success ≡ Busy = h.1 (inr (inl refl)) in cc
+
+busy_is_refused : is_refused put.act (replies.Hcall busy) ≡ true
+unfolding put busy
+busy_is_refused = refl
+
+busy_keeps_removals : keeps_removals_by put.act (replies.Hcall busy) ≡ true
+unfolding put busy hcall_of row_of
+busy_keeps_removals = refl
+
+-- The TCE that was there is gone, and the other call's stands.
+put_leaves_the_other : AllByRecursion (LeavesEntry true) busy.receipts
+unfolding busy emptied taken with_tce
+put_leaves_the_other = ((λ stands. absurd (let clash : true ≡ false = stands in cc)), ((λ _. refl), tt))
+
+emptied_is_gone : after_of emptied ≡ empty_state 8
+unfolding emptied with_tce
+emptied_is_gone = refl
+
+-- ---- a device on a window
+-- Its TCE permits no write: the access is denied, and its entry stands.
+read_tce : Receipt
+read_tce = receipt_of 1 (with_tce 0x4001 7) ops.Read
+
+denied : Reply
+denied = replies.Device (device_reply_with Denied (read_tce ∷ []))
+
+device_is_denied : (device_by_window (small 1).grants (Some window) 0x5008 true (empty_state 0 ∷ with_tce 0x4001 7 ∷ [])).0 ≡ denied
+unfolding denied read_tce with_tce window trial_run
+device_is_denied = refl
+
+denied_is_refused : is_refused device.act denied ≡ true
+unfolding device denied
+denied_is_refused = refl
+
+denied_leaves : AllByRecursion (LeavesEntry (keeps_removals_by device.act denied)) (receipts_in denied)
+unfolding device denied read_tce with_tce
+denied_leaves = (refl, tt)
 
 -- ---- H_BULK_REMOVE of entries 0 and 1, and an ill-formed third pair
 bulk_remove : TraceLine

@@ -37,6 +37,7 @@ use Rattle.hpt_walk.proofs.Granted.{IsGrantedPage, IsGrantedWords}
 use Rattle.trace_line.specs.declared.act.Act.{Act}
 use Rattle.trace_reply.specs.declared.reply.Reply.{Reply}
 use Rattle.trace_reply.specs.Replies.{IsOfKind, receipts_in}
+use Rattle.run_model.specs.StoreContexts.{table_context}
 use Rattle.run_model.specs.LineReplies.{hcall_plan, IsCallReply, IsReplyToAccess}
 use Rattle.run_model.specs.Landings.{IsUnworn}
 use Rattle.run_model.proofs.Each.{each_map, each_append}
@@ -65,7 +66,7 @@ enters_granted grants (ops.Enter dword0 dword1) h = suited_granted grants dword0
 enters_granted grants other h = tt
 
 -- ---- hypervisor calls
-hcall_tame : (set : AccessContext) (h : Hcall) (args : List ℕ) → IsTame (IsSuited set.grants) (hcall_plan set h args)
+hcall_tame : (set : AccessContext) (h : Hcall) (args : List ℕ) → IsTame (IsSuited set.grants) (hcall_plan (table_context set) h args)
 unfolding hcall_plan
 hcall_tame set calls.Enter args = h_enter_tame set.order set.grants _ _ _ _
 hcall_tame set calls.Remove args = h_remove_tame (IsSuited set.grants) set.order _ _ _
@@ -85,9 +86,9 @@ pub record IsTameLine (granted : GrantedMemory) (reply : Reply) : Type 0 where
   pub few : weight (receipts_in reply) ≤ 32
   pub safe : FromLowStamp granted.grants top (receipts_in reply) → IsUnworn reply
 
-call_line : (granted : GrantedMemory) (set : AccessContext) (h : Hcall) (args : List ℕ) (reply : HReply) → set.grants ≡ granted.grants → IsReplyOf (hcall_plan set h args) reply → IsTameLine granted (replies.Hcall reply)
+call_line : (granted : GrantedMemory) (set : AccessContext) (h : Hcall) (args : List ℕ) (reply : HReply) → set.grants ≡ granted.grants → IsReplyOf (hcall_plan (table_context set) h args) reply → IsTameLine granted (replies.Hcall reply)
 call_line granted set h args reply same is =
-    let tame : IsTameReply (IsSuited granted.grants) reply = subst (λ g. IsTameReply (IsSuited g) reply) same (tame_reply (IsSuited set.grants) (hcall_plan set h args) reply (hcall_tame set h args) is) in
+    let tame : IsTameReply (IsSuited granted.grants) reply = subst (λ g. IsTameReply (IsSuited g) reply) same (tame_reply (IsSuited set.grants) (hcall_plan (table_context set) h args) reply (hcall_tame set h args) is) in
     record {
       enters = each_map (λ (r : Receipt). EntersOnly (IsSuited granted.grants) r.op) (λ (r : Receipt). EntersOnly (IsGrantedWords granted.grants) r.op) reply.receipts (λ r. enters_granted granted.grants r.op) tame.enters;
       few = tame.few;
@@ -129,7 +130,7 @@ segment_line granted set cached a None r h = subst (λ (x : AccessReply). IsTame
 segment_line granted set cached a (Some seg) r h = way_line granted set seg a (cached seg.page) r.by r h
 
 -- ---- each line
-pub line_tame : (granted : GrantedMemory) (set : AccessContext) (processor : Processor) (act : Act) (reply : Reply) → set.grants ≡ granted.grants → IsOfKind act reply → IsCallReply set act reply → IsReplyToAccess set processor act reply → IsTameLine granted reply
+pub line_tame : (granted : GrantedMemory) (set : AccessContext) (processor : Processor) (act : Act) (reply : Reply) → set.grants ≡ granted.grants → IsOfKind act reply → IsCallReply (table_context set) act reply → IsReplyToAccess set processor act reply → IsTameLine granted reply
 line_tame granted set processor (acts.Call number args spelt) (replies.Hcall h) same kind call acc = call_line granted set (hcall_of number) args h same call
 line_tame granted set processor (acts.Access want ea user) (replies.Access r) same kind call acc = segment_line granted set (cached_line processor.cache) (request want ea user processor.masks) (segment_of processor.slots ea) r acc
 line_tame granted set processor (acts.SlbMte rb rs) (replies.Segment accepted) same kind call acc = record { enters = tt; few = omega arith; safe = λ low_stamp. tt }

@@ -6,9 +6,11 @@ use Rattle.std.proofs.lemmas.Bool.{cases_Bool, eq-eqb, eqb-true}
 use Rattle.hpt_resize.specs.Resize.{Table}
 use Rattle.trace_read.specs.Trace.{AcceptedTrace, IsAccepted}
 use Rattle.trace_reply.specs.declared.reply.Reply.{Reply}
-use Rattle.trace_reply.specs.Replies.{RepliedLine, lines_with_replies}
+use Rattle.trace_reply.specs.Replies.{RepliedLine}
 use Rattle.run_model.specs.RunState.{RunState, states_of, opening_run, run_quiet_line}
-use Rattle.run_model.specs.Sections.{Section, receipts_made, section_end, cut, sections_from, sections_of}
+use Rattle.run_model.specs.Quiet.{cut}
+use Rattle.run_model.specs.Windows.{table_lines}
+use Rattle.run_model.specs.Sections.{Section, receipts_made, section_end, sections_from, sections_of}
 use Rattle.run_model.specs.GoodRun.{IsGoodRun, QuietIsReplied}
 use Rattle.run_model.specs.ShownStores.{has_table_of}
 use Rattle.run_model.specs.CommittedResizes.{commits_by, is_committed, LeavesTable, ResizesKeepTranslations}
@@ -53,7 +55,7 @@ sections_chained w ts (q ∷ p ∷ qs) h said =
 
 pub chained : (t : AcceptedTrace) (rs : List Reply) → IsAccepted t → IsGoodRun t rs → AreChained (sections_of t rs)
 chained t rs is good =
-    let c = cut (lines_with_replies t.lines rs) in
+    let c = cut (table_lines t rs) in
     sections_chained (opening_run t.config) c.0 c.1 (opening_sound t is).memory good.quiets
 
 -- ---- the number tells whether the table is another

@@ -16,7 +16,8 @@ use Rattle.entry_model.proofs.RunFollows.{run_follows}
 use Rattle.entry_model.proofs.LineLaws.{run_leaves}
 use Rattle.entry_model.proofs.Regroup.{history_regrouped}
 use Rattle.entry_model.proofs.RunHistory.{run_history, own_state, other_state}
-use Rattle.hpt_walk.specs.Access.{AccessContext}
+use Rattle.run_model.specs.StoreContexts.{StoreContext, access_of}
+use Rattle.run_model.specs.StoreSections.{StoreSection, made_in, closing_of}
 use Rattle.tlb_model.specs.Processor.{Processor}
 use Rattle.papr_codes.specs.Hcalls.{hcall_of}
 use Rattle.papr_codes.specs.declared.calls.Hcall.{Hcall}
@@ -28,15 +29,15 @@ use Rattle.run_model.specs.RunState.{RunState, context_of, states_of, without_ca
 use Rattle.hpt_resize.specs.TableMemory.{with_states}
 use Rattle.run_model.specs.Histories.{lines_of_processor, receipts_by, closing_from, closing_states, Event, made, InOrder, gone_events, events_by}
 use Rattle.entry_model.specs.Fronts.{pair_beyond}
-use Rattle.run_model.specs.Sections.{receipts_made, section_end, processors_after_lines, sections_from}
-use Rattle.run_model.specs.GoodRun.{EachLineOfProcessor, IsAccessLine, IsGoodSection}
+use Rattle.run_model.specs.Sections.{receipts_made, section_end, table_section, processors_after_lines, sections_from}
+use Rattle.run_model.specs.GoodRun.{IsAccessLine, IsGoodTo, IsGoodSection}
 use Rattle.run_model.proofs.Undisturbed.{AreUndisturbed, Stands, state_behind, processors_on}
 use Rattle.run_model.proofs.LinesByProcessor.{Cpus, InFileOrder, own_yes, own_no, processor_own, processor_other, processors_size, cpus_after, own_lines, own_processors, file_listed}
 use Rattle.papr_codes.specs.declared.calls.Hcall.TheVariants as calls
 use Rattle.trace_line.specs.declared.act.Act.TheVariants as acts
 
 -- ---- the receipts of all lines
-pub replied_lines_run : (set : AccessContext) (processors : List Processor) (a b : List State) (ts : List RepliedLine) → AreUndisturbed set processors a ts b → IsRun a (receipts_by ts) b
+pub replied_lines_run : (set : StoreContext) (processors : List Processor) (a b : List State) (ts : List RepliedLine) → AreUndisturbed set processors a ts b → IsRun a (receipts_by ts) b
 replied_lines_run set processors a b [] h = h
 replied_lines_run set processors a b (t ∷ ts) h = run_more a h.0 b (receipts_in t.reply) (receipts_by ts) h.1.run (replied_lines_run set (processors_after processors t) h.0 b ts h.2)
 
@@ -116,7 +117,7 @@ left_in_order e p a (Some line) evs gone low rest = rest (if line.entry == e the
       let high : pair_beyond line ≤ pair_of (state_at a e) = higher (state_at a e) here in
       omega arith
 
-pub replied_lines_in_order : (set : AccessContext) (cpu e p : ℕ) (processors : List Processor) (a b : List State) (ts : List RepliedLine) → Cpus (length processors) ts → AreUndisturbed set processors a ts b → p ≤ pair_of (state_at a e) → InOrder e p (events_by (processor_at processors cpu) (lines_of_processor cpu ts))
+pub replied_lines_in_order : (set : StoreContext) (cpu e p : ℕ) (processors : List Processor) (a b : List State) (ts : List RepliedLine) → Cpus (length processors) ts → AreUndisturbed set processors a ts b → p ≤ pair_of (state_at a e) → InOrder e p (events_by (processor_at processors cpu) (lines_of_processor cpu ts))
 replied_lines_in_order set cpu e p processors a b [] within h low = tt
 replied_lines_in_order set cpu e p processors a b (t ∷ ts) within h low = at (cases_Bool (eqb t.line.cpu cpu)) (λ q k. replied_lines_in_order set cpu e q (processors_after processors t) h.0 b ts (cpus_after processors t ts within.1) h.2 k) where
   later : List Event
@@ -136,7 +137,7 @@ replied_lines_in_order set cpu e p processors a b (t ∷ ts) within h low = at (
       subst (InOrder e p) (sym all) (rest p (omega (arith, follows_pair (state_at a e) (state_at h.0 e) (run_follows a h.0 (receipts_in t.reply) e h.1.run))))
 
 -- ---- each line
-pub replied_lines_calls : (set : AccessContext) (processors : List Processor) (a b : List State) (ts : List RepliedLine) → AreUndisturbed set processors a ts b → InFileOrder (λ processor t. IsCallReply set t.line.act t.reply) processors ts
+pub replied_lines_calls : (set : StoreContext) (processors : List Processor) (a b : List State) (ts : List RepliedLine) → AreUndisturbed set processors a ts b → InFileOrder (λ processor t. IsCallReply set t.line.act t.reply) processors ts
 replied_lines_calls set processors a b [] h = tt
 replied_lines_calls set processors a b (t ∷ ts) h = (h.1.call, replied_lines_calls set (processors_after processors t) h.0 b ts h.2)
 
@@ -144,32 +145,49 @@ gone_on : (a b : List State) (rs : List Receipt) (line : Option Line) → IsRun 
 gone_on a b rs None run h = tt
 gone_on a b rs (Some line) run h = run_leaves a b rs line run h
 
-pub replied_lines_reaches : (set : AccessContext) (processors : List Processor) (a b : List State) (ts : List RepliedLine) → AreUndisturbed set processors a ts b → InFileOrder (IsAccessLine set b) processors ts
+pub replied_lines_reaches : (set : StoreContext) (processors : List Processor) (a b : List State) (ts : List RepliedLine) → AreUndisturbed set processors a ts b → InFileOrder (IsAccessLine (access_of set) b) processors ts
 replied_lines_reaches set processors a b [] h = tt
 replied_lines_reaches set processors a b (t ∷ ts) h = (record { reply = h.1.access; gone = gone_on a b (receipts_by (t ∷ ts)) (gone_line_of (processor_at processors t.line.cpu) t.line.act t.reply) (replied_lines_run set processors a b (t ∷ ts) h) h.1.gone }, replied_lines_reaches set (processors_after processors t) h.0 b ts h.2)
 
 -- ---- a section
-pub section_legal : (w : RunState) (ts : List RepliedLine) (b : List State) → Cpus (length w.processors) ts → AreUndisturbed (context_of w) w.processors (states_of w) ts b → (e : ℕ) → IsLegal (state_at (states_of w) e) (history e (receipts_made w ts)) (state_at b e)
-section_legal w ts b within h e = history_regrouped e _ _ (receipts_by ts) (receipts_made w ts) (file_listed (length w.processors) ts within) (run_history e (states_of w) b (receipts_by ts) (replied_lines_run (context_of w) w.processors (states_of w) b ts h))
+-- With nobody else at the store its lines lead to these states.
+abbrev pub RunsAlone : StoreSection → List State → Type 0
+RunsAlone s b = AreUndisturbed s.context s.processors s.opening s.replied_lines b
 
+-- Each line has one of its processors.
+abbrev pub OnCpus : StoreSection → Type 0
+OnCpus s = Cpus (length s.processors) s.replied_lines
+
+pub alone_run : (s : StoreSection) (b : List State) → RunsAlone s b → IsRun s.opening (receipts_by s.replied_lines) b
+alone_run s b h = replied_lines_run s.context s.processors s.opening b s.replied_lines h
+
+pub section_legal : (s : StoreSection) (b : List State) → OnCpus s → RunsAlone s b → (e : ℕ) → IsLegal (state_at s.opening e) (history e (made_in s)) (state_at b e)
+section_legal s b within h e = history_regrouped e _ _ (receipts_by s.replied_lines) (made_in s) (file_listed (length s.processors) s.replied_lines within) (run_history e s.opening b (receipts_by s.replied_lines) (alone_run s b h))
+
+pub alone_closes : (s : StoreSection) (b : List State) → OnCpus s → RunsAlone s b → closing_of s ≡ b
+alone_closes s b within h = closing_is s.opening b (made_in s) (run-length s.opening b (receipts_by s.replied_lines) (alone_run s b h)) (λ e k. section_legal s b within h e)
+
+pub alone_good : (s : StoreSection) (b : List State) → OnCpus s → RunsAlone s b → IsGoodTo s b
+alone_good s b within h = (
+  record { in_table = each_regrouped (λ (r : Receipt). r.entry < length s.opening) (file_listed (length s.processors) s.replied_lines within) (within_run s.opening b (receipts_by s.replied_lines) (alone_run s b h)); legal = λ k low. section_legal s b within h k },
+  λ cpu k. replied_lines_in_order s.context cpu k (pair_of (state_at s.opening k)) s.processors s.opening b s.replied_lines within h (omega arith),
+  λ cpu. own_lines (λ processor t. IsCallReply s.context t.line.act t.reply) s.processors s.replied_lines cpu within (replied_lines_calls s.context s.processors s.opening b s.replied_lines h),
+  λ cpu. own_lines (IsAccessLine (access_of s.context) b) s.processors s.replied_lines cpu within (replied_lines_reaches s.context s.processors s.opening b s.replied_lines h),
+)
+
+-- ---- a section of the page table
 pub closed_is : (w : RunState) (ts : List RepliedLine) (b : List State) → Cpus (length w.processors) ts → AreUndisturbed (context_of w) w.processors (states_of w) ts b → section_end w ts ≡ state_behind w ts b
 unfolding section_end
 closed_is w ts b within h =
-    let run : IsRun (states_of w) (receipts_by ts) b = replied_lines_run (context_of w) w.processors (states_of w) b ts h in
-    let states : closing_states (states_of w) (receipts_made w ts) ≡ b = closing_is (states_of w) b (receipts_made w ts) (run-length (states_of w) b (receipts_by ts) run) (λ e k. section_legal w ts b within h e) in
+    let states : closing_states (states_of w) (receipts_made w ts) ≡ b = alone_closes (table_section w ts) b within h in
     let processors : processors_after_lines 0 w.processors ts ≡ processors_on w.processors ts = own_processors w.processors ts within in
     λ i. record w { memory = with_states w.memory (states i); processors = processors i }
 
 pub section_good : (w : RunState) (ts : List RepliedLine) (quiet : Option RepliedLine) (b : List State) → Cpus (length w.processors) ts → AreUndisturbed (context_of w) w.processors (states_of w) ts b → IfSome quiet (λ q. q.reply ≡ (run_quiet_line (state_behind w ts b) q.line.act).0) → IsGoodSection (record { before = w; replied_lines = ts; quiet = quiet })
 section_good w ts quiet b within h q =
-    let run : IsRun (states_of w) (receipts_by ts) b = replied_lines_run (context_of w) w.processors (states_of w) b ts h in
-    let e : state_behind w ts b ≡ section_end w ts = sym (closed_is w ts b within h) in (
-      record { in_table = each_regrouped (λ (r : Receipt). r.entry < length (states_of w)) (file_listed (length w.processors) ts within) (within_run (states_of w) b (receipts_by ts) run); legal = λ k low. subst (λ (v : RunState). IsLegal (state_at (states_of w) k) (history k (receipts_made w ts)) (state_at (states_of v) k)) e (section_legal w ts b within h k) },
-      λ cpu k. replied_lines_in_order (context_of w) cpu k (pair_of (state_at (states_of w) k)) w.processors (states_of w) b ts within h (omega arith),
-      λ cpu. own_lines (λ processor t. IsCallReply (context_of w) t.line.act t.reply) w.processors ts cpu within (replied_lines_calls (context_of w) w.processors (states_of w) b ts h),
-      λ cpu. subst (λ (v : RunState). EachLineOfProcessor (IsAccessLine (context_of w) (states_of v)) (processor_at w.processors cpu) (lines_of_processor cpu ts)) e (own_lines (IsAccessLine (context_of w) b) w.processors ts cpu within (replied_lines_reaches (context_of w) w.processors (states_of w) b ts h)),
-      subst (λ v. IfSome quiet (λ q. q.reply ≡ (run_quiet_line v q.line.act).0)) e q,
-    )
+    let e : state_behind w ts b ≡ section_end w ts = sym (closed_is w ts b within h) in
+    let g : IsGoodTo (table_section w ts) (states_of (section_end w ts)) = subst (λ (v : RunState). IsGoodTo (table_section w ts) (states_of v)) e (alone_good (table_section w ts) b within h) in
+    (g.0, g.1, g.2, g.3, subst (λ v. IfSome quiet (λ q. q.reply ≡ (run_quiet_line v q.line.act).0)) e q)
 
 -- ---- all sections
 pub processors_on_size : (processors : List Processor) (ts : List RepliedLine) → length (processors_on processors ts) ≡ length processors

@@ -28,10 +28,12 @@ use Rattle.trace_line.specs.declared.act.Act.{Act}
 use Rattle.trace_line.specs.declared.act.Act.TheVariants.{Call, Access, SlbMte, Dump}
 use Rattle.trace_line.specs.Lines.{is_quiet}
 use Rattle.trace_reply.specs.declared.reply.Reply.{Reply}
+use Rattle.run_model.specs.StoreContexts.{access_of}
 use Rattle.run_model.specs.GoodRun.{IsAccessLine}
 use Rattle.run_model.specs.Histories.{made, gone, closing_states, events_by}
 use Rattle.run_model.specs.Processors.{gone_line_of}
-use Rattle.run_model.specs.Sections.{Section, section_end, cut, sections_from, receipts_made}
+use Rattle.run_model.specs.Quiet.{cut}
+use Rattle.run_model.specs.Sections.{Section, section_end, sections_from, receipts_made}
 use Rattle.trace_reply.specs.Replies.{RepliedLine}
 use Rattle.run_model.specs.RunState.{reply_of_code, context_of, run_quiet_line, run_resize, shown_of}
 use Rattle.run_model.proofs.SmallPartition.{small}
@@ -136,7 +138,7 @@ unfolding filled bare walk replied_line reached at_stamp has_base permission row
 told = refl
 
 -- Where the entry closes at the line's stamp, a walk past it is no good reply; at a later stamp it is.
-past_a_current_line : IsAccessLine (context_of (small 2)) (with_r ∷ []) filled (walk 6 0 (reached with_r)) → ⊥
+past_a_current_line : IsAccessLine (access_of (context_of (small 2))) (with_r ∷ []) filled (walk 6 0 (reached with_r)) → ⊥
 unfolding filled walk replied_line reached with_r at_stamp slots_after no_slots slot_of_words segment_of empty_cache cached_line same_page
 past_a_current_line h = let no : 2 < 2 = h.gone in omega arith
 

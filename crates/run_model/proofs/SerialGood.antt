@@ -1,6 +1,6 @@
--- The serial run is a good run.
-use Rattle.std.specs.Prelude.{Bool, replicate}
-use Rattle.std.proofs.Common.{◌≡◌, ℕ, zero, suc, ◌<◌, List, [], ◌∷◌, true, false, ◌⊎◌, inl, inr, length, Option, Some, None}
+-- Kinds of replies, the beginning, and what good sections make of a run.
+use Rattle.std.specs.Prelude.{Bool}
+use Rattle.std.proofs.Common.{◌≡◌, ℕ, ◌<◌, List, [], ◌∷◌, true, false, ◌⊎◌, inl, inr, length, Option, Some, None}
 use Rattle.std.specs.List.{AllByRecursion}
 use Rattle.std.proofs.lemmas.Bool.{cases_Bool}
 use Rattle.std.proofs.lemmas.List.{length-replicate}
@@ -22,14 +22,20 @@ use Rattle.trace_reply.specs.declared.reply.Reply.{Reply}
 use Rattle.trace_reply.specs.Replies.{RepliedLine, IsOfKind, AreReplies, lines_with_replies}
 use Rattle.run_model.specs.Processors.{processor_at}
 use Rattle.run_model.specs.RunState.{RunState, context_of, states_of, opening_run, run_resize, run_quiet_line}
-use Rattle.run_model.specs.SerialRun.{current_line, result_by_line, result_by_segment, line_result, run_line, replies_from, serial_replies}
-use Rattle.run_model.specs.Sections.{cut, cut_before, sections_of}
-use Rattle.run_model.specs.GoodRun.{AreLegal, AreInOrder, CallsAreReplied, AccessesAreReplied, QuietIsReplied, IsGoodRun, IsGoodSection}
-use Rattle.run_model.proofs.Each.{each_map}
+use Rattle.bus_window.specs.Windows.{BusWindow, entry_at}
+use Rattle.frame_grants.specs.declared.grant.Grant.{Grant}
+use Rattle.run_model.specs.StoreContexts.{StoreContext, access_of}
+use Rattle.run_model.specs.SerialRun.{current_line, result_by_line, result_by_segment, device_by_entry, device_by_window, line_result, run_line}
+use Rattle.run_model.specs.Quiet.{cut, cut_before}
+use Rattle.run_model.specs.Windows.{window_sections}
+use Rattle.run_model.specs.Sections.{sections_of}
+use Rattle.run_model.specs.GoodRun.{AreLegal, AreInOrder, CallsAreReplied, AccessesAreReplied, QuietIsReplied, IsGoodRun, IsGoodSection, IsGoodWindowSection}
+use Rattle.run_model.proofs.Each.{each_map, each_replicate}
 use Rattle.run_model.proofs.Memories.{opening_stands}
-use Rattle.run_model.proofs.CachesHold.{ProcessorFresh, empty_fresh}
-use Rattle.run_model.proofs.SerialUndisturbed.{SoundRunState, serial_stands}
-use Rattle.run_model.proofs.SectionGood.{AllCpus, sections_good}
+use Rattle.run_model.proofs.CachesHold.{empty_fresh}
+use Rattle.run_model.proofs.SerialUndisturbed.{SoundRunState}
+use Rattle.run_model.proofs.LinesByProcessor.{Cpus}
+use Rattle.run_model.proofs.SectionGood.{AllCpus}
 use Rattle.papr_codes.specs.declared.calls.Hcall.TheVariants as calls
 use Rattle.trace_line.specs.declared.act.Act.TheVariants as acts
 
@@ -42,13 +48,21 @@ segment_kind : (set : AccessContext) (processor : Processor) (states : List Stat
 segment_kind set processor states a None = tt
 segment_kind set processor states a (Some seg) = line_kind set states seg a (current_line states (cached_line processor.cache seg.page))
 
-on_kind : (set : AccessContext) (processor : Processor) (states : List State) (act : Act) → is_quiet act ≡ false → IsOfKind act (line_result set processor states act).0
+entry_kind : (grants : List Grant) (write : Bool) (liobn ioba : ℕ) (states : List State) (entry : Option ℕ) → IsOfKind (acts.Device write liobn ioba) (device_by_entry grants ioba write states entry).0
+entry_kind grants write liobn ioba states None = tt
+entry_kind grants write liobn ioba states (Some entry) = tt
+
+device_kind : (grants : List Grant) (window : Option BusWindow) (write : Bool) (liobn ioba : ℕ) (states : List State) → IsOfKind (acts.Device write liobn ioba) (device_by_window grants window ioba write states).0
+device_kind grants None write liobn ioba states = tt
+device_kind grants (Some w) write liobn ioba states = entry_kind grants write liobn ioba states (entry_at w ioba)
+
+pub on_kind : (set : StoreContext) (processor : Processor) (states : List State) (act : Act) → is_quiet act ≡ false → IsOfKind act (line_result set processor states act).0
 unfolding line_result is_quiet
 on_kind set processor states (acts.Call number args spelt) q = tt
-on_kind set processor states (acts.Access want ea user) q = segment_kind set processor states (request want ea user processor.masks) (segment_of processor.slots ea)
+on_kind set processor states (acts.Access want ea user) q = segment_kind (access_of set) processor states (request want ea user processor.masks) (segment_of processor.slots ea)
 on_kind set processor states (acts.SlbMte rb rs) q = tt
 on_kind set processor states acts.SlbClear q = tt
-on_kind set processor states (acts.Device write liobn ioba) q = tt
+on_kind set processor states (acts.Device write liobn ioba) q = device_kind set.grants set.window write liobn ioba states
 on_kind set processor states (acts.SetMask name value) q = tt
 on_kind set processor states acts.Dump q = cc
 
@@ -77,42 +91,35 @@ quiet_kind w (acts.SlbMte rb rs) q = cc
 quiet_kind w acts.SlbClear q = cc
 quiet_kind w (acts.SetMask name value) q = cc
 
-one_kind : (w : RunState) (l : TraceLine) → IsOfKind l.act (run_line w l).0
+pub one_kind : (w : RunState) (l : TraceLine) → IsOfKind l.act (run_line w l).0
 unfolding run_line
 one_kind w l = at (cases_Bool (is_quiet l.act)) where
   at : (is_quiet l.act ≡ true) ⊎ (is_quiet l.act ≡ false) → IsOfKind l.act (run_line w l).0
   at (inl q) = rw q (quiet_kind w l.act q)
   at (inr q) = rw q (on_kind (context_of w) (processor_at w.processors l.cpu) (states_of w) l.act q)
 
-serial_kinds : (w : RunState) (ls : List TraceLine) → AreReplies ls (replies_from w ls)
-serial_kinds w [] = tt
-serial_kinds w (l ∷ ls) = (one_kind w l, serial_kinds (run_line w l).1 ls)
-
 -- ---- the beginning
-each_replicate : (states : List State) (n : ℕ) → AllByRecursion (ProcessorFresh states) (replicate n new_processor)
-each_replicate states zero = tt
-each_replicate states (suc n) = (empty_fresh states, each_replicate states n)
-
 pub opening_sound : (t : AcceptedTrace) → IsAccepted t → SoundRunState (opening_run t.config)
 unfolding opening_run
 opening_sound t is =
     let c = t.config in
     let memory = opening_stands c.limit c.order c.granted.pool_base c.granted.pool_order c.entries is.configured.settings.at_most is.configured.settings.at_least in
-    record { lines = record { size = memory.size; low = memory.low; fresh = each_replicate _ c.cpus }; memory = memory }
+    record { lines = record { size = memory.size; low = memory.low; fresh = each_replicate _ c.cpus new_processor (empty_fresh _) }; memory = memory }
 
 pub opening_processors : (t : AcceptedTrace) → length (opening_run t.config).processors ≡ t.config.cpus
 unfolding opening_run
 opening_processors t = length-replicate t.config.cpus new_processor
 
 -- ---- the parts
-pub good_of : (t : AcceptedTrace) (rs : List Reply) → AreReplies t.lines rs → AllByRecursion IsGoodSection (sections_of t rs) → IsGoodRun t rs
-good_of t rs kinds all = record {
+pub good_of : (t : AcceptedTrace) (rs : List Reply) → AreReplies t.lines rs → AllByRecursion IsGoodSection (sections_of t rs) → AllByRecursion (λ (w : BusWindow). AllByRecursion IsGoodWindowSection (window_sections t rs w)) t.config.windows → IsGoodRun t rs
+good_of t rs kinds all windows = record {
   kinds = kinds;
   legal = each_map IsGoodSection AreLegal (sections_of t rs) (λ s h. h.0) all;
   in_order = each_map IsGoodSection AreInOrder (sections_of t rs) (λ s h. h.1) all;
   calls = each_map IsGoodSection CallsAreReplied (sections_of t rs) (λ s h. h.2) all;
   accesses = each_map IsGoodSection AccessesAreReplied (sections_of t rs) (λ s h. h.3) all;
   quiets = each_map IsGoodSection QuietIsReplied (sections_of t rs) (λ s h. h.4) all;
+  windows = windows;
 }
 
 -- ---- processors
@@ -122,12 +129,11 @@ front_cpus n t x h k = at (cases_Bool (is_quiet t.line.act)) where
   at (inl q) = rw q (tt, (k.0, k.1))
   at (inr q) = rw q ((h, k.0), k.1)
 
-pub cut_cpus : (n : ℕ) (ls : List TraceLine) (rs : List Reply) → AllByRecursion (λ (l : TraceLine). l.cpu < n) ls → AllCpus n (cut (lines_with_replies ls rs)).0 (cut (lines_with_replies ls rs)).1
-cut_cpus n [] rs h = (tt, tt)
-cut_cpus n (l ∷ ls) [] h = (tt, tt)
-cut_cpus n (l ∷ ls) (r ∷ rs) h = front_cpus n (record { line = l; reply = r }) (cut (lines_with_replies ls rs)) h.0 (cut_cpus n ls rs h.1)
+pub cut_cpus : (n : ℕ) (ts : List RepliedLine) → Cpus n ts → AllCpus n (cut ts).0 (cut ts).1
+cut_cpus n [] h = (tt, tt)
+cut_cpus n (t ∷ ts) h = front_cpus n t (cut ts) h.0 (cut_cpus n ts h.1)
 
-pub serial_good : (t : AcceptedTrace) → IsAccepted t → IsGoodRun t (serial_replies t)
-serial_good t is =
-    let c = cut (lines_with_replies t.lines (serial_replies t)) in
-    good_of t (serial_replies t) (serial_kinds (opening_run t.config) t.lines) (sections_good t.config.cpus (opening_run t.config) c.0 c.1 (opening_processors t) (cut_cpus t.config.cpus t.lines (serial_replies t) is.lines.on_cpus) (serial_stands (opening_run t.config) t.lines (opening_sound t is)))
+pub lines_on_cpus : (n : ℕ) (ls : List TraceLine) (rs : List Reply) → AllByRecursion (λ (l : TraceLine). l.cpu < n) ls → Cpus n (lines_with_replies ls rs)
+lines_on_cpus n [] rs h = tt
+lines_on_cpus n (l ∷ ls) [] h = tt
+lines_on_cpus n (l ∷ ls) (r ∷ rs) h = (h.0, lines_on_cpus n ls rs h.1)

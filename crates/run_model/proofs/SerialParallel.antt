@@ -16,22 +16,19 @@ use Rattle.entry_model.specs.Fronts.{front_at, opening_fronts, fronts_after, Are
 use Rattle.entry_model.proofs.RunFollows.{run_follows}
 use Rattle.entry_model.proofs.FrontLaws.{below_self, below_on, lower_keeps}
 use Rattle.entry_model.proofs.LineLaws.{run_leaves, run_past}
-use Rattle.hpt_walk.specs.Access.{AccessContext}
+use Rattle.run_model.specs.StoreContexts.{StoreContext}
+use Rattle.run_model.specs.StoreSections.{StoreSection}
 use Rattle.tlb_model.specs.Processor.{Processor}
-use Rattle.trace_read.specs.Trace.{AcceptedTrace, IsAccepted}
-use Rattle.trace_reply.specs.Replies.{RepliedLine, receipts_in, lines_with_replies}
+use Rattle.trace_reply.specs.Replies.{RepliedLine, receipts_in}
 use Rattle.run_model.specs.Processors.{processor_at, processor_after, processors_after, gone_line_of}
-use Rattle.run_model.specs.RunState.{RunState, context_of, states_of, opening_run, run_quiet_line}
+use Rattle.run_model.specs.RunState.{RunState, run_quiet_line}
 use Rattle.hpt_resize.specs.TableMemory.{with_states}
 use Rattle.run_model.specs.Histories.{lines_of_processor, receipts_by}
-use Rattle.run_model.specs.Sections.{cut, section_end_on}
-use Rattle.run_model.specs.SerialRun.{serial_replies}
+use Rattle.run_model.specs.Sections.{section_end_on, table_section}
 use Rattle.run_model.proofs.Undisturbed.{IsUndisturbed, AreUndisturbed, Stands, state_behind}
-use Rattle.run_model.specs.ParallelRun.{WorksLine, Works, IsClosed, RunsParallel, IsParallel}
+use Rattle.run_model.specs.ParallelRun.{WorksLine, Works, IsClosed, RunsApart, RunsParallel}
 use Rattle.run_model.proofs.LinesByProcessor.{Cpus, own_yes, own_no, processor_own, processor_other, cpus_after, own_processors, file_listed}
-use Rattle.run_model.proofs.SectionGood.{AllCpus, replied_lines_run, within_run, each_regrouped, section_legal, follows_pair, stamp_pair, quiet_size, processors_on_size}
-use Rattle.run_model.proofs.SerialGood.{cut_cpus, opening_processors, opening_sound}
-use Rattle.run_model.proofs.SerialUndisturbed.{serial_stands}
+use Rattle.run_model.proofs.SectionGood.{AllCpus, OnCpus, RunsAlone, alone_run, within_run, each_regrouped, section_legal, follows_pair, stamp_pair, quiet_size, processors_on_size}
 
 -- ---- the fronts of states
 front_of : (a : List State) (e : ℕ) → front_at (opening_fronts a) e ≡ pair_of (state_at a e)
@@ -75,7 +72,7 @@ by_gone g b line below gone =
 
 -- ---- a processor
 -- Its lines lead from these fronts to some that are not above the states' own.
-abbrev WorksBelow : AccessContext → List ℕ → Processor → List RepliedLine → List State → Type 0
+abbrev WorksBelow : StoreContext → List ℕ → Processor → List RepliedLine → List State → Type 0
 WorksBelow set f processor ts b = (g : List ℕ) × Works set f processor ts g × AreBelow g (opening_fronts b)
 
 left_gone : (mid : List State) (line : Option Line) → IfSome line (λ l. l.stamp < (state_at mid l.entry).stamp) → IfSome line (IsGone (opening_fronts mid))
@@ -91,7 +88,7 @@ past_by a mid rs None run h = tt
 past_by a mid rs (Some line) run h = run_past a mid rs line run h
 
 -- One of its lines leads to the states' own fronts.
-one_works : (set : AccessContext) (f : List ℕ) (processor : Processor) (a mid : List State) (t : RepliedLine) → AreBelow f (opening_fronts a) → IsUndisturbed set processor a t mid → WorksLine set f processor t (opening_fronts mid)
+one_works : (set : StoreContext) (f : List ℕ) (processor : Processor) (a mid : List State) (t : RepliedLine) → AreBelow f (opening_fronts a) → IsUndisturbed set processor a t mid → WorksLine set f processor t (opening_fronts mid)
 one_works set f processor a mid t below h =
     let line = gone_line_of processor t.line.act t.reply in
     let rs = receipts_in t.reply in
@@ -105,7 +102,7 @@ one_works set f processor a mid t below h =
       gone = left_gone mid line (gone_on a mid rs line h.run h.gone);
     }
 
-works_below : (set : AccessContext) (cpu : ℕ) (f : List ℕ) (processors : List Processor) (a b : List State) (ts : List RepliedLine) → Cpus (length processors) ts → AreUndisturbed set processors a ts b → AreBelow f (opening_fronts a) → WorksBelow set f (processor_at processors cpu) (lines_of_processor cpu ts) b
+works_below : (set : StoreContext) (cpu : ℕ) (f : List ℕ) (processors : List Processor) (a b : List State) (ts : List RepliedLine) → Cpus (length processors) ts → AreUndisturbed set processors a ts b → AreBelow f (opening_fronts a) → WorksBelow set f (processor_at processors cpu) (lines_of_processor cpu ts) b
 works_below set cpu f processors a b [] within h below = (f, refl, subst (λ (s : List State). AreBelow f (opening_fronts s)) (sym h) below)
 works_below set cpu f processors a b (t ∷ ts) within h below = at (cases_Bool (eqb t.line.cpu cpu)) (λ g k. works_below set cpu g (processors_after processors t) h.0 b ts (cpus_after processors t ts within.1) h.2 k) where
   mid : List State
@@ -124,35 +121,35 @@ works_below set cpu f processors a b (t ∷ ts) within h below = at (cases_Bool 
       subst (λ us. WorksBelow set f (processor_at processors cpu) us b) (sym (own_no cpu t ts other)) later
 
 -- ---- a section
-all_work : (w : RunState) (ts : List RepliedLine) (b : List State) → Cpus (length w.processors) ts → AreUndisturbed (context_of w) w.processors (states_of w) ts b → (cpu : ℕ) → WorksBelow (context_of w) (opening_fronts (states_of w)) (processor_at w.processors cpu) (lines_of_processor cpu ts) b
-all_work w ts b within h cpu = works_below (context_of w) cpu (opening_fronts (states_of w)) w.processors (states_of w) b ts within h (below_self (opening_fronts (states_of w)))
+all_work : (s : StoreSection) (b : List State) → OnCpus s → RunsAlone s b → (cpu : ℕ) → WorksBelow s.context (opening_fronts s.opening) (processor_at s.processors cpu) (lines_of_processor cpu s.replied_lines) b
+all_work s b within h cpu = works_below s.context cpu (opening_fronts s.opening) s.processors s.opening b s.replied_lines within h (below_self (opening_fronts s.opening))
 
-closes : (w : RunState) (ts : List RepliedLine) (b : List State) (within : Cpus (length w.processors) ts) (h : AreUndisturbed (context_of w) w.processors (states_of w) ts b) → IsClosed w ts (λ cpu. (all_work w ts b within h cpu).0) b
-closes w ts b within h =
-    let run : IsRun (states_of w) (receipts_by ts) b = replied_lines_run (context_of w) w.processors (states_of w) b ts h in
+closes : (s : StoreSection) (b : List State) (within : OnCpus s) (h : RunsAlone s b) → IsClosed s (λ cpu. (all_work s b within h cpu).0) b
+closes s b within h =
+    let run : IsRun s.opening (receipts_by s.replied_lines) b = alone_run s b h in
     record {
-      size = run-length (states_of w) b (receipts_by ts) run;
-      in_table = each_regrouped (λ (r : Receipt). r.entry < length (states_of w)) (file_listed (length w.processors) ts within) (within_run (states_of w) b (receipts_by ts) run);
-      legal = λ e k. section_legal w ts b within h e;
-      gone = λ cpu line gone. by_gone (all_work w ts b within h cpu).0 b line (all_work w ts b within h cpu).2 gone;
+      size = run-length s.opening b (receipts_by s.replied_lines) run;
+      in_table = each_regrouped (λ (r : Receipt). r.entry < length s.opening) (file_listed (length s.processors) s.replied_lines within) (within_run s.opening b (receipts_by s.replied_lines) run);
+      legal = λ e k. section_legal s b within h e;
+      gone = λ cpu line gone. by_gone (all_work s b within h cpu).0 b line (all_work s b within h cpu).2 gone;
     }
+
+pub alone_apart : (s : StoreSection) (b : List State) → OnCpus s → RunsAlone s b → RunsApart s b
+alone_apart s b within h = record {
+  fronts = λ cpu. (all_work s b within h cpu).0;
+  work = λ cpu. (all_work s b within h cpu).1;
+  closed = closes s b within h;
+}
 
 joined_memory : (w : RunState) (ts : List RepliedLine) (b : List State) → Cpus (length w.processors) ts → state_behind w ts b ≡ section_end_on w ts b
 joined_memory w ts b within = ap (λ processors. record w { memory = with_states w.memory b; processors = processors }) (sym (own_processors w.processors ts within))
 
 -- ---- all sections
-sections_apart : (n : ℕ) (w : RunState) (ts : List RepliedLine) (qs : List (RepliedLine × List RepliedLine)) → length w.processors ≡ n → AllCpus n ts qs → Stands w ts qs → RunsParallel w ts qs
-sections_apart n w ts [] size cpus h =
-    let within : Cpus (length w.processors) ts = subst (λ k. Cpus k ts) (sym size) cpus.0 in
-    (λ cpu. (all_work w ts h.0 within h.1 cpu).0, h.0, λ cpu. (all_work w ts h.0 within h.1 cpu).1, closes w ts h.0 within h.1)
+pub sections_apart : (n : ℕ) (w : RunState) (ts : List RepliedLine) (qs : List (RepliedLine × List RepliedLine)) → length w.processors ≡ n → AllCpus n ts qs → Stands w ts qs → RunsParallel w ts qs
+sections_apart n w ts [] size cpus h = (h.0, alone_apart (table_section w ts) h.0 (subst (λ k. Cpus k ts) (sym size) cpus.0) h.1)
 sections_apart n w ts (q ∷ qs) size cpus h =
     let within : Cpus (length w.processors) ts = subst (λ k. Cpus k ts) (sym size) cpus.0 in
     let v = (run_quiet_line (state_behind w ts h.0) q.0.line.act).1 in
     let size' : length v.processors ≡ n = quiet_size (state_behind w ts h.0) q.0.line.act ∙ processors_on_size w.processors ts ∙ size in
     let e = joined_memory w ts h.0 within in
-    (λ cpu. (all_work w ts h.0 within h.1 cpu).0, h.0, λ cpu. (all_work w ts h.0 within h.1 cpu).1, closes w ts h.0 within h.1, subst (λ u. q.0.reply ≡ (run_quiet_line u q.0.line.act).0) e h.2, subst (λ u. RunsParallel (run_quiet_line u q.0.line.act).1 q.1 qs) e (sections_apart n v q.1 qs size' (cpus.1.0, cpus.1.1) h.3))
-
-pub serial_parallel : (t : AcceptedTrace) → IsAccepted t → IsParallel t (serial_replies t)
-serial_parallel t is =
-    let c = cut (lines_with_replies t.lines (serial_replies t)) in
-    sections_apart t.config.cpus (opening_run t.config) c.0 c.1 (opening_processors t) (cut_cpus t.config.cpus t.lines (serial_replies t) is.lines.on_cpus) (serial_stands (opening_run t.config) t.lines (opening_sound t is))
+    (h.0, alone_apart (table_section w ts) h.0 within h.1, subst (λ u. q.0.reply ≡ (run_quiet_line u q.0.line.act).0) e h.2, subst (λ u. RunsParallel (run_quiet_line u q.0.line.act).1 q.1 qs) e (sections_apart n v q.1 qs size' (cpus.1.0, cpus.1.1) h.3))

@@ -50,25 +50,28 @@ use Rattle.run_model.proofs.Undisturbed.{IsUndisturbed}
 use Rattle.run_model.proofs.Each.{each_append}
 use Rattle.run_model.proofs.CachesHold.{IsFresh, ProcessorFresh, IsSound, processor_fresh}
 use Rattle.run_model.proofs.OneReply.{IsPassed}
+use Rattle.run_model.proofs.WindowCalls.{window_room, put_within, get_within, device_meets}
+use Rattle.bus_window.specs.Windows.{IsWindow}
+use Rattle.run_model.specs.StoreContexts.{StoreContext, access_of}
 use Rattle.papr_codes.specs.declared.calls.Hcall.TheVariants as calls
 use Rattle.trace_line.specs.declared.act.Act.TheVariants as acts
 use Rattle.trace_reply.specs.declared.reply.Reply.TheVariants as replies
 
 -- ---- each line's calls are of entries of the table
-hcall_within : (set : AccessContext) (h : Hcall) (args : List ℕ) → 18 ≤ set.order → Within (2 ^ (set.order - 4)) (hcall_plan set h args).calls
+hcall_within : (set : StoreContext) (h : Hcall) (args : List ℕ) → 18 ≤ set.order → IfSome set.window IsWindow → Within (2 ^ (set.order - 4)) (hcall_plan set h args).calls
 unfolding hcall_plan
-hcall_within set calls.Enter args low = h_enter_within set.order set.grants (get_or args 0 0) (get_or args 1 0) (get_or args 2 0) (get_or args 3 0) low
-hcall_within set calls.Remove args low = h_remove_within set.order (get_or args 0 0) (get_or args 1 0) (get_or args 2 0) low
-hcall_within set calls.Protect args low = h_protect_within set.order (get_or args 0 0) (get_or args 1 0) (get_or args 2 0) low
-hcall_within set calls.Read args low = h_read_within set.order (get_or args 0 0) (get_or args 1 0) low
-hcall_within set calls.ClearRef args low = h_clear_ref_within set.order (get_or args 1 0) low
-hcall_within set calls.ClearMod args low = h_clear_mod_within set.order (get_or args 1 0) low
-hcall_within set calls.BulkRemove args low = h_bulk_remove_within set.order args low
-hcall_within set calls.Prepare args low = tt
-hcall_within set calls.GetTce args low = tt
-hcall_within set calls.PutTce args low = tt
-hcall_within set calls.Commit args low = tt
-hcall_within set (calls.Other number) args low = tt
+hcall_within set calls.Enter args low is = h_enter_within set.order set.grants (get_or args 0 0) (get_or args 1 0) (get_or args 2 0) (get_or args 3 0) low
+hcall_within set calls.Remove args low is = h_remove_within set.order (get_or args 0 0) (get_or args 1 0) (get_or args 2 0) low
+hcall_within set calls.Protect args low is = h_protect_within set.order (get_or args 0 0) (get_or args 1 0) (get_or args 2 0) low
+hcall_within set calls.Read args low is = h_read_within set.order (get_or args 0 0) (get_or args 1 0) low
+hcall_within set calls.ClearRef args low is = h_clear_ref_within set.order (get_or args 1 0) low
+hcall_within set calls.ClearMod args low is = h_clear_mod_within set.order (get_or args 1 0) low
+hcall_within set calls.BulkRemove args low is = h_bulk_remove_within set.order args low
+hcall_within set calls.Prepare args low is = tt
+hcall_within set calls.GetTce args low is = get_within set.window (get_or args 1 0) (2 ^ (set.order - 4)) (window_room set.order low) is
+hcall_within set calls.PutTce args low is = put_within set.grants set.window (get_or args 1 0) (get_or args 2 0) (2 ^ (set.order - 4)) (window_room set.order low) is
+hcall_within set calls.Commit args low is = tt
+hcall_within set (calls.Other number) args low is = tt
 
 entries_within : (op : Op) (first n m : ℕ) → first + n ≤ m → Within m (map (call op) (range_with_len first n))
 entries_within op first zero m h = tt
@@ -163,19 +166,22 @@ segment_meets set processor a states (Some seg) e size low fresh = at (cached_li
   at (Some line) f h of = subst (λ o. Reached set processor a states (result_by_line set states seg a (current_line states o))) (sym f) (test line f h of (cases_Bool (is_current line (state_at states line.entry))))
 
 -- ---- a line
-line_meets : (set : AccessContext) (processor : Processor) (l : TraceLine) (states : List State) (act : Act) → l.act ≡ act → is_quiet act ≡ false → length states ≡ 2 ^ (set.order - 4) → 18 ≤ set.order → ProcessorFresh states processor → IsUndisturbed set processor states (record { line = record l { act = act }; reply = (line_result set processor states act).0 }) (line_result set processor states act).1
+line_meets : (set : StoreContext) (processor : Processor) (l : TraceLine) (states : List State) (act : Act) → l.act ≡ act → is_quiet act ≡ false → length states ≡ 2 ^ (set.order - 4) → 18 ≤ set.order → IfSome set.window IsWindow → ProcessorFresh states processor → IsUndisturbed set processor states (record { line = record l { act = act }; reply = (line_result set processor states act).0 }) (line_result set processor states act).1
 unfolding line_result is_quiet
-line_meets set processor l states (acts.Call number args spelt) e q size low fresh =
-    let m = plan_meets (hcall_plan set (hcall_of number) args) states (subst (λ n. Within n (hcall_plan set (hcall_of number) args).calls) (sym size) (hcall_within set (hcall_of number) args low)) in
+line_meets set processor l states (acts.Call number args spelt) e q size low is fresh =
+    let m = plan_meets (hcall_plan set (hcall_of number) args) states (subst (λ n. Within n (hcall_plan set (hcall_of number) args).calls) (sym size) (hcall_within set (hcall_of number) args low is)) in
     record { call = m.0; access = tt; gone = tt; run = m.1 }
-line_meets set processor l states (acts.SlbMte rb rs) e q size low fresh = record { call = refl; access = tt; gone = tt; run = refl }
-line_meets set processor l states acts.SlbClear e q size low fresh = record { call = refl; access = tt; gone = tt; run = refl }
-line_meets set processor l states (acts.Device write liobn ioba) e q size low fresh = record { call = refl; access = tt; gone = tt; run = refl }
-line_meets set processor l states (acts.SetMask name value) e q size low fresh = record { call = refl; access = tt; gone = tt; run = refl }
-line_meets set processor l states (acts.Access want ea user) e q size low fresh =
-    let m = segment_meets set processor (request want ea user processor.masks) states (segment_of processor.slots ea) refl size low fresh in
-    record { call = tt; access = answers set processor want ea user _ m.reply; gone = m.gone; run = m.run }
-line_meets set processor l states acts.Dump e q size low fresh = cc
+line_meets set processor l states (acts.SlbMte rb rs) e q size low is fresh = record { call = refl; access = tt; gone = tt; run = refl }
+line_meets set processor l states acts.SlbClear e q size low is fresh = record { call = refl; access = tt; gone = tt; run = refl }
+line_meets set processor l states (acts.Device write liobn ioba) e q size low is fresh =
+    let room : 2 ^ 14 ≤ length states = subst (λ n. 2 ^ 14 ≤ n) (sym size) (window_room set.order low) in
+    let m = device_meets set.grants set.window ioba write states room is in
+    record { call = m.0; access = tt; gone = tt; run = m.1 }
+line_meets set processor l states (acts.SetMask name value) e q size low is fresh = record { call = refl; access = tt; gone = tt; run = refl }
+line_meets set processor l states (acts.Access want ea user) e q size low is fresh =
+    let m = segment_meets (access_of set) processor (request want ea user processor.masks) states (segment_of processor.slots ea) refl size low fresh in
+    record { call = tt; access = answers (access_of set) processor want ea user _ m.reply; gone = m.gone; run = m.run }
+line_meets set processor l states acts.Dump e q size low is fresh = cc
 
-pub replied_line_meets : (set : AccessContext) (processors : List Processor) (states : List State) (l : TraceLine) → is_quiet l.act ≡ false → IsSound set.order processors states → IsUndisturbed set (processor_at processors l.cpu) states (record { line = l; reply = (line_result set (processor_at processors l.cpu) states l.act).0 }) (line_result set (processor_at processors l.cpu) states l.act).1
-replied_line_meets set processors states l q h = line_meets set (processor_at processors l.cpu) l states l.act refl q h.size h.low (processor_fresh states processors l.cpu h.fresh)
+pub replied_line_meets : (set : StoreContext) (processors : List Processor) (states : List State) (l : TraceLine) → is_quiet l.act ≡ false → IfSome set.window IsWindow → IsSound set.order processors states → IsUndisturbed set (processor_at processors l.cpu) states (record { line = l; reply = (line_result set (processor_at processors l.cpu) states l.act).0 }) (line_result set (processor_at processors l.cpu) states l.act).1
+replied_line_meets set processors states l q is h = line_meets set (processor_at processors l.cpu) l states l.act refl q h.size h.low is (processor_fresh states processors l.cpu h.fresh)

@@ -19,7 +19,7 @@ use Rattle.trace_reply.specs.Replies.{RepliedLine, lines_with_replies}
 use Rattle.run_model.specs.Processors.{processor_at, processors_after}
 use Rattle.run_model.specs.RunState.{RunState, context_of, states_of, without_cache, is_success, after_prepare, after_commit, run_resize, run_quiet_line}
 use Rattle.run_model.specs.SerialRun.{line_result, with_result, run_line, replies_from}
-use Rattle.run_model.specs.Sections.{cut}
+use Rattle.run_model.specs.Quiet.{cut}
 use Rattle.run_model.proofs.Undisturbed.{IsUndisturbed, Stands}
 use Rattle.run_model.proofs.Each.{each_of_map}
 use Rattle.run_model.proofs.Memories.{MemoryStands, memory_prepared, prepare_table, memory_committed, commit_moves}
@@ -104,7 +104,7 @@ front_cut w l ls h rest = at (cases_Bool (is_quiet l.act)) where
       let y = with_result w l (line_result (context_of w) (processor_at w.processors l.cpu) (states_of w) l.act) in
       let t : RepliedLine = record { line = l; reply = y.0 } in
       let x = cut (lines_with_replies ls (replies_from y.1 ls)) in
-      let replied_line = replied_line_meets (context_of w) w.processors (states_of w) l q h.lines in
+      let replied_line = replied_line_meets (context_of w) w.processors (states_of w) l q tt h.lines in
       let k : Stands w (t ∷ x.0) x.1 = front_stands w t (states_of y.1) x.0 x.1 replied_line (rest y.1 (next_sound w t (states_of y.1) h replied_line)) in
       rw q k
 

@@ -31,9 +31,13 @@ use Rattle.trace_line.specs.declared.act.Act.{Act}
 use Rattle.trace_line.specs.declared.line.TraceLine.{TraceLine}
 use Rattle.trace_line.specs.Lines.{is_quiet}
 use Rattle.trace_read.specs.Trace.{AcceptedTrace, IsAccepted}
+use Rattle.run_model.specs.StoreContexts.{access_of, table_context}
 use Rattle.run_model.specs.LineReplies.{hcall_plan}
 use Rattle.run_model.specs.Processors.{processor_at}
 use Rattle.run_model.specs.RunState.{RunState, context_of, states_of, opening_run, run_resize, run_quiet_line}
+use Rattle.run_model.specs.OpeningAgain.{memory_after}
+use Rattle.run_model.specs.Windows.{trace_lines_on_table}
+use Rattle.run_model.proofs.SerialStores.{opened_after}
 use Rattle.run_model.specs.SerialRun.{current_line, result_by_line, result_by_segment, line_result, run_line, state_after_lines}
 use Rattle.run_model.proofs.Memories.{IsAllowed, MemoryStands, memory_prepared, prepare_table, memory_committed, opening_stands}
 use Rattle.papr_codes.specs.declared.calls.Hcall.TheVariants as calls
@@ -74,9 +78,9 @@ segment_length : (set : AccessContext) (p : Processor) (states : List State) (a 
 segment_length set p states a None = refl
 segment_length set p states a (Some seg) = line_length set states seg a (current_line states (cached_line p.cache seg.page))
 
-result_length : (set : AccessContext) (p : Processor) (states : List State) (act : Act) → length (line_result set p states act).1 ≡ length states
+result_length : (set : AccessContext) (p : Processor) (states : List State) (act : Act) → length (line_result (table_context set) p states act).1 ≡ length states
 unfolding line_result
-result_length set p states (acts.Call number args spelt) = plan_length (hcall_plan set (hcall_of number) args) states
+result_length set p states (acts.Call number args spelt) = plan_length (hcall_plan (table_context set) (hcall_of number) args) states
 result_length set p states (acts.Access want ea user) = segment_length set p states (request want ea user p.masks) (segment_of p.slots ea)
 result_length set p states (acts.SlbMte rb rs) = refl
 result_length set p states acts.SlbClear = refl
@@ -126,7 +130,7 @@ unfolding run_line
 one_sized w l h = at (cases_Bool (is_quiet l.act)) where
   at : (is_quiet l.act ≡ true) ⊎ (is_quiet l.act ≡ false) → IsSized (run_line w l).1.memory
   at (inl q) = rw q (quiet_sized w l.act h)
-  at (inr q) = rw q (same_size w.memory _ (result_length (context_of w) (processor_at w.processors l.cpu) (states_of w) l.act) h)
+  at (inr q) = rw q (same_size w.memory _ (result_length (access_of (context_of w)) (processor_at w.processors l.cpu) (states_of w) l.act) h)
 
 all_sized : (w : RunState) (ls : List TraceLine) → IsSized w.memory → IsSized (state_after_lines w ls).memory
 all_sized w [] h = h
@@ -139,5 +143,5 @@ opening_sized t is =
     let settings = is.configured.settings in
     record { stands = opening_stands c.limit c.order c.granted.pool_base c.granted.pool_order c.entries settings.at_most settings.at_least; high = let below : c.order ≤ c.limit = settings.within in let most : c.limit ≤ 22 = settings.at_most in omega arith }
 
-pub serial_sized : (t : AcceptedTrace) (ls : List TraceLine) → IsAccepted t → IsSized (state_after_lines (opening_run t.config) ls).memory
-serial_sized t ls is = all_sized (opening_run t.config) ls (opening_sized t is)
+pub serial_sized : (t : AcceptedTrace) (ls : List TraceLine) → IsAccepted t → IsSized (memory_after t ls)
+serial_sized t ls is = subst (λ (w : RunState). IsSized w.memory) (sym (opened_after t ls)) (all_sized (opening_run t.config) (trace_lines_on_table t.config.windows ls) (opening_sized t is))

@@ -2,7 +2,7 @@
 use Rattle.std.specs.Prelude.{◌≡◌, ◌<◌, List, [], ◌∷◌, IfSome}
 use Rattle.entry_model.specs.State.{State}
 use Rattle.entry_model.specs.Run.{state_at, IsRun}
-use Rattle.hpt_walk.specs.Access.{AccessContext}
+use Rattle.run_model.specs.StoreContexts.{StoreContext, access_of}
 use Rattle.tlb_model.specs.Processor.{Processor}
 use Rattle.trace_reply.specs.Replies.{RepliedLine, receipts_in}
 use Rattle.run_model.specs.Processors.{processor_at, processors_after, gone_line_of}
@@ -11,13 +11,13 @@ use Rattle.run_model.specs.RunState.{RunState, context_of, states_of, run_quiet_
 use Rattle.hpt_resize.specs.TableMemory.{with_states}
 
 -- A line that isn't quiet, from these states to those.
-pub record IsUndisturbed (set : AccessContext) (processor : Processor) (a : List State) (t : RepliedLine) (b : List State) : Type 0 where
+pub record IsUndisturbed (set : StoreContext) (processor : Processor) (a : List State) (t : RepliedLine) (b : List State) : Type 0 where
   pub call : IsCallReply set t.line.act t.reply
-  pub access : IsReplyToAccess set processor t.line.act t.reply
+  pub access : IsReplyToAccess (access_of set) processor t.line.act t.reply
   pub gone : IfSome (gone_line_of processor t.line.act t.reply) (λ line. line.stamp < (state_at a line.entry).stamp)
   pub run : IsRun a (receipts_in t.reply) b
 
-abbrev pub AreUndisturbed : AccessContext → List Processor → List State → List RepliedLine → List State → Type 0
+abbrev pub AreUndisturbed : StoreContext → List Processor → List State → List RepliedLine → List State → Type 0
 AreUndisturbed set processors a [] b = b ≡ a
 AreUndisturbed set processors a (t ∷ ts) b = (mid : List State) × IsUndisturbed set (processor_at processors t.line.cpu) a t mid × AreUndisturbed set (processors_after processors t) mid ts b
 

@@ -11,19 +11,23 @@ use Rattle.entry_model.specs.Reply.{words_of}
 use Rattle.trace_read.specs.Configuration.{Configuration}
 use Rattle.trace_read.specs.Trace.{AcceptedTrace, IsAccepted}
 use Rattle.trace_reply.specs.declared.reply.Reply.{Reply}
-use Rattle.trace_reply.specs.Replies.{AreReplies}
+use Rattle.trace_reply.specs.Replies.{RepliedLine, AreReplies, lines_with_replies}
+use Rattle.bus_window.specs.Windows.{BusWindow}
+use Rattle.run_model.specs.BusyCalls.{BusyWhereTaken, PutIsNotBusy}
+use Rattle.run_model.specs.DeviceLandings.{DeviceLands}
+use Rattle.run_model.specs.Windows.{window_sections}
 use Rattle.run_model.specs.EnteredEntries.{CanBeEntered}
 use Rattle.run_model.specs.OpeningAgain.{IsOpenedAgain, entry_line_words, memory_after}
-use Rattle.run_model.specs.RunState.{states_of, opening_run, shown_of}
+use Rattle.run_model.specs.RunState.{states_of, shown_of}
 use Rattle.run_model.specs.Sections.{sections_of}
-use Rattle.run_model.specs.SerialRun.{serial_replies, state_after_lines}
+use Rattle.run_model.specs.SerialRun.{serial_replies, opening_stores, stores_after_lines}
 use Rattle.run_model.specs.GoodRun.{IsGoodRun}
 use Rattle.run_model.specs.ShownStores.{NoStoreIsLostIn, NoSetBitIsLostIn, ClearedBitsAreShown}
 use Rattle.run_model.specs.CommittedResizes.{ResizesKeepTranslations}
 use Rattle.run_model.specs.Landings.{AccessesLand, IsUnworn}
 use Rattle.run_model.specs.CachedAccesses.{AccessesUseCaches}
 use Rattle.run_model.specs.MaskedAccesses.{SetsZero, MasksRefuse, NoneIsMasked}
-use Rattle.run_model.specs.RefusedCalls.{RefusedLinesLeave, RefusedQuietLinesLeave}
+use Rattle.run_model.specs.RefusedCalls.{RefusedLinesLeave, RefusedWindowLinesLeave, RefusedQuietLinesLeave}
 use Rattle.run_model.specs.ParallelRun.{IsParallel}
 
 -- ---- which runs are good
@@ -98,6 +102,16 @@ AccessesLandByTheirEntries =
     → IsGoodRun t rs
     → AllByRecursion (AccessesLand t.config.granted) (sections_of t rs)
 
+-- In a good run each access of a device that is allowed lands where the TCE in its receipt maps the page: in granted main storage, and in no table. None is ungranted.
+abbrev pub DevicesLandByTheirTces : Type 0
+DevicesLandByTheirTces =
+    (t : AcceptedTrace) (rs : List Reply)
+    → IsAccepted t
+    → IsGoodRun t rs
+    → AllByRecursion
+    (λ (x : RepliedLine). DeviceLands t.config.granted x.line.act x.reply)
+    (lines_with_replies t.lines rs)
+
 -- In a good run no reply is H_HARDWARE.
 abbrev pub NoEntryIsWorn : Type 0
 NoEntryIsWorn =
@@ -112,6 +126,25 @@ CachedLinesAreCurrentOrGone =
     (t : AcceptedTrace) (rs : List Reply)
     → IsGoodRun t rs
     → AllByRecursion AccessesUseCaches (sections_of t rs)
+
+-- ---- H_PUT_TCE and H_BUSY
+-- In a good run the reply of an H_PUT_TCE is H_BUSY exactly where a receipt of it says Taken.
+abbrev pub PutsAreBusyWhereTaken : Type 0
+PutsAreBusyWhereTaken =
+    (t : AcceptedTrace) (rs : List Reply)
+    → IsGoodRun t rs
+    → AllByRecursion
+    (λ (x : RepliedLine). BusyWhereTaken x.line.act x.reply)
+    (lines_with_replies t.lines rs)
+
+-- In the serial run it never is.
+abbrev pub SerialPutsAreNotBusy : Type 0
+SerialPutsAreNotBusy =
+    (t : AcceptedTrace)
+    → IsAccepted t
+    → AllByRecursion
+    (λ (x : RepliedLine). PutIsNotBusy x.line.act x.reply)
+    (lines_with_replies t.lines (serial_replies t))
 
 -- ---- masks
 -- In a good run an access is refused by a mask exactly where protection allows it by the entry that it ended with, and a mask of its processor refuses it for the entry's key.
@@ -138,6 +171,15 @@ RefusedLinesChangeNothing =
     → IsGoodRun t rs
     → AllByRecursion RefusedLinesLeave (sections_of t rs)
 
+-- In a good run a refused line on a window changes no entry of it; but an H_PUT_TCE that ends with H_BUSY or H_HARDWARE has removed the TCE that was there.
+abbrev pub RefusedWindowLinesChangeNothing : Type 0
+RefusedWindowLinesChangeNothing =
+    (t : AcceptedTrace) (rs : List Reply)
+    → IsGoodRun t rs
+    → AllByRecursion
+    (λ (w : BusWindow). AllByRecursion RefusedWindowLinesLeave (window_sections t rs w))
+    t.config.windows
+
 -- In a good run a refused resize call changes nothing; but a prepare that answers H_NO_MEM and a commit that answers H_PTEG_FULL have dropped the pending table.
 abbrev pub RefusedResizesChangeNothing : Type 0
 RefusedResizesChangeNothing =
@@ -153,7 +195,7 @@ EntriesCanBeEntered =
     → IsAccepted t
     → AllByRecursion
     (CanBeEntered t.config.granted.grants)
-    (states_of (state_after_lines (opening_run t.config) lines))
+    (states_of (stores_after_lines (opening_stores t.config) lines).table)
 
 -- What a layout holds of a table can be opened again: each valid entry of each table that a serial run reaches, written by its index and its digits, behind `entry` lines of lower indices, in a trace whose opening table has the order of that table, and whose grants are the same.
 abbrev pub ImagesOpenAgain : Type 0

@@ -13,7 +13,7 @@ use Rattle.entry_model.specs.Reply.{words_of}
 use Rattle.entry_model.specs.Run.{state_at}
 use Rattle.hpt_resize.specs.TableMemory.{TableMemory}
 use Rattle.run_model.specs.RunState.{states_of, opening_run}
-use Rattle.run_model.specs.SerialRun.{state_after_lines}
+use Rattle.run_model.specs.SerialRun.{opening_stores, stores_after_lines}
 
 -- The words of an `entry` line: the layout, the index, and the digits as an image writes them.
 abbrev pub entry_line_words : Layout → ℕ → List ℕ → List (List ℕ)
@@ -49,4 +49,4 @@ pub record IsOpenedAgain
 
 -- The memory of tables after these lines of the serial run of an accepted trace's configuration.
 abbrev pub memory_after : AcceptedTrace → List TraceLine → TableMemory
-memory_after t lines = (state_after_lines (opening_run t.config) lines).memory
+memory_after t lines = (stores_after_lines (opening_stores t.config) lines).table.memory

@@ -1,4 +1,4 @@
--- Which calls and accesses are refused, and that these change nothing but in three cases, which are named here. The grants are a constant of the run.
+-- Which calls and accesses are refused, and that these change nothing but in the cases that are named here. The grants are a constant of the run.
 use Rattle.std.specs.Prelude.{◌≡◌, ℕ, Bool, true, false, not, List, [], ◌∷◌, Option, Some, None, IfSome, slice_index}
 use Rattle.std.specs.List.{AllByRecursion}
 use Rattle.papr_codes.specs.declared.calls.Hcall.{Hcall}
@@ -21,7 +21,8 @@ use Rattle.trace_reply.specs.Replies.{receipts_in}
 use Rattle.run_model.specs.Processors.{processor_after, gone_line_of}
 use Rattle.run_model.specs.RunState.{RunState, states_of}
 use Rattle.run_model.specs.Sections.{Section, section_end}
-use Rattle.run_model.specs.GoodRun.{EachLine}
+use Rattle.run_model.specs.GoodRun.{EachLine, EachLineOf}
+use Rattle.run_model.specs.StoreSections.{StoreSection}
 use Rattle.papr_codes.specs.declared.calls.Hcall.TheVariants as calls
 use Rattle.papr_codes.specs.declared.codes.Rc.TheVariants as rc
 use Rattle.entry_model.specs.declared.access_reply.Outcome.TheVariants as outcomes
@@ -61,13 +62,15 @@ abbrev pub is_removed : Answer → Bool
 is_removed answers.Removed = true
 is_removed other = false
 
--- A bulk removal that ends with H_PARAMETER or H_HARDWARE keeps the pairs that it has removed.
+-- A bulk removal that ends with H_PARAMETER or H_HARDWARE keeps the pairs that it has removed; and an H_PUT_TCE that ends with H_BUSY or H_HARDWARE has removed the TCE that was there.
 abbrev pub keeps_removals : Hcall → Rc → Bool
 keeps_removals calls.BulkRemove rc.Parameter = true
 keeps_removals calls.BulkRemove rc.Hardware = true
+keeps_removals calls.PutTce rc.Busy = true
+keeps_removals calls.PutTce rc.Hardware = true
 keeps_removals call code = false
 
--- The line is such a bulk removal.
+-- The line is such a call.
 abbrev pub keeps_removals_by : Act → Reply → Bool
 keeps_removals_by (acts.Call number args spelt) (replies.Hcall h) =
     keeps_removals (hcall_of number) h.rc
@@ -103,6 +106,11 @@ pub record RefusedLinesLeave (s : Section) : Type 0 where
   pub memory :
       (section_end s.before s.replied_lines).memory
       ≡ with_states s.before.memory (states_of (section_end s.before s.replied_lines))
+
+-- Each refused line on a window leaves so what it names.
+abbrev pub RefusedWindowLinesLeave : StoreSection → Type 0
+RefusedWindowLinesLeave s =
+    EachLineOf (λ p t. is_refused t.line.act t.reply ≡ true → LeavesAll p t.line.act t.reply) s
 
 -- ---- resize calls
 -- A prepare that answers H_NO_MEM and a commit that answers H_PTEG_FULL have dropped the pending table.

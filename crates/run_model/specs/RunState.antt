@@ -7,10 +7,11 @@ use Rattle.papr_codes.specs.declared.calls.Hcall.{Hcall}
 use Rattle.papr_codes.specs.declared.codes.Rc.{Rc}
 use Rattle.papr_codes.specs.Hcalls.{hcall_of}
 use Rattle.hpt_resize.specs.TableMemory.{TableMemory, opening_memory, prepare_result, commit_result}
-use Rattle.hpt_walk.specs.Access.{AccessContext, access_context}
+use Rattle.hpt_walk.specs.Access.{access_context}
 use Rattle.tlb_model.specs.Processor.{Processor, new_processor}
 use Rattle.trace_read.specs.Configuration.{Configuration}
 use Rattle.trace_line.specs.declared.act.Act.{Act}
+use Rattle.run_model.specs.StoreContexts.{StoreContext, table_context}
 use Rattle.trace_reply.specs.declared.shown.Shown.{Shown}
 use Rattle.trace_reply.specs.declared.reply.Reply.{Reply}
 use Rattle.trace_reply.specs.ShownTable.{table_shown}
@@ -26,9 +27,9 @@ pub record RunState : Type 0 where
   pub memory : TableMemory
   pub processors : List Processor
 
--- What the accesses between two quiet lines have in common.
-abbrev pub context_of : RunState → AccessContext
-context_of w = access_context w.memory.table.order w.grants
+-- What the lines on the page table between two quiet lines have in common.
+abbrev pub context_of : RunState → StoreContext
+context_of w = table_context (access_context w.memory.table.order w.grants)
 
 -- The states of the table's entries.
 abbrev pub states_of : RunState → List State

@@ -1,13 +1,15 @@
--- The sections of a run: the quiet lines cut it, and each section opens on what the quiet line before it left.
-use Rattle.std.specs.Prelude.{ℕ, suc, List, [], ◌∷◌, Option, Some, None, length, if◌then◌else◌}
+-- The sections of the page table in a run: the quiet lines cut it, and each section opens on what the quiet line before it left.
+use Rattle.std.specs.Prelude.{ℕ, suc, List, [], ◌∷◌, Option, Some, None, length}
 use Rattle.entry_model.specs.declared.receipt.Receipt.{Receipt}
 use Rattle.tlb_model.specs.Processor.{Processor}
-use Rattle.trace_line.specs.Lines.{is_quiet}
 use Rattle.trace_read.specs.Trace.{AcceptedTrace}
 use Rattle.trace_reply.specs.declared.reply.Reply.{Reply}
-use Rattle.trace_reply.specs.Replies.{RepliedLine, lines_with_replies}
+use Rattle.trace_reply.specs.Replies.{RepliedLine}
 use Rattle.run_model.specs.Processors.{processor_after}
-use Rattle.run_model.specs.RunState.{RunState, states_of, opening_run, run_quiet_line}
+use Rattle.run_model.specs.RunState.{RunState, context_of, states_of, opening_run, run_quiet_line}
+use Rattle.run_model.specs.Quiet.{QuietPart, cut}
+use Rattle.run_model.specs.StoreSections.{StoreSection}
+use Rattle.run_model.specs.Windows.{table_lines}
 use Rattle.hpt_resize.specs.TableMemory.{with_states}
 use Rattle.run_model.specs.Histories.{lines_of_processor, receipts_from_processor, closing_states}
 use Rattle.entry_model.specs.State.{State}
@@ -43,25 +45,20 @@ unfoldable pub section_end : RunState → List RepliedLine → RunState
 section_end w ts = section_end_on w ts (closing_states (states_of w) (receipts_made w ts))
 
 -- ---- sections
--- What the run carries before it, its lines, and the quiet line that ends it, if there is one.
+-- What the run carries before it, its lines on the page table, and the quiet line that ends it, if there is one.
 pub record Section : Type 0 where
   pub before : RunState
   pub replied_lines : List RepliedLine
   pub quiet : Option RepliedLine
 
--- A quiet line, and the lines behind it up to the next one.
-abbrev pub QuietPart : Type 0
-QuietPart = RepliedLine × List RepliedLine
-
--- A line before those that were cut already.
-abbrev pub cut_before :
-    RepliedLine → List RepliedLine × List QuietPart → List RepliedLine × List QuietPart
-cut_before t x = if is_quiet t.line.act then ([], (t, x.0) ∷ x.1) else (t ∷ x.0, x.1)
-
--- The lines before the first quiet line; and each quiet line with the lines behind it.
-abbrev pub cut : List RepliedLine → List RepliedLine × List QuietPart
-cut [] = ([], [])
-cut (t ∷ ts) = cut_before t (cut ts)
+-- Its lines as a section of the page table's store.
+abbrev pub table_section : RunState → List RepliedLine → StoreSection
+table_section w ts = record {
+  context = context_of w;
+  opening = states_of w;
+  processors = w.processors;
+  replied_lines = ts;
+}
 
 -- The sections from here on, of these lines and these quiet parts.
 abbrev pub sections_from : RunState → List RepliedLine → List QuietPart → List Section
@@ -73,4 +70,4 @@ sections_from w ts (q ∷ qs) =
 -- The sections of a run with these replies.
 abbrev pub sections_of : AcceptedTrace → List Reply → List Section
 sections_of t rs =
-    let c = cut (lines_with_replies t.lines rs) in sections_from (opening_run t.config) c.0 c.1
+    let c = cut (table_lines t rs) in sections_from (opening_run t.config) c.0 c.1

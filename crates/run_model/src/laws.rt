@@ -1,6 +1,6 @@
 //! Laws of the runs of a trace. Each function does nothing, and its contract is the law.
 
-ghost use Rattle.run_model.specs.Laws.{SerialIsGood, ParallelIsGood, SerialIsParallel, SerialIsTheOneGoodRun, NoStoreIsLost, NoSetBitIsLost, ClearingRepliesShow, ResizesKeepBoltedPages, AccessesLandByTheirEntries, CachedLinesAreCurrentOrGone, MasksRefuseExactlyWhere, ZeroMasksRefuseNothing, NoEntryIsWorn, RefusedLinesChangeNothing, RefusedResizesChangeNothing, EntriesCanBeEntered, ImagesOpenAgain};
+ghost use Rattle.run_model.specs.Laws.{SerialIsGood, ParallelIsGood, SerialIsParallel, SerialIsTheOneGoodRun, NoStoreIsLost, NoSetBitIsLost, ClearingRepliesShow, ResizesKeepBoltedPages, AccessesLandByTheirEntries, DevicesLandByTheirTces, CachedLinesAreCurrentOrGone, MasksRefuseExactlyWhere, ZeroMasksRefuseNothing, NoEntryIsWorn, PutsAreBusyWhereTaken, SerialPutsAreNotBusy, RefusedLinesChangeNothing, RefusedWindowLinesChangeNothing, RefusedResizesChangeNothing, EntriesCanBeEntered, ImagesOpenAgain};
 
 /// The serial run of a trace is a good run.
 pub fn serial_is_good()
@@ -51,6 +51,12 @@ pub fn accesses_land_by_their_entries()
     ensures { AccessesLandByTheirEntries }
 {}
 
+/// In a good run each access of a device that is allowed lands where the TCE in its receipt maps the page,
+/// in granted main storage and in no table.
+pub fn devices_land_by_their_tces()
+    ensures { DevicesLandByTheirTces }
+{}
+
 /// In a good run a hit is by a cached line that is current at the hit's place, and a walk goes past a
 /// cached line only where its entry has left the line's stamp.
 pub fn cached_lines_are_current_or_gone()
@@ -73,10 +79,26 @@ pub fn no_entry_is_worn()
     ensures { NoEntryIsWorn }
 {}
 
+/// In a good run the reply of an H_PUT_TCE is H_BUSY exactly where a receipt of it says Taken.
+pub fn puts_are_busy_where_taken()
+    ensures { PutsAreBusyWhereTaken }
+{}
+
+/// In the serial run no reply of an H_PUT_TCE is H_BUSY.
+pub fn serial_puts_are_not_busy()
+    ensures { SerialPutsAreNotBusy }
+{}
+
 /// In a good run a call, an access or an slbmte that is refused changes no entry, no segment and no cached
 /// line but one that was gone; a bulk removal keeps the pairs that it removed before it was refused.
 pub fn refused_lines_change_nothing()
     ensures { RefusedLinesChangeNothing }
+{}
+
+/// In a good run a call or a device's access on a window that is refused changes no entry of it; an
+/// H_PUT_TCE that ends with H_BUSY or H_HARDWARE has removed the TCE that was there.
+pub fn refused_window_lines_change_nothing()
+    ensures { RefusedWindowLinesChangeNothing }
 {}
 
 /// In a good run a resize call that is refused changes nothing, but that a prepare without memory and a

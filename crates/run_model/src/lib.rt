@@ -2,17 +2,21 @@
 //! run, the sections between quiet lines, the good runs, and what follows of a run from its being good.
 //!
 //! The calls are those of LoPAR on the page frame table and on DMA windows, and the accesses those of
-//! the Power ISA (Book III, hashed page table translation). `laws` has the theorems. One call
-//! runs: `make_call`, which picks the hypervisor call of a line by its number.
+//! the Power ISA (Book III, hashed page table translation). `laws` has the theorems. Two calls run:
+//! `make_call`, which picks the hypervisor call of a line by its number, and `make_device_access`.
 #![tactic(auto)]
 
 mod calls;
 mod laws;
+mod surroundings;
 
-pub use calls::make_call;
+pub use calls::{make_call, make_device_access};
 pub use laws::{
     accesses_land_by_their_entries, cached_lines_are_current_or_gone, clearing_replies_show,
-    images_open_again, no_entry_is_worn, no_set_bit_is_lost, no_store_is_lost, one_good_run,
-    parallel_is_good, reached_entries_can_be_entered, refused_lines_change_nothing,
-    refused_resizes_change_nothing, resizes_keep_bolted_pages, serial_is_good, serial_is_parallel,
+    devices_land_by_their_tces, images_open_again, no_entry_is_worn, no_set_bit_is_lost,
+    no_store_is_lost, one_good_run, parallel_is_good, puts_are_busy_where_taken,
+    reached_entries_can_be_entered, refused_lines_change_nothing, refused_resizes_change_nothing,
+    refused_window_lines_change_nothing, resizes_keep_bolted_pages, serial_is_good,
+    serial_is_parallel, serial_puts_are_not_busy,
 };
+pub use surroundings::Surroundings;

@@ -1,0 +1,103 @@
+-- Worked lines on two windows, and the sections of one.
+use Rattle.std.specs.Prelude.{map}
+use Rattle.std.proofs.Common.{◌≡◌, ℕ, List, [], ◌∷◌, true, false, Some, None, refl}
+use Rattle.bus_window.specs.Windows.{BusWindow, bus_window}
+use Rattle.dma_window.specs.Calls.{put_tce_plan}
+use Rattle.dma_window.specs.Entries.{no_test}
+use Rattle.dma_window.specs.Pages.{is_ram}
+use Rattle.frame_grants.specs.declared.grant.Grant.{Grant}
+use Rattle.frame_grants.specs.declared.grant.Kind.TheVariants.{Ram}
+use Rattle.frame_grants.specs.Grants.{machine_range}
+use Rattle.papr_codes.specs.Hcalls.{hcall_of, row_of}
+use Rattle.papr_codes.specs.declared.codes.Rc.TheVariants.{Success}
+use Rattle.entry_model.specs.State.{State, empty_state}
+use Rattle.entry_model.specs.Receipt.{receipt_of}
+use Rattle.entry_model.specs.Reply.{entered_state}
+use Rattle.entry_model.specs.Trial.{trial_run, plan_run}
+use Rattle.entry_model.specs.History.{place, pair_of, state_eq}
+use Rattle.entry_model.specs.declared.device_reply.DeviceOutcome.TheVariants.{At}
+use Rattle.trace_line.specs.Lines.{bus_of, is_quiet}
+use Rattle.trace_line.specs.declared.act.Act.{Act}
+use Rattle.trace_line.specs.declared.act.Act.TheVariants.{Call, Device, Dump}
+use Rattle.trace_reply.specs.Replies.{RepliedLine}
+use Rattle.run_model.specs.Histories.{closing_states}
+use Rattle.run_model.specs.LineReplies.{hcall_plan}
+use Rattle.run_model.specs.Quiet.{cut}
+use Rattle.run_model.specs.SerialRun.{WindowState, line_result, run_on_windows}
+use Rattle.run_model.specs.StoreSections.{StoreSection}
+use Rattle.run_model.specs.Windows.{is_on_table, window_sections_from}
+use Rattle.entry_model.specs.declared.operation.Op.TheVariants as ops
+use Rattle.trace_reply.specs.declared.reply.Reply.TheVariants as replies
+
+grants : List Grant
+grants = record { kind = Ram; logical = 0; machine = 0x2000000000; length = 0x10000 } ∷ []
+
+-- Two windows of two pages, from the same bus address on.
+one : BusWindow
+one = bus_window 1 0x10000 2
+
+other : BusWindow
+other = bus_window 2 0x10000 2
+
+-- Each with its second page at this state.
+having : BusWindow → State → WindowState
+having w s = record { window = w; states = empty_state 0 ∷ s ∷ [] }
+
+set_read : State
+set_read = record (entered_state 0x09 0x3010) { stamp = 1 }
+
+-- H_PUT_TCE, by its number, of the second page of the window 2.
+put : Act
+put = Call 0x20 (2 ∷ 0x11008 ∷ 0x3001 ∷ 0 ∷ 0 ∷ 0 ∷ 0 ∷ 0 ∷ []) false
+
+putting : RepliedLine
+putting = record {
+  line = record { number = 5; cpu = 0; act = put };
+  reply =
+      replies.Hcall
+      (record {
+        rc = Success;
+        words = [];
+        receipts = receipt_of 1 (empty_state 0) (ops.Remove no_test) ∷ receipt_of 1 (empty_state 0) (ops.Enter 0x09 0x3010) ∷ [];
+      });
+}
+
+-- It is on that window, and on no other store.
+on_the_second : is_on_table (one ∷ []) put ≡ true
+unfolding put one bus_of hcall_of row_of
+on_the_second = refl
+
+not_on_the_table : is_on_table (one ∷ other ∷ []) put ≡ false
+unfolding put one other bus_of hcall_of row_of
+not_on_the_table = refl
+
+-- Its entry is emptied and entered, and the first window stays.
+put_on_the_second : run_on_windows grants (having one (empty_state 0) ∷ having other (empty_state 0) ∷ []) put ≡ Some (putting.reply, having one (empty_state 0) ∷ having other set_read ∷ [])
+unfolding having one other put putting set_read grants bus_of hcall_of row_of line_result hcall_plan put_tce_plan plan_run trial_run is_ram machine_range
+put_on_the_second = refl
+
+-- A device of the window 2 reaches the page, one of the window 1 is denied, and the number 3 is none's.
+read_by : ℕ → Act
+read_by number = Device false number 0x11008
+
+reached : run_on_windows grants (having one (empty_state 0) ∷ having other set_read ∷ []) (read_by 2) ≡ Some (replies.Device (record { outcome = At 0x2000003008; receipts = receipt_of 1 set_read ops.Read ∷ [] }), having one (empty_state 0) ∷ having other set_read ∷ [])
+unfolding having one other read_by set_read grants bus_of line_result trial_run is_ram machine_range
+reached = refl
+
+none_of_three : run_on_windows grants (having one (empty_state 0) ∷ having other set_read ∷ []) (read_by 3) ≡ None
+unfolding having one other read_by bus_of
+none_of_three = refl
+
+-- ---- sections
+-- A dump cuts the window's lines as it cuts the page table's, and the second section opens on what the first leaves.
+dumped : RepliedLine
+dumped = record { line = record { number = 6; cpu = 0; act = Dump }; reply = replies.Dump (record { number = 0; order = 18; place = 0; states = [] }) }
+
+opens : map (λ (s : StoreSection). s.opening) (let c = cut (putting ∷ dumped ∷ []) in window_sections_from grants 1 other (empty_state 0 ∷ empty_state 0 ∷ []) c.0 c.1) ≡ (empty_state 0 ∷ empty_state 0 ∷ []) ∷ (empty_state 0 ∷ set_read ∷ []) ∷ []
+unfolding other put putting dumped set_read bus_of hcall_of row_of is_quiet closing_states place pair_of state_eq
+opens = refl
+
+-- The other window has no line of these, so it opens twice as it was.
+stays : map (λ (s : StoreSection). s.opening) (let c = cut (putting ∷ dumped ∷ []) in window_sections_from grants 1 one (empty_state 0 ∷ empty_state 0 ∷ []) c.0 c.1) ≡ (empty_state 0 ∷ empty_state 0 ∷ []) ∷ (empty_state 0 ∷ empty_state 0 ∷ []) ∷ []
+unfolding one put putting dumped bus_of hcall_of row_of is_quiet closing_states
+stays = refl

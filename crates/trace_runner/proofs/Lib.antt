@@ -1,4 +1,5 @@
 pub mod Acting
+pub mod WindowPlaces
 pub mod Holding
 pub mod Resizing
 pub mod RunSteps
@@ -14,6 +15,10 @@ pub mod DealtLines
 pub mod WorkerGroups
 pub mod SectionWork
 pub mod SectionPromises
+pub mod SideBySide
+pub mod StoreNumbers
+pub mod StoresRan
+pub mod QuietLines
 pub mod SectionsRun
 pub mod ParallelAssured
 pub mod TextLogs

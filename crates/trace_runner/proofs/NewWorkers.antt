@@ -10,7 +10,7 @@ use Rattle.entry_model.specs.History.{pair_of}
 use Rattle.tlb_model.proofs.CachedPages.{all_cached_weaker}
 use Rattle.entry_lock.specs.declared.table.LockTable.{LockTable}
 use Rattle.entry_lock.specs.declared.table.Pass.{Pass}
-use Rattle.hpt_walk.specs.Access.{AccessContext}
+use Rattle.run_model.specs.StoreContexts.{StoreContext}
 use Rattle.tlb_model.specs.Processor.{Processor}
 use Rattle.trace_line.specs.declared.line.TraceLine.{TraceLine}
 use Rattle.trace_runner.specs.declared.worker.Worker.{Worker}
@@ -31,7 +31,7 @@ pub nil_of : {A : Type 0} (xs : List A) → length xs ≡ 0 → xs ≡ []
 nil_of [] e = refl
 nil_of (x ∷ xs) e = absurd (omega (arith, e))
 
-pub worker_starts : {L : Type 0} (keeps : Keeping L) (room_in : L → ℕ) (set : AccessContext) (table : LockTable) (n : ℕ) (lines : List TraceLine) (w : Worker L) (pass : Pass) (cpu : Processor)
+pub worker_starts : {L : Type 0} (keeps : Keeping L) (room_in : L → ℕ) (set : StoreContext) (table : LockTable) (n : ℕ) (lines : List TraceLine) (w : Worker L) (pass : Pass) (cpu : Processor)
     → length table.opening.items ≡ 2 ^ (table.order - 4) → AllCached (Holding table.opening.items) cpu.cache → IsFresh table 1 pass
     → (w.cpu ≡ cpu) × (w.before.value ≡ cpu) → w.pass ≡ Some pass → AreOwn lines n w.own.items → keeps w.log [] [] → 0 < length (lines_of_cpu n lines) → length (lines_of_cpu n lines) ≤ room_in w.log
     → IsReady keeps room_in set table n lines w
@@ -52,7 +52,7 @@ worker_starts keeps room_in set table n lines w pass cpu size holds first proces
   room = room;
 })
 
-pub worker_idles : {L : Type 0} (keeps : Keeping L) (room_in : L → ℕ) (set : AccessContext) (table : LockTable) (n : ℕ) (lines : List TraceLine) (w : Worker L) (cpu : Processor)
+pub worker_idles : {L : Type 0} (keeps : Keeping L) (room_in : L → ℕ) (set : StoreContext) (table : LockTable) (n : ℕ) (lines : List TraceLine) (w : Worker L) (cpu : Processor)
     → AllCached (Holding table.opening.items) cpu.cache → (w.cpu ≡ cpu) × (w.before.value ≡ cpu) → w.pass ≡ None → keeps w.log [] [] → length (lines_of_cpu n lines) ≡ 0
     → IsReady keeps room_in set table n lines w
 worker_idles keeps room_in set table n lines w cpu holds processors is none no_line = inl (record {

@@ -1,5 +1,5 @@
 -- Facts of each of a list by its number.
-use Rattle.std.proofs.Common.{◌≡◌, ◌≢◌, ℕ, zero, suc, ◌+◌, ◌<◌, ◌≤◌, List, [], ◌∷◌, ◌++◌, length, map, get_or, set, cond, eqb, refl, sym, ◌∙◌, subst, arith}
+use Rattle.std.proofs.Common.{◌≡◌, ◌≢◌, ℕ, zero, suc, ◌+◌, ◌<◌, ◌≤◌, List, [], ◌∷◌, ◌++◌, length, map, get_or, set, cond, eqb, refl, sym, subst, arith}
 use Rattle.std.proofs.lemmas.Bool.{eq-eqb}
 use Rattle.std.specs.List.{AllByRecursion}
 use Rattle.trace_runner.specs.Workers.{AllNumbered}
@@ -41,7 +41,7 @@ pub all_of : {A : Type 0} (P : ℕ → Type 0) (n : ℕ) (xs : List A) → ((k :
 all_of P n [] f = tt
 all_of P n (x ∷ xs) f = (f n (omega arith), all_of P (suc n) xs (λ k low. f k (omega (arith, low))))
 
-all_later : {A : Type 0} (P Q : ℕ → A → Type 0) (n m : ℕ) (xs : List A) → ((k : ℕ) (x : A) → n ≤ k → P k x → Q k x) → n ≤ m → AllNumbered P m xs → AllNumbered Q m xs
+pub all_later : {A : Type 0} (P Q : ℕ → A → Type 0) (n m : ℕ) (xs : List A) → ((k : ℕ) (x : A) → n ≤ k → P k x → Q k x) → n ≤ m → AllNumbered P m xs → AllNumbered Q m xs
 all_later P Q n m [] f low h = tt
 all_later P Q n m (x ∷ xs) f low h = (f m x low h.0, all_later P Q n (suc m) xs f (omega (arith, low)) h.1)
 
@@ -58,16 +58,22 @@ all_set P Q n m (suc i) (z ∷ zs) x y e low is other here h = (
   all_set P Q (suc n) m i zs x y (omega (arith, e)) (omega (arith, low)) is other here h.1,
 )
 
+-- The one at an index has its fact.
+pub all_at : {A : Type 0} (P : ℕ → A → Type 0) (n m i : ℕ) (xs : List A) (x : A) → m ≡ n + i → i < length xs → x ≡ get_or xs i x → AllNumbered P n xs → P m x
+all_at P n m i [] x e low is h = absurd (omega (arith, low))
+all_at P n m zero (y ∷ ys) x e low is h = let same : n ≡ m = omega (arith, e) in subst (λ k. P k x) same (subst (P n) (sym is) h.0)
+all_at P n m (suc i) (y ∷ ys) x e low is h = all_at P (suc n) m i ys x (omega (arith, e)) (omega (arith, low)) is h.1
+
 -- ---- what each has
 -- By its number one thing is picked for each, of which it has the fact.
 pub record Picked {A B : Type 0} (P : ℕ → B → A → Type 0) (n : ℕ) (xs : List A) : Type 0 where
   pub pick : ℕ → B
   pub all : AllNumbered (λ k x. P k (pick k) x) n xs
 
-first_pick : {B : Type 0} (n : ℕ) (b : B) (f : ℕ → B) → b ≡ cond (eqb n n) b (f n)
+pub first_pick : {B : Type 0} (n : ℕ) (b : B) (f : ℕ → B) → b ≡ cond (eqb n n) b (f n)
 first_pick n b f = rw (eq-eqb n n refl) refl
 
-later_pick : {B : Type 0} (n k : ℕ) (b : B) (f : ℕ → B) → suc n ≤ k → f k ≡ cond (eqb k n) b (f k)
+pub later_pick : {B : Type 0} (n k : ℕ) (b : B) (f : ℕ → B) → suc n ≤ k → f k ≡ cond (eqb k n) b (f k)
 later_pick n k b f low = rw (not_eqb k n (λ e. absurd (omega (arith, low, e)))) refl
 
 pub all_picked : {A B : Type 0} (P : ℕ → B → A → Type 0) (d : B) (n : ℕ) (xs : List A) → AllNumbered (λ k x. (b : B) × P k b x) n xs → Picked P n xs

@@ -1,4 +1,4 @@
--- What the processors of a section did together, and the run_state behind it.
+-- What the processors of a section did together, and what is behind it.
 use Rattle.std.specs.Prelude.{IsSomeAnd, is_some, min, ◌≢◌}
 use Rattle.std.proofs.Common.{◌≡◌, ℕ, zero, suc, ◌+◌, ◌-◌, ◌^◌, ◌<◌, ◌≤◌, List, [], ◌∷◌, ◌++◌, length, map, true, false, ap, sym, ◌∙◌, refl, subst, ◌⊎◌, inl, inr, eqb, cond, arith, Option, Some, None}
 use Rattle.std.specs.List.{AllByRecursion}
@@ -17,42 +17,41 @@ use Rattle.entry_lock.specs.declared.table.LockTable.{LockTable}
 use Rattle.entry_lock.specs.declared.table.Pass.{Pass}
 use Rattle.entry_lock.specs.PassOfTable.{view_of}
 use Rattle.entry_lock.specs.Closing.{Closes}
-use Rattle.hpt_walk.specs.Access.{AccessContext}
+use Rattle.run_model.specs.StoreContexts.{StoreContext}
 use Rattle.tlb_model.specs.Processor.{Processor}
 use Rattle.trace_line.specs.declared.line.TraceLine.{TraceLine}
 use Rattle.trace_reply.specs.declared.reply.Reply.{Reply}
 use Rattle.trace_reply.specs.Replies.{RepliedLine, AreReplies, receipts_in, lines_with_replies}
 use Rattle.run_model.specs.Processors.{processor_at, processor_after}
-use Rattle.run_model.specs.RunState.{RunState, context_of, states_of}
-use Rattle.hpt_resize.specs.TableMemory.{with_states}
 use Rattle.run_model.specs.Histories.{lines_of_processor, receipts_by, receipts_from_processor}
-use Rattle.run_model.specs.Sections.{processor_after_lines, processors_after_lines, receipts_made}
-use Rattle.run_model.specs.ParallelRun.{Works, AllWork}
+use Rattle.run_model.specs.Sections.{processor_after_lines, processors_after_lines}
+use Rattle.run_model.specs.StoreSections.{StoreSection, made_in as made_by}
+use Rattle.run_model.specs.ParallelRun.{Works, AllWork, RunsApart}
 use Rattle.run_model.proofs.Each.{each_append}
-use Rattle.run_model.proofs.LinesByProcessor.{own_no}
 use Rattle.trace_runner.specs.declared.worker.Worker.{Worker}
 use Rattle.trace_runner.specs.MachineState.{Holding, AllHold}
 use Rattle.trace_runner.specs.Workers.{Keeping, lines_of_cpu, replied_lines_of_cpu, count_with_lines, processors_before, IsSeenBy, HasRun, IsIdle, IsDone, AllNumbered}
-use Rattle.trace_runner.proofs.Numbered.{all_of, all_both}
-use Rattle.trace_runner.specs.SectionRun.{made_in, all_made, pass_count, IsGoneFor, IsSeenFor, AnyGone, AnySeen, IsJoinOf, IsMerged, Sectioned}
+use Rattle.trace_runner.proofs.Numbered.{all_of}
+use Rattle.trace_runner.specs.SectionRun.{made_in, all_made, pass_count, IsGoneFor, IsSeenFor, AnyGone, AnySeen, IsJoinOf}
+use Rattle.trace_runner.specs.StoreRuns.{HavePicked, section_on}
 
 -- ---- fronts of a processor
-works_below : (set : AccessContext) (f g : List ℕ) (processor : Processor) (ts : List RepliedLine) → Works set f processor ts g → AreBelow f g
+works_below : (set : StoreContext) (f g : List ℕ) (processor : Processor) (ts : List RepliedLine) → Works set f processor ts g → AreBelow f g
 works_below set f g processor [] h = subst (AreBelow f) (sym h) (below_self f)
 works_below set f g processor (t ∷ ts) h = below_on f h.0 g (keeps_below f h.0 (receipts_in t.reply) h.1.keeps) (works_below set h.0 g (processor_after processor t.line.act t.reply) ts h.2)
 
 -- ---- one processor
 -- It is done, and its log keeps these replies to its lines.
-pub record DoneWith {L : Type 0} (keeps : Keeping L) (set : AccessContext) (table : LockTable) (lines : List TraceLine) (cpu : ℕ) (rs : List Reply) (w : Worker L) : Type 0 where
+pub record DoneWith {L : Type 0} (keeps : Keeping L) (set : StoreContext) (table : LockTable) (lines : List TraceLine) (cpu : ℕ) (rs : List Reply) (w : Worker L) : Type 0 where
   pub kept : keeps w.log (lines_of_cpu cpu lines) rs
   pub kinds : AreReplies (lines_of_cpu cpu lines) rs
   pub done : IsIdle keeps table cpu lines w ⊎ IsSomeAnd w.pass (HasRun set table cpu lines rs w)
 
-kinds_of : {L : Type 0} (set : AccessContext) (table : LockTable) (lines : List TraceLine) (cpu : ℕ) (rs : List Reply) (w : Worker L) (o : Option Pass) → IsSomeAnd o (HasRun set table cpu lines rs w) → AreReplies (lines_of_cpu cpu lines) rs
+kinds_of : {L : Type 0} (set : StoreContext) (table : LockTable) (lines : List TraceLine) (cpu : ℕ) (rs : List Reply) (w : Worker L) (o : Option Pass) → IsSomeAnd o (HasRun set table cpu lines rs w) → AreReplies (lines_of_cpu cpu lines) rs
 kinds_of set table lines cpu rs w None h = absurd h
 kinds_of set table lines cpu rs w (Some p) h = h.kinds
 
-pub done_with : {L : Type 0} (keeps : Keeping L) (set : AccessContext) (table : LockTable) (lines : List TraceLine) (cpu : ℕ) (w : Worker L) → IsDone keeps set table cpu lines w → (rs : List Reply) × DoneWith keeps set table lines cpu rs w
+pub done_with : {L : Type 0} (keeps : Keeping L) (set : StoreContext) (table : LockTable) (lines : List TraceLine) (cpu : ℕ) (w : Worker L) → IsDone keeps set table cpu lines w → (rs : List Reply) × DoneWith keeps set table lines cpu rs w
 done_with keeps set table lines cpu w (inl idle) = (
   [],
   record {
@@ -70,7 +69,7 @@ done_with keeps set table lines cpu w (inr ended) = (
   },
 )
 
-module _ {L : Type 0} (keeps : Keeping L) (set : AccessContext) (table : LockTable) (lines : List TraceLine) (ts : List RepliedLine) (picks : ℕ → List Reply) where
+module _ {L : Type 0} (keeps : Keeping L) (set : StoreContext) (table : LockTable) (lines : List TraceLine) (ts : List RepliedLine) (picks : ℕ → List Reply) where
   abbrev a : List State
   a = table.opening.items
 
@@ -166,10 +165,10 @@ module _ {L : Type 0} (keeps : Keeping L) (set : AccessContext) (table : LockTab
     by_front (Some p) works rest low = inl (gone_on (opening_fronts a) (view_of p).fronts line (works_below set (opening_fronts a) (view_of p).fronts w.before.value (lines_of_processor n ts) works) gone)
 
   -- ---- cached lines
-  part_holds : (b : List State) (n : ℕ) (w : Worker L) → IsPart n w → ((line : Line) → line.entry < 2 ^ (table.order - 4) → IsSeenFor a w.pass line → Holding b line) → ((line : Line) → Holding a line → Holding b line) → AllCached (Holding b) w.cpu.cache
-  part_holds b n w h f kept = by_done n w (λ o. ((line : Line) → line.entry < 2 ^ (table.order - 4) → IsSeenFor a o line → Holding b line) → AllCached (Holding b) w.cpu.cache) (λ p run g. all_cached_weaker (IsSeenBy table p) (Holding b) (λ line s. g line s.inside s.seen) w.cpu.cache run.seen) (λ idle g. all_cached_weaker (Holding a) (Holding b) kept w.cpu.cache idle.hold) h.0 f
+  part_holds : (b : List State) (n : ℕ) (w : Worker L) → DoneWith keeps set table lines n (picks n) w → ((line : Line) → line.entry < 2 ^ (table.order - 4) → IsSeenFor a w.pass line → Holding b line) → ((line : Line) → Holding a line → Holding b line) → AllCached (Holding b) w.cpu.cache
+  part_holds b n w h f kept = by_done n w (λ o. ((line : Line) → line.entry < 2 ^ (table.order - 4) → IsSeenFor a o line → Holding b line) → AllCached (Holding b) w.cpu.cache) (λ p run g. all_cached_weaker (IsSeenBy table p) (Holding b) (λ line s. g line s.inside s.seen) w.cpu.cache run.seen) (λ idle g. all_cached_weaker (Holding a) (Holding b) kept w.cpu.cache idle.hold) h f
 
-  pub all_hold : (b : List State) (n : ℕ) (ws : List (Worker L)) → AllNumbered IsPart n ws → ((line : Line) → line.entry < 2 ^ (table.order - 4) → AnySeen a line ws → Holding b line) → ((line : Line) → Holding a line → Holding b line) → AllHold b (map (λ (w : Worker L). w.cpu) ws)
+  pub all_hold : (b : List State) (n : ℕ) (ws : List (Worker L)) → AllNumbered (λ j w. DoneWith keeps set table lines j (picks j) w) n ws → ((line : Line) → line.entry < 2 ^ (table.order - 4) → AnySeen a line ws → Holding b line) → ((line : Line) → Holding a line → Holding b line) → AllHold b (map (λ (w : Worker L). w.cpu) ws)
   all_hold b n [] h f kept = tt
   all_hold b n (w ∷ ws) h f kept = (part_holds b n w h.0 (λ line inside s. f line inside (inl s)) kept, all_hold b (suc n) ws h.1 (λ line inside s. f line inside (inr s)) kept)
 
@@ -194,16 +193,15 @@ module _ {L : Type 0} (keeps : Keeping L) (set : AccessContext) (table : LockTab
   passes_counted n (w ∷ ws) h = (λ j. part_count n w h.0 j + passes_counted (suc n) ws h.1 j)
 
 -- ---- lines of no processor
-pub own_none : (n cpu : ℕ) (lines : List TraceLine) (rs : List Reply) → AllByRecursion (λ (l : TraceLine). l.cpu < n) lines → n ≤ cpu → lines_of_processor cpu (lines_with_replies lines rs) ≡ []
-own_none n cpu [] rs h past = refl
-own_none n cpu (l ∷ ls) [] h past = refl
-own_none n cpu (l ∷ ls) (r ∷ rs) h past = at (cases_Bool (eqb l.cpu cpu)) (own_none n cpu ls rs h.1 past) where
-  at : (eqb l.cpu cpu ≡ true) ⊎ (eqb l.cpu cpu ≡ false) → lines_of_processor cpu (lines_with_replies ls rs) ≡ [] → lines_of_processor cpu (lines_with_replies (l ∷ ls) (r ∷ rs)) ≡ []
+pub no_own : (n cpu : ℕ) (lines : List TraceLine) → AllByRecursion (λ (l : TraceLine). l.cpu < n) lines → n ≤ cpu → lines_of_cpu cpu lines ≡ []
+no_own n cpu [] h past = refl
+no_own n cpu (l ∷ ls) h past = at (cases_Bool (eqb l.cpu cpu)) (no_own n cpu ls h.1 past) where
+  at : (eqb l.cpu cpu ≡ true) ⊎ (eqb l.cpu cpu ≡ false) → lines_of_cpu cpu ls ≡ [] → lines_of_cpu cpu (l ∷ ls) ≡ []
   at (inl same) rest = let e : l.cpu ≡ cpu = eqb-true l.cpu cpu same in absurd (omega (arith, h.0))
-  at (inr other) rest = own_no cpu (record { line = l; reply = r }) (lines_with_replies ls rs) other ∙ rest
+  at (inr other) rest = rw other rest
 
 -- ---- receipts of a processor
-works_inside : (set : AccessContext) (n : ℕ) (f g : List ℕ) (processor : Processor) (ts : List RepliedLine) → length f ≡ n → Works set f processor ts g → AllByRecursion (λ (r : Receipt). r.entry < n) (receipts_by ts)
+works_inside : (set : StoreContext) (n : ℕ) (f g : List ℕ) (processor : Processor) (ts : List RepliedLine) → length f ≡ n → Works set f processor ts g → AllByRecursion (λ (r : Receipt). r.entry < n) (receipts_by ts)
 works_inside set n f g processor [] size h = tt
 works_inside set n f g processor (t ∷ ts) size h =
     let first = subst (λ m. AllByRecursion (λ (r : Receipt). r.entry < m) (receipts_in t.reply)) size h.1.in_table in
@@ -237,77 +235,74 @@ gone_inside f line gone = at (below_or line.entry (length f)) where
   at (inl h) = h
   at (inr h) = let zero_front = past_end f line.entry h in absurd (omega (arith, gone, zero_front))
 
--- Each processor's replied_lines among all are its own lines with the replies that are picked for it.
-pub own_parts : {L : Type 0} (lines : List TraceLine) (news : List Reply) (picks : ℕ → List Reply) (ws : List (Worker L)) → IsMerged lines (length ws) picks news → AllNumbered (λ j x. lines_of_processor j (lines_with_replies lines news) ≡ replied_lines_of_cpu j lines (picks j)) 0 ws
-own_parts lines news picks ws merged = all_of (λ j. lines_of_processor j (lines_with_replies lines news) ≡ replied_lines_of_cpu j lines (picks j)) 0 ws (λ k low. merged.own k (omega (arith, low)))
+-- Each processor's lines among all are its own with the replies that are picked for it.
+pub own_parts : {L : Type 0} (lines : List TraceLine) (picks : ℕ → List Reply) (ts : List RepliedLine) (ws : List (Worker L)) → HavePicked lines picks ts → AllNumbered (λ j x. lines_of_processor j ts ≡ replied_lines_of_cpu j lines (picks j)) 0 ws
+own_parts lines picks ts ws own = all_of (λ j. lines_of_processor j ts ≡ replied_lines_of_cpu j lines (picks j)) 0 ws (λ k low. own k)
 
 -- ---- the section
-pub sectioned : {L : Type 0} (keeps : Keeping L) (w later : RunState) (table : LockTable) (lines : List TraceLine) (news : List Reply) (picks : ℕ → List Reply) (ws : List (Worker L)) (all : Pass) (b : List State)
-    → table.opening.items ≡ states_of w → table.order ≡ w.memory.table.order → 0 < pass_count ws
-    → processors_before ws ≡ w.processors → AllByRecursion (λ (l : TraceLine). l.cpu < length ws) lines
-    → AllNumbered (λ j x. DoneWith keeps (context_of w) table lines j (picks j) x) 0 ws → IsMerged lines (length ws) picks news
-    → IsJoinOf table ws all → Closes table.opening.items (view_of all) b
-    → later ≡ record w { memory = with_states w.memory b; processors = map (λ (x : Worker L). x.cpu) ws }
-    → Sectioned w lines news later
-sectioned {L = L} keeps w later table lines news picks ws all b opening order some before cpus done merged gathered closes run_state = record {
-  kinds = merged.kinds;
-  fronts = fronts;
-  states = b;
-  work = work;
-  closed = record {
-    size = closes.size ∙ ap length opening;
-    in_table = subst (λ n. AllByRecursion (λ (r : Receipt). r.entry < length (states_of w)) (receipts_from_processor n 0 ts)) count (listed_inside (length (states_of w)) (length ws) 0 ts (λ k low. let e : k ≡ 0 + k = omega arith in subst (λ n. AllByRecursion (λ (r : Receipt). r.entry < length (states_of w)) (receipts_by (lines_of_processor n ts))) e (works_inside set (length (states_of w)) (opening_fronts a) (fronts k) (processor_at w.processors k) (lines_of_processor k ts) sizes (here k low))));
-    legal = λ entry low. rw (sym made) (subst (λ l. IsLegal (state_at l entry) (history entry (view_of all).actor.receipts) (state_at b entry)) opening (closes.legal entry (subst (λ l. entry < length l) (sym opening) low)));
-    gone = λ cpu line gone. at line (inside_of cpu line gone) (gone_case keeps set table lines ts picks cpu ws line gone);
-  };
-  run_state = run_state ∙ ap (λ (s : List Processor). record w { memory = with_states w.memory b; processors = s }) (sym (processors_are keeps set table lines ts picks 0 ws parts) ∙ ap (λ s. processors_after_lines 0 s ts) before);
-} where
-  ts : List RepliedLine
-  ts = lines_with_replies lines news
+module _ {L : Type 0} (keeps : Keeping L) (set : StoreContext) (opening : List State) (processors : List Processor) (table : LockTable) (lines : List TraceLine) (picks : ℕ → List Reply) (ts : List RepliedLine) (ws : List (Worker L)) where
+  abbrev s : StoreSection
+  s = section_on set opening processors ts
 
-  set : AccessContext
-  set = context_of w
+  pub after_parts : processors_before ws ≡ processors → AllNumbered (IsPart keeps set table lines ts picks) 0 ws → map (λ (x : Worker L). x.cpu) ws ≡ processors_after_lines 0 processors ts
+  after_parts before parts = sym (processors_are keeps set table lines ts picks 0 ws parts) ∙ ap (λ s. processors_after_lines 0 s ts) before
 
-  a : List State
-  a = table.opening.items
+  pub ran_apart : (all : Pass) (b : List State)
+      → table.opening.items ≡ opening → 0 < pass_count ws
+      → processors_before ws ≡ processors → AllByRecursion (λ (l : TraceLine). l.cpu < length ws) lines
+      → HavePicked lines picks ts → AllNumbered (IsPart keeps set table lines ts picks) 0 ws
+      → IsJoinOf table ws all → Closes table.opening.items (view_of all) b
+      → RunsApart s b
+  ran_apart all b is some before cpus own parts gathered closes = record {
+    fronts = fronts;
+    work = work;
+    closed = record {
+      size = closes.size ∙ ap length is;
+      in_table = subst (λ n. AllByRecursion (λ (r : Receipt). r.entry < length opening) (receipts_from_processor n 0 ts)) count (listed_inside (length opening) (length ws) 0 ts (λ k low. let e : k ≡ 0 + k = omega arith in subst (λ n. AllByRecursion (λ (r : Receipt). r.entry < length opening) (receipts_by (lines_of_processor n ts))) e (works_inside set (length opening) (opening_fronts a) (fronts k) (processor_at processors k) (lines_of_processor k ts) sizes (here k low))));
+      legal = λ entry low. rw (sym made) (subst (λ l. IsLegal (state_at l entry) (history entry (view_of all).actor.receipts) (state_at b entry)) is (closes.legal entry (subst (λ l. entry < length l) (sym is) low)));
+      gone = λ cpu line gone. at line (inside_of cpu line gone) (gone_case keeps set table lines ts picks cpu ws line gone);
+    };
+  } where
+    a : List State
+    a = table.opening.items
 
-  parts : AllNumbered (IsPart keeps set table lines ts picks) 0 ws
-  parts = all_both (λ j x. DoneWith keeps set table lines j (picks j) x) (λ j x. lines_of_processor j ts ≡ replied_lines_of_cpu j lines (picks j)) 0 ws done (own_parts lines news picks ws merged)
+    fronts : ℕ → List ℕ
+    fronts cpu = fronts_of keeps set table lines ts picks ws cpu
 
-  fronts : ℕ → List ℕ
-  fronts cpu = fronts_of keeps set table lines ts picks ws cpu
+    count : length ws ≡ length processors
+    count = sym (length-map ws (λ (x : Worker L). x.before.value)) ∙ ap length before
 
-  count : length ws ≡ length w.processors
-  count = sym (length-map ws (λ (x : Worker L). x.before.value)) ∙ ap length before
+    sizes : length (opening_fronts a) ≡ length opening
+    sizes = length-map a pair_of ∙ ap length is
 
-  sizes : length (opening_fronts a) ≡ length (states_of w)
-  sizes = length-map a pair_of ∙ ap length opening
+    here : (cpu : ℕ) → cpu < length ws → Works set (opening_fronts a) (processor_at processors cpu) (lines_of_processor cpu ts) (fronts cpu)
+    here cpu low = let e : 0 + cpu ≡ cpu = omega arith in subst (λ n. Works set (opening_fronts a) (processor_at processors cpu) (lines_of_processor n ts) (fronts cpu)) e (subst (λ s. Works set (opening_fronts a) (processor_at s cpu) (lines_of_processor (0 + cpu) ts) (fronts cpu)) before (works_at keeps set table lines ts picks 0 cpu ws parts low))
 
-  here : (cpu : ℕ) → cpu < length ws → Works set (opening_fronts a) (processor_at w.processors cpu) (lines_of_processor cpu ts) (fronts cpu)
-  here cpu low = let e : 0 + cpu ≡ cpu = omega arith in subst (λ n. Works set (opening_fronts a) (processor_at w.processors cpu) (lines_of_processor n ts) (fronts cpu)) e (subst (λ s. Works set (opening_fronts a) (processor_at s cpu) (lines_of_processor (0 + cpu) ts) (fronts cpu)) before (works_at keeps set table lines ts picks 0 cpu ws parts low))
+    none_past : (cpu : ℕ) → length ws ≤ cpu → lines_of_processor cpu ts ≡ []
+    none_past cpu past = own cpu ∙ ap (λ ls. lines_with_replies ls (picks cpu)) (no_own (length ws) cpu lines cpus past)
 
-  work : AllWork w ts fronts
-  work cpu = subst (λ l. Works set (opening_fronts l) (processor_at w.processors cpu) (lines_of_processor cpu ts) (fronts cpu)) opening (each (below_or cpu (length ws))) where
-    each : (cpu < length ws) ⊎ (length ws ≤ cpu) → Works set (opening_fronts a) (processor_at w.processors cpu) (lines_of_processor cpu ts) (fronts cpu)
-    each (inl low) = here cpu low
-    each (inr past) = rw (own_none (length ws) cpu lines news cpus past) (fronts_past keeps set table lines ts picks ws cpu past)
+    work : AllWork s fronts
+    work cpu = subst (λ l. Works set (opening_fronts l) (processor_at processors cpu) (lines_of_processor cpu ts) (fronts cpu)) is (each (below_or cpu (length ws))) where
+      each : (cpu < length ws) ⊎ (length ws ≤ cpu) → Works set (opening_fronts a) (processor_at processors cpu) (lines_of_processor cpu ts) (fronts cpu)
+      each (inl low) = here cpu low
+      each (inr past) = rw (none_past cpu past) (fronts_past keeps set table lines ts picks ws cpu past)
 
-  made : (view_of all).actor.receipts ≡ receipts_made w ts
-  made = gathered.made ∙ made_is keeps set table lines ts picks 0 ws parts ∙ ap (λ n. receipts_from_processor n 0 ts) count
+    made : (view_of all).actor.receipts ≡ made_by s
+    made = gathered.made ∙ made_is keeps set table lines ts picks 0 ws parts ∙ ap (λ n. receipts_from_processor n 0 ts) count
 
-  closing : (line : Line) → line.entry < length a → AnyGone line ws → line.stamp < (state_at b line.entry).stamp
-  closing line inside any = closes.gone line inside (gathered.gone line any)
+    closing : (line : Line) → line.entry < length a → AnyGone line ws → line.stamp < (state_at b line.entry).stamp
+    closing line inside any = closes.gone line inside (gathered.gone line any)
 
-  opening_size : length (opening_fronts a) ≡ length a
-  opening_size = length-map a pair_of
+    opening_size : length (opening_fronts a) ≡ length a
+    opening_size = length-map a pair_of
 
-  front_size : (cpu : ℕ) → (cpu < length ws) ⊎ (length ws ≤ cpu) → length (fronts cpu) ≡ length a
-  front_size cpu (inl low) = (works_below set (opening_fronts a) (fronts cpu) (processor_at w.processors cpu) (lines_of_processor cpu ts) (here cpu low)).size ∙ opening_size
-  front_size cpu (inr past) = ap length (fronts_past keeps set table lines ts picks ws cpu past) ∙ opening_size
+    front_size : (cpu : ℕ) → (cpu < length ws) ⊎ (length ws ≤ cpu) → length (fronts cpu) ≡ length a
+    front_size cpu (inl low) = (works_below set (opening_fronts a) (fronts cpu) (processor_at processors cpu) (lines_of_processor cpu ts) (here cpu low)).size ∙ opening_size
+    front_size cpu (inr past) = ap length (fronts_past keeps set table lines ts picks ws cpu past) ∙ opening_size
 
-  inside_of : (cpu : ℕ) (line : Line) → IsGone (fronts cpu) line → line.entry < length a
-  inside_of cpu line gone = subst (λ n. line.entry < n) (front_size cpu (below_or cpu (length ws))) (gone_inside (fronts cpu) line gone)
+    inside_of : (cpu : ℕ) (line : Line) → IsGone (fronts cpu) line → line.entry < length a
+    inside_of cpu line gone = subst (λ n. line.entry < n) (front_size cpu (below_or cpu (length ws))) (gone_inside (fronts cpu) line gone)
 
-  at : (line : Line) → line.entry < length a → AnyGone line ws ⊎ IsGone (opening_fronts a) line → line.stamp < (state_at b line.entry).stamp
-  at line inside (inl any) = closing line inside any
-  at line inside (inr gone) = closing line inside (opening_gone keeps set table lines ts picks 0 ws line parts some gone)
+    at : (line : Line) → line.entry < length a → AnyGone line ws ⊎ IsGone (opening_fronts a) line → line.stamp < (state_at b line.entry).stamp
+    at line inside (inl any) = closing line inside any
+    at line inside (inr gone) = closing line inside (opening_gone keeps set table lines ts picks 0 ws line parts some gone)

@@ -1,90 +1,175 @@
 -- The sections of a parallel run, one after the other.
-use Rattle.std.proofs.Common.{◌≡◌, ℕ, zero, suc, ◌+◌, ◌-◌, ◌*◌, ◌<◌, ◌≤◌, List, [], ◌∷◌, ◌++◌, length, take, drop, get_or, true, false, ap, sym, ◌∙◌, refl, subst, arith, append_assoc, append-nil, if◌then◌else◌, Bool}
+use Rattle.std.proofs.Common.{◌≡◌, ℕ, zero, suc, ◌+◌, ◌-◌, ◌<◌, ◌≤◌, List, [], ◌∷◌, ◌++◌, length, take, drop, get_or, replicate, cond, true, false, ap, sym, ◌∙◌, refl, subst, arith, append_assoc, append-nil, Bool}
 use Rattle.std.specs.List.{AllByRecursion}
 use Rattle.std.proofs.lemmas.List.{drop_more, take_more}
-use Rattle.entry_model.specs.State.{State}
-use Rattle.entry_model.specs.declared.line.Line.{Line}
-use Rattle.entry_model.specs.Run.{state_at}
-use Rattle.entry_model.specs.History.{pair_of, bits}
-use Rattle.entry_model.specs.Fronts.{front_at, opening_fronts, IsGone}
-use Rattle.papr_codes.specs.Hcalls.{hcall_of}
-use Rattle.papr_codes.specs.declared.calls.Hcall.{Hcall}
-use Rattle.papr_codes.specs.declared.calls.Hcall.TheVariants as calls
-use Rattle.tlb_model.specs.Processor.{Processor}
-use Rattle.trace_line.specs.declared.act.Act.{Act}
-use Rattle.trace_line.specs.declared.act.Act.TheVariants as acts
+use Rattle.std.proofs.lemmas.List.Elements.{filter-append}
+use Rattle.bus_window.specs.Windows.{BusWindow}
+use Rattle.frame_grants.specs.declared.grant.Grant.{Grant}
+use Rattle.tlb_model.specs.Processor.{Processor, new_processor}
 use Rattle.trace_line.specs.declared.line.TraceLine.{TraceLine}
 use Rattle.trace_line.specs.Lines.{is_quiet}
+use Rattle.trace_read.specs.Configuration.{NumbersDiffer}
 use Rattle.trace_reply.specs.declared.reply.Reply.{Reply}
 use Rattle.trace_reply.specs.Replies.{RepliedLine, IsOfKind, AreReplies, lines_with_replies}
-use Rattle.run_model.specs.RunState.{RunState, states_of, run_quiet_line, run_resize}
-use Rattle.hpt_resize.specs.TableMemory.{with_states}
-use Rattle.run_model.specs.Sections.{cut, processors_after_lines, section_end_on}
-use Rattle.run_model.specs.SerialRun.{run_line}
-use Rattle.run_model.specs.ParallelRun.{RunsParallel}
-use Rattle.run_model.proofs.LinesByProcessor.{own_processors}
-use Rattle.run_model.proofs.SectionGood.{section_legal}
-use Rattle.trace_runner.specs.Workers.{Keeping, replied_line, NoneQuiet}
-use Rattle.trace_runner.specs.SectionRun.{Sectioned, HasGrown, RunsSection, HasRunFrom, Runs}
+use Rattle.run_model.specs.Quiet.{QuietPart, cut}
+use Rattle.run_model.specs.RunState.{RunState, run_quiet_line}
+use Rattle.run_model.specs.Sections.{processors_after_lines, section_end_on, table_section}
+use Rattle.run_model.specs.SerialRun.{WindowState, AllStores, run_store_line}
+use Rattle.run_model.specs.StoreContexts.{window_context}
+use Rattle.run_model.specs.Windows.{is_on_table, lines_on_table, lines_on_window}
+use Rattle.run_model.specs.ParallelRun.{RunsApart, RunsParallel, WindowRunsParallel}
+use Rattle.run_model.proofs.SerialGood.{quiet_kind}
+use Rattle.run_model.proofs.StoreLines.{quiet_on_table}
+use Rattle.trace_runner.specs.Windows.{windows_of}
+use Rattle.trace_runner.specs.StoreRuns.{AllPaired, section_on}
+use Rattle.trace_runner.specs.Sectioned.{section_lines, WindowSectioned, Sectioned, HasGrown, RunsSection, HasRunFrom, Runs}
+use Rattle.trace_runner.specs.Workers.{Keeping, AllNumbered, replied_line, NoneQuiet}
 use Rattle.trace_runner.proofs.WorkSteps.{replied_lines_more, kinds_more}
-use Rattle.trace_runner.proofs.SectionWork.{listed_inside}
+use Rattle.trace_runner.proofs.StoreNumbers.{each_filtered, HasNumber, replied_table, replied_window, numbers}
+use Rattle.trace_runner.proofs.StoresRan.{paired_windows}
+use Rattle.trace_runner.proofs.QuietLines.{quiet_grants, after_quiet, quiet_step}
 
 -- ---- where the quiet lines cut
-no_quiet_cut : (ls : List TraceLine) (rs : List Reply) (ts : List RepliedLine) → AreReplies ls rs → NoneQuiet ls → cut (lines_with_replies ls rs ++ ts) ≡ (lines_with_replies ls rs ++ (cut ts).0, (cut ts).1)
-no_quiet_cut [] [] ts h m = refl
-no_quiet_cut [] (r ∷ rs) ts h m = absurd h
-no_quiet_cut (l ∷ ls) [] ts h m = absurd h
-no_quiet_cut (l ∷ ls) (r ∷ rs) ts h m = rw m.0 (ap (λ (x : List RepliedLine × List (RepliedLine × List RepliedLine)). (replied_line l r ∷ x.0, x.1)) (no_quiet_cut ls rs ts h.1 m.1))
+abbrev NoneQuietIn : List RepliedLine → Type 0
+NoneQuietIn us = AllByRecursion (λ (t : RepliedLine). is_quiet t.line.act ≡ false) us
 
-quiet_cut : (l : TraceLine) (r : Reply) (ts : List RepliedLine) → is_quiet l.act ≡ true → cut (replied_line l r ∷ ts) ≡ ([], (replied_line l r, (cut ts).0) ∷ (cut ts).1)
-quiet_cut l r ts q = rw q refl
+none_in : (ls : List TraceLine) (rs : List Reply) → NoneQuiet ls → NoneQuietIn (lines_with_replies ls rs)
+none_in [] rs m = tt
+none_in (l ∷ ls) [] m = tt
+none_in (l ∷ ls) (r ∷ rs) m = (m.0, none_in ls rs m.1)
 
-section_cut : (ls : List TraceLine) (rs : List Reply) (l : TraceLine) (r : Reply) (ts : List RepliedLine) → AreReplies ls rs → NoneQuiet ls → is_quiet l.act ≡ true → cut (lines_with_replies ls rs ++ replied_line l r ∷ ts) ≡ (lines_with_replies ls rs, (replied_line l r, (cut ts).0) ∷ (cut ts).1)
-section_cut ls rs l r ts h m q = no_quiet_cut ls rs (replied_line l r ∷ ts) h m ∙ ap (λ (x : List RepliedLine × List (RepliedLine × List RepliedLine)). (lines_with_replies ls rs ++ x.0, x.1)) (quiet_cut l r ts q) ∙ ap (λ us. (us, (replied_line l r, (cut ts).0) ∷ (cut ts).1)) (append-nil (lines_with_replies ls rs))
+no_quiet_cut : (us ts : List RepliedLine) → NoneQuietIn us → cut (us ++ ts) ≡ (us ++ (cut ts).0, (cut ts).1)
+no_quiet_cut [] ts m = refl
+no_quiet_cut (t ∷ us) ts m = rw m.0 (ap (λ (x : List RepliedLine × List QuietPart). (t ∷ x.0, x.1)) (no_quiet_cut us ts m.1))
 
--- ---- quiet lines
-quiet_is : (w : RunState) (l : TraceLine) → is_quiet l.act ≡ true → run_line w l ≡ run_quiet_line w l.act
-unfolding run_line
-quiet_is w l q = rw q refl
+quiet_cut : (t : RepliedLine) (ts : List RepliedLine) → is_quiet t.line.act ≡ true → cut (t ∷ ts) ≡ ([], (t, (cut ts).0) ∷ (cut ts).1)
+quiet_cut t ts q = rw q refl
 
-resize_kind : (w : RunState) (hcall : Hcall) (number : ℕ) (args : List ℕ) (spelt : Bool) → IsOfKind (acts.Call number args spelt) (run_resize w hcall args).0
-unfolding run_resize
-resize_kind w calls.Prepare number args spelt = tt
-resize_kind w calls.Commit number args spelt = tt
-resize_kind w other number args spelt = tt
+section_cut : (us : List RepliedLine) (t : RepliedLine) (ts : List RepliedLine) → NoneQuietIn us → is_quiet t.line.act ≡ true → cut (us ++ t ∷ ts) ≡ (us, (t, (cut ts).0) ∷ (cut ts).1)
+section_cut us t ts m q = no_quiet_cut us (t ∷ ts) m ∙ ap (λ (x : List RepliedLine × List QuietPart). (us ++ x.0, x.1)) (quiet_cut t ts q) ∙ ap (λ vs. (vs, (t, (cut ts).0) ∷ (cut ts).1)) (append-nil us)
 
-quiet_kind : (w : RunState) (act : Act) → is_quiet act ≡ true → IsOfKind act (run_quiet_line w act).0
-unfolding run_quiet_line is_quiet
-quiet_kind w (acts.Call number args spelt) q = resize_kind w (hcall_of number) number args spelt
-quiet_kind w acts.Dump q = tt
-quiet_kind w (acts.Access want ea user) q = let clash : false ≡ true = q in cc
-quiet_kind w (acts.SlbMte rb rs) q = let clash : false ≡ true = q in cc
-quiet_kind w (acts.Device write liobn ioba) q = let clash : false ≡ true = q in cc
-quiet_kind w acts.SlbClear q = let clash : false ≡ true = q in cc
-quiet_kind w (acts.SetMask name value) q = let clash : false ≡ true = q in cc
+last_cut : (us : List RepliedLine) → NoneQuietIn us → cut us ≡ (us, [])
+last_cut us m = ap cut (sym (append-nil us)) ∙ no_quiet_cut us [] m ∙ ap (λ vs. (vs, [])) (append-nil us)
 
--- ---- so far
+table_cut : (ws : List BusWindow) (us : List RepliedLine) (t : RepliedLine) (ts : List RepliedLine) → NoneQuietIn us → is_quiet t.line.act ≡ true → cut (lines_on_table ws (us ++ t ∷ ts)) ≡ (lines_on_table ws us, (t, (cut (lines_on_table ws ts)).0) ∷ (cut (lines_on_table ws ts)).1)
+table_cut ws us t ts m q =
+    let on : RepliedLine → Bool = λ u. is_on_table ws u.line.act in
+    let first : lines_on_table ws (t ∷ ts) ≡ t ∷ lines_on_table ws ts = ap (λ b. cond b (t ∷ lines_on_table ws ts) (lines_on_table ws ts)) (quiet_on_table ws t.line.act q) in
+    ap cut (filter-append on us (t ∷ ts) ∙ ap (λ vs. lines_on_table ws us ++ vs) first)
+    ∙ section_cut (lines_on_table ws us) t (lines_on_table ws ts) (each_filtered (λ (u : RepliedLine). is_quiet u.line.act ≡ false) on us m) q
+
+-- ---- the windows of a section
+module _ (ws : List BusWindow) (grants : List Grant) (cpus : ℕ) (on : ℕ → List RepliedLine) (ts : List RepliedLine) (same : (store : ℕ) (w : BusWindow) → HasNumber ws store w → on store ≡ lines_on_window w ts) where
+  apart_on : (store : ℕ) (v u : WindowState) → HasNumber ws store v.window → WindowSectioned grants cpus (on store) v u → RunsApart (section_on (window_context grants v.window) v.states (replicate cpus new_processor) (lines_on_window v.window ts)) u.states
+  apart_on store v u number h = subst (λ ls. RunsApart (section_on (window_context grants v.window) v.states (replicate cpus new_processor) ls) u.states) (same store v.window number) h.apart
+
+  windows_go : (t : RepliedLine) (c : List RepliedLine × List QuietPart) (n : ℕ) (vs us : List WindowState) → AllPaired (λ store v u. WindowSectioned grants cpus (on store) v u) n vs us → AllNumbered (HasNumber ws) n (windows_of vs) → AllByRecursion (λ (u : WindowState). WindowRunsParallel grants cpus u.window u.states c.0 c.1) us → AllByRecursion (λ (v : WindowState). WindowRunsParallel grants cpus v.window v.states ts ((t, c.0) ∷ c.1)) vs
+  windows_go t c n [] [] h k rest = tt
+  windows_go t c n [] (u ∷ us) h k rest = absurd h
+  windows_go t c n (v ∷ vs) [] h k rest = absurd h
+  windows_go t c n (v ∷ vs) (u ∷ us) h k rest = ((u.states, apart_on n v u k.0 h.0, subst (λ w. WindowRunsParallel grants cpus w u.states c.0 c.1) h.0.same rest.0), windows_go t c (suc n) vs us h.1 k.1 rest.1)
+
+  windows_end : (n : ℕ) (vs us : List WindowState) → AllPaired (λ store v u. WindowSectioned grants cpus (on store) v u) n vs us → AllNumbered (HasNumber ws) n (windows_of vs) → AllByRecursion (λ (v : WindowState). WindowRunsParallel grants cpus v.window v.states ts []) vs
+  windows_end n [] [] h k = tt
+  windows_end n [] (u ∷ us) h k = absurd h
+  windows_end n (v ∷ vs) [] h k = absurd h
+  windows_end n (v ∷ vs) (u ∷ us) h k = ((u.states, apart_on n v u k.0 h.0), windows_end (suc n) vs us h.1 k.1)
+
+-- ---- what a section keeps
+processors_count : (n : ℕ) (processors : List Processor) (ts : List RepliedLine) → length (processors_after_lines n processors ts) ≡ length processors
+processors_count n [] ts = refl
+processors_count n (s ∷ ss) ts = ap suc (processors_count (suc n) ss ts)
+
+pub section_processors : (s later : AllStores) (ls : List TraceLine) (news : List Reply) → Sectioned s ls news later → length later.table.processors ≡ length s.table.processors
+section_processors s later ls news h = ap (λ (v : RunState). length v.processors) h.table ∙ processors_count 0 s.table.processors (section_lines s ls news 0)
+
+pub section_number : (s later : AllStores) (ls : List TraceLine) (news : List Reply) → Sectioned s ls news later → later.table.memory.table.number ≡ s.table.memory.table.number
+section_number s later ls news h = ap (λ (v : RunState). v.memory.table.number) h.table
+
+section_windows : (s later : AllStores) (ls : List TraceLine) (news : List Reply) → Sectioned s ls news later → windows_of later.windows ≡ windows_of s.windows
+section_windows s later ls news h = paired_windows 1 s.windows later.windows (weaker 1 s.windows later.windows h.windows) where
+  weaker : (n : ℕ) (vs us : List WindowState) → AllPaired (λ store v u. WindowSectioned s.table.grants (length s.table.processors) (section_lines s ls news store) v u) n vs us → AllPaired (λ store v u. u.window ≡ v.window) n vs us
+  weaker n [] [] k = tt
+  weaker n [] (u ∷ us) k = absurd k
+  weaker n (v ∷ vs) [] k = absurd k
+  weaker n (v ∷ vs) (u ∷ us) k = (k.0.same, weaker (suc n) vs us k.1)
+
+-- ---- the replies up to a line
 -- The replies to the lines up to one are given, and what completes the rest completes the run.
-pub record Done (w : RunState) (lines : List TraceLine) (start : ℕ) (later : RunState) (rs : List Reply) : Type 0 where
+pub record Done (s : AllStores) (lines : List TraceLine) (start : ℕ) (later : AllStores) (rs : List Reply) : Type 0 where
   pub kinds : AreReplies (take start lines) rs
-  pub goes : (more : List Reply) → Runs later (lines_with_replies (drop start lines) more) → Runs w (lines_with_replies lines (rs ++ more))
+  pub windows : windows_of later.windows ≡ windows_of s.windows
+  pub goes : NumbersDiffer (windows_of s.windows) → (more : List Reply) → Runs later (lines_with_replies (drop start lines) more) → Runs s (lines_with_replies lines (rs ++ more))
 
-pub done_none : (w : RunState) (lines : List TraceLine) → Done w lines 0 w []
-done_none w lines = record { kinds = tt; goes = λ more h. h }
+pub done_none : (s : AllStores) (lines : List TraceLine) → Done s lines 0 s []
+done_none s lines = record { kinds = tt; windows = refl; goes = λ differ more h. h }
 
-section_runs : (w later after : RunState) (ls : List TraceLine) (news : List Reply) (l : TraceLine) (r : Reply) (rest : List TraceLine) (more : List Reply) → Sectioned w ls news later → NoneQuiet ls → is_quiet l.act ≡ true → (r, after) ≡ run_quiet_line later l.act → Runs after (lines_with_replies rest more) → Runs w (lines_with_replies (ls ++ l ∷ rest) (news ++ r ∷ more))
-section_runs w later after ls news l r rest more s m q told h =
-    let ts = lines_with_replies rest more in
-    let run_state : after ≡ (run_quiet_line (section_end_on w (lines_with_replies ls news) s.states) l.act).1 = ap (λ (x : Reply × RunState). x.1) told ∙ ap (λ v. (run_quiet_line v l.act).1) s.run_state in
-    let reply : r ≡ (run_quiet_line (section_end_on w (lines_with_replies ls news) s.states) l.act).0 = ap (λ (x : Reply × RunState). x.0) told ∙ ap (λ v. (run_quiet_line v l.act).0) s.run_state in
-    let runs : RunsParallel w (lines_with_replies ls news) ((replied_line l r, (cut ts).0) ∷ (cut ts).1) = (s.fronts, s.states, s.work, s.closed, reply, subst (λ v. RunsParallel v (cut ts).0 (cut ts).1) run_state h) in
-    let at : cut (lines_with_replies (ls ++ l ∷ rest) (news ++ r ∷ more)) ≡ (lines_with_replies ls news, (replied_line l r, (cut ts).0) ∷ (cut ts).1) = ap cut (replied_lines_more ls (l ∷ rest) news (r ∷ more) s.kinds) ∙ section_cut ls news l r ts s.kinds m q in
-    subst (λ (c : List RepliedLine × List (RepliedLine × List RepliedLine)). RunsParallel w c.0 c.1) (sym at) runs
+module _ (s later : AllStores) (ls : List TraceLine) (news : List Reply) (differ : NumbersDiffer (windows_of s.windows)) (h : Sectioned s ls news later) (m : NoneQuiet ls) where
+  abbrev ws : List BusWindow
+  ws = windows_of s.windows
 
-last_runs : (w later : RunState) (ls : List TraceLine) (news : List Reply) → Sectioned w ls news later → NoneQuiet ls → Runs w (lines_with_replies ls news)
-last_runs w later ls news s m =
-    let at : cut (lines_with_replies ls news) ≡ (lines_with_replies ls news, []) = ap cut (sym (append-nil (lines_with_replies ls news))) ∙ no_quiet_cut ls news [] s.kinds m ∙ ap (λ us. (us, [])) (append-nil (lines_with_replies ls news)) in
-    subst (λ (c : List RepliedLine × List (RepliedLine × List RepliedLine)). RunsParallel w c.0 c.1) (sym at) (s.fronts, s.states, s.work, s.closed)
+  abbrev ts : List RepliedLine
+  ts = lines_with_replies ls news
+
+  on_table : section_lines s ls news 0 ≡ lines_on_table ws ts
+  on_table = replied_table ws ts
+
+  on_window : (store : ℕ) (w : BusWindow) → HasNumber ws store w → section_lines s ls news store ≡ lines_on_window w ts
+  on_window store w number = replied_window ws store w ts number
+
+  apart : RunsApart (table_section s.table (lines_on_table ws ts)) h.states
+  apart = subst (λ us. RunsApart (table_section s.table us) h.states) on_table h.apart
+
+  behind : later.table ≡ section_end_on s.table (lines_on_table ws ts) h.states
+  behind = h.table ∙ ap (λ us. section_end_on s.table us h.states) on_table
+
+  last_runs : Runs s ts
+  last_runs = record {
+    table = subst (λ (c : List RepliedLine × List QuietPart). RunsParallel s.table c.0 c.1) (sym (last_cut (lines_on_table ws ts) (each_filtered (λ (u : RepliedLine). is_quiet u.line.act ≡ false) (λ (u : RepliedLine). is_on_table ws u.line.act) ts (none_in ls news m)))) (h.states, apart);
+    windows = subst (λ (c : List RepliedLine × List QuietPart). AllByRecursion (λ (v : WindowState). WindowRunsParallel s.table.grants (length s.table.processors) v.window v.states c.0 c.1) s.windows) (sym (last_cut ts (none_in ls news m)))
+        (windows_end ws s.table.grants (length s.table.processors) (section_lines s ls news) ts on_window 1 s.windows later.windows h.windows (numbers ws differ));
+  }
+
+  section_runs : (after : AllStores) (l : TraceLine) (r : Reply) (rest : List TraceLine) (more : List Reply) → is_quiet l.act ≡ true → (r, after) ≡ run_store_line later l → length after.table.processors ≡ length later.table.processors → Runs after (lines_with_replies rest more) → Runs s (lines_with_replies (ls ++ l ∷ rest) (news ++ r ∷ more))
+  section_runs after l r rest more q ran size k = subst (Runs s) (sym (replied_lines_more ls (l ∷ rest) news (r ∷ more) h.kinds)) (record {
+    table = subst (λ (c : List RepliedLine × List QuietPart). RunsParallel s.table c.0 c.1) (sym (table_cut ws ts t tr (none_in ls news m) q)) table;
+    windows = subst (λ (c : List RepliedLine × List QuietPart). AllByRecursion (λ (v : WindowState). WindowRunsParallel s.table.grants (length s.table.processors) v.window v.states c.0 c.1) s.windows) (sym (section_cut ts t tr (none_in ls news m) q))
+        (windows_go ws s.table.grants (length s.table.processors) (section_lines s ls news) ts on_window t (cut tr) 1 s.windows later.windows h.windows (numbers ws differ) windows);
+  }) where
+    t : RepliedLine
+    t = replied_line l r
+
+    tr : List RepliedLine
+    tr = lines_with_replies rest more
+
+    told : (r, after) ≡ after_quiet later l.act
+    told = ran ∙ quiet_step later l q
+
+    stay : after.windows ≡ later.windows
+    stay = ap (λ (x : Reply × AllStores). x.1.windows) told
+
+    same : windows_of after.windows ≡ ws
+    same = ap windows_of stay ∙ section_windows s later ls news h
+
+    grants : after.table.grants ≡ s.table.grants
+    grants = ap (λ (x : Reply × AllStores). x.1.table.grants) told ∙ quiet_grants later.table l.act ∙ ap (λ (v : RunState). v.grants) h.table
+
+    count : length after.table.processors ≡ length s.table.processors
+    count = size ∙ section_processors s later ls news h
+
+    next : after.table ≡ (run_quiet_line (section_end_on s.table (lines_on_table ws ts) h.states) l.act).1
+    next = ap (λ (x : Reply × AllStores). x.1.table) told ∙ ap (λ v. (run_quiet_line v l.act).1) behind
+
+    reply : r ≡ (run_quiet_line (section_end_on s.table (lines_on_table ws ts) h.states) l.act).0
+    reply = ap (λ (x : Reply × AllStores). x.0) told ∙ ap (λ v. (run_quiet_line v l.act).0) behind
+
+    table : RunsParallel s.table (lines_on_table ws ts) ((t, (cut (lines_on_table ws tr)).0) ∷ (cut (lines_on_table ws tr)).1)
+    table = (h.states, apart, reply, subst (λ v. RunsParallel v (cut (lines_on_table ws tr)).0 (cut (lines_on_table ws tr)).1) next (subst (λ us. RunsParallel after.table (cut (lines_on_table us tr)).0 (cut (lines_on_table us tr)).1) same k.table))
+
+    windows : AllByRecursion (λ (u : WindowState). WindowRunsParallel s.table.grants (length s.table.processors) u.window u.states (cut tr).0 (cut tr).1) later.windows
+    windows = subst (λ us. AllByRecursion (λ (u : WindowState). WindowRunsParallel s.table.grants (length s.table.processors) u.window u.states (cut tr).0 (cut tr).1) us) stay
+        (subst (λ n. AllByRecursion (λ (u : WindowState). WindowRunsParallel s.table.grants n u.window u.states (cut tr).0 (cut tr).1) after.windows) count
+        (subst (λ g. AllByRecursion (λ (u : WindowState). WindowRunsParallel g (length after.table.processors) u.window u.states (cut tr).0 (cut tr).1) after.windows) grants k.windows))
 
 -- The lines from a place up to another, and the one there.
 abbrev pub part : ℕ → ℕ → List TraceLine → List TraceLine
@@ -119,31 +204,32 @@ front_is lines start i d low within = take_more lines i d within ∙ ap (λ l. l
   at (x ∷ xs) (suc m) zero h = absurd (omega arith)
   at (x ∷ xs) (suc m) (suc n) h = let e : n - m ≡ suc n - suc m = omega arith in ap (λ l. x ∷ l) (at xs m n (omega arith)) ∙ ap (λ k. x ∷ (take m xs ++ take k (drop m xs))) e
 
-pub done_more : (w later next after : RunState) (lines : List TraceLine) (start i : ℕ) (d : TraceLine) (rs news : List Reply) (r : Reply)
-    → start ≤ i → i < length lines → Done w lines start later rs → NoneQuiet (part start i lines) → Sectioned later (part start i lines) news next → is_quiet (get_or lines i d).act ≡ true
-    → (r, after) ≡ run_line next (get_or lines i d)
-    → Done w lines (i + 1) after ((rs ++ news) ++ r ∷ [])
-done_more w later next after lines start i d rs news r low within h m s q told =
+pub done_more : (s later next after : AllStores) (lines : List TraceLine) (start i : ℕ) (d : TraceLine) (rs news : List Reply) (r : Reply)
+    → start ≤ i → i < length lines → Done s lines start later rs → NoneQuiet (part start i lines) → Sectioned later (part start i lines) news next → is_quiet (get_or lines i d).act ≡ true
+    → (r, after) ≡ run_store_line next (get_or lines i d) → length after.table.processors ≡ length next.table.processors
+    → Done s lines (i + 1) after ((rs ++ news) ++ r ∷ [])
+done_more s later next after lines start i d rs news r low within h m sect q told size =
     let l = get_or lines i d in
-    let quiet : (r, after) ≡ run_quiet_line next l.act = told ∙ quiet_is next l q in
-    let kind : IsOfKind l.act r = subst (IsOfKind l.act) (sym (ap (λ (x : Reply × RunState). x.0) quiet)) (quiet_kind next l.act q) in
+    let quiet : (r, after) ≡ after_quiet next l.act = told ∙ quiet_step next l q in
+    let kind : IsOfKind l.act r = subst (IsOfKind l.act) (sym (ap (λ (x : Reply × AllStores). x.0) quiet)) (quiet_kind next.table l.act q) in
     record {
-      kinds = rw (front_is lines start i d low within) (kinds_more (take start lines ++ part start i lines) (l ∷ []) (rs ++ news) (r ∷ []) (kinds_more (take start lines) (part start i lines) rs news h.kinds s.kinds) (kind, tt));
-      goes = λ more k.
-          let ran : Runs later (lines_with_replies (drop start lines) (news ++ r ∷ more)) = subst (λ ls. Runs later (lines_with_replies ls (news ++ r ∷ more))) (sym (rest_is lines start i d low within)) (section_runs later next after (part start i lines) news l r (drop (i + 1) lines) more s m q quiet k) in
+      kinds = rw (front_is lines start i d low within) (kinds_more (take start lines ++ part start i lines) (l ∷ []) (rs ++ news) (r ∷ []) (kinds_more (take start lines) (part start i lines) rs news h.kinds sect.kinds) (kind, tt));
+      windows = ap (λ (x : Reply × AllStores). windows_of x.1.windows) quiet ∙ section_windows later next (part start i lines) news sect ∙ h.windows;
+      goes = λ differ more k.
+          let ran : Runs later (lines_with_replies (drop start lines) (news ++ r ∷ more)) = subst (λ ls. Runs later (lines_with_replies ls (news ++ r ∷ more))) (sym (rest_is lines start i d low within)) (section_runs later next (part start i lines) news (subst NumbersDiffer (sym h.windows) differ) sect m after l r (drop (i + 1) lines) more q told size k) in
           let flat : rs ++ (news ++ r ∷ more) ≡ ((rs ++ news) ++ r ∷ []) ++ more = sym (append_assoc (rs ++ news) (r ∷ []) more ∙ append_assoc rs news (r ∷ more)) in
-          subst (λ z. Runs w (lines_with_replies lines z)) flat (h.goes (news ++ r ∷ more) ran);
+          subst (λ z. Runs s (lines_with_replies lines z)) flat (h.goes differ (news ++ r ∷ more) ran);
     }
 
 -- The last section.
-pub record Ended (w : RunState) (lines : List TraceLine) (rs : List Reply) : Type 0 where
+pub record Ended (s : AllStores) (lines : List TraceLine) (rs : List Reply) : Type 0 where
   pub kinds : AreReplies lines rs
-  pub runs : Runs w (lines_with_replies lines rs)
+  pub runs : NumbersDiffer (windows_of s.windows) → Runs s (lines_with_replies lines rs)
 
-pub done_all : (w later last : RunState) (lines : List TraceLine) (start : ℕ) (rs news : List Reply) → Done w lines start later rs → NoneQuiet (drop start lines) → Sectioned later (drop start lines) news last → Ended w lines (rs ++ news)
-done_all w later last lines start rs news h m s = record {
-  kinds = subst (λ ls. AreReplies ls (rs ++ news)) (sym (skip lines start)) (kinds_more (take start lines) (drop start lines) rs news h.kinds s.kinds);
-  runs = h.goes news (last_runs later last (drop start lines) news s m);
+pub done_all : (s later last : AllStores) (lines : List TraceLine) (start : ℕ) (rs news : List Reply) → Done s lines start later rs → NoneQuiet (drop start lines) → Sectioned later (drop start lines) news last → Ended s lines (rs ++ news)
+done_all s later last lines start rs news h m sect = record {
+  kinds = subst (λ ls. AreReplies ls (rs ++ news)) (sym (skip lines start)) (kinds_more (take start lines) (drop start lines) rs news h.kinds sect.kinds);
+  runs = λ differ. h.goes differ news (last_runs later last (drop start lines) news (subst NumbersDiffer (sym h.windows) differ) sect m);
 }
 
 -- One more line that isn't quiet.
@@ -199,63 +285,16 @@ part_each P lines start i h = some (drop start lines) (i - start) (later lines s
   some [] (suc n) h = tt
   some (x ∷ xs) (suc n) h = (h.0, some xs n h.1)
 
--- ---- a section in which no processor has lines
-bits_few : (r c : Bool) → (if r then 1 else 0) + (if c then 1 else 0) ≤ 2
-bits_few true true = omega arith
-bits_few true false = omega arith
-bits_few false true = omega arith
-bits_few false false = omega arith
-
-front_of : (a : List State) (e : ℕ) → front_at (opening_fronts a) e ≤ pair_of (state_at a e)
-unfolding pair_of
-front_of [] e = omega arith
-front_of (s ∷ a) zero = omega arith
-front_of (s ∷ a) (suc e) = front_of a e
-
-gone_at : (a : List State) (line : Line) → IsGone (opening_fronts a) line → line.stamp < (state_at a line.entry).stamp
-unfolding pair_of
-gone_at a line gone =
-    let s = state_at a line.entry in
-    let few : bits s ≤ 2 = bits_few s.referenced s.changed in
-    let high : (line.stamp + 1) * 4 ≤ s.stamp * 4 + bits s = omega (arith, gone, front_of a line.entry) in
-    omega (arith, few, high)
-
-pub empty_section : (w : RunState) → Sectioned w [] [] w
-empty_section w = record {
-  kinds = tt;
-  fronts = λ cpu. opening_fronts (states_of w);
-  states = states_of w;
-  work = λ cpu. refl;
-  closed = record {
-    size = refl;
-    in_table = listed_inside (length (states_of w)) (length w.processors) 0 [] (λ k low. tt);
-    legal = λ entry low. section_legal w [] (states_of w) tt refl entry;
-    gone = λ cpu line gone. gone_at (states_of w) line gone;
-  };
-  run_state = ap (λ (s : List Processor). record w { memory = with_states w.memory (states_of w); processors = s }) (sym (own_processors w.processors [] tt));
-}
-
--- ---- what a section keeps
-processors_count : (n : ℕ) (processors : List Processor) (ts : List RepliedLine) → length (processors_after_lines n processors ts) ≡ length processors
-processors_count n [] ts = refl
-processors_count n (s ∷ ss) ts = ap suc (processors_count (suc n) ss ts)
-
-pub section_processors : (w later : RunState) (ls : List TraceLine) (news : List Reply) → Sectioned w ls news later → length later.processors ≡ length w.processors
-section_processors w later ls news s = ap (λ (v : RunState). length v.processors) s.run_state ∙ processors_count 0 w.processors (lines_with_replies ls news)
-
-pub section_number : (w later : RunState) (ls : List TraceLine) (news : List Reply) → Sectioned w ls news later → later.memory.table.number ≡ w.memory.table.number
-section_number w later ls news s = ap (λ (v : RunState). v.memory.table.number) s.run_state
-
 -- ---- what is put out
 pub put_more : {O : Type 0} (has : Keeping O) (lines : List TraceLine) (start i : ℕ) (d : TraceLine) (rs news : List Reply) (r : Reply) (old mid new : O) → start ≤ i → i < length lines → has old (take start lines) rs → HasGrown has (part start i lines) news old mid → ((ls : List TraceLine) (qs : List Reply) → has mid ls qs → has new (ls ++ get_or lines i d ∷ []) (qs ++ r ∷ [])) → has new (take (i + 1) lines) ((rs ++ news) ++ r ∷ [])
 put_more has lines start i d rs news r old mid new low within h grown put = subst (λ ls. has new ls ((rs ++ news) ++ r ∷ [])) (sym (front_is lines start i d low within)) (put (take start lines ++ part start i lines) (rs ++ news) (grown (take start lines) rs h))
 
-pub run_ended : {O : Type 0} (has : Keeping O) (w later last : RunState) (lines : List TraceLine) (start i : ℕ) (rs : List Reply) (old new : O) → start ≤ i → i ≡ length lines → Done w lines start later rs → NoneQuiet (part start i lines) → has old (take start lines) rs → RunsSection has later (part start (length lines) lines) old new last → HasRunFrom has w lines new
-run_ended has w later last lines start i rs old new low end h m put x =
+pub run_ended : {O : Type 0} (has : Keeping O) (s later last : AllStores) (lines : List TraceLine) (start i : ℕ) (rs : List Reply) (old new : O) → start ≤ i → i ≡ length lines → Done s lines start later rs → NoneQuiet (part start i lines) → has old (take start lines) rs → RunsSection has later (part start (length lines) lines) old new last → HasRunFrom has s lines new
+run_ended has s later last lines start i rs old new low end h m put x =
     let below : start ≤ length lines = omega (arith, low, end) in
     let e : part start (length lines) lines ≡ drop start lines = part_end lines start (length lines) below (omega arith) in
     let none_quiet : NoneQuiet (part start (length lines) lines) = subst (λ n. NoneQuiet (part start n lines)) end m in
-    let ended = done_all w later last lines start rs x.news h (subst NoneQuiet e none_quiet) (subst (λ ls. Sectioned later ls x.news last) e x.sectioned) in
+    let ended = done_all s later last lines start rs x.news h (subst NoneQuiet e none_quiet) (subst (λ ls. Sectioned later ls x.news last) e x.sectioned) in
     record {
       replies = rs ++ x.news;
       put = subst (λ ls. has new ls (rs ++ x.news)) (ap (λ ls. take start lines ++ ls) e ∙ sym (skip lines start)) (x.grown (take start lines) rs put);

@@ -1,13 +1,11 @@
 -- A processor of a section, one line on.
-use Rattle.std.proofs.Common.{◌≡◌, ◌≢◌, ℕ, zero, suc, ◌+◌, ◌-◌, ◌^◌, ◌<◌, ◌≤◌, List, [], ◌∷◌, ◌++◌, length, take, get_or, if◌then◌else◌, true, false, ap, sym, ◌∙◌, refl, subst, ◌⊎◌, inl, inr, eqb, arith, append-nil, append_assoc, All, Option, Some, None}
+use Rattle.std.proofs.Common.{◌≡◌, ◌≢◌, ℕ, suc, ◌+◌, ◌-◌, ◌^◌, ◌<◌, List, [], ◌∷◌, ◌++◌, length, take, get_or, if◌then◌else◌, true, false, ap, sym, ◌∙◌, refl, subst, ◌⊎◌, inl, inr, eqb, append-nil, append_assoc, All, Some, None}
 use Rattle.std.proofs.lemmas.List.Elements.{All-head, All-tail}
 use Rattle.std.specs.Prelude.{IfSome}
 use Rattle.std.specs.List.{AllByRecursion}
-use Rattle.frame_grants.specs.declared.grant.Grant.{Grant}
 use Rattle.hpte_fields.specs.TableSize.{entry_count}
 use Rattle.entry_model.specs.CachedLines.{AllLater}
 use Rattle.run_model.specs.LineReplies.{IsCallReply, IsReplyToAccess}
-use Rattle.hpt_walk.specs.Access.{access_context}
 use Rattle.std.proofs.lemmas.Bool.{cases_Bool, eqb-true}
 use Rattle.std.proofs.lemmas.List.Elements.{filter_more}
 use Rattle.entry_model.specs.declared.receipt.Receipt.{Receipt}
@@ -18,7 +16,7 @@ use Rattle.entry_lock.specs.declared.table.LockTable.{LockTable}
 use Rattle.entry_lock.specs.declared.table.Pass.{Pass}
 use Rattle.entry_lock.specs.PassOfTable.{IsOf, view_of}
 use Rattle.entry_lock.specs.WaitingStore.{IsInTable, MadeInTable}
-use Rattle.hpt_walk.specs.Access.{AccessContext}
+use Rattle.run_model.specs.StoreContexts.{StoreContext, StoreSurroundings, access_of, context_on}
 use Rattle.tlb_model.specs.Processor.{Processor}
 use Rattle.trace_line.specs.declared.line.TraceLine.{TraceLine}
 use Rattle.trace_reply.specs.declared.reply.Reply.{Reply}
@@ -49,7 +47,7 @@ kinds_count [] (r ∷ rs) h = absurd h
 kinds_count (l ∷ ls) [] h = absurd h
 kinds_count (l ∷ ls) (r ∷ rs) h = ap suc (kinds_count ls rs h.1)
 
-pub works_more : (set : AccessContext) (f : List ℕ) (processor : Processor) (ts : List RepliedLine) (t : RepliedLine) (mid later : List ℕ) → Works set f processor ts mid → WorksLine set mid (processor_after_lines processor ts) t later → Works set f processor (ts ++ t ∷ []) later
+pub works_more : (set : StoreContext) (f : List ℕ) (processor : Processor) (ts : List RepliedLine) (t : RepliedLine) (mid later : List ℕ) → Works set f processor ts mid → WorksLine set mid (processor_after_lines processor ts) t later → Works set f processor (ts ++ t ∷ []) later
 works_more set f processor [] t mid later h k = (later, subst (λ g. WorksLine set g processor t later) h k, refl)
 works_more set f processor (u ∷ us) t mid later h k = (h.0, h.1, works_more set h.0 (processor_after processor u.line.act u.reply) us t mid later h.2 k)
 
@@ -84,7 +82,7 @@ kept_size f g rs n keeps size = (keeps_below f g rs keeps).size ∙ size
 
 -- ---- one line on
 -- What it has run of its own lines it has run of any among which it has just these.
-pub same_run : {L : Type 0} (set : AccessContext) (table : LockTable) (cpu : ℕ) (one other : List TraceLine) (rs : List Reply) (w v : Worker L) (pass : Pass) → lines_of_cpu cpu one ≡ lines_of_cpu cpu other → v.cpu ≡ w.cpu → v.before.value ≡ w.before.value → HasRun set table cpu one rs w pass → HasRun set table cpu other rs v pass
+pub same_run : {L : Type 0} (set : StoreContext) (table : LockTable) (cpu : ℕ) (one other : List TraceLine) (rs : List Reply) (w v : Worker L) (pass : Pass) → lines_of_cpu cpu one ≡ lines_of_cpu cpu other → v.cpu ≡ w.cpu → v.before.value ≡ w.before.value → HasRun set table cpu one rs w pass → HasRun set table cpu other rs v pass
 same_run set table cpu one other rs w v pass e same before h = record {
   of = h.of;
   share = h.share;
@@ -98,13 +96,13 @@ same_run set table cpu one other rs w v pass e same before h = record {
 
 -- ---- ready and done
 -- A worker that is ready and has a pass has lines to run.
-pub has_start : {L : Type 0} (keeps : Keeping L) (room_in : L → ℕ) (set : AccessContext) (table : LockTable) (cpu : ℕ) (lines : List TraceLine) (w : Worker L) (pass : Pass) → w.pass ≡ Some pass → IsReady keeps room_in set table cpu lines w → HasStart keeps room_in set table cpu lines w
+pub has_start : {L : Type 0} (keeps : Keeping L) (room_in : L → ℕ) (set : StoreContext) (table : LockTable) (cpu : ℕ) (lines : List TraceLine) (w : Worker L) (pass : Pass) → w.pass ≡ Some pass → IsReady keeps room_in set table cpu lines w → HasStart keeps room_in set table cpu lines w
 has_start keeps room_in set table cpu lines w pass has (inl idle) = absurd (let clash : None ≡ Some pass = sym idle.no_pass ∙ has in cc)
 has_start keeps room_in set table cpu lines w pass has (inr start) = start
 
 -- ---- one line
 -- What the line of this processor leaves.
-pub record Ran (set : AccessContext) (table : LockTable) (l : TraceLine) (processor later : Processor) (pass behind : Pass) (r : Reply) : Type 0 where
+pub record Ran (set : StoreContext) (table : LockTable) (l : TraceLine) (processor later : Processor) (pass behind : Pass) (r : Reply) : Type 0 where
   pub of : IsOf table behind
   pub share : behind.shares ≡ pass.shares
   pub made : (view_of behind).actor.receipts ≡ (view_of pass).actor.receipts ++ receipts_in r
@@ -114,7 +112,7 @@ pub record Ran (set : AccessContext) (table : LockTable) (l : TraceLine) (proces
   pub place : later ≡ processor_after processor l.act r
   pub seen : AllCached (IsSeenBy table behind) later.cache
 
-pub own_run : {L : Type 0} (set : AccessContext) (table : LockTable) (cpu : ℕ) (lines : List TraceLine) (k : ℕ) (d : TraceLine) (rs ss : List Reply) (w v : Worker L) (pass behind : Pass) (r : Reply)
+pub own_run : {L : Type 0} (set : StoreContext) (table : LockTable) (cpu : ℕ) (lines : List TraceLine) (k : ℕ) (d : TraceLine) (rs ss : List Reply) (w v : Worker L) (pass behind : Pass) (r : Reply)
     → k < length lines → eqb (get_or lines k d).cpu cpu ≡ true → HasRun set table cpu (take k lines) rs w pass
     → v.before.value ≡ w.before.value → ss ≡ rs ++ r ∷ [] → Ran set table (get_or lines k d) w.cpu v.cpu pass behind r
     → HasRun set table cpu (take (k + 1) lines) ss v behind
@@ -137,12 +135,12 @@ own_run set table cpu lines k d rs ss w v pass behind r within own h before repl
     }
 
 -- ---- what the generic call gives over the store of a pass
-pub line_works : (table : LockTable) (grants : List Grant) (l : TraceLine) (processor : Processor) (pass behind : Pass) (r : Reply)
+pub line_works : (table : LockTable) (around : StoreSurroundings) (l : TraceLine) (processor : Processor) (pass behind : Pass) (r : Reply)
     → MadeInTable table.order (view_of pass) (view_of behind) (receipts_in r) → length (view_of pass).fronts ≡ 2 ^ (table.order - 4)
-    → IsCallReply (access_context table.order grants) l.act r → IsReplyToAccess (access_context table.order grants) processor l.act r
+    → IsCallReply (context_on table.order around) l.act r → IsReplyToAccess (access_of (context_on table.order around)) processor l.act r
     → IfSome (gone_line_of processor l.act r) (λ line. AllLater line (receipts_in r)) → IfSome (gone_line_of processor l.act r) (IsGone (view_of behind).fronts)
-    → WorksLine (access_context table.order grants) (view_of pass).fronts processor (replied_line l r) (view_of behind).fronts
-line_works table grants l processor pass behind r made size call reach past gone = record {
+    → WorksLine (context_on table.order around) (view_of pass).fronts processor (replied_line l r) (view_of behind).fronts
+line_works table around l processor pass behind r made size call reach past gone = record {
   call = call;
   access = reach;
   in_table = all_in table.order (length (view_of pass).fronts) (receipts_in r) size made.inside;

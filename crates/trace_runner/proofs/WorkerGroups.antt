@@ -6,7 +6,7 @@ use Rattle.std.proofs.lemmas.Bool.{cases_Bool, true≢false}
 use Rattle.std.proofs.lemmas.List.{length-append}
 use Rattle.entry_lock.specs.declared.table.LockTable.{LockTable}
 use Rattle.entry_lock.specs.declared.table.Pass.{Pass}
-use Rattle.hpt_walk.specs.Access.{AccessContext}
+use Rattle.run_model.specs.StoreContexts.{StoreContext}
 use Rattle.trace_line.specs.declared.line.TraceLine.{TraceLine}
 use Rattle.trace_runner.specs.declared.worker.Worker.{Worker}
 use Rattle.trace_runner.specs.Workers.{Keeping, IsReady, IsDone, AllNumbered, processors_before}
@@ -24,7 +24,7 @@ before_both : {L : Type 0} (xs ys : List (Worker L)) → processors_before (xs +
 before_both [] ys = refl
 before_both (x ∷ xs) ys = ap (λ ps. x.before.value ∷ ps) (before_both xs ys)
 
-module _ {L : Type 0} (keeps : Keeping L) (room_in : L → ℕ) (set : AccessContext) (table : LockTable) (lines : List TraceLine) where
+module _ {L : Type 0} (keeps : Keeping L) (room_in : L → ℕ) (set : StoreContext) (table : LockTable) (lines : List TraceLine) where
   idle_done : (cpu : ℕ) (w : Worker L) → has_pass w ≡ false → IsReady keeps room_in set table cpu lines w → IsDone keeps set table cpu lines w
   idle_done cpu w e (inl idle) = inl idle
   idle_done cpu w e (inr start) = no_pass _ w.pass _ e start.fresh

@@ -8,7 +8,7 @@ abbrev pub AreDealt : {Z : Type 0} → List TraceLine → List (Vec ℕ Z) → T
 AreDealt lines dealt = AllNumbered (λ cpu own. AreOwn lines cpu own.items) 0 dealt
 
 -- Each list is empty.
-abbrev pub AllEmpty : {Z : Type 0} → List (Vec ℕ Z) → Type 0
+abbrev pub AllEmpty : {A Z : Type 0} → List (Vec A Z) → Type 0
 AllEmpty lists = AllNumbered (λ k own. own.items ≡ []) 0 lists
 
 -- How many of the lists aren't empty.

@@ -1,7 +1,7 @@
 -- A group of workers side by side, which run together.
 use Rattle.std.specs.Prelude.{◌≡◌, ℕ, ◌+◌, ◌<◌, ◌≤◌, List, length}
 use Rattle.entry_lock.specs.declared.table.LockTable.{LockTable}
-use Rattle.hpt_walk.specs.Access.{AccessContext}
+use Rattle.run_model.specs.StoreContexts.{StoreContext}
 use Rattle.trace_line.specs.declared.line.TraceLine.{TraceLine}
 use Rattle.trace_runner.specs.declared.worker.Worker.{Worker}
 use Rattle.trace_runner.specs.Workers.{Keeping, IsReady, IsDone, AllNumbered, processors_before}
@@ -11,7 +11,7 @@ pub record IsReadyGroup
     {L : Type 0}
     (keeps : Keeping L)
     (room_in : L → ℕ)
-    (context : AccessContext)
+    (context : StoreContext)
     (table : LockTable)
     (lines : List TraceLine)
     (first : ℕ)
@@ -26,7 +26,7 @@ pub record IsReadyGroup
 pub record RunsGroup
     {L : Type 0}
     (keeps : Keeping L)
-    (context : AccessContext)
+    (context : StoreContext)
     (table : LockTable)
     (lines : List TraceLine)
     (first : ℕ)

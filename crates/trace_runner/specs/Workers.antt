@@ -10,7 +10,7 @@ use Rattle.entry_lock.specs.declared.table.LockTable.{LockTable}
 use Rattle.entry_lock.specs.declared.table.Pass.{Pass}
 use Rattle.entry_lock.specs.PassOfTable.{IsOf, view_of}
 use Rattle.entry_lock.specs.WaitingStore.{IsSeenInTable}
-use Rattle.hpt_walk.specs.Access.{AccessContext}
+use Rattle.run_model.specs.StoreContexts.{StoreContext}
 use Rattle.tlb_model.specs.Processor.{Processor}
 use Rattle.trace_line.specs.declared.line.TraceLine.{TraceLine}
 use Rattle.trace_line.specs.Lines.{is_quiet}
@@ -61,7 +61,7 @@ Keeping L = L → List TraceLine → List Reply → Type 0
 -- It has run its lines among these: its replies are to them, the pass made their receipts and no other, and it kept its promise from the opening fronts on.
 pub record HasRun
     {L : Type 0}
-    (context : AccessContext)
+    (context : StoreContext)
     (table : LockTable)
     (cpu : ℕ)
     (lines : List TraceLine)
@@ -109,7 +109,7 @@ pub record HasStart
     {L : Type 0}
     (keeps : Keeping L)
     (room_in : L → ℕ)
-    (context : AccessContext)
+    (context : StoreContext)
     (table : LockTable)
     (cpu : ℕ)
     (lines : List TraceLine)
@@ -127,7 +127,7 @@ abbrev pub IsReady :
     {L : Type 0}
     → Keeping L
     → (L → ℕ)
-    → AccessContext → LockTable → ℕ → List TraceLine → Worker L → Type 0
+    → StoreContext → LockTable → ℕ → List TraceLine → Worker L → Type 0
 IsReady keeps room_in context table cpu lines w =
     IsIdle keeps table cpu lines w ⊎ HasStart keeps room_in context table cpu lines w
 
@@ -135,7 +135,7 @@ IsReady keeps room_in context table cpu lines w =
 pub record HasEnd
     {L : Type 0}
     (keeps : Keeping L)
-    (context : AccessContext)
+    (context : StoreContext)
     (table : LockTable)
     (cpu : ℕ)
     (lines : List TraceLine)
@@ -150,7 +150,7 @@ pub record HasEnd
 -- A worker behind the section.
 abbrev pub IsDone :
     {L : Type 0}
-    → Keeping L → AccessContext → LockTable → ℕ → List TraceLine → Worker L → Type 0
+    → Keeping L → StoreContext → LockTable → ℕ → List TraceLine → Worker L → Type 0
 IsDone keeps context table cpu lines w =
     IsIdle keeps table cpu lines w ⊎ HasEnd keeps context table cpu lines w
 
@@ -164,14 +164,14 @@ abbrev pub AreReady :
     {L : Type 0}
     → Keeping L
     → (L → ℕ)
-    → AccessContext → LockTable → List TraceLine → List (Worker L) → Type 0
+    → StoreContext → LockTable → List TraceLine → List (Worker L) → Type 0
 AreReady keeps room_in context table lines ws =
     AllNumbered (λ cpu w. IsReady keeps room_in context table cpu lines w) 0 ws
 
 -- All are done.
 abbrev pub AreDone :
     {L : Type 0}
-    → Keeping L → AccessContext → LockTable → List TraceLine → List (Worker L) → Type 0
+    → Keeping L → StoreContext → LockTable → List TraceLine → List (Worker L) → Type 0
 AreDone keeps context table lines ws =
     AllNumbered (λ cpu w. IsDone keeps context table cpu lines w) 0 ws
 

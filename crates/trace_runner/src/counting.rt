@@ -1,8 +1,8 @@
 ghost use Rattle.std.specs.Prelude.{◌≡◌, ◌≤◌, ◌<◌, ◌^◌, length, IfOk, OnOk};
 ghost use Rattle.std.specs.List.{AllByRecursion};
 ghost use Rattle.trace_line.specs.declared.line.TraceLine.{TraceLine};
-ghost use Rattle.run_model.specs.RunState.{opening_run, shown_of};
-ghost use Rattle.run_model.specs.SerialRun.{serial_replies, replies_from, state_after_lines};
+ghost use Rattle.run_model.specs.RunState.{shown_of};
+ghost use Rattle.run_model.specs.SerialRun.{opening_stores, serial_replies, store_replies_from, stores_after_lines};
 ghost use Rattle.run_model.specs.GoodRun.{IsGoodRun};
 ghost use Rattle.run_model.specs.Assurances.{Assures};
 ghost use Rattle.reply_text.specs.Summary.{IsCountOf};
@@ -30,11 +30,11 @@ fn count_lines(
 ) -> Result<Counts, AllocError>
     requires few { length lines.now ≤ 2 ^ 17 }
     requires cpus { AllByRecursion
-        (λ (l : TraceLine). l.cpu < length machine.old.processors)
+        (λ (l : TraceLine). l.cpu < length machine.old.table.processors)
         lines.now }
-    requires number { machine.old.memory.table.number ≡ 0 }
-    ensures counts { IfOk result (λ c. IsCountOf c (replies_from machine.old lines.now)) }
-    ensures run_state { OnOk result (machine.new ≡ state_after_lines machine.old lines.now) }
+    requires number { machine.old.table.memory.table.number ≡ 0 }
+    ensures counts { IfOk result (λ c. IsCountOf c (store_replies_from machine.old lines.now)) }
+    ensures run_state { OnOk result (machine.new ≡ stores_after_lines machine.old lines.now) }
 {
     let mut counts = Counts::new();
     let mut place = ReplyPlace::new();
@@ -53,7 +53,7 @@ pub fn run_counted(alloc: Global, trace: &Trace) -> Result<CountedRun, AllocErro
         result
         (λ run.
         run.table
-        ≡ shown_of (state_after_lines (opening_run trace.now.config) trace.now.lines).memory) }
+        ≡ shown_of (stores_after_lines (opening_stores trace.now.config) trace.now.lines).table.memory) }
     ensures good { IsGoodRun trace.now (serial_replies trace.now) }
     ensures assured { Assures trace.now (serial_replies trace.now) }
 {

@@ -1,4 +1,4 @@
-//! The lines of a section, dealt to their processors.
+//! The lines of a section on a store, dealt to their processors.
 ghost use Rattle.std.specs.Prelude.{◌≡◌, ◌<◌, ◌≤◌, [], length, IfOk};
 ghost use Rattle.std.specs.List.{AllByRecursion};
 ghost use Rattle.trace_line.specs.declared.line.TraceLine.{TraceLine as LineOf};
@@ -8,7 +8,7 @@ use std::alloc::{AllocError, Global};
 use trace_line::TraceLine;
 
 /// So many empty lists.
-fn empty_lists(alloc: Global, count: usize) -> Result<Vec<Vec<usize>>, AllocError>
+pub fn empty_lists<T: Drop>(alloc: Global, count: usize) -> Result<Vec<Vec<T>>, AllocError>
     ensures size { IfOk result (λ lists. length lists.items ≡ count) }
     ensures empty { IfOk result (λ lists. AllEmpty lists.items) }
 {

@@ -1,15 +1,18 @@
-ghost use Rattle.std.specs.Prelude.{◌≡◌, ◌<◌, ◌≤◌, ◌+◌, ◌-◌, ◌^◌, length, map, true, false, replicate, IfOk, OnOk, vec_len};
+ghost use Rattle.std.specs.Prelude.{◌≡◌, ◌<◌, ◌≤◌, ◌+◌, ◌-◌, ◌^◌, length, map, true, false, replicate, Some, IfOk, OnOk, vec_len};
 ghost use Rattle.tlb_model.specs.Processor.{new_processor};
 ghost use Rattle.trace_line.specs.Lines.{is_quiet};
-ghost use Rattle.run_model.specs.RunState.{opening_run, run_quiet_line, run_resize, shown_of, without_cache, is_success};
-ghost use Rattle.run_model.specs.SerialRun.{run_line};
+ghost use Rattle.run_model.specs.RunState.{run_quiet_line, run_resize, shown_of, without_cache, is_success};
+ghost use Rattle.run_model.specs.SerialRun.{opening_stores, run_line, run_on_windows, run_store_line};
 ghost use Rattle.trace_reply.specs.Places.{reply_in};
+ghost use Rattle.trace_runner.specs.Windows.{place_from, windows_of};
 
 use crate::act::run_alone;
+use crate::windows::{WindowEntries, open_windows, place_of};
 use entry_model::HReply;
 use papr_codes::{Hcall, Rc};
 use papr_table::PlainTable;
 use partition::Partition;
+use run_model::Surroundings;
 use std::alloc::{AllocError, Global};
 use std::marker::Model;
 use trace_line::{Act, TraceLine};
@@ -17,26 +20,27 @@ use trace_read::Config;
 use trace_reply::{Reply, ReplyPlace, Shown};
 use vcpu::Cpu;
 
-/// A partition with its processors, between two lines.
+/// A partition with its processors and its DMA windows, between two lines.
 #[derive(Drop)]
 pub struct Machine {
     pub partition: Partition,
     pub cpus: Vec<Cpu>,
+    pub windows: Vec<WindowEntries>,
 }
 
 impl Model for Machine {
-    ghost use Rattle.run_model.specs.RunState.{RunState};
-    ghost use Rattle.trace_runner.specs.MachineState.{run_state_of, IsMachine};
+    ghost use Rattle.run_model.specs.SerialRun.{AllStores};
+    ghost use Rattle.trace_runner.specs.MachineState.{stores_of, IsMachine};
 
-    ghost Value = { RunState };
+    ghost Value = { AllStores };
 
-    ghost view = { λ m. run_state_of m.partition m.cpus.items };
+    ghost view = { λ m. stores_of m.partition m.cpus.items m.windows.items };
 
-    ghost invariant = { λ m. IsMachine m.partition m.cpus.items };
+    ghost invariant = { λ m. IsMachine m.partition m.cpus.items m.windows.items };
 }
 
 /// So many processors, with no segment and nothing cached.
-fn empty_cpus(alloc: Global, count: u32) -> Result<Vec<Cpu>, AllocError>
+pub fn empty_cpus(alloc: Global, count: u32) -> Result<Vec<Cpu>, AllocError>
     ensures { IfOk result (λ cpus. cpus.items ≡ replicate count new_processor) }
 {
     let mut cpus = Vec::with_capacity(alloc, count as usize)?;
@@ -65,41 +69,53 @@ impl Machine {
     /// The machine of a configuration, before the first line.
     #[tactic(auto, unfolding(run_model::specs::RunState::opening_run))]
     pub fn open(alloc: Global, config: &Config) -> Result<Machine, AllocError>
-        ensures { IfOk result (λ machine. machine ≡ opening_run config.now) }
+        ensures { IfOk result (λ machine. machine ≡ opening_stores config.now) }
     {
         let partition = Partition::open(alloc, config)?;
         let cpus = empty_cpus(alloc, config.cpus)?;
-        Ok(Machine { partition, cpus })
+        let windows = open_windows(alloc, config.windows.as_slice())?;
+        Ok(Machine {
+            partition,
+            cpus,
+            windows,
+        })
     }
 
-    /// Runs a line. Its reply takes the place.
-    #[tactic(auto, unfolding(run_model::specs::SerialRun::run_line))]
+    /// Runs a line: on the first window that it names, and on the page table where it names none. Its
+    /// reply takes the place.
     pub fn line(
         &mut self,
         alloc: Global,
         line: &TraceLine,
         place: &mut ReplyPlace,
     ) -> Result<(), AllocError>
-        requires cpu { line.now.cpu < length self.old.processors }
-        requires number { self.old.memory.table.number < 2 ^ 32 - 1 }
-        ensures reply { OnOk result ((reply_in place.new, self.new) ≡ run_line self.old line.now) }
+        requires cpu { line.now.cpu < length self.old.table.processors }
+        requires number { self.old.table.memory.table.number < 2 ^ 32 - 1 }
+        ensures reply { OnOk
+            result
+            ((reply_in place.new, self.new) ≡ run_store_line self.old line.now) }
         ensures number { OnOk
             result
-            (self.new.memory.table.number ≤ self.old.memory.table.number + 1) }
-        ensures cpus { OnOk result (length self.new.processors ≡ length self.old.processors) }
+            (self.new.table.memory.table.number ≤ self.old.table.memory.table.number + 1) }
+        ensures cpus { OnOk
+            result
+            (length self.new.table.processors ≡ length self.old.table.processors) }
+        ensures windows { OnOk result (windows_of self.new.windows ≡ windows_of self.old.windows) }
     {
         if line.act.is_quiet() {
-            self.quiet(alloc, &line.act, place)
-        } else {
-            self.run(line, place);
-            Ok(())
+            return self.quiet(alloc, &line.act, place);
         }
+        match place_of(self.windows.as_slice(), &line.act) {
+            Some(at) => self.run_on_window(at, &line.act, place),
+            None => self.run(line, place),
+        }
+        Ok(())
     }
 
     /// The table, as a dump shows it.
     #[tactic(auto, unfolding(run_model::specs::RunState::shown_of))]
     pub fn shown(&self, alloc: Global) -> Result<Shown, AllocError>
-        ensures { IfOk result (λ shown. shown ≡ shown_of self.now.memory) }
+        ensures { IfOk result (λ shown. shown ≡ shown_of self.now.table.memory) }
     {
         let order = self.partition.order();
         Shown::of_table(
@@ -111,20 +127,36 @@ impl Machine {
         )
     }
 
-    // A line that isn't quiet, by its processor.
+    // A line that isn't quiet and names no window, by its processor.
     #[tactic(auto, unfolding(run_model::specs::SerialRun::run_line))]
     fn run(&mut self, line: &TraceLine, place: &mut ReplyPlace)
         requires not_quiet { is_quiet line.now.act ≡ false }
-        requires cpu { line.now.cpu < length self.old.processors }
-        ensures reply { (reply_in place.new, self.new) ≡ run_line self.old line.now }
-        ensures number { self.new.memory.table.number ≡ self.old.memory.table.number }
-        ensures cpus { length self.new.processors ≡ length self.old.processors }
+        requires cpu { line.now.cpu < length self.old.table.processors }
+        ensures reply { (reply_in place.new, self.new.table) ≡ run_line self.old.table line.now }
+        ensures number { self.new.table.memory.table.number ≡ self.old.table.memory.table.number }
+        ensures cpus { length self.new.table.processors ≡ length self.old.table.processors }
+        ensures windows { self.new.windows ≡ self.old.windows }
     {
         let order = self.partition.order();
         let mut table = PlainTable::open(self.partition.take_states(), order);
         let cpu = &mut self.cpus[line.cpu as usize];
-        run_alone(&mut table, cpu, self.partition.grants(), &line.act, place);
+        let around = Surroundings {
+            grants: self.partition.grants(),
+            window: None,
+        };
+        run_alone(&mut table, cpu, &around, &line.act, place);
         self.partition.put_states(table.close());
+    }
+
+    // A line on the window at this place, the first that it names.
+    fn run_on_window(&mut self, at: usize, act: &Act, place: &mut ReplyPlace)
+        requires first { place_from 0 self.old.windows act.now ≡ Some at }
+        ensures reply { Some (reply_in place.new, self.new.windows)
+            ≡ run_on_windows self.old.table.grants self.old.windows act.now }
+        ensures table { self.new.table ≡ self.old.table }
+        ensures windows { windows_of self.new.windows ≡ windows_of self.old.windows }
+    {
+        self.windows[at].line(self.partition.grants(), act, place);
     }
 
     // A quiet line. These are rare, so other lines make no room for what this holds.
@@ -132,13 +164,16 @@ impl Machine {
     #[tactic(auto, unfolding(run_model::specs::RunState::run_quiet_line, trace_line::specs::Lines::is_quiet))]
     fn quiet(&mut self, alloc: Global, act: &Act, place: &mut ReplyPlace) -> Result<(), AllocError>
         requires quiet { is_quiet act.now ≡ true }
-        requires number { self.old.memory.table.number < 2 ^ 32 - 1 }
+        requires number { self.old.table.memory.table.number < 2 ^ 32 - 1 }
         ensures reply { OnOk result
-            ((reply_in place.new, self.new) ≡ run_quiet_line self.old act.now) }
+            ((reply_in place.new, self.new.table) ≡ run_quiet_line self.old.table act.now) }
         ensures number { OnOk
             result
-            (self.new.memory.table.number ≤ self.old.memory.table.number + 1) }
-        ensures cpus { OnOk result (length self.new.processors ≡ length self.old.processors) }
+            (self.new.table.memory.table.number ≤ self.old.table.memory.table.number + 1) }
+        ensures cpus { OnOk
+            result
+            (length self.new.table.processors ≡ length self.old.table.processors) }
+        ensures windows { OnOk result (self.new.windows ≡ self.old.windows) }
     {
         match *act {
             Act::Call { number, args, .. } => {
@@ -153,14 +188,18 @@ impl Machine {
     // One of the two resize calls. A committed resize clears each processor's cache.
     #[tactic(auto, unfolding(run_model::specs::RunState::run_resize))]
     fn resize(&mut self, alloc: Global, hcall: Hcall, args: &[u64; 8]) -> Result<HReply, AllocError>
-        requires number { self.old.memory.table.number < 2 ^ 32 - 1 }
+        requires number { self.old.table.memory.table.number < 2 ^ 32 - 1 }
         ensures reply { IfOk
             result
-            (λ reply. (Reply.Hcall reply, self.new) ≡ run_resize self.old hcall args.now) }
+            (λ reply.
+            (Reply.Hcall reply, self.new.table) ≡ run_resize self.old.table hcall args.now) }
         ensures number { OnOk
             result
-            (self.new.memory.table.number ≤ self.old.memory.table.number + 1) }
-        ensures cpus { OnOk result (length self.new.processors ≡ length self.old.processors) }
+            (self.new.table.memory.table.number ≤ self.old.table.memory.table.number + 1) }
+        ensures cpus { OnOk
+            result
+            (length self.new.table.processors ≡ length self.old.table.processors) }
+        ensures windows { OnOk result (self.new.windows ≡ self.old.windows) }
     {
         match hcall {
             Hcall::Prepare => self.partition.prepare(alloc, args[0], args[1]),

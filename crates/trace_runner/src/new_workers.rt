@@ -6,7 +6,7 @@ ghost use Rattle.trace_line.specs.declared.line.TraceLine.{TraceLine as LineOf};
 ghost use Rattle.entry_model.specs.Fronts.{opening_fronts};
 ghost use Rattle.tlb_model.specs.Cache.{AllCached};
 ghost use Rattle.entry_lock.specs.PassOfTable.{IsOf, view_of};
-ghost use Rattle.hpt_walk.specs.Access.{AccessContext};
+ghost use Rattle.run_model.specs.StoreContexts.{StoreContext};
 ghost use Rattle.trace_runner.specs.MachineState.{AllHold, Holding};
 ghost use Rattle.trace_runner.specs.DealtLines.{AreDealt, count_with_own};
 ghost use Rattle.trace_runner.specs.Workers.{count_with_lines, processors_before, AreOwn, AreReady, IsFresh, IsReady, IsRest};
@@ -50,7 +50,7 @@ fn next_worker<L: RunLog>(
     requires hold { AllCached (Holding table.now.opening.items) cpu.cache }
     requires rest { (n : ℕ) × IsRest table.now (min 1 (length own.items) + n) rest.old }
     ensures ready { IfOk result
-        (λ w. (context : AccessContext) (number : ℕ) (lines : List LineOf)
+        (λ w. (context : StoreContext) (number : ℕ) (lines : List LineOf)
         → AreOwn lines number own.items
         → IsReady L.keeps L.room context table.now number lines w) }
     ensures before { IfOk result (λ w. w.before.value ≡ cpu) }
@@ -100,7 +100,7 @@ pub fn open_section<L: RunLog>(
     ensures passes { IfOk result
         (λ r. r.0.passes ≡ count_with_lines (length r.1.items) 0 lines.now) }
     ensures ready { IfOk result
-        (λ r. (context : AccessContext)
+        (λ r. (context : StoreContext)
         → AreReady L.keeps L.room context r.0 lines.now r.1.items) }
     ensures before { IfOk result (λ r. processors_before r.1.items ≡ cpus.old.items) }
     ensures none { IfOk result (λ r. cpus.new.items ≡ []) }
@@ -133,7 +133,7 @@ fn make_workers<L: RunLog>(
     requires fronts { (view_of pass).fronts ≡ opening_fronts table.now.opening.items }
     requires hold { AllHold table.now.opening.items cpus.old.items }
     ensures ready { IfOk result
-        (λ ws. (context : AccessContext) (lines : List LineOf)
+        (λ ws. (context : StoreContext) (lines : List LineOf)
         → AreDealt lines dealt.items
         → AreReady L.keeps L.room context table.now lines ws.items) }
     ensures before { IfOk result (λ ws. processors_before ws.items ≡ cpus.old.items) }

@@ -1,25 +1,30 @@
 ghost use Rattle.std.specs.Prelude.{◌≡◌, ◌<◌, length, IfOk};
 ghost use Rattle.std.specs.List.{AllByRecursion};
 ghost use Rattle.trace_line.specs.declared.line.TraceLine.{TraceLine};
-ghost use Rattle.run_model.specs.RunState.{opening_run};
-ghost use Rattle.run_model.specs.SerialRun.{serial_replies};
+ghost use Rattle.run_model.specs.SerialRun.{opening_stores, serial_replies};
 ghost use Rattle.run_model.specs.GoodRun.{IsGoodRun};
 ghost use Rattle.run_model.specs.Assurances.{Assures};
+ghost use Rattle.run_model.specs.BusyCalls.{PutIsNotBusy};
+ghost use Rattle.trace_reply.specs.Replies.{RepliedLine, lines_with_replies};
 
 use crate::machine::Machine;
 use std::alloc::{AllocError, Global};
 use trace_read::Trace;
 
-/// The machine of a trace, before its first line. The serial run of each trace is a good run.
+/// The machine of a trace, before its first line. The serial run of each trace is a good run, in which no
+/// H_PUT_TCE is answered H_BUSY.
 pub fn open_machine(alloc: Global, trace: &Trace) -> Result<Machine, AllocError>
-    ensures run_state { IfOk result (λ machine. machine ≡ opening_run trace.now.config) }
+    ensures run_state { IfOk result (λ machine. machine ≡ opening_stores trace.now.config) }
     ensures cpus { IfOk
         result
         (λ machine.
-        AllByRecursion (λ (l : TraceLine). l.cpu < length machine.processors) trace.now.lines) }
-    ensures number { IfOk result (λ machine. machine.memory.table.number ≡ 0) }
+        AllByRecursion (λ (l : TraceLine). l.cpu < length machine.table.processors) trace.now.lines) }
+    ensures number { IfOk result (λ machine. machine.table.memory.table.number ≡ 0) }
     ensures good { IsGoodRun trace.now (serial_replies trace.now) }
     ensures assured { Assures trace.now (serial_replies trace.now) }
+    ensures not_busy { AllByRecursion
+        (λ (x : RepliedLine). PutIsNotBusy x.line.act x.reply)
+        (lines_with_replies trace.now.lines (serial_replies trace.now)) }
 {
     trace.keeps_limits();
     let machine = Machine::open(alloc, &trace.config)?;

@@ -1,4 +1,5 @@
-//! The parallel run: between two quiet lines, a thread for each processor that has lines there.
+//! The parallel run: between two quiet lines, on each store a thread for each processor that has lines
+//! there.
 ghost use Rattle.std.specs.Prelude.{◌≡◌, ℕ, ◌<◌, ◌≤◌, ◌-◌, ◌^◌, length, IfOk, string_bytes};
 ghost use Rattle.std.specs.List.{AllByRecursion};
 ghost use Rattle.trace_line.specs.declared.line.TraceLine.{TraceLine as LineOf};
@@ -8,18 +9,17 @@ ghost use Rattle.run_model.specs.GoodRun.{IsGoodRun};
 ghost use Rattle.run_model.specs.Assurances.{Assures};
 ghost use Rattle.run_model.specs.Laws.{HasOneProcessor};
 ghost use Rattle.trace_runner.specs.Workers.{NoneQuiet};
-ghost use Rattle.trace_runner.specs.SectionRun.{HasRunFrom, RunsSection, RunsToQuiet};
+ghost use Rattle.trace_runner.specs.Sectioned.{HasRunFrom, RunsSection, RunsToQuiet};
 ghost use Rattle.trace_runner.specs.ParallelRun.{IsOutputOfRun, IsTextOfRun};
 
+use crate::all_stores::run_stores;
 use crate::gate::Gate;
 use crate::log::RunLog;
 use crate::machine::Machine;
-use crate::new_workers::open_section;
+use crate::merging::merge_replies;
 use crate::opening::open_machine;
 use crate::queue_log::ReplyQueue;
-use crate::section::merge_replies;
 use crate::text_log::ReplyText;
-use crate::together::run_together;
 use std::alloc::{AllocError, Global};
 use std::sync::Wait;
 use std::thread::Threads;
@@ -27,8 +27,8 @@ use trace_line::TraceLine;
 use trace_read::Trace;
 use trace_reply::{Replies, ReplyPlace};
 
-/// Runs the lines of a section, in a thread for each processor that has some, and puts the replies
-/// behind those of the output.
+/// Runs the lines of a section, on each store in a thread for each processor that has some there, and
+/// puts the replies behind those of the output.
 fn section<R: Threads + Wait + Sync, G: Gate + Sync, L: RunLog>(
     rt: &R,
     alloc: Global,
@@ -38,36 +38,17 @@ fn section<R: Threads + Wait + Sync, G: Gate + Sync, L: RunLog>(
     output: &mut L::Output,
 ) -> Result<Machine, AllocError>
     requires none_quiet { NoneQuiet lines.now }
-    requires cpus { AllByRecursion (λ (l : LineOf). l.cpu < length machine.processors) lines.now }
-    requires some { 0 < length machine.processors }
-    requires few { length machine.processors ≤ 64 }
+    requires cpus { AllByRecursion
+        (λ (l : LineOf). l.cpu < length machine.table.processors)
+        lines.now }
+    requires few { length machine.table.processors ≤ 64 }
     ensures { IfOk result
         (λ later. RunsSection L.has machine lines.now output.old output.new later) }
 {
-    if lines.is_empty() {
-        return Ok(machine);
-    }
-    let Machine {
-        mut partition,
-        mut cpus,
-    } = machine;
-    let order = partition.order();
-    let mut logs: Vec<L> = Vec::with_capacity(alloc, cpus.len())?;
-    let states = partition.take_states();
-    let (table, workers) = open_section::<L>(alloc, states, order, &mut cpus, lines)?;
-    let closing = run_together(
-        rt,
-        table,
-        gate,
-        partition.grants(),
-        lines,
-        workers,
-        &mut cpus,
-        &mut logs,
-    );
-    partition.put_states(closing);
-    merge_replies(lines, &mut logs, output)?;
-    Ok(Machine { partition, cpus })
+    let mut logs = Vec::with_capacity(alloc, machine.windows.len() + 1)?;
+    let later = run_stores::<R, G, L>(rt, alloc, machine, gate, lines, &mut logs)?;
+    merge_replies(later.windows.as_slice(), lines, &mut logs, output)?;
+    Ok(later)
 }
 
 /// Runs a section and the quiet line that ends it, and puts the replies behind those of the output.
@@ -81,11 +62,12 @@ fn section_to_quiet<R: Threads + Wait + Sync, G: Gate + Sync, L: RunLog>(
     output: &mut L::Output,
 ) -> Result<Machine, AllocError>
     requires none_quiet { NoneQuiet lines.now }
-    requires cpus { AllByRecursion (λ (l : LineOf). l.cpu < length machine.processors) lines.now }
-    requires some { 0 < length machine.processors }
-    requires few { length machine.processors ≤ 64 }
-    requires cpu { quiet.now.cpu < length machine.processors }
-    requires number { machine.memory.table.number < 2 ^ 32 - 1 }
+    requires cpus { AllByRecursion
+        (λ (l : LineOf). l.cpu < length machine.table.processors)
+        lines.now }
+    requires few { length machine.table.processors ≤ 64 }
+    requires cpu { quiet.now.cpu < length machine.table.processors }
+    requires number { machine.table.memory.table.number < 2 ^ 32 - 1 }
     ensures { IfOk result
         (λ later. RunsToQuiet L.has machine lines.now quiet.now output.old output.new later) }
 {
@@ -105,10 +87,11 @@ fn run_sections<R: Threads + Wait + Sync, G: Gate + Sync, L: RunLog>(
     lines: &[TraceLine],
 ) -> Result<L::Output, AllocError>
     requires few { length lines.now ≤ 2 ^ 17 }
-    requires cpus { AllByRecursion (λ (l : LineOf). l.cpu < length opened.processors) lines.now }
-    requires some { 0 < length opened.processors }
-    requires few_cpus { length opened.processors ≤ 64 }
-    requires number { opened.memory.table.number ≡ 0 }
+    requires cpus { AllByRecursion
+        (λ (l : LineOf). l.cpu < length opened.table.processors)
+        lines.now }
+    requires few_cpus { length opened.table.processors ≤ 64 }
+    requires number { opened.table.memory.table.number ≡ 0 }
     ensures { IfOk result (HasRunFrom L.has opened lines.now) }
 {
     let mut machine = opened;
@@ -146,8 +129,8 @@ fn run_logged<R: Threads + Wait + Sync, G: Gate + Sync, L: RunLog>(
     run_sections::<R, G, L>(rt, alloc, machine, gate, trace.lines.as_slice())
 }
 
-/// The replies of a parallel run of a trace: between two quiet lines each processor that has lines
-/// there runs them in a thread of its own. They are a good run.
+/// The replies of a parallel run of a trace: between two quiet lines each processor that has lines on
+/// a store runs them in a thread of its own. They are a good run.
 pub fn run_parallel<R: Threads + Wait + Sync, G: Gate + Sync>(
     rt: &R,
     alloc: Global,

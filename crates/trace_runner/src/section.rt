@@ -1,16 +1,12 @@
-//! A section: the lines between two quiet ones, with a worker for each processor.
-ghost use Rattle.std.specs.Prelude.{◌≡◌, ℕ, ◌+◌, ◌<◌, ◌≤◌, ◌++◌, List, length, map, vec_capacity, IfSome, OnOk};
+//! The workers behind a section: the lines on a store between two quiet ones.
+ghost use Rattle.std.specs.Prelude.{◌≡◌, ◌+◌, ◌<◌, ◌≤◌, ◌++◌, length, map, vec_capacity, IfSome};
 ghost use Rattle.std.specs.List.{AllByRecursion};
 ghost use Rattle.entry_lock.specs.PassOfTable.{IsOf};
-ghost use Rattle.trace_line.specs.declared.line.TraceLine.{TraceLine as LineOf};
-ghost use Rattle.trace_reply.specs.declared.reply.Reply.{Reply};
-ghost use Rattle.trace_runner.specs.SectionRun.{pass_count, HasNoOtherPass, IsJoinOf, IsPairJoined, AllKeep, AddsReplies};
+ghost use Rattle.trace_runner.specs.SectionRun.{pass_count, HasNoOtherPass, IsJoinOf, IsPairJoined};
 
 use crate::log::RunLog;
 use crate::worker::Worker;
 use entry_lock::{LockTable, Pass};
-use std::alloc::AllocError;
-use trace_line::TraceLine;
 use vcpu::Cpu;
 
 /// Joins a pass and a further one, where there are both.
@@ -64,31 +60,4 @@ pub fn join_workers<L: RunLog>(
         all = joined(table, all, pass);
     }
     all.unwrap()
-}
-
-/// Puts the replies to these lines, of which each processor's log has its own, in file order behind
-/// those of the output.
-pub fn merge_replies<L: RunLog>(
-    lines: &[TraceLine],
-    logs: &mut Vec<L>,
-    output: &mut L::Output,
-) -> Result<(), AllocError>
-    requires cpus { AllByRecursion (λ (l : LineOf). l.cpu < length logs.old.items) lines.now }
-    requires kept { (picks : ℕ → List Reply) × AllKeep L.keeps lines.now picks logs.old.items }
-    ensures merged { OnOk
-        result
-        ((picks : ℕ → List Reply)
-        → AllKeep L.keeps lines.now picks logs.old.items
-        → AddsReplies
-        L.has
-        lines.now
-        (length logs.old.items)
-        picks
-        output.old
-        output.new) }
-{
-    for line in lines {
-        logs[line.cpu as usize].move_first(output)?;
-    }
-    Ok(())
 }

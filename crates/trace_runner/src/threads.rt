@@ -2,7 +2,7 @@
 ghost use Rattle.std.specs.Prelude.{◌≡◌, ℕ, ◌<◌, ◌≤◌, length, is_some};
 ghost use Rattle.std.specs.List.{list_any};
 ghost use Rattle.std.specs.Thread.{IsSync, IsSend};
-ghost use Rattle.hpt_walk.specs.Access.{access_context};
+ghost use Rattle.run_model.specs.StoreContexts.{context_on};
 ghost use Rattle.trace_runner.specs.Workers.{processors_before, AreDone, AreReady, NoneQuiet};
 ghost use Rattle.trace_runner.specs.WorkerGroup.{IsReadyGroup, RunsGroup};
 
@@ -10,7 +10,7 @@ use crate::gate::Gate;
 use crate::log::ReplyLog;
 use crate::worker::{Worker, work};
 use entry_lock::LockTable;
-use frame_grants::Grants;
+use run_model::Surroundings;
 use std::sync::Wait;
 use std::thread::{Threads, join_mut};
 use trace_line::TraceLine;
@@ -21,7 +21,7 @@ pub fn run_workers<R: Threads + Wait + Sync, G: Gate + Sync, L: ReplyLog + Send>
     rt: &R,
     table: &LockTable,
     gate: &G,
-    grants: &Grants,
+    around: &Surroundings,
     lines: &[TraceLine],
     workers: &mut [Worker<L>],
 )
@@ -31,19 +31,19 @@ pub fn run_workers<R: Threads + Wait + Sync, G: Gate + Sync, L: ReplyLog + Send>
     requires ready { AreReady
         L.keeps
         L.room
-        (access_context table.now.order grants.now.grants)
+        (context_on table.now.order around.now)
         table.now
         lines.now
         workers.old }
     ensures done { AreDone
         L.keeps
-        (access_context table.now.order grants.now.grants)
+        (context_on table.now.order around.now)
         table.now
         lines.now
         workers.new }
     ensures before { processors_before workers.new ≡ processors_before workers.old }
 {
-    run_from(rt, table, gate, grants, lines, 0, workers);
+    run_from(rt, table, gate, around, lines, 0, workers);
 }
 
 /// Runs the lines of these workers, of which the first has this number. Where only one half of them has
@@ -53,7 +53,7 @@ fn run_from<R: Threads + Wait + Sync, G: Gate + Sync, L: ReplyLog + Send>(
     rt: &R,
     table: &LockTable,
     gate: &G,
-    grants: &Grants,
+    around: &Surroundings,
     lines: &[TraceLine],
     first: u32,
     workers: &mut [Worker<L>],
@@ -62,14 +62,14 @@ fn run_from<R: Threads + Wait + Sync, G: Gate + Sync, L: ReplyLog + Send>(
     requires ready { IsReadyGroup
         L.keeps
         L.room
-        (access_context table.now.order grants.now.grants)
+        (context_on table.now.order around.now)
         table.now
         lines.now
         first
         workers.old }
     ensures { RunsGroup
         L.keeps
-        (access_context table.now.order grants.now.grants)
+        (context_on table.now.order around.now)
         table.now
         lines.now
         first
@@ -77,18 +77,18 @@ fn run_from<R: Threads + Wait + Sync, G: Gate + Sync, L: ReplyLog + Send>(
         workers.new }
 {
     if workers.len() == 1 {
-        work(rt, table, gate, grants, lines, first, &mut workers[0]);
+        work(rt, table, gate, around, lines, first, &mut workers[0]);
         return;
     }
     let middle = workers.len() / 2;
     let second = first + middle as u32;
     let (front, back) = workers.split_at_mut(middle);
     if !any_has_pass(front) {
-        run_from(rt, table, gate, grants, lines, second, back);
+        run_from(rt, table, gate, around, lines, second, back);
     } else if !any_has_pass(back) {
-        run_from(rt, table, gate, grants, lines, first, front);
+        run_from(rt, table, gate, around, lines, first, front);
     } else {
-        both_halves(rt, table, gate, grants, lines, first, front, second, back);
+        both_halves(rt, table, gate, around, lines, first, front, second, back);
     }
 }
 
@@ -98,7 +98,7 @@ fn both_halves<R: Threads + Wait + Sync, G: Gate + Sync, L: ReplyLog + Send>(
     rt: &R,
     table: &LockTable,
     gate: &G,
-    grants: &Grants,
+    around: &Surroundings,
     lines: &[TraceLine],
     first: u32,
     front: &mut [Worker<L>],
@@ -109,7 +109,7 @@ fn both_halves<R: Threads + Wait + Sync, G: Gate + Sync, L: ReplyLog + Send>(
     requires front { IsReadyGroup
         L.keeps
         L.room
-        (access_context table.now.order grants.now.grants)
+        (context_on table.now.order around.now)
         table.now
         lines.now
         first
@@ -117,14 +117,14 @@ fn both_halves<R: Threads + Wait + Sync, G: Gate + Sync, L: ReplyLog + Send>(
     requires back { IsReadyGroup
         L.keeps
         L.room
-        (access_context table.now.order grants.now.grants)
+        (context_on table.now.order around.now)
         table.now
         lines.now
         second
         back.old }
     ensures front { RunsGroup
         L.keeps
-        (access_context table.now.order grants.now.grants)
+        (context_on table.now.order around.now)
         table.now
         lines.now
         first
@@ -132,7 +132,7 @@ fn both_halves<R: Threads + Wait + Sync, G: Gate + Sync, L: ReplyLog + Send>(
         front.new }
     ensures back { RunsGroup
         L.keeps
-        (access_context table.now.order grants.now.grants)
+        (context_on table.now.order around.now)
         table.now
         lines.now
         second
@@ -144,39 +144,39 @@ fn both_halves<R: Threads + Wait + Sync, G: Gate + Sync, L: ReplyLog + Send>(
             × IsReadyGroup
             L.keeps
             L.room
-            (access_context table.now.order grants.now.grants)
+            (context_on table.now.order around.now)
             table.now
             lines.now
             first
             front.now }
         ensures { RunsGroup
             L.keeps
-            (access_context table.entry.now.order grants.entry.now.grants)
+            (context_on table.entry.now.order around.entry.now)
             table.entry.now
             lines.entry.now
             first
             front.entry.now
             front.exit.now }
-    { run_from(rt, table, gate, grants, lines, first, front) };
+    { run_from(rt, table, gate, around, lines, first, front) };
     let mut high = ||
         requires { IsSync R.row × IsSync G.row × IsSend L.row × NoneQuiet lines.now
             × IsReadyGroup
             L.keeps
             L.room
-            (access_context table.now.order grants.now.grants)
+            (context_on table.now.order around.now)
             table.now
             lines.now
             second
             back.now }
         ensures { RunsGroup
             L.keeps
-            (access_context table.entry.now.order grants.entry.now.grants)
+            (context_on table.entry.now.order around.entry.now)
             table.entry.now
             lines.entry.now
             second
             back.entry.now
             back.exit.now }
-    { run_from(rt, table, gate, grants, lines, second, back) };
+    { run_from(rt, table, gate, around, lines, second, back) };
     join_mut(rt, &mut low, &mut high);
 }
 

@@ -1,6 +1,6 @@
 //! The stretch of a section in which no memory is taken.
 ghost use Rattle.std.specs.Prelude.{◌≡◌, ℕ, ◌+◌, ◌<◌, ◌≤◌, length, vec_capacity};
-ghost use Rattle.hpt_walk.specs.Access.{access_context};
+ghost use Rattle.run_model.specs.StoreContexts.{context_on};
 ghost use Rattle.trace_runner.specs.Workers.{count_with_lines, AreReady, NoneQuiet};
 ghost use Rattle.trace_runner.specs.SectionRun.{RanTogether};
 
@@ -11,7 +11,7 @@ use crate::threads::run_workers;
 use crate::worker::Worker;
 use entry_lock::LockTable;
 use entry_model::EntryState;
-use frame_grants::Grants;
+use run_model::Surroundings;
 use std::sync::Wait;
 use std::thread::Threads;
 use trace_line::TraceLine;
@@ -24,7 +24,7 @@ pub fn run_together<R: Threads + Wait + Sync, G: Gate + Sync, L: RunLog>(
     rt: &R,
     table: LockTable,
     gate: &G,
-    grants: &Grants,
+    around: &Surroundings,
     lines: &[TraceLine],
     mut workers: Vec<Worker<L>>,
     cpus: &mut Vec<Cpu>,
@@ -34,7 +34,7 @@ pub fn run_together<R: Threads + Wait + Sync, G: Gate + Sync, L: RunLog>(
     requires ready { AreReady
         L.keeps
         L.room
-        (access_context table.order grants.now.grants)
+        (context_on table.order around.now)
         table
         lines.now
         workers.items }
@@ -47,7 +47,7 @@ pub fn run_together<R: Threads + Wait + Sync, G: Gate + Sync, L: RunLog>(
         ≤ vec_capacity logs.old }
     ensures { RanTogether
         L.keeps
-        (access_context table.order grants.now.grants)
+        (context_on table.order around.now)
         table
         lines.now
         workers.items
@@ -57,7 +57,7 @@ pub fn run_together<R: Threads + Wait + Sync, G: Gate + Sync, L: RunLog>(
         logs.new.items
         result.items }
 {
-    run_workers(rt, &table, gate, grants, lines, workers.as_mut_slice());
+    run_workers(rt, &table, gate, around, lines, workers.as_mut_slice());
     let pass = join_workers(&table, workers, cpus, logs);
     table.close(pass).closing
 }

@@ -8,7 +8,7 @@ ghost use Rattle.run_model.specs.Processors.{processor_after};
 ghost use Rattle.trace_reply.specs.Replies.{IsOfKind, receipts_in};
 ghost use Rattle.trace_reply.specs.Places.{reply_in};
 ghost use Rattle.run_model.specs.ParallelRun.{WorksLine};
-ghost use Rattle.hpt_walk.specs.Access.{access_context};
+ghost use Rattle.run_model.specs.StoreContexts.{context_on};
 ghost use Rattle.trace_runner.specs.Workers.{replied_line, NoneQuiet, IsSeenBy, IsReady, IsDone};
 
 use crate::act::run_act;
@@ -16,7 +16,7 @@ use crate::gate::{AtLine, Gate};
 use crate::log::ReplyLog;
 use crate::stepping::Stepping;
 use entry_lock::{LockTable, Pass, Waiting};
-use frame_grants::Grants;
+use run_model::Surroundings;
 use std::snapshot::Snapshot;
 use std::sync::Wait;
 use trace_line::TraceLine;
@@ -39,7 +39,7 @@ fn answer<R: Wait, G: Gate>(
     rt: &R,
     table: &LockTable,
     at: &AtLine<G>,
-    grants: &Grants,
+    around: &Surroundings,
     line: &TraceLine,
     cpu: &mut Cpu,
     pass: Pass,
@@ -54,7 +54,7 @@ fn answer<R: Wait, G: Gate>(
     ensures made { (view_of result).actor.receipts
         ≡ (view_of pass).actor.receipts ++ receipts_in (reply_in place.new) }
     ensures line { WorksLine
-        (access_context table.now.order grants.now.grants)
+        (context_on table.now.order around.now)
         (view_of pass).fronts
         cpu.old
         (replied_line line.now (reply_in place.new))
@@ -69,7 +69,7 @@ fn answer<R: Wait, G: Gate>(
         at,
         started: false,
     };
-    run_act(&mut store, cpu, grants, &line.act, place);
+    run_act(&mut store, cpu, around, &line.act, place);
     let Stepping {
         store: waiting,
         at: _,
@@ -84,7 +84,7 @@ pub fn work<R: Wait, G: Gate, L: ReplyLog>(
     rt: &R,
     table: &LockTable,
     gate: &G,
-    grants: &Grants,
+    around: &Surroundings,
     lines: &[TraceLine],
     number: u32,
     worker: &mut Worker<L>,
@@ -93,14 +93,14 @@ pub fn work<R: Wait, G: Gate, L: ReplyLog>(
     requires ready { IsReady
         L.keeps
         L.room
-        (access_context table.now.order grants.now.grants)
+        (context_on table.now.order around.now)
         table.now
         number
         lines.now
         worker.old }
     ensures done { IsDone
         L.keeps
-        (access_context table.now.order grants.now.grants)
+        (context_on table.now.order around.now)
         table.now
         number
         lines.now
@@ -124,7 +124,7 @@ pub fn work<R: Wait, G: Gate, L: ReplyLog>(
             rt,
             table,
             &at,
-            grants,
+            around,
             line,
             &mut worker.cpu,
             pass,

@@ -171,7 +171,7 @@ prepare_keeps_caches = refl
 -- Two processors without segments, and a table at the lowest place of the pool.
 opened : RunState
 unfolding opening_run
-opened = opening_run (record { order = 18; limit = 20; cpus = 2; granted = record { pool_base = 0x1000000000; pool_order = 20; grants = [] }; entries = [] })
+opened = opening_run (record { order = 18; limit = 20; cpus = 2; granted = record { pool_base = 0x1000000000; pool_order = 20; grants = [] }; entries = []; windows = [] })
 
 opens_without_segments : opened.processors ≡ new_processor ∷ new_processor ∷ []
 unfolding opened opening_run

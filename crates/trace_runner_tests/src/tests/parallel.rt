@@ -128,13 +128,19 @@ impl Gate for HoldStep {
     }
 }
 
+impl HoldStep {
+    fn new() -> Self {
+        HoldStep {
+            reached: Flag::new(),
+            answered: Flag::new(),
+            late: Flag::new(),
+        }
+    }
+}
+
 #[test]
 fn another_call_comes_between_two_operations(rt: HostRuntime) -> Result<(), Fail> {
-    let gate = HoldStep {
-        reached: Flag::new(),
-        answered: Flag::new(),
-        late: Flag::new(),
-    };
+    let gate = HoldStep::new();
     let input = "order 18
 cpus 2
 ram 0x0 0x2000000000 0x40000000
@@ -146,6 +152,26 @@ begin
         together(&rt, rt.alloc(), input, &gate)?.as_str(),
         "5 0 H_BULK_REMOVE 0 0x9000000000000020 0x0 0x8000000000000021 0x0 0xc000000000000000 0x0 0x0 0x0 | 0x20.0.0.notfound 0x21.1.0.removed
 6 1 H_ENTER 0 0x21 | 0x21.0.0.entered
+"
+    );
+    assert!(rt; !gate.late.is_up());
+    Ok(())
+}
+
+#[test]
+fn a_put_is_busy_where_another_came_between_its_steps(rt: HostRuntime) -> Result<(), Fail> {
+    let gate = HoldStep::new();
+    let input = "cpus 2
+ram 0x0 0x2000000000 0x40000000
+window 0x1 0x0 0x1
+begin
+0 H_PUT_TCE 0x1 0x0 0x3001
+1 H_PUT_TCE 0x1 0x0 0x4001
+";
+    assert_eq!(rt;
+        together(&rt, rt.alloc(), input, &gate)?.as_str(),
+        "5 0 H_PUT_TCE 1 | 0x0.0.0.notfound 0x0.1.0.taken
+6 1 H_PUT_TCE 0 | 0x0.0.0.notfound 0x0.0.0.entered
 "
     );
     assert!(rt; !gate.late.is_up());
@@ -253,6 +279,35 @@ fn quiet_lines_cut_a_parallel_run(rt: HostRuntime) -> Result<(), Fail> {
     assert_eq!(rt;
         together(&rt, alloc, QUIET_LINES, &OpenGate)?.as_str(),
         replies(alloc, QUIET_LINES)?.as_str()
+    );
+    Ok(())
+}
+
+/// Two processors, each of which has lines on the page table and on a window of its own, in two sections.
+const WINDOWS: &str = "order 18
+cpus 2
+ram 0x0 0x2000000000 0x40000000
+window 0x1 0x0 0x1
+window 0x2 0x0 0x1
+begin
+0 H_PUT_TCE 0x1 0x0 0x3003
+1 H_PUT_TCE 0x2 0x0 0x4001
+0 H_ENTER 0x8000000000 0x0 0x1011 0x3012
+1 H_ENTER 0x8000000000 0x8 0x2011 0x4012
+0 dmawrite 0x1 0x8
+1 dmawrite 0x2 0x8
+dump
+1 H_GET_TCE 0x2 0x0
+0 H_GET_TCE 0x1 0x0
+0 H_PUT_TCE 0x1 0x0 0x0
+";
+
+#[test]
+fn the_stores_of_a_section_are_put_together_in_file_order(rt: HostRuntime) -> Result<(), Fail> {
+    let alloc = rt.alloc();
+    assert_eq!(rt;
+        together(&rt, alloc, WINDOWS, &OpenGate)?.as_str(),
+        replies(alloc, WINDOWS)?.as_str()
     );
     Ok(())
 }

@@ -1,5 +1,5 @@
 use Rattle.entry_model.proofs.Runs.{run-length}
-use Rattle.hpt_walk.specs.Access.{access_context}
+use Rattle.run_model.specs.StoreContexts.{context_on}
 use Rattle.trace_reply.specs.Places.{reply_in}
 use Rattle.trace_runner.proofs.Acting.{alone}
 use Rattle.trace_runner.proofs.act.run_alone.Goals as goal
@@ -7,7 +7,7 @@ use Rattle.trace_runner.proofs.act.run_alone.Goals as goal
 pub returns-clause-reply : goal.returns-clause-reply
 returns-clause-reply c =
     let e = c.run_act.ensures in
-    let context = access_context c.args.table.now.order c.args.grants.now.grants in
+    let context = context_on c.args.table.now.order c.args.around.now in
     alone context c.args.cpu.now c.args.act.now (reply_in c.run_act.new.place) c.args.table.now c.run_act.new.store c.requires.not_quiet e.made e.call e.access e.comes_later e.gone
 
 pub returns-clause-size : goal.returns-clause-size

@@ -1,4 +1,4 @@
-use Rattle.std.proofs.Common.{◌≡◌, ◌<◌, ◌∙◌, sym, subst, arith, length, get_or}
+use Rattle.std.proofs.Common.{◌<◌, ◌∙◌, sym, subst, arith, length, get_or}
 use Rattle.std.proofs.lemmas.List.{length-set}
 use Rattle.trace_line.specs.declared.line.TraceLine.{TraceLine}
 use Rattle.trace_runner.proofs.MergedReplies.{each_at}

@@ -3,7 +3,7 @@ use Rattle.trace_runner.specs.DealtLines.{AllEmpty}
 use Rattle.trace_runner.proofs.dealing.empty_lists.Given as goal
 
 abbrev pub invariant-loop : goal.invariant-loop
-invariant-loop l = record {
+invariant-loop g l = record {
   size : length l.lists.items ≡ l.counter;
   empty : AllEmpty l.lists.items;
 }

@@ -1,5 +1,5 @@
 use Rattle.std.proofs.Common.{◌≡◌, ◌+◌, ◌++◌, List, length, reverse, vec_capacity}
-use Rattle.hpt_walk.specs.Access.{AccessContext}
+use Rattle.run_model.specs.StoreContexts.{StoreContext}
 use Rattle.trace_line.specs.declared.line.TraceLine.{TraceLine}
 use Rattle.trace_runner.specs.MachineState.{AllHold}
 use Rattle.trace_runner.specs.Workers.{processors_before, AreOwn, IsReady, IsRest, AllNumbered}
@@ -15,7 +15,7 @@ invariant-loop g l = record {
   room : vec_capacity l.cpus ≡ vec_capacity l.fn.cpus;
   size : length l.workers.items ≡ l.counter;
   before : processors_before l.workers.items ++ reverse l.cpus.items ≡ l.fn.cpus.items;
-  ready : (set : AccessContext) (lines : List TraceLine)
+  ready : (set : StoreContext) (lines : List TraceLine)
       → AreDealt lines l.fn.dealt.items
       → AllNumbered (λ cpu own. AreOwn lines cpu own.items) l.counter (reverse l.left.items)
       × AllNumbered (λ j w. IsReady g.L.ReplyLog.keeps g.L.ReplyLog.room set l.table j lines w) 0 l.workers.items;

@@ -1,4 +1,4 @@
-use Rattle.std.proofs.Common.{◌≡◌, ◌∙◌, sym, ap, length, arith}
+use Rattle.std.proofs.Common.{◌≡◌, ◌∙◌, ap, length, arith}
 use Rattle.trace_runner.specs.Workers.{count_with_lines}
 use Rattle.trace_runner.specs.DealtLines.{count_with_own}
 use Rattle.trace_runner.proofs.CountedWorkers.{some_worker}

@@ -1,18 +1,13 @@
 use Rattle.std.proofs.Common.{◌≡◌, ◌∙◌, ap, length, arith}
 use Rattle.trace_read.specs.Trace.{AcceptedTrace}
-use Rattle.run_model.specs.RunState.{RunState}
+use Rattle.run_model.specs.SerialRun.{AllStores}
 use Rattle.run_model.proofs.SerialGood.{opening_processors}
 use Rattle.trace_runner.proofs.ParallelAssured.{ok_output}
 use Rattle.trace_runner.proofs.parallel.run_logged.Goals as goal
 
-pub run_sections-requires-clause-some : goal.run_sections-requires-clause-some
-run_sections-requires-clause-some g c κs within =
-    let size : length c.in_ok-machine.machine.processors ≡ c.args.trace.now.config.cpus = ap (λ (w : RunState). length w.processors) c.in_ok-machine.ensures.run_state ∙ opening_processors c.args.trace.now in
-    omega (arith, size, c.keeps_limits.ensures.configured.settings.some)
-
 pub run_sections-requires-clause-few_cpus : goal.run_sections-requires-clause-few_cpus
 run_sections-requires-clause-few_cpus g c κs within =
-    let size : length c.in_ok-machine.machine.processors ≡ c.args.trace.now.config.cpus = ap (λ (w : RunState). length w.processors) c.in_ok-machine.ensures.run_state ∙ opening_processors c.args.trace.now in
+    let size : length c.in_ok-machine.machine.table.processors ≡ c.args.trace.now.config.cpus = ap (λ (w : AllStores). length w.table.processors) c.in_ok-machine.ensures.run_state ∙ opening_processors c.args.trace.now in
     omega (arith, size, c.keeps_limits.ensures.configured.settings.few)
 
 pub returns : goal.returns

@@ -24,16 +24,13 @@ loop-i-init g c = record {
 }
 
 pub section_to_quiet-requires-clause-cpus : goal.section_to_quiet-requires-clause-cpus
-section_to_quiet-requires-clause-cpus g c κs within = part_each (λ (l : TraceLine). l.cpu < length c.loop-i.machine.processors) c.args.lines.now c.loop-i.start c.loop-i.i (subst (λ n. AllByRecursion (λ (l : TraceLine). l.cpu < n) c.args.lines.now) (sym c.loop-i.invariant.processors) c.requires.cpus)
-
-pub section_to_quiet-requires-clause-some : goal.section_to_quiet-requires-clause-some
-section_to_quiet-requires-clause-some g c κs within = subst (λ n. 0 < n) (sym c.loop-i.invariant.processors) c.requires.some
+section_to_quiet-requires-clause-cpus g c κs within = part_each (λ (l : TraceLine). l.cpu < length c.loop-i.machine.table.processors) c.args.lines.now c.loop-i.start c.loop-i.i (subst (λ n. AllByRecursion (λ (l : TraceLine). l.cpu < n) c.args.lines.now) (sym c.loop-i.invariant.processors) c.requires.cpus)
 
 pub section_to_quiet-requires-clause-few : goal.section_to_quiet-requires-clause-few
 section_to_quiet-requires-clause-few g c κs within = subst (λ n. n ≤ 64) (sym c.loop-i.invariant.processors) c.requires.few_cpus
 
 pub section_to_quiet-requires-clause-cpu : goal.section_to_quiet-requires-clause-cpu
-section_to_quiet-requires-clause-cpu g c κs within = subst (λ n. (get_or c.args.lines.now c.loop-i.i d).cpu < n) (sym c.loop-i.invariant.processors) (each_at (λ (l : TraceLine). l.cpu < length c.args.opened.processors) c.args.lines.now c.loop-i.i d c.requires.cpus c.loop-i-test.true)
+section_to_quiet-requires-clause-cpu g c κs within = subst (λ n. (get_or c.args.lines.now c.loop-i.i d).cpu < n) (sym c.loop-i.invariant.processors) (each_at (λ (l : TraceLine). l.cpu < length c.args.opened.table.processors) c.args.lines.now c.loop-i.i d c.requires.cpus c.loop-i-test.true)
 
 pub section_to_quiet-requires-clause-number : goal.section_to_quiet-requires-clause-number
 section_to_quiet-requires-clause-number g c κs within = omega (arith, c.loop-i.invariant.number, c.loop-i-test.true, c.requires.few)
@@ -52,7 +49,7 @@ loop-i-preserved g c =
             number = omega (arith, q.number, section_number c.loop-i.machine q.next _ _ e.sectioned, i.number);
             replies = (i.replies ++ e.news) ++ q.reply ∷ [];
             put = put_more g.L.RunLog.has c.args.lines.now c.loop-i.start c.loop-i.i d i.replies e.news q.reply c.loop-i.output q.between w.section_to_quiet.new.output i.low c.loop-i-test.true i.put e.grown q.put;
-            done = done_more c.args.opened c.loop-i.machine q.next w.in_ok-machine.machine c.args.lines.now c.loop-i.start c.loop-i.i d i.replies e.news q.reply i.low c.loop-i-test.true i.done i.none_quiet e.sectioned (sym c.is_quiet.ensures ∙ w.if-is_quiet.true) q.ran;
+            done = done_more c.args.opened c.loop-i.machine q.next w.in_ok-machine.machine c.args.lines.now c.loop-i.start c.loop-i.i d i.replies e.news q.reply i.low c.loop-i-test.true i.done i.none_quiet e.sectioned (sym c.is_quiet.ensures ∙ w.if-is_quiet.true) q.ran q.processors;
           })
       | else-is_quiet w ↦
           rw (w.machine-is, w.output-is, w.start-is) (record {
@@ -72,10 +69,7 @@ section-requires-clause-none_quiet g c κs within =
     subst (λ n. NoneQuiet (part c.loop-i.start n c.args.lines.now)) last c.loop-i.invariant.none_quiet
 
 pub section-requires-clause-cpus : goal.section-requires-clause-cpus
-section-requires-clause-cpus g c κs within = part_each (λ (l : TraceLine). l.cpu < length c.loop-i.machine.processors) c.args.lines.now c.loop-i.start (length c.args.lines.now) (subst (λ n. AllByRecursion (λ (l : TraceLine). l.cpu < n) c.args.lines.now) (sym c.loop-i.invariant.processors) c.requires.cpus)
-
-pub section-requires-clause-some : goal.section-requires-clause-some
-section-requires-clause-some g c κs within = subst (λ n. 0 < n) (sym c.loop-i.invariant.processors) c.requires.some
+section-requires-clause-cpus g c κs within = part_each (λ (l : TraceLine). l.cpu < length c.loop-i.machine.table.processors) c.args.lines.now c.loop-i.start (length c.args.lines.now) (subst (λ n. AllByRecursion (λ (l : TraceLine). l.cpu < n) c.args.lines.now) (sym c.loop-i.invariant.processors) c.requires.cpus)
 
 pub section-requires-clause-few : goal.section-requires-clause-few
 section-requires-clause-few g c κs within = subst (λ n. n ≤ 64) (sym c.loop-i.invariant.processors) c.requires.few_cpus

@@ -8,8 +8,8 @@ abbrev pub invariant-loop-i : goal.invariant-loop-i
 invariant-loop-i g l = record {
   low : l.start ≤ l.i;
   none_quiet : NoneQuiet (part l.start l.i l.lines);
-  processors : length l.machine.processors ≡ length l.fn.opened.processors;
-  number : l.machine.memory.table.number ≤ l.i;
+  processors : length l.machine.table.processors ≡ length l.fn.opened.table.processors;
+  number : l.machine.table.memory.table.number ≤ l.i;
   replies : List Reply;
   put : g.L.RunLog.has l.output (take l.start l.lines) replies;
   done : Done l.fn.opened l.lines l.start l.machine replies;

@@ -6,7 +6,7 @@ use Rattle.entry_lock.specs.PassOfTable.{view_of}
 use Rattle.trace_reply.specs.Replies.{receipts_in}
 use Rattle.trace_reply.specs.Places.{reply_in}
 use Rattle.run_model.specs.ParallelRun.{WorksLine}
-use Rattle.hpt_walk.specs.Access.{access_context}
+use Rattle.run_model.specs.StoreContexts.{context_on}
 use Rattle.trace_runner.specs.Workers.{replied_line, IsSeenBy}
 use Rattle.trace_runner.proofs.WorkSteps.{line_works, kept_size}
 use Rattle.trace_runner.proofs.worker.answer.Goals as goal
@@ -21,9 +21,9 @@ returns-clause-line g c =
     let b = c.run_act.new.store.store in
     let size : length (view_of a.pass).fronts ≡ 2 ^ (a.table.now.order - 4) = subst (λ (z : LockTable × Pass). length (view_of z.1).fronts ≡ 2 ^ (z.0.order - 4)) (λ j. (sym e.1 j, sym e.0 j)) c.requires.size in
     let k = c.run_act.ensures in
-    (subst (λ (z : LockTable × (Pass × Pass)). WorksLine (access_context z.0.order c.args.grants.now.grants) (view_of z.1.0).fronts c.args.cpu.now (replied_line c.args.line.now (reply_in c.run_act.new.place)) (view_of z.1.1).fronts)
+    (subst (λ (z : LockTable × (Pass × Pass)). WorksLine (context_on z.0.order c.args.around.now) (view_of z.1.0).fronts c.args.cpu.now (replied_line c.args.line.now (reply_in c.run_act.new.place)) (view_of z.1.1).fronts)
     (λ j. (e.1 j, (e.0 j, sym c.into_pass.ensures j)))
-    (line_works a.table.now c.args.grants.now.grants c.args.line.now c.args.cpu.now a.pass b.pass (reply_in c.run_act.new.place) k.made.0 size k.call k.access k.comes_later k.gone))
+    (line_works a.table.now c.args.around.now c.args.line.now c.args.cpu.now a.pass b.pass (reply_in c.run_act.new.place) k.made.0 size k.call k.access k.comes_later k.gone))
 
 pub returns-clause-size : goal.returns-clause-size
 returns-clause-size g c =

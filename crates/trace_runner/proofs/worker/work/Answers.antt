@@ -1,8 +1,8 @@
 use Rattle.std.specs.Prelude.{IsSomeAnd}
-use Rattle.std.proofs.Common.{◌≡◌, ◌∙◌, ◌++◌, ◌<◌, ℕ, List, [], ◌∷◌, sym, refl, subst, ap, take, get_or, eqb, true, arith, length, inr, Option, Some}
+use Rattle.std.proofs.Common.{◌≡◌, ◌∙◌, ◌++◌, ◌<◌, [], ◌∷◌, sym, refl, subst, ap, take, get_or, eqb, true, arith, length, inr, Option, Some}
 use Rattle.std.proofs.lemmas.List.{take_more, take_all, get_or_read}
 use Rattle.entry_lock.specs.declared.table.Pass.{Pass}
-use Rattle.hpt_walk.specs.Access.{access_context}
+use Rattle.run_model.specs.StoreContexts.{context_on}
 use Rattle.trace_line.specs.declared.line.TraceLine.{TraceLine}
 use Rattle.trace_reply.specs.Places.{reply_in}
 use Rattle.trace_runner.specs.Workers.{HasRun, lines_of_cpu}
@@ -14,7 +14,7 @@ use Rattle.trace_runner.proofs.worker.work.Goals as goal
 pub loop-i-init : goal.loop-i-init
 loop-i-init g c =
     let n = c.args.number in
-    let set = access_context c.args.table.now.order c.args.grants.now.grants in
+    let set = context_on c.args.table.now.order c.args.around.now in
     let w = c.args.worker.now in
     let has : w.pass ≡ Some c.in-Some.pass = sym c.take.ensures.value ∙ c.in-Some.is in
     let start = has_start g.L.ReplyLog.keeps g.L.ReplyLog.room set c.args.table.now n c.args.lines.now w c.in-Some.pass has c.requires.ready in
@@ -50,7 +50,7 @@ loop-i-preserved g c =
     let own = c.loop-i.worker.own.items in
     let k = c.loop-i.i in
     let keeps = g.L.ReplyLog.keeps in
-    let set = access_context c.args.table.now.order c.args.grants.now.grants in
+    let set = context_on c.args.table.now.order c.args.around.now in
     let inside : k < length own = omega (arith, c.loop-i-test.true, i.count) in
     let within : k < length mine = omega (arith, inside, as_many lines own mine i.own) in
     let is : get_or mine k past ≡ get_or lines c.index-index.result.now past = line_at lines own mine k past inside i.own ∙ ap (λ m. get_or lines m past) (sym (get_or_read own k _ inside c.index-index.ensures 0)) in
@@ -75,7 +75,7 @@ returns-clause-done g c =
     let n = c.args.number in
     let lines = c.args.lines.now in
     let mine = lines_of_cpu n lines in
-    let set = access_context c.args.table.now.order c.args.grants.now.grants in
+    let set = context_on c.args.table.now.order c.args.around.now in
     let w = c.args.worker.now in
     let has : w.pass ≡ Some c.in-Some.pass = sym c.take.ensures.value ∙ c.in-Some.is in
     let start = has_start g.L.ReplyLog.keeps g.L.ReplyLog.room set c.args.table.now n lines w c.in-Some.pass has c.requires.ready in

@@ -1,0 +1,143 @@
+-- The sections of a run on all stores, and the run that they are.
+use Rattle.std.specs.Prelude.{◌≡◌, ℕ, ◌+◌, ◌≤◌, List, [], ◌∷◌, ◌++◌, length, replicate}
+use Rattle.std.specs.List.{AllByRecursion}
+use Rattle.bus_window.specs.Windows.{BusWindow}
+use Rattle.frame_grants.specs.declared.grant.Grant.{Grant}
+use Rattle.entry_model.specs.State.{State}
+use Rattle.tlb_model.specs.Processor.{new_processor}
+use Rattle.trace_line.specs.declared.line.TraceLine.{TraceLine}
+use Rattle.trace_read.specs.Configuration.{NumbersDiffer}
+use Rattle.trace_reply.specs.declared.reply.Reply.{Reply}
+use Rattle.trace_reply.specs.Replies.{RepliedLine, AreReplies, lines_with_replies}
+use Rattle.run_model.specs.ParallelRun.{RunsApart, RunsParallel, WindowRunsParallel}
+use Rattle.run_model.specs.Quiet.{cut}
+use Rattle.run_model.specs.Sections.{section_end_on, table_section}
+use Rattle.run_model.specs.SerialRun.{WindowState, AllStores, run_store_line}
+use Rattle.run_model.specs.StoreContexts.{window_context}
+use Rattle.run_model.specs.Windows.{lines_on_table}
+use Rattle.trace_runner.specs.Stores.{replied_on_store}
+use Rattle.trace_runner.specs.Windows.{windows_of}
+use Rattle.trace_runner.specs.StoreRuns.{AllPaired, IsMerged, section_on}
+use Rattle.trace_runner.specs.Workers.{Keeping}
+
+-- ---- a section
+-- The lines of a section with these replies, on the store of this number.
+abbrev pub section_lines : AllStores → List TraceLine → List Reply → ℕ → List RepliedLine
+section_lines s lines news store =
+    replied_on_store (windows_of s.windows) store (lines_with_replies lines news)
+
+-- The window closed on what it has later.
+pub record WindowSectioned
+    (grants : List Grant)
+    (cpus : ℕ)
+    (ts : List RepliedLine)
+    (v later : WindowState)
+    : Type 0
+  where
+    pub same : later.window ≡ v.window
+    pub apart :
+        RunsApart
+        (section_on
+        (window_context grants v.window) v.states (replicate cpus new_processor) ts)
+        later.states
+
+-- The replies to its lines: on each store each processor worked on its own, the store closed, and the run goes on with what it closed on.
+pub record Sectioned
+    (s : AllStores)
+    (lines : List TraceLine)
+    (news : List Reply)
+    (later : AllStores)
+    : Type 0
+  where
+    pub kinds : AreReplies lines news
+    pub states : List State
+    pub apart : RunsApart (table_section s.table (section_lines s lines news 0)) states
+    pub table : later.table ≡ section_end_on s.table (section_lines s lines news 0) states
+    pub windows :
+        AllPaired
+        (λ store v u.
+        WindowSectioned
+        s.table.grants (length s.table.processors) (section_lines s lines news store) v u)
+        1 s.windows later.windows
+
+-- ---- a run
+-- These lines with their replies are a run in which on each store each processor works on its own.
+pub record Runs (s : AllStores) (ts : List RepliedLine) : Type 0 where
+  pub table :
+      let c = cut (lines_on_table (windows_of s.windows) ts) in RunsParallel s.table c.0 c.1
+  pub windows :
+      let c = cut ts in
+      AllByRecursion
+      (λ (v : WindowState).
+      WindowRunsParallel
+      s.table.grants (length s.table.processors) v.window v.states c.0 c.1)
+      s.windows
+
+-- These replies to lines were put behind those of an output.
+abbrev pub HasGrown :
+    {O : Type 0} → Keeping O → List TraceLine → List Reply → O → O → Type 0
+HasGrown has lines news old new =
+    (ks : List TraceLine) (qs : List Reply) → has old ks qs → has new (ks ++ lines) (qs ++ news)
+
+-- The replies that were picked were put behind those of an output, in file order.
+pub record AddsReplies
+    {O : Type 0}
+    (has : Keeping O)
+    (ws : List BusWindow)
+    (lines : List TraceLine)
+    (picks : ℕ → ℕ → List Reply)
+    (old new : O)
+    : Type 0
+  where
+    pub news : List Reply
+    pub grown : HasGrown has lines news old new
+    pub merged : IsMerged ws lines picks news
+
+-- The section's replies were put behind those of an output.
+pub record RunsSection
+    {O : Type 0}
+    (has : Keeping O)
+    (s : AllStores)
+    (lines : List TraceLine)
+    (old new : O)
+    (later : AllStores)
+    : Type 0
+  where
+    pub news : List Reply
+    pub grown : HasGrown has lines news old new
+    pub sectioned : Sectioned s lines news later
+
+-- A section ran, and behind it the quiet line that ends it; their replies were put behind those of
+-- an output.
+pub record RunsToQuiet
+    {O : Type 0}
+    (has : Keeping O)
+    (s : AllStores)
+    (lines : List TraceLine)
+    (quiet : TraceLine)
+    (old new : O)
+    (later : AllStores)
+    : Type 0
+  where
+    pub next : AllStores
+    pub between : O
+    pub section : RunsSection has s lines old between next
+    pub reply : Reply
+    pub ran : (reply, later) ≡ run_store_line next quiet
+    pub put : HasGrown has (quiet ∷ []) (reply ∷ []) between new
+    pub number : later.table.memory.table.number ≤ next.table.memory.table.number + 1
+    pub processors : length later.table.processors ≡ length next.table.processors
+
+-- An output has the replies to these lines. Where the windows' numbers differ, they are a run in which on each store each processor works on its own.
+pub record HasRunFrom
+    {O : Type 0}
+    (has : Keeping O)
+    (s : AllStores)
+    (lines : List TraceLine)
+    (output : O)
+    : Type 0
+  where
+    pub replies : List Reply
+    pub put : has output lines replies
+    pub kinds : AreReplies lines replies
+    pub runs : NumbersDiffer (windows_of s.windows) → Runs s (lines_with_replies lines replies)

@@ -17,8 +17,13 @@ use Rattle.entry_model.specs.History.{IsLegal, history, by_place, put_in, preced
 use Rattle.basics.specs.Words.{bool_eq}
 use Rattle.entry_model.proofs.Sorted.{state_self}
 use Rattle.receipt_text.specs.Receipts.{mark_of}
-use Rattle.history_check.specs.Steps.{step_op, raises_stamp, is_store_access, is_unchanged}
+use Rattle.history_check.specs.Steps.{step_op, raises_stamp, is_unchanged}
 use Rattle.authority_mask.specs.Authority.{no_masks}
+
+-- The operation is a store of a processor.
+abbrev pub is_store_access : Op → Bool
+is_store_access (ops.Access tag base key no_execute want masks) = is_store want
+is_store_access other = false
 
 pub record Alike (x y : Receipt) : Type 0 where
   pub mark : mark_of x ≡ mark_of y
@@ -59,17 +64,17 @@ next_by (ops.Access tag base key no_execute want masks) s = touched_state s want
 abbrev after_by : Op → Answer → State → State
 after_by op answer s = if raises_stamp answer then record (next_by op s) { stamp = s.stamp + 1 } else if is_at answer then next_by op s else s
 
-either_P : (b : Bool) (p q : Answer × State) (P : Answer × State → Type 0) → P p → P q → P (if◌then◌else◌ {A = Answer × State} b p q)
+pub either_P : (b : Bool) (p q : Answer × State) (P : Answer × State → Type 0) → P p → P q → P (if◌then◌else◌ {A = Answer × State} b p q)
 either_P true p q P h k = h
 either_P false p q P h k = k
 
 abbrev IsAfter : Op → State → Answer × State → Type 0
 IsAfter op s x = x.1 ≡ after_by op x.0 s
 
-changed_after : (s : State) (answer : Answer) (next : State) (P : Answer × State → Type 0) → P (answers.Worn, s) → P (answer, record next { stamp = s.stamp + 1 }) → P (change_to s answer next)
+pub changed_after : (s : State) (answer : Answer) (next : State) (P : Answer × State → Type 0) → P (answers.Worn, s) → P (answer, record next { stamp = s.stamp + 1 }) → P (change_to s answer next)
 changed_after s answer next P h k = either_P (s.stamp == 0xFFFFFFFF) (answers.Worn, s) (answer, record next { stamp = s.stamp + 1 }) P h k
 
-where_after : (found : Bool) (s : State) (answer : Answer) (next : State) (P : Answer × State → Type 0) → P (answers.NotFound, s) → P (answers.Worn, s) → P (answer, record next { stamp = s.stamp + 1 }) → P (change_where found s answer next)
+pub where_after : (found : Bool) (s : State) (answer : Answer) (next : State) (P : Answer × State → Type 0) → P (answers.NotFound, s) → P (answers.Worn, s) → P (answer, record next { stamp = s.stamp + 1 }) → P (change_where found s answer next)
 where_after found s answer next P g h k = either_P found (change_to s answer next) (answers.NotFound, s) P (changed_after s answer next P h k) g
 
 after_is : (s : State) (op : Op) → IsAfter (step_op op) s (reply_of s op)

@@ -12,7 +12,13 @@ use Rattle.entry_model.specs.declared.access_reply.By.{By}
 use Rattle.entry_model.specs.declared.access_reply.By.TheVariants.{Hit, Walk}
 use Rattle.entry_model.specs.declared.receipt.Receipt.{Receipt}
 use Rattle.entry_model.specs.Receipt.{is_no_match}
-use Rattle.entry_model.specs.Trial.{Call, IsTrial, Plan, IsReplyOf}
+use Rattle.entry_model.specs.Trial.{Call, call, IsTrial, Plan, IsReplyOf}
+use Rattle.entry_model.specs.declared.operation.Op.TheVariants.{Read}
+use Rattle.entry_model.specs.declared.device_reply.DeviceReply.{DeviceReply}
+use Rattle.bus_window.specs.Windows.{BusWindow, entry_at}
+use Rattle.dma_window.specs.Devices.{IsDeviceReplyBy}
+use Rattle.dma_window.specs.Devices.{outcome_of as device_outcome}
+use Rattle.frame_grants.specs.declared.grant.Grant.{Grant}
 use Rattle.tlb_model.specs.Cache.{cached_line}
 use Rattle.entry_model.proofs.Exact.{exact, same}
 use Rattle.slb_model.specs.declared.segment.Segment.{Segment}
@@ -33,7 +39,8 @@ use Rattle.trace_reply.specs.declared.reply.Reply.{Reply}
 use Rattle.trace_reply.specs.declared.reply.Reply.TheVariants as replies
 use Rattle.trace_reply.specs.Replies.{receipts_in}
 use Rattle.run_model.specs.Processors.{processor_after, slots_or}
-use Rattle.run_model.specs.LineReplies.{hcall_plan, IsCallReply, IsReplyToAccess}
+use Rattle.run_model.specs.LineReplies.{hcall_plan, IsDeviceLine, IsCallReply, IsReplyToAccess}
+use Rattle.run_model.specs.StoreContexts.{StoreContext, access_of}
 use Rattle.receipt_text.specs.Receipts.{mark_of}
 use Rattle.history_check.specs.ReplyMarks.{SameWay, ShowsSame}
 use Rattle.history_check.specs.Steps.{step_op}
@@ -156,7 +163,7 @@ reach_alike set s s' want ea user replies.MaskSet q e h k m = absurd h
 reach_alike set s s' want ea user (replies.Device r) q e h k m = absurd h
 reach_alike set s s' want ea user (replies.Dump r) q e h k m = absurd h
 
-call_alike : (set : AccessContext) (number : ℕ) (args : List ℕ) (spelt : Bool) (r q : Reply) → IsCallReply set (acts.Call number args spelt) r → IsCallReply set (acts.Call number args spelt) q → ShowsSame r q → AllAlike (LinePairs r q)
+call_alike : (set : StoreContext) (number : ℕ) (args : List ℕ) (spelt : Bool) (r q : Reply) → IsCallReply set (acts.Call number args spelt) r → IsCallReply set (acts.Call number args spelt) q → ShowsSame r q → AllAlike (LinePairs r q)
 call_alike set number args spelt (replies.Hcall h) (replies.Hcall k) a b s =
     let plan = hcall_plan set (hcall_of number) args in
     trial_alike plan.goes_on plan.calls plan.calls h.receipts k.receipts (self_calls plan.calls) a.trial b.trial s.marks
@@ -171,16 +178,34 @@ call_alike set number args spelt replies.MaskSet q a b s = absurd a
 call_alike set number args spelt (replies.Device h) q a b s = absurd a
 call_alike set number args spelt (replies.Dump h) q a b s = absurd a
 
+by_alike : (grants : List Grant) (write : Bool) (ioba : ℕ) (entry : Option ℕ) (d e : DeviceReply) → IsDeviceReplyBy grants ioba write d entry → IsDeviceReplyBy grants ioba write e entry → SameMarks d.receipts e.receipts → AllAlike (zip d.receipts e.receipts)
+by_alike grants write ioba None d e h k m = subst (λ (x : DeviceReply). AllAlike (zip x.receipts e.receipts)) (sym h) tt
+by_alike grants write ioba (Some entry) d e h k m = trial_alike (λ answer. true) (call Read entry ∷ []) (call Read entry ∷ []) d.receipts e.receipts (refl, tt) h.trial k.trial m
+
+device_alike : (grants : List Grant) (window : Option BusWindow) (write : Bool) (ioba : ℕ) (r q : Reply) → IsDeviceLine grants window write ioba r → IsDeviceLine grants window write ioba q → ShowsSame r q → AllAlike (LinePairs r q)
+device_alike grants None write ioba r q h k m = subst (λ x. AllAlike (LinePairs x q)) (sym h) tt
+device_alike grants (Some w) write ioba (replies.Device d) (replies.Device e) h k m = by_alike grants write ioba (entry_at w ioba) d e h k m.marks
+device_alike grants (Some w) write ioba (replies.Device d) (replies.Hcall e) h k m = absurd k
+device_alike grants (Some w) write ioba (replies.Device d) (replies.Access e) h k m = absurd k
+device_alike grants (Some w) write ioba (replies.Device d) (replies.Segment e) h k m = absurd k
+device_alike grants (Some w) write ioba (replies.Device d) replies.MaskSet h k m = absurd k
+device_alike grants (Some w) write ioba (replies.Device d) (replies.Dump e) h k m = absurd k
+device_alike grants (Some w) write ioba (replies.Hcall d) q h k m = absurd h
+device_alike grants (Some w) write ioba (replies.Access d) q h k m = absurd h
+device_alike grants (Some w) write ioba (replies.Segment d) q h k m = absurd h
+device_alike grants (Some w) write ioba replies.MaskSet q h k m = absurd h
+device_alike grants (Some w) write ioba (replies.Dump d) q h k m = absurd h
+
 dump_is_quiet : is_quiet acts.Dump ≡ false → ⊥
 unfolding is_quiet
 dump_is_quiet h = cc
 
-pub line_alike : (set : AccessContext) (s s' : Processor) (act : Act) (r q : Reply) → is_quiet act ≡ false → segments_and_masks s ≡ segments_and_masks s' → IsCallReply set act r → IsReplyToAccess set s act r → IsCallReply set act q → IsReplyToAccess set s' act q → ShowsSame r q → AllAlike (LinePairs r q)
+pub line_alike : (set : StoreContext) (s s' : Processor) (act : Act) (r q : Reply) → is_quiet act ≡ false → segments_and_masks s ≡ segments_and_masks s' → IsCallReply set act r → IsReplyToAccess (access_of set) s act r → IsCallReply set act q → IsReplyToAccess (access_of set) s' act q → ShowsSame r q → AllAlike (LinePairs r q)
 line_alike set s s' (acts.Call number args spelt) r q n e h h' k k' m = call_alike set number args spelt r q h k m
-line_alike set s s' (acts.Access want ea user) r q n e h h' k k' m = reach_alike set s s' want ea user r q e h' k' m
+line_alike set s s' (acts.Access want ea user) r q n e h h' k k' m = reach_alike (access_of set) s s' want ea user r q e h' k' m
 line_alike set s s' (acts.SlbMte rb rs) r q n e h h' k k' m = subst (λ x. AllAlike (LinePairs x q)) (sym h) tt
 line_alike set s s' acts.SlbClear r q n e h h' k k' m = subst (λ x. AllAlike (LinePairs x q)) (sym h) tt
-line_alike set s s' (acts.Device write liobn ioba) r q n e h h' k k' m = subst (λ x. AllAlike (LinePairs x q)) (sym h) tt
+line_alike set s s' (acts.Device write liobn ioba) r q n e h h' k k' m = device_alike set.grants set.window write ioba r q h k m
 line_alike set s s' (acts.SetMask name value) r q n e h h' k k' m = subst (λ x. AllAlike (LinePairs x q)) (sym h) tt
 line_alike set s s' acts.Dump r q n e h h' k k' m = absurd (dump_is_quiet n)
 
@@ -208,7 +233,7 @@ hcall_same plan h k a b m z =
     let t : (h.rc, h.words) ≡ (k.rc, k.words) = a.told ∙ ap plan.told e ∙ sym b.told in
     λ i. record { rc = (t i).0; words = (t i).1; receipts = e i }
 
-call_same : (set : AccessContext) (number : ℕ) (args : List ℕ) (spelt : Bool) (r q : Reply) → IsCallReply set (acts.Call number args spelt) r → IsCallReply set (acts.Call number args spelt) q → ShowsSame r q → AllBefore (LinePairs r q) → r ≡ q
+call_same : (set : StoreContext) (number : ℕ) (args : List ℕ) (spelt : Bool) (r q : Reply) → IsCallReply set (acts.Call number args spelt) r → IsCallReply set (acts.Call number args spelt) q → ShowsSame r q → AllBefore (LinePairs r q) → r ≡ q
 call_same set number args spelt (replies.Hcall h) (replies.Hcall k) a b s z = ap replies.Hcall (hcall_same (hcall_plan set (hcall_of number) args) h k a b s.marks z)
 call_same set number args spelt (replies.Hcall h) (replies.Access k) a b s z = absurd b
 call_same set number args spelt (replies.Hcall h) (replies.Segment k) a b s z = absurd b
@@ -253,11 +278,32 @@ reach_same set s want ea user replies.MaskSet q h k m z = absurd h
 reach_same set s want ea user (replies.Device r) q h k m z = absurd h
 reach_same set s want ea user (replies.Dump r) q h k m z = absurd h
 
-pub line_same : (set : AccessContext) (s : Processor) (act : Act) (r q : Reply) → is_quiet act ≡ false → IsCallReply set act r → IsReplyToAccess set s act r → IsCallReply set act q → IsReplyToAccess set s act q → ShowsSame r q → AllBefore (LinePairs r q) → r ≡ q
+by_same : (grants : List Grant) (write : Bool) (ioba : ℕ) (entry : Option ℕ) (d e : DeviceReply) → IsDeviceReplyBy grants ioba write d entry → IsDeviceReplyBy grants ioba write e entry → SameMarks d.receipts e.receipts → AllBefore (zip d.receipts e.receipts) → d ≡ e
+by_same grants write ioba None d e h k m z = h ∙ sym k
+by_same grants write ioba (Some entry) d e h k m z =
+    let all : d.receipts ≡ e.receipts = trial_same (λ answer. true) (call Read entry ∷ []) d.receipts e.receipts h.trial k.trial m z in
+    let end : d.outcome ≡ e.outcome = h.outcome ∙ ap (device_outcome grants ioba write) all ∙ sym k.outcome in
+    λ i. record { outcome = end i; receipts = all i }
+
+device_same : (grants : List Grant) (window : Option BusWindow) (write : Bool) (ioba : ℕ) (r q : Reply) → IsDeviceLine grants window write ioba r → IsDeviceLine grants window write ioba q → ShowsSame r q → AllBefore (LinePairs r q) → r ≡ q
+device_same grants None write ioba r q h k m z = h ∙ sym k
+device_same grants (Some w) write ioba (replies.Device d) (replies.Device e) h k m z = ap replies.Device (by_same grants write ioba (entry_at w ioba) d e h k m.marks z)
+device_same grants (Some w) write ioba (replies.Device d) (replies.Hcall e) h k m z = absurd k
+device_same grants (Some w) write ioba (replies.Device d) (replies.Access e) h k m z = absurd k
+device_same grants (Some w) write ioba (replies.Device d) (replies.Segment e) h k m z = absurd k
+device_same grants (Some w) write ioba (replies.Device d) replies.MaskSet h k m z = absurd k
+device_same grants (Some w) write ioba (replies.Device d) (replies.Dump e) h k m z = absurd k
+device_same grants (Some w) write ioba (replies.Hcall d) q h k m z = absurd h
+device_same grants (Some w) write ioba (replies.Access d) q h k m z = absurd h
+device_same grants (Some w) write ioba (replies.Segment d) q h k m z = absurd h
+device_same grants (Some w) write ioba replies.MaskSet q h k m z = absurd h
+device_same grants (Some w) write ioba (replies.Dump d) q h k m z = absurd h
+
+pub line_same : (set : StoreContext) (s : Processor) (act : Act) (r q : Reply) → is_quiet act ≡ false → IsCallReply set act r → IsReplyToAccess (access_of set) s act r → IsCallReply set act q → IsReplyToAccess (access_of set) s act q → ShowsSame r q → AllBefore (LinePairs r q) → r ≡ q
 line_same set s (acts.Call number args spelt) r q n h h' k k' m z = call_same set number args spelt r q h k m z
-line_same set s (acts.Access want ea user) r q n h h' k k' m z = reach_same set s want ea user r q h' k' m z
+line_same set s (acts.Access want ea user) r q n h h' k k' m z = reach_same (access_of set) s want ea user r q h' k' m z
 line_same set s (acts.SlbMte rb rs) r q n h h' k k' m z = h ∙ sym k
 line_same set s acts.SlbClear r q n h h' k k' m z = h ∙ sym k
-line_same set s (acts.Device write liobn ioba) r q n h h' k k' m z = h ∙ sym k
+line_same set s (acts.Device write liobn ioba) r q n h h' k k' m z = device_same set.grants set.window write ioba r q h k m z
 line_same set s (acts.SetMask name value) r q n h h' k k' m z = h ∙ sym k
 line_same set s acts.Dump r q n h h' k k' m z = absurd (dump_is_quiet n)

@@ -1,13 +1,15 @@
--- Two good runs of one trace that show the same marks are one run: sections.
-use Rattle.std.proofs.Common.{◌≡◌, ℕ, zero, suc, ◌<◌, ◌+◌, List, [], ◌∷◌, ◌++◌, Bool, true, false, ap, sym, ◌∙◌, refl, subst, ◌⊎◌, inl, inr, map, length, arith, Option, Some, None, cond, eqb}
+-- Two good runs of one trace that show the same marks are one run: section by section, on each store.
+use Rattle.std.proofs.Common.{◌≡◌, ℕ, zero, suc, ◌<◌, ◌+◌, List, [], ◌∷◌, ◌++◌, Bool, true, false, ap, sym, ◌∙◌, refl, subst, ◌⊎◌, inl, inr, map, length, arith, cond, eqb}
 use Rattle.std.specs.Prelude.{if◌then◌else◌, ◌==◌, filter}
 use Rattle.std.specs.List.{AllByRecursion}
 use Rattle.std.proofs.lemmas.Bool.{cond_both, cases_Bool, eq-eqb}
+use Rattle.std.proofs.lemmas.List.{length-replicate}
 use Rattle.entry_model.specs.State.{State}
 use Rattle.entry_model.specs.Run.{state_at}
 use Rattle.entry_model.specs.History.{IsLegal, history}
-use Rattle.hpt_walk.specs.Access.{AccessContext}
-use Rattle.tlb_model.specs.Processor.{Processor}
+use Rattle.bus_window.specs.Windows.{BusWindow}
+use Rattle.tlb_model.specs.Processor.{Processor, new_processor}
+use Rattle.trace_line.specs.declared.act.Act.{Act}
 use Rattle.trace_line.specs.declared.line.TraceLine.{TraceLine}
 use Rattle.trace_line.specs.Lines.{is_quiet}
 use Rattle.trace_read.specs.Trace.{AcceptedTrace, IsAccepted}
@@ -15,17 +17,22 @@ use Rattle.trace_reply.specs.declared.reply.Reply.{Reply}
 use Rattle.trace_reply.specs.Replies.{RepliedLine, receipts_in, AreReplies, lines_with_replies}
 use Rattle.run_model.specs.Processors.{processor_at, processor_after}
 use Rattle.run_model.specs.LineReplies.{IsCallReply, IsReplyToAccess}
-use Rattle.run_model.specs.RunState.{RunState, context_of, states_of, opening_run, run_quiet_line}
 use Rattle.run_model.specs.Histories.{lines_of_processor, receipts_by, receipts_from_processor}
-use Rattle.run_model.specs.Sections.{receipts_made, section_end, cut, cut_before, sections_from, processors_after_lines}
-use Rattle.run_model.specs.GoodRun.{IsGoodRun, EachLineOfProcessor, IsAccessLine, IsGoodSection}
-use Rattle.run_model.proofs.Each.{each_append, each_front, each_back}
-use Rattle.run_model.proofs.SectionGood.{quiet_size}
+use Rattle.run_model.specs.Quiet.{cut, cut_before}
+use Rattle.run_model.specs.StoreContexts.{StoreContext, access_of}
+use Rattle.run_model.specs.StoreSections.{made_in, closing_of}
+use Rattle.run_model.specs.Windows.{is_on_table, is_on_window}
+use Rattle.run_model.specs.SerialRun.{WindowState, AllStores, opening_stores}
+use Rattle.run_model.specs.GoodRun.{IsGoodRun, EachLineOfProcessor, IsAccessLine, IsGoodTo, IsGoodWindowSection}
+use Rattle.run_model.proofs.Each.{each_append, each_front, each_back, each_filter, each_map}
 use Rattle.run_model.proofs.SerialGood.{opening_processors}
-use Rattle.run_model.proofs.OneProcessor.{together}
 use Rattle.history_check.specs.ReplyMarks.{ShowsSame, AllShowSame}
+use Rattle.history_check.specs.FoundSection.{Opening, opening_of, section_on, IsGoodOn}
+use Rattle.history_check.specs.FoundStores.{windows_of, window_opening, window_part, AreGoodOn}
 use Rattle.history_check.proofs.Alike.{Alike, Pair, firsts, seconds, AllAlike, AllBefore, same_states}
 use Rattle.history_check.proofs.AtMostOne.{zip, zip_firsts, zip_seconds, line_alike, line_same, segments_and_masks, kept_after}
+use Rattle.history_check.proofs.ByStore.{each_by_store, filter_map}
+use Rattle.history_check.proofs.GoodStores.{Parts, parts_of, AllGood, next_stores, quiet_reply, next_size, mapped_to, each_pair, parts_good}
 
 -- ---- a line with two replies
 pub record Twice : Type 0 where
@@ -107,17 +114,17 @@ from_seconds zero c ps h = refl
 from_seconds (suc n) c ps h = seconds_append (pairs_by (own c ps)) (pairs_from n (suc c) ps) ∙ (λ i. (by_seconds (own c ps) (each_own (λ p. ShowsSame p.one p.two) c ps h) ∙ ap receipts_by (sym (own_twos c ps))) i ++ from_seconds n (suc c) ps h i)
 
 -- ---- one processor
-abbrev Calls : AccessContext → Processor → RepliedLine → Type 0
+abbrev Calls : StoreContext → Processor → RepliedLine → Type 0
 Calls set processor t = IsCallReply set t.line.act t.reply
 
-own_alike : (set : AccessContext) (a b : List State) (s s' : Processor) (ps : List Twice) → segments_and_masks s ≡ segments_and_masks s' → Plain ps → Shown ps → EachLineOfProcessor (Calls set) s (ones ps) → EachLineOfProcessor (IsAccessLine set a) s (ones ps) → EachLineOfProcessor (Calls set) s' (twos ps) → EachLineOfProcessor (IsAccessLine set b) s' (twos ps) → AllAlike (pairs_by ps)
+own_alike : (set : StoreContext) (a b : List State) (s s' : Processor) (ps : List Twice) → segments_and_masks s ≡ segments_and_masks s' → Plain ps → Shown ps → EachLineOfProcessor (Calls set) s (ones ps) → EachLineOfProcessor (IsAccessLine (access_of set) a) s (ones ps) → EachLineOfProcessor (Calls set) s' (twos ps) → EachLineOfProcessor (IsAccessLine (access_of set) b) s' (twos ps) → AllAlike (pairs_by ps)
 own_alike set a b s s' [] e n m h h' k k' = tt
 own_alike set a b s s' (p ∷ ps) e n m h h' k k' = each_append (λ z. Alike z.first z.second) (zip (receipts_in p.one) (receipts_in p.two)) (pairs_by ps) (line_alike set s s' p.line.act p.one p.two n.0 e h.0 h'.0.reply k.0 k'.0.reply m.0) (own_alike set a b (processor_after s p.line.act p.one) (processor_after s' p.line.act p.two) ps (kept_after s s' p.line.act p.one p.two e) n.1 m.1 h.1 h'.1 k.1 k'.1)
 
-own_same : (set : AccessContext) (a b : List State) (s s' : Processor) (ps : List Twice) → s ≡ s' → Plain ps → Shown ps → EachLineOfProcessor (Calls set) s (ones ps) → EachLineOfProcessor (IsAccessLine set a) s (ones ps) → EachLineOfProcessor (Calls set) s' (twos ps) → EachLineOfProcessor (IsAccessLine set b) s' (twos ps) → AllBefore (pairs_by ps) → AllSame ps
+own_same : (set : StoreContext) (a b : List State) (s s' : Processor) (ps : List Twice) → s ≡ s' → Plain ps → Shown ps → EachLineOfProcessor (Calls set) s (ones ps) → EachLineOfProcessor (IsAccessLine (access_of set) a) s (ones ps) → EachLineOfProcessor (Calls set) s' (twos ps) → EachLineOfProcessor (IsAccessLine (access_of set) b) s' (twos ps) → AllBefore (pairs_by ps) → AllSame ps
 own_same set a b s s' [] e n m h h' k k' z = tt
 own_same set a b s s' (p ∷ ps) e n m h h' k k' z =
-    let here : p.one ≡ p.two = line_same set s p.line.act p.one p.two n.0 h.0 h'.0.reply k.0 (subst (λ x. IsReplyToAccess set x p.line.act p.two) (sym e) k'.0.reply) m.0 (each_front (λ w. w.first.before ≡ w.second.before) (zip (receipts_in p.one) (receipts_in p.two)) (pairs_by ps) z) in
+    let here : p.one ≡ p.two = line_same set s p.line.act p.one p.two n.0 h.0 h'.0.reply k.0 (subst (λ x. IsReplyToAccess (access_of set) x p.line.act p.two) (sym e) k'.0.reply) m.0 (each_front (λ w. w.first.before ≡ w.second.before) (zip (receipts_in p.one) (receipts_in p.two)) (pairs_by ps) z) in
     (here, own_same set a b (processor_after s p.line.act p.one) (processor_after s' p.line.act p.two) ps (λ i. processor_after (e i) p.line.act (here i)) n.1 m.1 h.1 h'.1 k.1 k'.1 (each_back (λ w. w.first.before ≡ w.second.before) (zip (receipts_in p.one) (receipts_in p.two)) (pairs_by ps) z))
 
 -- ---- all processors
@@ -143,23 +150,47 @@ of_owns : (P : Twice → Type 0) (n : ℕ) (ps : List Twice) → AllByRecursion 
 of_owns P n [] low h = tt
 of_owns P n (p ∷ ps) low h = (head_own P p ps (h p.line.cpu low.0), of_owns P n ps low.1 (λ c k. tail_own P c p ps (h c k)))
 
-pub section_same : (w : RunState) (ps : List Twice) (x y : Option RepliedLine) → AllByRecursion (λ p. p.line.cpu < length w.processors) ps → Plain ps → Shown ps → IsGoodSection (record { before = w; replied_lines = ones ps; quiet = x }) → IsGoodSection (record { before = w; replied_lines = twos ps; quiet = y }) → AllSame ps
-section_same w ps x y low n m g k =
-    let set = context_of w in
-    let a = states_of (section_end w (ones ps)) in
-    let b = states_of (section_end w (twos ps)) in
-    let N = length w.processors in
+-- ---- a section of a store
+pub section_same : (o : Opening) (ps : List Twice) (a b : List State) → AllByRecursion (λ p. p.line.cpu < length o.processors) ps → Plain ps → Shown ps → IsGoodTo (section_on o (ones ps)) a → IsGoodTo (section_on o (twos ps)) b → AllSame ps
+section_same o ps a b low n m g k =
+    let set = o.context in
+    let N = length o.processors in
     let shown : (c : ℕ) → Shown (own c ps) = λ c. each_own (λ p. ShowsSame p.one p.two) c ps m in
     let plain : (c : ℕ) → Plain (own c ps) = λ c. each_own (λ p. is_quiet p.line.act ≡ false) c ps n in
-    let h1 : (c : ℕ) → EachLineOfProcessor (Calls set) (processor_at w.processors c) (ones (own c ps)) = λ c. subst (λ l. EachLineOfProcessor (Calls set) (processor_at w.processors c) l) (own_ones c ps) (g.2 c) in
-    let h2 : (c : ℕ) → EachLineOfProcessor (IsAccessLine set a) (processor_at w.processors c) (ones (own c ps)) = λ c. subst (λ l. EachLineOfProcessor (IsAccessLine set a) (processor_at w.processors c) l) (own_ones c ps) (g.3 c) in
-    let k1 : (c : ℕ) → EachLineOfProcessor (Calls set) (processor_at w.processors c) (twos (own c ps)) = λ c. subst (λ l. EachLineOfProcessor (Calls set) (processor_at w.processors c) l) (own_twos c ps) (k.2 c) in
-    let k2 : (c : ℕ) → EachLineOfProcessor (IsAccessLine set b) (processor_at w.processors c) (twos (own c ps)) = λ c. subst (λ l. EachLineOfProcessor (IsAccessLine set b) (processor_at w.processors c) l) (own_twos c ps) (k.3 c) in
-    let alike : AllAlike (pairs_from N 0 ps) = from_each (λ z. Alike z.first z.second) N 0 ps (λ c. own_alike set a b (processor_at w.processors c) (processor_at w.processors c) (own c ps) refl (plain c) (shown c) (h1 c) (h2 c) (k1 c) (k2 c)) in
-    let e1 : receipts_made w (ones ps) ≡ firsts (pairs_from N 0 ps) = sym (from_firsts N 0 ps m) in
-    let e2 : receipts_made w (twos ps) ≡ seconds (pairs_from N 0 ps) = sym (from_seconds N 0 ps m) in
-    let before : AllBefore (pairs_from N 0 ps) = same_states (length (states_of w)) (state_at (states_of w)) (state_at a) (state_at b) (pairs_from N 0 ps) alike (subst (λ l. AllByRecursion (λ r. r.entry < length (states_of w)) l) e1 g.0.in_table) (λ e q. subst (λ l. IsLegal (state_at (states_of w) e) (history e l) (state_at a e)) e1 (g.0.legal e q)) (λ e q. subst (λ l. IsLegal (state_at (states_of w) e) (history e l) (state_at b e)) e2 (k.0.legal e q)) in
-    of_owns (λ p. p.one ≡ p.two) N ps low (λ c q. own_same set a b (processor_at w.processors c) (processor_at w.processors c) (own c ps) refl (plain c) (shown c) (h1 c) (h2 c) (k1 c) (k2 c) (subst (λ j. AllBefore (pairs_by (own j ps))) (let e : 0 + c ≡ c = omega arith in e) (each_from (λ z. z.first.before ≡ z.second.before) N 0 c ps q before)))
+    let h1 : (c : ℕ) → EachLineOfProcessor (Calls set) (processor_at o.processors c) (ones (own c ps)) = λ c. subst (λ l. EachLineOfProcessor (Calls set) (processor_at o.processors c) l) (own_ones c ps) (g.2 c) in
+    let h2 : (c : ℕ) → EachLineOfProcessor (IsAccessLine (access_of set) a) (processor_at o.processors c) (ones (own c ps)) = λ c. subst (λ l. EachLineOfProcessor (IsAccessLine (access_of set) a) (processor_at o.processors c) l) (own_ones c ps) (g.3 c) in
+    let k1 : (c : ℕ) → EachLineOfProcessor (Calls set) (processor_at o.processors c) (twos (own c ps)) = λ c. subst (λ l. EachLineOfProcessor (Calls set) (processor_at o.processors c) l) (own_twos c ps) (k.2 c) in
+    let k2 : (c : ℕ) → EachLineOfProcessor (IsAccessLine (access_of set) b) (processor_at o.processors c) (twos (own c ps)) = λ c. subst (λ l. EachLineOfProcessor (IsAccessLine (access_of set) b) (processor_at o.processors c) l) (own_twos c ps) (k.3 c) in
+    let alike : AllAlike (pairs_from N 0 ps) = from_each (λ z. Alike z.first z.second) N 0 ps (λ c. own_alike set a b (processor_at o.processors c) (processor_at o.processors c) (own c ps) refl (plain c) (shown c) (h1 c) (h2 c) (k1 c) (k2 c)) in
+    let e1 : made_in (section_on o (ones ps)) ≡ firsts (pairs_from N 0 ps) = sym (from_firsts N 0 ps m) in
+    let e2 : made_in (section_on o (twos ps)) ≡ seconds (pairs_from N 0 ps) = sym (from_seconds N 0 ps m) in
+    let before : AllBefore (pairs_from N 0 ps) = same_states (length o.states) (state_at o.states) (state_at a) (state_at b) (pairs_from N 0 ps) alike (subst (λ l. AllByRecursion (λ r. r.entry < length o.states) l) e1 g.0.in_table) (λ e q. subst (λ l. IsLegal (state_at o.states e) (history e l) (state_at a e)) e1 (g.0.legal e q)) (λ e q. subst (λ l. IsLegal (state_at o.states e) (history e l) (state_at b e)) e2 (k.0.legal e q)) in
+    of_owns (λ p. p.one ≡ p.two) N ps low (λ c q. own_same set a b (processor_at o.processors c) (processor_at o.processors c) (own c ps) refl (plain c) (shown c) (h1 c) (h2 c) (k1 c) (k2 c) (subst (λ j. AllBefore (pairs_by (own j ps))) (let e : 0 + c ≡ c = omega arith in e) (each_from (λ z. z.first.before ≡ z.second.before) N 0 c ps q before)))
+
+-- ---- all stores
+-- The lines on the page table, and those on a window.
+abbrev own_table : List BusWindow → List Twice → List Twice
+own_table ws ps = filter (λ p. is_on_table ws p.line.act) ps
+
+abbrev own_window : BusWindow → List Twice → List Twice
+own_window w ps = filter (λ p. is_on_window w p.line.act) ps
+
+-- A section of one store, of some of the lines.
+part_same : (o : Opening) (n : ℕ) (f : Act → Bool) (ps : List Twice) → length o.processors ≡ n → AllByRecursion (λ p. p.line.cpu < n) ps → Plain ps → Shown ps → IsGoodOn o (filter (λ (t : RepliedLine). f t.line.act) (ones ps)) → IsGoodOn o (filter (λ (t : RepliedLine). f t.line.act) (twos ps)) → AllSame (filter (λ p. f p.line.act) ps)
+part_same o n f ps size low plain shown g k =
+    let on = λ (p : Twice). f p.line.act in
+    let own = filter on ps in
+    let cpus = each_filter (λ p. p.line.cpu < length o.processors) on ps (subst (λ m. AllByRecursion (λ p. p.line.cpu < m) ps) (sym size) low) in
+    let g' : IsGoodOn o (ones own) = subst (IsGoodOn o) (filter_map first (λ (t : RepliedLine). f t.line.act) ps) g in
+    let k' : IsGoodOn o (twos own) = subst (IsGoodOn o) (filter_map second (λ (t : RepliedLine). f t.line.act) ps) k in
+    section_same o own (closing_of (section_on o (ones own))) (closing_of (section_on o (twos own))) cpus (each_filter (λ p. is_quiet p.line.act ≡ false) on ps plain) (each_filter (λ p. ShowsSame p.one p.two) on ps shown) g' k'
+
+pub stores_same : (s : AllStores) (ps : List Twice) → AllByRecursion (λ p. p.line.cpu < length s.table.processors) ps → Plain ps → Shown ps → AreGoodOn s (ones ps) → AreGoodOn s (twos ps) → AllSame ps
+stores_same s ps low plain shown g k =
+    let n = length s.table.processors in
+    let both = each_pair (λ v. IsGoodWindowSection (window_part s (ones ps) v)) (λ v. IsGoodWindowSection (window_part s (twos ps) v)) s.windows g.windows k.windows in
+    let windows = each_map (λ v. IsGoodWindowSection (window_part s (ones ps) v) × IsGoodWindowSection (window_part s (twos ps) v)) (λ (v : WindowState). AllSame (own_window v.window ps)) s.windows (λ v h. part_same (window_opening s.table.grants (length s.table.processors) v) n (is_on_window v.window) ps (length-replicate n new_processor) low plain shown h.0 h.1) both in
+    each_by_store (λ p. p.one ≡ p.two) (λ p. p.line.act) (windows_of s) ps (part_same (opening_of s.table) n (is_on_table (windows_of s)) ps refl low plain shown g.table k.table) (mapped_to (λ w. AllSame (own_window w ps)) (λ (v : WindowState). v.window) s.windows windows)
 
 -- ---- all sections
 abbrev pub cut_twice : List Twice → List Twice × List (Twice × List Twice)
@@ -219,25 +250,15 @@ pub ones_twos : (ps : List Twice) → AllSame ps → ones ps ≡ twos ps
 ones_twos [] h = refl
 ones_twos (p ∷ ps) h = λ i. record { line = p.line; reply = h.0 i } ∷ ones_twos ps h.1 i
 
-processors_by_size : (c : ℕ) (ss : List Processor) (ts : List RepliedLine) → length (processors_after_lines c ss ts) ≡ length ss
-processors_by_size c [] ts = refl
-processors_by_size c (s ∷ ss) ts = ap suc (processors_by_size (suc c) ss ts)
-
-pub closed_size : (w : RunState) (ts : List RepliedLine) → length (section_end w ts).processors ≡ length w.processors
-unfolding section_end
-closed_size w ts = processors_by_size 0 w.processors ts
-
-sections_same : (n : ℕ) (w : RunState) (ps : List Twice) (qs : List (Twice × List Twice)) → length w.processors ≡ n → AllCut (λ p. p.line.cpu < n) (ps, qs) → PlainCut (ps, qs) → AllCut (λ p. ShowsSame p.one p.two) (ps, qs) → AllByRecursion IsGoodSection (sections_from w (ones ps) (rest_ones qs)) → AllByRecursion IsGoodSection (sections_from w (twos ps) (rest_twos qs)) → AllCut (λ p. p.one ≡ p.two) (ps, qs)
-sections_same n w ps [] size low plain shows g k = (section_same w ps None None (subst (λ m. AllByRecursion (λ p. p.line.cpu < m) ps) (sym size) low.0) plain.0 shows.0 g.0 k.0, tt)
-sections_same n w ps (q ∷ qs) size low plain shows g k =
-    let here : AllSame ps = section_same w ps (Some (first q.0)) (Some (second q.0)) (subst (λ m. AllByRecursion (λ p. p.line.cpu < m) ps) (sym size) low.0) plain.0 shows.0 g.0 k.0 in
+parts_same : (n : ℕ) (s : AllStores) (ps : List Twice) (qs : List (Twice × List Twice)) → length s.table.processors ≡ n → AllCut (λ p. p.line.cpu < n) (ps, qs) → PlainCut (ps, qs) → AllCut (λ p. ShowsSame p.one p.two) (ps, qs) → AllGood s (ones ps) (rest_ones qs) → AllGood s (twos ps) (rest_twos qs) → AllCut (λ p. p.one ≡ p.two) (ps, qs)
+parts_same n s ps [] size low plain shows g k = (stores_same s ps (subst (λ m. AllByRecursion (λ p. p.line.cpu < m) ps) (sym size) low.0) plain.0 shows.0 g k, tt)
+parts_same n s ps (q ∷ qs) size low plain shows g k =
+    let here : AllSame ps = stores_same s ps (subst (λ m. AllByRecursion (λ p. p.line.cpu < m) ps) (sym size) low.0) plain.0 shows.0 g.0 k.0 in
     let e : ones ps ≡ twos ps = ones_twos ps here in
     let act = q.0.line.act in
-    let said : q.0.one ≡ q.0.two = g.0.4 ∙ ap (λ ts. (run_quiet_line (section_end w ts) act).0) e ∙ sym k.0.4 in
-    let v = (run_quiet_line (section_end w (ones ps)) act).1 in
-    let k' : AllByRecursion IsGoodSection (sections_from v (twos q.1) (rest_twos qs)) = subst (λ ts. AllByRecursion IsGoodSection (sections_from (run_quiet_line (section_end w ts) act).1 (twos q.1) (rest_twos qs))) (sym e) k.1 in
-    let size' : length v.processors ≡ n = quiet_size (section_end w (ones ps)) act ∙ closed_size w (ones ps) ∙ size in
-    let rest = sections_same n v q.1 qs size' (low.1.0.1, low.1.1) (plain.1.0, plain.1.1) (shows.1.0.1, shows.1.1) g.1 k' in
+    let said : q.0.one ≡ q.0.two = g.1 ∙ ap (λ ts. quiet_reply s ts act) e ∙ sym k.1 in
+    let k' : AllGood (next_stores s (ones ps) act) (twos q.1) (rest_twos qs) = subst (λ ts. AllGood (next_stores s ts act) (twos q.1) (rest_twos qs)) (sym e) k.2 in
+    let rest = parts_same n (next_stores s (ones ps) act) q.1 qs (next_size s (ones ps) act ∙ size) (low.1.0.1, low.1.1) (plain.1.0, plain.1.1) (shows.1.0.1, shows.1.1) g.2 k' in
     (here, ((said, rest.0), rest.1))
 
 -- ---- a trace
@@ -284,9 +305,10 @@ pub at_most_one : (t : AcceptedTrace) (rs qs : List Reply) → IsAccepted t → 
 at_most_one t rs qs is g k m =
     let ps = twice_of t.lines rs qs in
     let x = cut_twice ps in
-    let e1 : cut (lines_with_replies t.lines rs) ≡ both_ones x = ap cut (twice_ones t.lines rs qs g.kinds k.kinds) ∙ cut_ones ps in
-    let e2 : cut (lines_with_replies t.lines qs) ≡ both_twos x = ap cut (twice_twos t.lines rs qs g.kinds k.kinds) ∙ cut_twos ps in
-    let g' : AllByRecursion IsGoodSection (sections_from (opening_run t.config) (ones x.0) (rest_ones x.1)) = subst (λ (c : List RepliedLine × List (RepliedLine × List RepliedLine)). AllByRecursion IsGoodSection (sections_from (opening_run t.config) c.0 c.1)) e1 (together t rs g) in
-    let k' : AllByRecursion IsGoodSection (sections_from (opening_run t.config) (twos x.0) (rest_twos x.1)) = subst (λ (c : List RepliedLine × List (RepliedLine × List RepliedLine)). AllByRecursion IsGoodSection (sections_from (opening_run t.config) c.0 c.1)) e2 (together t qs k) in
-    let all = sections_same t.config.cpus (opening_run t.config) x.0 x.1 (opening_processors t) (cut_each (λ p. p.line.cpu < t.config.cpus) ps (twice_cpus t.config.cpus t.lines rs qs is.lines.on_cpus)) (cut_plain ps) (cut_each (λ p. ShowsSame p.one p.two) ps (twice_shown t.lines rs qs m)) g' k' in
+    let s = opening_stores t.config in
+    let e1 : parts_of t rs ≡ both_ones x = ap cut (twice_ones t.lines rs qs g.kinds k.kinds) ∙ cut_ones ps in
+    let e2 : parts_of t qs ≡ both_twos x = ap cut (twice_twos t.lines rs qs g.kinds k.kinds) ∙ cut_twos ps in
+    let g' : AllGood s (ones x.0) (rest_ones x.1) = subst (λ (c : Parts). AllGood s c.0 c.1) e1 (parts_good t rs g) in
+    let k' : AllGood s (twos x.0) (rest_twos x.1) = subst (λ (c : Parts). AllGood s c.0 c.1) e2 (parts_good t qs k) in
+    let all = parts_same t.config.cpus s x.0 x.1 (opening_processors t) (cut_each (λ p. p.line.cpu < t.config.cpus) ps (twice_cpus t.config.cpus t.lines rs qs is.lines.on_cpus)) (cut_plain ps) (cut_each (λ p. ShowsSame p.one p.two) ps (twice_shown t.lines rs qs m)) g' k' in
     same_replies t.lines rs qs g.kinds k.kinds (uncut_each (λ p. p.one ≡ p.two) ps all)

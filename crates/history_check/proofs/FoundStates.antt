@@ -2,7 +2,7 @@
 use Rattle.std.specs.Prelude.{IsPermutation}
 use Rattle.std.specs.List.{AllByRecursion, swap}
 use Rattle.std.specs.List.Sorted.{apply_swaps, SwapsInRange, IsNonDecreasing, IsNonDecreasingBy}
-use Rattle.std.proofs.Common.{◌≡◌, ℕ, ◌<◌, List, [], ◌∷◌, refl, ap, sym, ◌∙◌, subst, arith, length, map, get_or, set, Option}
+use Rattle.std.proofs.Common.{◌≡◌, ℕ, ◌<◌, List, [], ◌∷◌, refl, ap, sym, ◌∙◌, subst, arith, length, map, get_or, set}
 use Rattle.std.proofs.lemmas.List.{map-set, length-map}
 use Rattle.std.proofs.lemmas.Simd.{map-map}
 use Rattle.std.proofs.Math.ListN.{get_or-map}
@@ -12,13 +12,12 @@ use Rattle.entry_model.specs.State.{State}
 use Rattle.entry_model.specs.declared.receipt.Receipt.{Receipt}
 use Rattle.entry_model.specs.History.{place, Regrouped, twice}
 use Rattle.entry_model.proofs.Regroup.{regrouped_back}
-use Rattle.trace_reply.specs.Replies.{RepliedLine}
-use Rattle.run_model.specs.RunState.{RunState, states_of}
 use Rattle.run_model.specs.Histories.{receipts_by}
-use Rattle.run_model.specs.Sections.{receipts_made, section_end}
-use Rattle.run_model.specs.GoodRun.{AreLegal}
-use Rattle.run_model.proofs.LinesByProcessor.{Cpus, file_listed}
-use Rattle.run_model.proofs.SectionGood.{each_regrouped}
+use Rattle.run_model.specs.StoreSections.{StoreSection, made_in, closing_of}
+use Rattle.run_model.specs.GoodRun.{IsLegalTo}
+use Rattle.run_model.proofs.LinesByProcessor.{file_listed}
+use Rattle.run_model.proofs.OneProcessor.{closing_size}
+use Rattle.run_model.proofs.SectionGood.{OnCpus, each_regrouped}
 use Rattle.history_check.specs.Replay.{before_each}
 use Rattle.history_check.specs.Steps.{step_of, found_states, ending_states}
 use Rattle.history_check.specs.PlacedSteps.{placed_step, FoundStep, with_states_found, FindStates, AreInTable}
@@ -132,16 +131,16 @@ as_many : (rs : List Receipt) (ss : List State) → length ss ≡ length (map pl
 as_many rs ss e = e ∙ length-map rs placed_step
 
 -- A good section's states before are those found, and it closes on those that the steps end on.
-pub section_finds : (w : RunState) (ts : List RepliedLine) (quiet : Option RepliedLine) (listed b : List State) → Cpus (length w.processors) ts → AreLegal (record { before = w; replied_lines = ts; quiet = quiet }) → FindStates (states_of w) (map placed_step (receipts_by ts)) listed b → (before_each (receipts_by ts) ≡ listed) × (states_of (section_end w ts) ≡ b)
+pub section_finds : (s : StoreSection) (listed b : List State) → OnCpus s → IsLegalTo s (closing_of s) → FindStates s.opening (map placed_step (receipts_by s.replied_lines)) listed b → (before_each (receipts_by s.replied_lines) ≡ listed) × (closing_of s ≡ b)
 unfolding states_in
-section_finds w ts quiet listed b cpus good h =
-    let rs = receipts_by ts in
-    let o = ordering (states_of w) b rs listed h in
+section_finds s listed b cpus good h =
+    let rs = receipts_by s.replied_lines in
+    let o = ordering s.opening b rs listed h in
     let size : length listed ≡ length rs = as_many rs listed h.size in
     let ms = receipts_of o.order in
     let moved : Regrouped rs ms = permuted rs ms (of_order rs listed o.order size o.each_once) in
-    let all : Regrouped (receipts_made w ts) ms = twice (regrouped_back (file_listed (length w.processors) ts cpus)) moved in
-    let fixed = section_fixes w ts quiet ms good all (ascending_from ms o.ascending) in
+    let all : Regrouped (made_in s) ms = twice (regrouped_back (file_listed (length s.processors) s.replied_lines cpus)) moved in
+    let fixed = section_fixes s (closing_of s) ms (closing_size s.opening (made_in s)) good all (ascending_from ms o.ascending) in
     let each : AllByRecursion HasState (listed_with rs listed) = same_have o.order (listed_with rs listed) (IsPermutation-sym (listed_with rs listed) o.order o.each_once) (each_has o.order (fixed.0 ∙ sym o.found)) in
     (ap before_each (sym (their_receipts rs listed size)) ∙ all_have (listed_with rs listed) each ∙ their_states rs listed size, fixed.1 ∙ sym o.ends)
 
@@ -150,16 +149,16 @@ within_of size [] h = tt
 within_of size (r ∷ rs) h = (h.0, within_of size rs h.1)
 
 -- Receipts on the states found are legal histories, which close on the states that the steps end on.
-pub found_section : (w : RunState) (ts : List RepliedLine) (quiet : Option RepliedLine) (listed b : List State) → Cpus (length w.processors) ts → AreInTable (length (states_of w)) (map placed_step (receipts_by ts)) → FindStates (states_of w) (map placed_step (receipts_by ts)) listed b → before_each (receipts_by ts) ≡ listed → AreLegal (record { before = w; replied_lines = ts; quiet = quiet }) × (states_of (section_end w ts) ≡ b)
+pub found_section : (s : StoreSection) (listed b : List State) → OnCpus s → AreInTable (length s.opening) (map placed_step (receipts_by s.replied_lines)) → FindStates s.opening (map placed_step (receipts_by s.replied_lines)) listed b → before_each (receipts_by s.replied_lines) ≡ listed → IsLegalTo s (closing_of s) × (closing_of s ≡ b)
 unfolding states_in
-found_section w ts quiet listed b cpus within h before =
-    let rs = receipts_by ts in
-    let n = length (states_of w) in
-    let o = ordering (states_of w) b rs listed h in
+found_section s listed b cpus within h before =
+    let rs = receipts_by s.replied_lines in
+    let n = length s.opening in
+    let o = ordering s.opening b rs listed h in
     let size : length listed ≡ length rs = as_many rs listed h.size in
     let ms = receipts_of o.order in
     let moved : Regrouped rs ms = permuted rs ms (of_order rs listed o.order size o.each_once) in
-    let all : Regrouped ms (receipts_made w ts) = twice (regrouped_back moved) (file_listed (length w.processors) ts cpus) in
+    let all : Regrouped ms (made_in s) = twice (regrouped_back moved) (file_listed (length s.processors) s.replied_lines cpus) in
     let each : AllByRecursion HasState o.order = same_have (listed_with rs listed) o.order o.each_once (each_has (listed_with rs listed) (ap before_each (their_receipts rs listed size) ∙ before ∙ sym (their_states rs listed size))) in
-    let fixed = fixed_section w ts quiet ms all (each_regrouped (λ (r : Receipt). r.entry < n) moved (within_of n rs within)) (all_have o.order each ∙ o.found) in
+    let fixed = fixed_section s ms all (each_regrouped (λ (r : Receipt). r.entry < n) moved (within_of n rs within)) (all_have o.order each ∙ o.found) in
     (fixed.0, fixed.1 ∙ sym o.ends)

@@ -1,5 +1,5 @@
 -- The judge's loop: where it stands between two sections, and what each of its ends says of the whole text.
-use Rattle.std.proofs.Common.{◌≡◌, ℕ, zero, suc, ◌+◌, ◌<◌, ◌≤◌, ◌^◌, List, [], ◌∷◌, ◌++◌, true, false, ap, sym, ◌∙◌, refl, subst, length, arith, append-nil, zero-add, Option, Some, None, ◌⊎◌, inl, inr}
+use Rattle.std.proofs.Common.{◌≡◌, ℕ, zero, suc, ◌+◌, ◌<◌, ◌≤◌, ◌^◌, List, [], ◌∷◌, ◌++◌, true, false, ap, sym, ◌∙◌, refl, subst, length, arith, append-nil, zero-add, ◌⊎◌, inl, inr}
 use Rattle.std.specs.Prelude.{count_by, if◌then◌else◌, nat_le}
 use Rattle.std.proofs.lemmas.List.{length-append}
 use Rattle.std.proofs.lemmas.List.Sums.{sum_by-cons}
@@ -11,18 +11,19 @@ use Rattle.trace_reply.specs.declared.reply.Reply.{Reply}
 use Rattle.trace_reply.specs.Replies.{RepliedLine, IsOfKind, lines_with_replies}
 use Rattle.reply_text.specs.Text.{reply_text, text_of}
 use Rattle.hpt_resize.specs.TableMemory.{opening_memory}
-use Rattle.run_model.specs.RunState.{RunState, opening_run, run_quiet_line}
+use Rattle.run_model.specs.RunState.{opening_run}
 use Rattle.run_model.specs.Sections.{section_end}
+use Rattle.run_model.specs.SerialRun.{AllStores, opening_stores}
 use Rattle.run_model.proofs.Each.{each_front, each_back}
-use Rattle.run_model.proofs.SectionGood.{quiet_size}
-use Rattle.run_model.proofs.SerialGood.{good_of, quiet_kind, opening_processors}
+use Rattle.run_model.proofs.SerialGood.{quiet_kind, opening_processors}
 use Rattle.history_check.specs.declared.verdict.Verdict.TheVariants as verdicts
 use Rattle.history_check.specs.Verdict.{lines_to, trace_to, section_count, BeginsGood, IsGoodText, SectionStands, IsVerdict}
-use Rattle.history_check.specs.FoundSection.{ArePlain, AreOnProcessors, lines_text, IsFound}
+use Rattle.history_check.specs.FoundSection.{ArePlain, AreOnProcessors}
+use Rattle.history_check.specs.FoundStores.{stores_behind, run_quiet_on, AreFound}
 use Rattle.history_check.proofs.EarlierSections.{fronts_stand}
-use Rattle.history_check.proofs.Short.{IsPlain, opening_plain, quiet_plain}
-use Rattle.history_check.proofs.AtMostOneRun.{closed_size}
-use Rattle.history_check.proofs.BySection.{Explains, Reaches, next_run, good_explained, begins_explained, explained_begins, found_once, reaches_first, reaches_next, none_found, reached_stands, lines_all, last_in, last_out}
+use Rattle.history_check.proofs.GoodStores.{next_size, good_parts}
+use Rattle.history_check.proofs.ShortStores.{ArePlainStores, quiet_stores_plain, opening_stores_plain}
+use Rattle.history_check.proofs.BySection.{Explains, Reaches, next_run, next_reply, good_explained, begins_explained, explained_begins, found_once, reaches_first, reaches_next, none_found, reached_stands, lines_all, last_in, last_out}
 
 -- ---- lines up to a quiet one
 -- Cut twice, they are cut at the nearer.
@@ -77,102 +78,93 @@ bad_next t text k b few none = (
 )
 
 -- ---- where the loop stands
-pub record AtSection (t : AcceptedTrace) (text : List ℕ) (k : ℕ) (w : RunState) (ns : List TraceLine) (y : List ℕ) : Type 0 where
+pub record AtSection (t : AcceptedTrace) (text : List ℕ) (k : ℕ) (w : AllStores) (ns : List TraceLine) (y : List ℕ) : Type 0 where
   pub reached : Reaches t text k w ns y
-  pub plain : IsPlain w
-  pub cpus : AreOnProcessors (length w.processors) ns
+  pub plain : ArePlainStores w
+  pub cpus : AreOnProcessors (length w.table.processors) ns
   pub count : k + quiet_count ns ≡ quiet_count t.lines
   pub few : length ns ≤ 2 ^ 17
 
-pub at_first : (t : AcceptedTrace) (text : List ℕ) → IsAccepted t → AtSection t text 0 (opening_run t.config) t.lines text
+pub at_first : (t : AcceptedTrace) (text : List ℕ) → IsAccepted t → AtSection t text 0 (opening_stores t.config) t.lines text
 at_first t text is = record {
   reached = reaches_first t text;
-  plain = opening_plain t is;
+  plain = opening_stores_plain t is;
   cpus = subst (λ n. AreOnProcessors n t.lines) (sym (opening_processors t)) is.lines.on_cpus;
   count = omega arith;
   few = is.lines.few;
 }
 
 -- The first lines' processors.
-pub front_cpus : (t : AcceptedTrace) (text : List ℕ) (k : ℕ) (w : RunState) (ms : List TraceLine) (l : TraceLine) (ns : List TraceLine) (x : List ℕ) → AtSection t text k w (ms ++ l ∷ ns) x → AreOnProcessors (length w.processors) ms
-front_cpus t text k w ms l ns x h = each_front (λ (m : TraceLine). m.cpu < length w.processors) ms (l ∷ ns) h.cpus
+pub front_cpus : (t : AcceptedTrace) (text : List ℕ) (k : ℕ) (w : AllStores) (ms : List TraceLine) (l : TraceLine) (ns : List TraceLine) (x : List ℕ) → AtSection t text k w (ms ++ l ∷ ns) x → AreOnProcessors (length w.table.processors) ms
+front_cpus t text k w ms l ns x h = each_front (λ (m : TraceLine). m.cpu < length w.table.processors) ms (l ∷ ns) h.cpus
 
 -- How many they are.
-pub front_few : (t : AcceptedTrace) (text : List ℕ) (k : ℕ) (w : RunState) (ms : List TraceLine) (l : TraceLine) (ns : List TraceLine) (x : List ℕ) → AtSection t text k w (ms ++ l ∷ ns) x → length ms ≤ 2 ^ 17
+pub front_few : (t : AcceptedTrace) (text : List ℕ) (k : ℕ) (w : AllStores) (ms : List TraceLine) (l : TraceLine) (ns : List TraceLine) (x : List ℕ) → AtSection t text k w (ms ++ l ∷ ns) x → length ms ≤ 2 ^ 17
 front_few t text k w ms l ns x h = omega (arith, h.few, length-append ms (l ∷ ns))
 
-pub few_standing : (t : AcceptedTrace) (text : List ℕ) (k : ℕ) (w : RunState) (ns : List TraceLine) (x : List ℕ) → IsAccepted t → AtSection t text k w ns x → k ≤ 256
+pub few_standing : (t : AcceptedTrace) (text : List ℕ) (k : ℕ) (w : AllStores) (ns : List TraceLine) (x : List ℕ) → IsAccepted t → AtSection t text k w ns x → k ≤ 256
 few_standing t text k w ns x is h = omega (arith, h.count, is.lines.few_quiet)
 
 -- A section leaves the table's number.
-pub number_stays : (w : RunState) (ts : List RepliedLine) → (section_end w ts).memory.table.number ≡ w.memory.table.number
+pub number_stays : (w : AllStores) (ts : List RepliedLine) → (stores_behind w ts).table.memory.table.number ≡ w.table.memory.table.number
 unfolding section_end
 number_stays w ts = refl
 
-pub first_number : (t : AcceptedTrace) → (opening_run t.config).memory.table.number ≡ 0
+pub first_number : (t : AcceptedTrace) → (opening_stores t.config).table.memory.table.number ≡ 0
 unfolding opening_run opening_memory
 first_number t = refl
 
-abbrev quiet_reply : RunState → List TraceLine → List Reply → TraceLine → Reply
-quiet_reply w ms rs l = (run_quiet_line (section_end w (lines_with_replies ms rs)) l.act).0
-
-with_quiet : (w : RunState) (ms : List TraceLine) (l : TraceLine) (x : List ℕ) (rs : List Reply) (r : Reply) (rest y : List ℕ) → IsFound w ms None x rs rest → r ≡ quiet_reply w ms rs l → rest ≡ y → IsFound w ms (Some (record { line = l; reply = r })) x rs y
-with_quiet w ms l x rs r rest y f reply e = record { kinds = f.kinds; good = (record { in_table = f.good.0.in_table; legal = f.good.0.legal }, f.good.1, f.good.2, f.good.3, reply); text = f.text ∙ ap (λ z. lines_text (lines_with_replies ms rs) ++ z) e }
-
-without_quiet : (w : RunState) (ms : List TraceLine) (q : Option RepliedLine) (x : List ℕ) (rs : List Reply) (rest : List ℕ) → IsFound w ms q x rs rest → IsFound w ms None x rs rest
-without_quiet w ms q x rs rest f = record { kinds = f.kinds; good = (record { in_table = f.good.0.in_table; legal = f.good.0.legal }, f.good.1, f.good.2, f.good.3, tt); text = f.text }
-
 -- ---- a section and its quiet line
-module _ (t : AcceptedTrace) (text : List ℕ) (k : ℕ) (w : RunState) (ms : List TraceLine) (l : TraceLine) (ns : List TraceLine) (x : List ℕ) (h : AtSection t text k w (ms ++ l ∷ ns) x) (plain : ArePlain ms) (quiet : is_quiet l.act ≡ true) where
-  front : AreOnProcessors (length w.processors) ms
+module _ (t : AcceptedTrace) (text : List ℕ) (k : ℕ) (w : AllStores) (ms : List TraceLine) (l : TraceLine) (ns : List TraceLine) (x : List ℕ) (h : AtSection t text k w (ms ++ l ∷ ns) x) (plain : ArePlain ms) (quiet : is_quiet l.act ≡ true) where
+  front : AreOnProcessors (length w.table.processors) ms
   front = front_cpus t text k w ms l ns x h
 
   few : k + 1 ≤ section_count t
   few = let one : quiet_count (ms ++ l ∷ ns) ≡ 1 + quiet_count ns = quiet_behind ms l ns plain quiet in omega (arith, one, h.count)
 
-  pub at_next : (rs : List Reply) (r : Reply) (rest y : List ℕ) (v u : RunState) → IsFound w ms None x rs rest → v ≡ section_end w (lines_with_replies ms rs) → (r, u) ≡ run_quiet_line v l.act → rest ≡ reply_text l r ++ y → AtSection t text (k + 1) u ns y
+  pub at_next : (rs : List Reply) (r : Reply) (rest y : List ℕ) (v u : AllStores) → AreFound w ms x rs rest → v ≡ stores_behind w (lines_with_replies ms rs) → (r, u) ≡ run_quiet_on v l.act → rest ≡ reply_text l r ++ y → AtSection t text (k + 1) u ns y
   at_next rs r rest y v u f closed replied told =
-      let both : (r, u) ≡ run_quiet_line (section_end w (lines_with_replies ms rs)) l.act = replied ∙ ap (λ z. run_quiet_line z l.act) closed in
-      let reply : r ≡ quiet_reply w ms rs l = ap (λ z. z.0) both in
+      let both : (r, u) ≡ run_quiet_on (stores_behind w (lines_with_replies ms rs)) l.act = replied ∙ ap (λ z. run_quiet_on z l.act) closed in
+      let reply : r ≡ next_reply w ms rs l = ap (λ z. z.0) both in
       let after : next_run w ms rs l ≡ u = sym (ap (λ z. z.1) both) in
-      let kind : IsOfKind l.act r = subst (IsOfKind l.act) (sym reply) (quiet_kind (section_end w (lines_with_replies ms rs)) l.act quiet) in
-      let found = with_quiet w ms l x rs r rest (reply_text l r ++ y) f reply told in
-      let stays : IsPlain (section_end w (lines_with_replies ms rs)) = (found_once w ms None None x rs rs rest rest h.plain plain front f f).2 in
-      let size : length (next_run w ms rs l).processors ≡ length w.processors = quiet_size (section_end w (lines_with_replies ms rs)) l.act ∙ closed_size w (lines_with_replies ms rs) in
+      let kind : IsOfKind l.act r = subst (IsOfKind l.act) (sym reply) (quiet_kind (stores_behind w (lines_with_replies ms rs)).table l.act quiet) in
+      let found : AreFound w ms x rs (reply_text l r ++ y) = subst (AreFound w ms x rs) told f in
+      let stays : ArePlainStores (stores_behind w (lines_with_replies ms rs)) = (found_once w ms x rs rs rest rest h.plain plain front f f).2 in
+      let size : length (next_run w ms rs l).table.processors ≡ length w.table.processors = next_size w (lines_with_replies ms rs) l.act in
       subst (λ z. AtSection t text (k + 1) z ns y) after (record {
-        reached = reaches_next t text k w ms l ns x rs r y h.plain plain front quiet kind found h.reached;
-        plain = quiet_plain (section_end w (lines_with_replies ms rs)) l.act stays;
-        cpus = subst (λ n. AreOnProcessors n ns) (sym size) (each_back (λ (m : TraceLine). m.cpu < length w.processors) ms (l ∷ ns) h.cpus).1;
+        reached = reaches_next t text k w ms l ns x rs r y h.plain plain front quiet kind found reply h.reached;
+        plain = quiet_stores_plain (stores_behind w (lines_with_replies ms rs)) l.act stays;
+        cpus = subst (λ n. AreOnProcessors n ns) (sym size) (each_back (λ (m : TraceLine). m.cpu < length w.table.processors) ms (l ∷ ns) h.cpus).1;
         count = omega (arith, quiet_behind ms l ns plain quiet, h.count);
         few = omega (arith, h.few, length-append ms (l ∷ ns));
       })
 
-  fails : ((rs : List Reply) (r : Reply) (y : List ℕ) → IsFound w ms (Some (record { line = l; reply = r })) x rs (reply_text l r ++ y) → ⊥) → IsVerdict t text (verdicts.Bad (k + 1))
+  fails : ((rs : List Reply) (r : Reply) (y : List ℕ) → AreFound w ms x rs (reply_text l r ++ y) → r ≡ next_reply w ms rs l → ⊥) → IsVerdict t text (verdicts.Bad (k + 1))
   fails none = bad_next t text k (reached_stands t text k w (ms ++ l ∷ ns) x h.reached) few (none_found t text k w ms l ns x plain quiet none h.reached)
 
   -- The section isn't found.
-  pub no_section : ((rs : List Reply) (rest : List ℕ) → IsFound w ms None x rs rest → ⊥) → IsVerdict t text (verdicts.Bad (k + 1))
-  no_section none = fails (λ rs r y f. none rs (reply_text l r ++ y) (without_quiet w ms (Some (record { line = l; reply = r })) x rs (reply_text l r ++ y) f))
+  pub no_section : ((rs : List Reply) (rest : List ℕ) → AreFound w ms x rs rest → ⊥) → IsVerdict t text (verdicts.Bad (k + 1))
+  no_section none = fails (λ rs r y f said. none rs (reply_text l r ++ y) f)
 
   -- The quiet line's reply doesn't follow.
-  pub no_reply : (rs : List Reply) (r : Reply) (rest : List ℕ) (v u : RunState) → IsFound w ms None x rs rest → v ≡ section_end w (lines_with_replies ms rs) → (r, u) ≡ run_quiet_line v l.act → ((y : List ℕ) → rest ≡ reply_text l r ++ y → ⊥) → IsVerdict t text (verdicts.Bad (k + 1))
-  no_reply rs r rest v u f closed replied none = fails (λ qs q y g. other qs q y g (found_once w ms None (Some (record { line = l; reply = q })) x rs qs rest (reply_text l q ++ y) h.plain plain front f g)) where
-    other : (qs : List Reply) (q : Reply) (y : List ℕ) → IsFound w ms (Some (record { line = l; reply = q })) x qs (reply_text l q ++ y) → (rs ≡ qs) × (rest ≡ reply_text l q ++ y) × IsPlain (section_end w (lines_with_replies ms rs)) → ⊥
-    other qs q y g one =
-        let both : (r, u) ≡ run_quiet_line (section_end w (lines_with_replies ms rs)) l.act = replied ∙ ap (λ z. run_quiet_line z l.act) closed in
-        let reply : r ≡ q = ap (λ z. z.0) both ∙ ap (λ z. quiet_reply w ms z l) one.0 ∙ sym g.good.4 in
+  pub no_reply : (rs : List Reply) (r : Reply) (rest : List ℕ) (v u : AllStores) → AreFound w ms x rs rest → v ≡ stores_behind w (lines_with_replies ms rs) → (r, u) ≡ run_quiet_on v l.act → ((y : List ℕ) → rest ≡ reply_text l r ++ y → ⊥) → IsVerdict t text (verdicts.Bad (k + 1))
+  no_reply rs r rest v u f closed replied none = fails (λ qs q y g said. other qs q y said (found_once w ms x rs qs rest (reply_text l q ++ y) h.plain plain front f g)) where
+    other : (qs : List Reply) (q : Reply) (y : List ℕ) → q ≡ next_reply w ms qs l → (rs ≡ qs) × (rest ≡ reply_text l q ++ y) × ArePlainStores (stores_behind w (lines_with_replies ms rs)) → ⊥
+    other qs q y said one =
+        let both : (r, u) ≡ run_quiet_on (stores_behind w (lines_with_replies ms rs)) l.act = replied ∙ ap (λ z. run_quiet_on z l.act) closed in
+        let reply : r ≡ q = ap (λ z. z.0) both ∙ ap (λ z. next_reply w ms z l) one.0 ∙ sym said in
         none y (one.1 ∙ ap (λ z. reply_text l z ++ y) (sym reply))
 
 -- ---- the last section
-module _ (t : AcceptedTrace) (text : List ℕ) (k : ℕ) (w : RunState) (ms : List TraceLine) (x : List ℕ) (h : AtSection t text k w ms x) (plain : ArePlain ms) where
+module _ (t : AcceptedTrace) (text : List ℕ) (k : ℕ) (w : AllStores) (ms : List TraceLine) (x : List ℕ) (h : AtSection t text k w ms x) (plain : ArePlain ms) where
   last : section_count t ≡ k + 1
   last = let none : quiet_count ms ≡ 0 = quiet_plain_lines ms plain in omega (arith, none, h.count)
 
   -- What explains the whole text explains the rest, and the other way round.
-  from_whole : (rest : List ℕ) → Explains (opening_run t.config) (lines_to (k + 1) t.lines) text rest → Explains w ms x rest
+  from_whole : (rest : List ℕ) → Explains (opening_stores t.config) (lines_to (k + 1) t.lines) text rest → Explains w ms x rest
   from_whole rest e = subst (λ ls. Explains w ls x rest) (lines_all 0 ms plain) ((h.reached 1 rest).0 e)
 
-  to_whole : (rest : List ℕ) → Explains w ms x rest → Explains (opening_run t.config) (lines_to (k + 1) t.lines) text rest
+  to_whole : (rest : List ℕ) → Explains w ms x rest → Explains (opening_stores t.config) (lines_to (k + 1) t.lines) text rest
   to_whole rest e = (h.reached 1 rest).1 (subst (λ ls. Explains w ls x rest) (sym (lines_all 0 ms plain)) e)
 
   all_lines : lines_to (k + 1) t.lines ≡ t.lines
@@ -181,21 +173,21 @@ module _ (t : AcceptedTrace) (text : List ℕ) (k : ℕ) (w : RunState) (ms : Li
       let count : quiet_count t.lines ≤ k = omega (arith, last) in
       subst (λ n. lines_to n t.lines ≡ t.lines) (sym next) (lines_to_end k t.lines count)
 
-  begins : (rs : List Reply) (rest : List ℕ) → IsFound w ms None x rs rest → BeginsGood (trace_to (k + 1) t) text
+  begins : (rs : List Reply) (rest : List ℕ) → AreFound w ms x rs rest → BeginsGood (trace_to (k + 1) t) text
   begins rs rest f = explained_begins (k + 1) t text rest (to_whole rest (last_in w ms x rs rest plain f))
 
   -- It isn't found.
-  pub no_last : ((rs : List Reply) (rest : List ℕ) → IsFound w ms None x rs rest → ⊥) → IsVerdict t text (verdicts.Bad (k + 1))
+  pub no_last : ((rs : List Reply) (rest : List ℕ) → AreFound w ms x rs rest → ⊥) → IsVerdict t text (verdicts.Bad (k + 1))
   no_last none = bad_next t text k (reached_stands t text k w ms x h.reached) (omega (arith, last)) (λ b. let found = last_out w ms x b.1 plain (from_whole b.1 (begins_explained (k + 1) t text b)) in none found.0 b.1 found.1)
 
   -- It is found, and nothing follows.
-  pub last_ends : (rs : List Reply) (rest : List ℕ) → IsFound w ms None x rs rest → rest ≡ [] → IsVerdict t text verdicts.Good
+  pub last_ends : (rs : List Reply) (rest : List ℕ) → AreFound w ms x rs rest → rest ≡ [] → IsVerdict t text verdicts.Good
   last_ends rs rest f none j low high = at (cases_Bool (nat_le j (section_count t))) where
-    whole : Explains (opening_run t.config) t.lines text []
-    whole = subst (λ ls. Explains (opening_run t.config) ls text []) all_lines (to_whole [] (last_in w ms x rs [] plain (subst (λ z. IsFound w ms None x rs z) none f)))
+    whole : Explains (opening_stores t.config) t.lines text []
+    whole = subst (λ ls. Explains (opening_stores t.config) ls text []) all_lines (to_whole [] (last_in w ms x rs [] plain (subst (λ z. AreFound w ms x rs z) none f)))
 
     good : IsGoodText t text
-    good = (whole.0, good_of t whole.0 whole.1 whole.2, whole.3 ∙ append-nil (text_of t whole.0))
+    good = (whole.0, good_parts t whole.0 whole.1 whole.2, whole.3 ∙ append-nil (text_of t whole.0))
 
     at : (nat_le j (section_count t) ≡ true) ⊎ (nat_le j (section_count t) ≡ false) → SectionStands t text j
     at (inl e) =
@@ -204,7 +196,7 @@ module _ (t : AcceptedTrace) (text : List ℕ) (k : ℕ) (w : RunState) (ms : Li
     at (inr e) = rw e good
 
   -- It is found, and something follows.
-  pub last_goes_on : (rs : List Reply) (rest : List ℕ) → IsFound w ms None x rs rest → (rest ≡ [] → ⊥) → IsVerdict t text (verdicts.Bad (k + 2))
+  pub last_goes_on : (rs : List Reply) (rest : List ℕ) → AreFound w ms x rs rest → (rest ≡ [] → ⊥) → IsVerdict t text (verdicts.Bad (k + 2))
   last_goes_on rs rest f more = (
     omega arith,
     omega (arith, last),
@@ -216,6 +208,6 @@ module _ (t : AcceptedTrace) (text : List ℕ) (k : ℕ) (w : RunState) (ms : Li
 
     ended : IsGoodText t text → ⊥
     ended g =
-        let whole : Explains (opening_run t.config) t.lines text [] = good_explained t g.0 text [] g.1 (g.2 ∙ sym (append-nil (text_of t g.0))) in
-        let found = last_out w ms x [] plain (from_whole [] (subst (λ ls. Explains (opening_run t.config) ls text []) (sym all_lines) whole)) in
-        more (found_once w ms None None x rs found.0 rest [] h.plain plain h.cpus f found.1).1
+        let whole : Explains (opening_stores t.config) t.lines text [] = good_explained t g.0 text [] g.1 (g.2 ∙ sym (append-nil (text_of t g.0))) in
+        let found = last_out w ms x [] plain (from_whole [] (subst (λ ls. Explains (opening_stores t.config) ls text []) (sym all_lines) whole)) in
+        more (found_once w ms x rs found.0 rest [] h.plain plain h.cpus f found.1).1

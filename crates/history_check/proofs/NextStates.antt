@@ -11,9 +11,9 @@ use Rattle.entry_model.specs.declared.operation.Answer.TheVariants as answers
 use Rattle.entry_model.specs.declared.operation.Op.{Op}
 use Rattle.entry_model.specs.declared.operation.Op.TheVariants as ops
 use Rattle.entry_model.specs.declared.receipt.Receipt.{Receipt}
-use Rattle.entry_model.specs.Receipt.{after_of, is_at}
+use Rattle.entry_model.specs.Receipt.{after_of, is_at, is_worn}
 use Rattle.entry_model.specs.Reply.{reply_of, compared_bits, has_base, is_match, is_allowed, access_mode, answer_of_match, answer_of_allowed, masks_refuse, answer_of_access, touched_state, change_to, change_where, entered_state, is_found}
-use Rattle.history_check.specs.Steps.{no_test, step_op, raises_stamp, next_by}
+use Rattle.history_check.specs.Steps.{no_test, step_op, unless_worn, raises_stamp, next_by}
 use Rattle.authority_mask.specs.declared.masks.Masks.{Masks}
 
 abbrev IsNext : State → Want → Answer × State → Type 0
@@ -69,7 +69,7 @@ next_of s ops.Read = refl
 next_of s ops.ClearRef = where_next s.valid s.valid s answers.Was (record s { referenced = false }) refl (λ h. h)
 next_of s ops.ClearMod = where_next s.valid s.valid s answers.Was (record s { changed = false }) refl (λ h. h)
 
-pub next_is : (r : Receipt) → after_of r ≡ next_by (step_op r.op) r.answer r.before
+next_is : (r : Receipt) → after_of r ≡ next_by (step_op r.op) r.answer r.before
 next_is r = next_of r.before r.op ∙ ap (λ a. next_by (step_op r.op) a r.before) (sym r.lawful)
 
 -- no other answer tells of a change
@@ -91,3 +91,17 @@ unchanged_next op answer s h = at op (neither (raises_stamp answer) (is_at answe
 
 pub unchanged_after : (r : Receipt) → (raises_stamp r.answer || is_at r.answer) ≡ false → r.before ≡ after_of r
 unchanged_after r h = unchanged_next (step_op r.op) r.answer r.before h ∙ sym (next_is r)
+
+-- what an answer keeps of an operation makes the change
+worn_still : (answer : Answer) → is_worn answer ≡ true → (raises_stamp answer || is_at answer) ≡ false
+worn_still answers.Worn h = refl
+worn_still other h = cc
+
+kept_next : (op : Op) (answer : Answer) (s : State) → next_by op answer s ≡ next_by (unless_worn answer op) answer s
+kept_next op answer s = at (cases_Bool (is_worn answer)) where
+  at : (is_worn answer ≡ true) ⊎ (is_worn answer ≡ false) → next_by op answer s ≡ next_by (unless_worn answer op) answer s
+  at (inl worn) = let still = worn_still answer worn in sym (unchanged_next op answer s still) ∙ unchanged_next (unless_worn answer op) answer s still
+  at (inr fine) = rw fine refl
+
+pub step_next : (r : Receipt) → after_of r ≡ next_by (unless_worn r.answer (step_op r.op)) r.answer r.before
+step_next r = next_is r ∙ kept_next (step_op r.op) r.answer r.before

@@ -2,7 +2,7 @@
 use Rattle.std.proofs.Common.{◌*◌, ◌≡◌, ℕ, zero, suc, ◌+◌, ◌<◌, ◌≤◌, List, [], ◌∷◌, ◌++◌, true, false, ap, sym, ◌∙◌, refl, subst, map, length, take, drop, get_or, arith, append_assoc, append-nil, length-append, ◌⊎◌, inl, inr}
 use Rattle.std.specs.List.{AllByRecursion}
 use Rattle.std.proofs.lemmas.List.{take_more, drop_more, drop_all, take_all, length-map, map-append, length-take-le, get_or_default}
-use Rattle.hpt_walk.specs.Access.{AccessContext}
+use Rattle.run_model.specs.StoreContexts.{StoreContext}
 use Rattle.trace_line.specs.declared.line.TraceLine.{TraceLine}
 use Rattle.trace_line.specs.Lines.{is_quiet}
 use Rattle.trace_reply.specs.declared.reply.Reply.{Reply}
@@ -18,7 +18,7 @@ use Rattle.receipt_text.proofs.MarkTexts.{marks_once}
 use Rattle.receipt_text.proofs.ReadBack.{line_has_marks, receipts_lack}
 use Rattle.history_check.specs.declared.mark_steps.LineStep.{LineStep}
 use Rattle.history_check.specs.FoundSection.{lines_text, ArePlain}
-use Rattle.history_check.specs.PlacedSteps.{named_ops, line_op}
+use Rattle.history_check.specs.PlacedSteps.{named_ops}
 use Rattle.history_check.specs.OrderedSteps.{IsStepOf, past_lines, numbered_by}
 use Rattle.history_check.specs.MarkSteps.{mark_steps, lines_steps}
 use Rattle.history_check.specs.ReplyMarks.{marks_in}
@@ -28,14 +28,14 @@ use Rattle.history_check.proofs.MarkedSteps.{AreOf, steps_more, mark_count, line
 
 -- ---- what was read
 -- What is left of replies to the lines, behind those whose marks were read.
-pub record AreLeft (context : AccessContext) (more : List TraceLine) (rest : List ℕ) (read : List (List Mark)) (rs : List Reply) (end : List ℕ) : Type 0 where
+pub record AreLeft (context : StoreContext) (more : List TraceLine) (rest : List ℕ) (read : List (List Mark)) (rs : List Reply) (end : List ℕ) : Type 0 where
   pub front : List Reply
   pub back : List Reply
   pub all : rs ≡ front ++ back
   pub same : map marks_in front ≡ read
   pub show : ShowMarks context more rest back end
 
-pub record AreReadTo (context : AccessContext) (size : ℕ) (ls : List TraceLine) (text : List ℕ) (i : ℕ) (rest : List ℕ) (read : List LineStep) (sizes : List ℕ) : Type 0 where
+pub record AreReadTo (context : StoreContext) (size : ℕ) (ls : List TraceLine) (text : List ℕ) (i : ℕ) (rest : List ℕ) (read : List LineStep) (sizes : List ℕ) : Type 0 where
   pub marks : List (List Mark)
   pub each : length marks ≡ i
   pub steps : read ≡ lines_steps 0 0 (take i ls) marks
@@ -44,7 +44,7 @@ pub record AreReadTo (context : AccessContext) (size : ℕ) (ls : List TraceLine
   pub few : length read ≤ 16 * i
   pub left : (rs : List Reply) (end : List ℕ) → ShowMarks context ls text rs end → AreLeft context (drop i ls) rest marks rs end
 
-pub none_read : (context : AccessContext) (size : ℕ) (ls : List TraceLine) (text : List ℕ) → AreReadTo context size ls text 0 text [] []
+pub none_read : (context : StoreContext) (size : ℕ) (ls : List TraceLine) (text : List ℕ) → AreReadTo context size ls text 0 text [] []
 none_read context size ls text = record {
   marks = [];
   each = refl;
@@ -57,7 +57,7 @@ none_read context size ls text = record {
 
 -- ---- the next line
 -- The next line's reply: the text begins with its line, which has its marks.
-pub record IsNext (context : AccessContext) (l : TraceLine) (more : List TraceLine) (rest : List ℕ) (back : List Reply) (end : List ℕ) : Type 0 where
+pub record IsNext (context : StoreContext) (l : TraceLine) (more : List TraceLine) (rest : List ℕ) (back : List Reply) (end : List ℕ) : Type 0 where
   pub reply : Reply
   pub others : List Reply
   pub line : List ℕ
@@ -72,7 +72,7 @@ few_marks : (n m : ℕ) → (n ≤ 16) ⊎ (n ≤ m) → m ≤ 16 → n ≤ 16
 few_marks n m (inl h) k = h
 few_marks n m (inr h) k = omega (arith, h, k)
 
-next_of : (context : AccessContext) (l : TraceLine) (more : List TraceLine) (rest : List ℕ) (back : List Reply) (end : List ℕ) → is_quiet l.act ≡ false → ShowMarks context (l ∷ more) rest back end → IsNext context l more rest back end
+next_of : (context : StoreContext) (l : TraceLine) (more : List TraceLine) (rest : List ℕ) (back : List Reply) (end : List ℕ) → is_quiet l.act ≡ false → ShowMarks context (l ∷ more) rest back end → IsNext context l more rest back end
 next_of context l more rest [] end plain h = absurd h.kinds
 next_of context l more rest (r ∷ rs) end plain h =
     let is : IsLine l r = line_of l r plain h.kinds.0 in
@@ -90,27 +90,27 @@ next_of context l more rest (r ∷ rs) end plain h =
       show = record { kinds = h.kinds.1; marks = h.marks.1; text = refl };
     }
 
-abbrev Next : AccessContext → List TraceLine → ℕ → TraceLine → List ℕ → List Reply → List ℕ → Type 0
+abbrev Next : StoreContext → List TraceLine → ℕ → TraceLine → List ℕ → List Reply → List ℕ → Type 0
 Next context ls i l rest back end = IsNext context l (drop (i + 1) ls) rest back end
 
-next_at : (context : AccessContext) (ls : List TraceLine) (i : ℕ) (l : TraceLine) (rest : List ℕ) (back : List Reply) (end : List ℕ) → i < length ls → get_or ls i l ≡ l → is_quiet l.act ≡ false → ShowMarks context (drop i ls) rest back end → Next context ls i l rest back end
+next_at : (context : StoreContext) (ls : List TraceLine) (i : ℕ) (l : TraceLine) (rest : List ℕ) (back : List Reply) (end : List ℕ) → i < length ls → get_or ls i l ≡ l → is_quiet l.act ≡ false → ShowMarks context (drop i ls) rest back end → Next context ls i l rest back end
 next_at context ls i l rest back end within is plain h =
     let here : drop i ls ≡ l ∷ drop (i + 1) ls = drop_more ls i l within ∙ ap (λ m. m ∷ drop (i + 1) ls) is in
     next_of context l (drop (i + 1) ls) rest back end plain (subst (λ ms. ShowMarks context ms rest back end) here h)
 
 -- ---- one line more
-module _ (context : AccessContext) (size : ℕ) (ls : List TraceLine) (text : List ℕ) (i : ℕ) (l : TraceLine) (rest : List ℕ) (read : List LineStep) (sizes : List ℕ) (h : AreReadTo context size ls text i rest read sizes) (within : i < length ls) (is : get_or ls i l ≡ l) (plain : is_quiet l.act ≡ false) where
+module _ (context : StoreContext) (size : ℕ) (ls : List TraceLine) (text : List ℕ) (i : ℕ) (l : TraceLine) (rest : List ℕ) (read : List LineStep) (sizes : List ℕ) (h : AreReadTo context size ls text i rest read sizes) (within : i < length ls) (is : get_or ls i l ≡ l) (plain : is_quiet l.act ≡ false) where
   next : (rs : List Reply) (end : List ℕ) (s : ShowMarks context ls text rs end) → Next context ls i l rest (h.left rs end s).back end
   next rs end s = next_at context ls i l rest (h.left rs end s).back end within is plain (h.left rs end s).show
 
-  pub read_more : (ms : List Mark) (told others : List ℕ) (read' : List LineStep) (sizes' : List ℕ) → length (named_ops context l.act) ≤ 16 → lacks 10 told ≡ true → rest ≡ told ++ 10 ∷ others → HasMarks told ms → AreOf size ms → length ms ≤ 16 → read' ≡ read ++ mark_steps i (length read) (line_op l.act) ms → sizes' ≡ sizes ++ length ms ∷ [] → AreReadTo context size ls text (i + 1) others read' sizes'
+  pub read_more : (ms : List Mark) (told others : List ℕ) (read' : List LineStep) (sizes' : List ℕ) → length (named_ops context l.act) ≤ 16 → lacks 10 told ≡ true → rest ≡ told ++ 10 ∷ others → HasMarks told ms → AreOf size ms → length ms ≤ 16 → read' ≡ read ++ mark_steps i (length read) l.act ms → sizes' ≡ sizes ++ length ms ∷ [] → AreReadTo context size ls text (i + 1) others read' sizes'
   read_more ms told others read' sizes' short no_end cut has entries sixteen put counted = record {
     marks = h.marks ++ ms ∷ [];
     each = length-append h.marks (ms ∷ []) ∙ ap (λ n. n + 1) h.each;
-    steps = put ∙ (λ j. h.steps j ++ mark_steps (lines_before j) (steps_before j) (line_op l.act) ms) ∙ sym (steps_more 0 0 (take i ls) l h.marks ms (omega (arith, h.each, taken))) ∙ ap (λ z. lines_steps 0 0 z (h.marks ++ ms ∷ [])) (sym lines);
+    steps = put ∙ (λ j. h.steps j ++ mark_steps (lines_before j) (steps_before j) l.act ms) ∙ sym (steps_more 0 0 (take i ls) l h.marks ms (omega (arith, h.each, taken))) ∙ ap (λ z. lines_steps 0 0 z (h.marks ++ ms ∷ [])) (sym lines);
     counts = counted ∙ ap (λ z. z ++ length ms ∷ []) h.counts ∙ sym (map-append length h.marks (ms ∷ []));
     in_table = each_append (AreOf size) h.marks (ms ∷ []) h.in_table (entries, tt);
-    few = omega (arith, sixteen, h.few, ap length put, length-append read (mark_steps i (length read) (line_op l.act) ms), mark_count i (length read) (line_op l.act) ms);
+    few = omega (arith, sixteen, h.few, ap length put, length-append read (mark_steps i (length read) l.act ms), mark_count i (length read) l.act ms);
     left = λ rs end s.
         let a = h.left rs end s in
         let n = next rs end s in
@@ -170,14 +170,14 @@ plain_at [] i d within h = absurd (omega arith)
 plain_at (l ∷ ls) zero d within h = h.0
 plain_at (l ∷ ls) (suc i) d within h = plain_at ls i d (omega arith) h.1
 
-module _ (context : AccessContext) (size : ℕ) (ls : List TraceLine) (text : List ℕ) (i : ℕ) (rest : List ℕ) (read : List LineStep) (sizes : List ℕ) (h : AreReadTo context size ls text i rest read sizes) (within : i < length ls) (plain : ArePlain ls) where
+module _ (context : StoreContext) (size : ℕ) (ls : List TraceLine) (text : List ℕ) (i : ℕ) (rest : List ℕ) (read : List LineStep) (sizes : List ℕ) (h : AreReadTo context size ls text i rest read sizes) (within : i < length ls) (plain : ArePlain ls) where
   abbrev line_here : TraceLine
   line_here = get_or ls i past_lines
 
   same_here : get_or ls i line_here ≡ line_here
   same_here = get_or_default ls i line_here past_lines within
 
-  pub line_read : (ms : List Mark) (told others : List ℕ) (read' : List LineStep) (sizes' : List ℕ) → length (named_ops context (get_or ls i past_lines).act) ≤ 16 → lacks 10 told ≡ true → rest ≡ told ++ 10 ∷ others → HasMarks told ms → AreOf size ms → length ms ≤ 16 → read' ≡ read ++ mark_steps i (length read) (line_op (get_or ls i past_lines).act) ms → sizes' ≡ sizes ++ length ms ∷ [] → AreReadTo context size ls text (i + 1) others read' sizes'
+  pub line_read : (ms : List Mark) (told others : List ℕ) (read' : List LineStep) (sizes' : List ℕ) → length (named_ops context (get_or ls i past_lines).act) ≤ 16 → lacks 10 told ≡ true → rest ≡ told ++ 10 ∷ others → HasMarks told ms → AreOf size ms → length ms ≤ 16 → read' ≡ read ++ mark_steps i (length read) (get_or ls i past_lines).act ms → sizes' ≡ sizes ++ length ms ∷ [] → AreReadTo context size ls text (i + 1) others read' sizes'
   line_read = read_more context size ls text i line_here rest read sizes h within same_here (plain_at ls i past_lines within plain)
 
   pub no_line_here : lacks 10 rest ≡ true → NoMarks context size ls text
@@ -190,11 +190,11 @@ module _ (context : AccessContext) (size : ℕ) (ls : List TraceLine) (text : Li
   not_in_table_here = not_in_table context size ls text i line_here rest read sizes h within same_here (plain_at ls i past_lines within plain)
 
 -- ---- all lines
-no_more : (context : AccessContext) (rest : List ℕ) (back : List Reply) (end : List ℕ) → ShowMarks context [] rest back end → back ≡ []
+no_more : (context : StoreContext) (rest : List ℕ) (back : List Reply) (end : List ℕ) → ShowMarks context [] rest back end → back ≡ []
 no_more context rest [] end h = refl
 no_more context rest (r ∷ rs) end h = absurd h.kinds
 
-pub all_read : (context : AccessContext) (size : ℕ) (ls : List TraceLine) (text : List ℕ) (i : ℕ) (rest : List ℕ) (read : List LineStep) (sizes : List ℕ) → AreReadTo context size ls text i rest read sizes → i ≡ length ls → ReadMarks context size ls text read sizes
+pub all_read : (context : StoreContext) (size : ℕ) (ls : List TraceLine) (text : List ℕ) (i : ℕ) (rest : List ℕ) (read : List LineStep) (sizes : List ℕ) → AreReadTo context size ls text i rest read sizes → i ≡ length ls → ReadMarks context size ls text read sizes
 all_read context size ls text i rest read sizes h end = record {
   marks = h.marks;
   each = h.each ∙ end;

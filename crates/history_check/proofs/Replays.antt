@@ -2,6 +2,7 @@
 use Rattle.std.proofs.Common.{length, arith, ◌≡◌, ℕ, ◌+◌, List, [], ◌∷◌, Bool, true, false, ap, sym, ◌∙◌, refl, ◌⊎◌, inl, inr, map, MatchBool, Option, Some, None}
 use Rattle.std.specs.Prelude.{◌||◌, ◌==◌, drop, if◌then◌else◌, nat_lt, ◌-◌, ◌^◌, slice_index}
 use Rattle.std.specs.List.{AllByRecursion}
+use Rattle.std.specs.Option.{option_map_or}
 use Rattle.std.proofs.lemmas.Bool.{cases_Bool, cond_both}
 use Rattle.papr_codes.specs.declared.calls.Hcall.{Hcall}
 use Rattle.papr_codes.specs.declared.calls.Hcall.TheVariants as calls
@@ -12,6 +13,14 @@ use Rattle.entry_model.specs.declared.operation.Op.TheVariants as ops
 use Rattle.entry_model.specs.declared.operation.Answer.{Answer}
 use Rattle.entry_model.specs.declared.operation.Answer.TheVariants as answers
 use Rattle.entry_model.specs.declared.hreply.HReply.{HReply}
+use Rattle.entry_model.specs.declared.device_reply.DeviceReply.{DeviceReply}
+use Rattle.entry_model.specs.Replies.{no_window_reply}
+use Rattle.bus_window.specs.Windows.{BusWindow, entry_at}
+use Rattle.dma_window.specs.Calls.{clear_plan, replace_plan, put_plan_at, get_plan_at, put_tce_plan, get_tce_plan}
+use Rattle.dma_window.specs.Devices.{IsDeviceReplyBy, outcome_of}
+use Rattle.dma_window.specs.Entries.{address_of, permits, first_word, second_word}
+use Rattle.dma_window.specs.Pages.{is_ram}
+use Rattle.trace_reply.specs.declared.reply.Reply.TheVariants as replies
 use Rattle.entry_model.specs.declared.receipt.Receipt.{Receipt}
 use Rattle.entry_model.specs.Receipt.{is_access, is_decided, is_no_match}
 use Rattle.entry_model.specs.Reply.{reply_of, change_to, change_where, entered_state, is_found}
@@ -24,8 +33,8 @@ use Rattle.page_grants.specs.Suited.{entered_words}
 use Rattle.h_enter.specs.Checks.{words_plan, h_enter_plan}
 use Rattle.h_update.specs.Single.{single_plan, h_remove_plan, h_protect_plan, h_clear_ref_plan, h_clear_mod_plan, read_entries, h_read_plan}
 use Rattle.h_update.proofs.Tame.{h_bulk_remove_each}
-use Rattle.hpt_walk.specs.Access.{AccessContext}
-use Rattle.run_model.specs.LineReplies.{hcall_plan}
+use Rattle.run_model.specs.StoreContexts.{StoreContext}
+use Rattle.run_model.specs.LineReplies.{put_plan, get_plan, hcall_plan, IsDeviceLine}
 use Rattle.history_check.specs.Replay.{before_each, next_state, ReplayState, after_receipt, IsReplayed}
 
 -- ---- trials
@@ -128,7 +137,27 @@ read_plain : (order flags ptex : ℕ) → PlainPlan (h_read_plan order flags pte
 unfolding h_read_plan
 read_plain order flags ptex = cond_both (nat_lt ptex (2 ^ (order - 4))) _ (plan_of_code rc.Parameter) PlainPlan (λ _. each_call ops.Read (read_entries flags ptex) refl) (λ _. tt)
 
-hcall_plain : (set : AccessContext) (hcall : Hcall) (args : List ℕ) → PlainPlan (hcall_plan set hcall args)
+put_at_plain : (grants : List Grant) (tce : ℕ) (entry : Option ℕ) → PlainPlan (option_map_or (put_plan_at grants tce) entry (plan_of_code rc.Parameter))
+put_at_plain grants tce None = tt
+put_at_plain grants tce (Some entry) =
+    let op = ops.Enter (first_word tce) (second_word tce) in
+    cond_both (permits tce false || permits tce true) _ (clear_plan entry) PlainPlan (λ _. cond_both (is_ram grants (address_of tce)) (replace_plan entry op) (plan_of_code rc.Parameter) PlainPlan (λ _. (refl, (refl, tt))) (λ _. tt)) (λ _. (refl, tt))
+
+put_plain : (grants : List Grant) (window : Option BusWindow) (ioba tce : ℕ) → PlainPlan (put_plan grants window ioba tce)
+unfolding put_tce_plan
+put_plain grants None ioba tce = tt
+put_plain grants (Some w) ioba tce = put_at_plain grants tce (entry_at w ioba)
+
+get_at_plain : (entry : Option ℕ) → PlainPlan (option_map_or get_plan_at entry (plan_of_code rc.Parameter))
+get_at_plain None = tt
+get_at_plain (Some entry) = (refl, tt)
+
+get_plain : (window : Option BusWindow) (ioba : ℕ) → PlainPlan (get_plan window ioba)
+unfolding get_tce_plan
+get_plain None ioba = tt
+get_plain (Some w) ioba = get_at_plain (entry_at w ioba)
+
+hcall_plain : (set : StoreContext) (hcall : Hcall) (args : List ℕ) → PlainPlan (hcall_plan set hcall args)
 unfolding hcall_plan h_remove_plan h_protect_plan h_clear_ref_plan h_clear_mod_plan
 hcall_plain set calls.Enter args = enter_plain set.order set.grants (slice_index args 0) (slice_index args 1) (slice_index args 2) (slice_index args 3)
 hcall_plain set calls.Remove args = single_plain set.order (slice_index args 1) _ _ refl
@@ -137,20 +166,53 @@ hcall_plain set calls.Read args = read_plain set.order (slice_index args 0) (sli
 hcall_plain set calls.ClearRef args = single_plain set.order (slice_index args 1) _ _ refl
 hcall_plain set calls.ClearMod args = single_plain set.order (slice_index args 1) _ _ refl
 hcall_plain set calls.BulkRemove args = h_bulk_remove_each (λ op. is_access op ≡ false) set.order args (λ test. refl)
+hcall_plain set calls.PutTce args = put_plain set.grants set.window (slice_index args 1) (slice_index args 2)
+hcall_plain set calls.GetTce args = get_plain set.window (slice_index args 1)
 hcall_plain set other args = tt
 
 -- A call that was made on the states before of a reply to it has that reply.
-pub call_replayed : (set : AccessContext) (hcall : Hcall) (args : List ℕ) (a b : ReplayState) (h k : HReply) → a.decided ≡ false → a.states ≡ before_each k.receipts → IsReplayed a b h.receipts → IsReplyOf (hcall_plan set hcall args) h → IsReplyOf (hcall_plan set hcall args) k → h ≡ k
+pub call_replayed : (set : StoreContext) (hcall : Hcall) (args : List ℕ) (a b : ReplayState) (h k : HReply) → a.decided ≡ false → a.states ≡ before_each k.receipts → IsReplayed a b h.receipts → IsReplyOf (hcall_plan set hcall args) h → IsReplyOf (hcall_plan set hcall args) k → h ≡ k
 call_replayed set hcall args a b h k fresh given g x y =
     let plan = hcall_plan set hcall args in
     let e : h.receipts ≡ k.receipts = replayed_trial plan.goes_on plan.calls a b h.receipts k.receipts (no_access_stops plan.goes_on plan.calls (hcall_plain set hcall args)) fresh given g x.trial y.trial in
     let t : (h.rc, h.words) ≡ (k.rc, k.words) = x.told ∙ ap plan.told e ∙ sym y.told in
     λ i. record { rc = (t i).0; words = (t i).1; receipts = e i }
 
-pub call_before : (set : AccessContext) (hcall : Hcall) (args : List ℕ) (a b : ReplayState) (h : HReply) (ss : List State) → a.decided ≡ false → a.states ≡ ss → IsReplayed a b h.receipts → IsReplyOf (hcall_plan set hcall args) h → length h.receipts ≡ length ss → before_each h.receipts ≡ ss
+pub call_before : (set : StoreContext) (hcall : Hcall) (args : List ℕ) (a b : ReplayState) (h : HReply) (ss : List State) → a.decided ≡ false → a.states ≡ ss → IsReplayed a b h.receipts → IsReplyOf (hcall_plan set hcall args) h → length h.receipts ≡ length ss → before_each h.receipts ≡ ss
 call_before set hcall args a b h ss fresh given g x size =
     let plan = hcall_plan set hcall args in
     replayed_before plan.goes_on plan.calls a b h.receipts ss (no_access_stops plan.goes_on plan.calls (hcall_plain set hcall args)) fresh given g x.trial size
+
+-- ---- accesses of devices
+read_stops : (entry : ℕ) → StopsAtDecided (λ answer. true) (call ops.Read entry ∷ [])
+read_stops entry = ((λ s e. refl), tt)
+
+no_receipt : (d : DeviceReply) (ss : List State) → d ≡ no_window_reply → length d.receipts ≡ length ss → before_each d.receipts ≡ ss
+no_receipt d ss e size =
+    let none : d.receipts ≡ [] = ap (λ (x : DeviceReply). x.receipts) e in
+    ap before_each none ∙ none_given ss (sym size ∙ ap length none)
+
+reply_before : (grants : List Grant) (entry : Option ℕ) (ioba : ℕ) (write : Bool) (a b : ReplayState) (d : DeviceReply) (ss : List State) → a.decided ≡ false → a.states ≡ ss → IsReplayed a b d.receipts → IsDeviceReplyBy grants ioba write d entry → length d.receipts ≡ length ss → before_each d.receipts ≡ ss
+reply_before grants None ioba write a b d ss fresh given g x size = no_receipt d ss x size
+reply_before grants (Some entry) ioba write a b d ss fresh given g x size = replayed_before (λ answer. true) (call ops.Read entry ∷ []) a b d.receipts ss (read_stops entry) fresh given g x.trial size
+
+the_device : (d e : DeviceReply) → replies.Device d ≡ replies.Device e → d ≡ e
+the_device d e h = cc
+
+pub device_before : (grants : List Grant) (window : Option BusWindow) (ioba : ℕ) (write : Bool) (a b : ReplayState) (d : DeviceReply) (ss : List State) → a.decided ≡ false → a.states ≡ ss → IsReplayed a b d.receipts → IsDeviceLine grants window write ioba (replies.Device d) → length d.receipts ≡ length ss → before_each d.receipts ≡ ss
+device_before grants None ioba write a b d ss fresh given g x size = no_receipt d ss (the_device d no_window_reply x) size
+device_before grants (Some w) ioba write a b d ss fresh given g x size = reply_before grants (entry_at w ioba) ioba write a b d ss fresh given g x size
+
+reply_replayed : (grants : List Grant) (entry : Option ℕ) (ioba : ℕ) (write : Bool) (a b : ReplayState) (d k : DeviceReply) → a.decided ≡ false → a.states ≡ before_each k.receipts → IsReplayed a b d.receipts → IsDeviceReplyBy grants ioba write d entry → IsDeviceReplyBy grants ioba write k entry → d ≡ k
+reply_replayed grants None ioba write a b d k fresh given g x y = x ∙ sym y
+reply_replayed grants (Some entry) ioba write a b d k fresh given g x y =
+    let e : d.receipts ≡ k.receipts = replayed_trial (λ answer. true) (call ops.Read entry ∷ []) a b d.receipts k.receipts (read_stops entry) fresh given g x.trial y.trial in
+    let o : d.outcome ≡ k.outcome = x.outcome ∙ ap (outcome_of grants ioba write) e ∙ sym y.outcome in
+    λ i. record { outcome = o i; receipts = e i }
+
+pub device_replayed : (grants : List Grant) (window : Option BusWindow) (ioba : ℕ) (write : Bool) (a b : ReplayState) (d k : DeviceReply) → a.decided ≡ false → a.states ≡ before_each k.receipts → IsReplayed a b d.receipts → IsDeviceLine grants window write ioba (replies.Device d) → IsDeviceLine grants window write ioba (replies.Device k) → d ≡ k
+device_replayed grants None ioba write a b d k fresh given g x y = the_device d k (x ∙ sym y)
+device_replayed grants (Some w) ioba write a b d k fresh given g x y = reply_replayed grants (entry_at w ioba) ioba write a b d k fresh given g x y
 
 -- ---- walks
 no_match_undecided : (a : Answer) → is_no_match a ≡ true → is_decided a ≡ false

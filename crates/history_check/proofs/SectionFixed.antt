@@ -1,41 +1,33 @@
 -- The marks of a section fix its states; and states that are so fixed make it legal.
-use Rattle.std.proofs.Common.{◌≡◌, ℕ, ◌<◌, ◌+◌, ◌*◌, List, Bool, true, false, sym, ◌∙◌, refl, subst, map, length, Option}
+use Rattle.std.proofs.Common.{◌≡◌, ℕ, ◌<◌, ◌+◌, ◌*◌, List, Bool, true, false, sym, ◌∙◌, refl, subst, map, length}
 use Rattle.std.specs.Prelude.{if◌then◌else◌, ◌==◌, ◌||◌, nat_le}
 use Rattle.std.specs.List.{AllByRecursion}
+use Rattle.entry_model.specs.State.{State}
 use Rattle.entry_model.specs.declared.receipt.Receipt.{Receipt}
 use Rattle.entry_model.specs.Run.{state_at, IsRun}
 use Rattle.entry_model.proofs.Runs.{run-length}
 use Rattle.entry_model.specs.History.{IsLegal, history, place, pair_of, Regrouped}
-use Rattle.trace_reply.specs.Replies.{RepliedLine}
-use Rattle.run_model.specs.RunState.{RunState, states_of}
-use Rattle.run_model.specs.Histories.{closing_states}
-use Rattle.run_model.specs.Sections.{receipts_made, section_end}
-use Rattle.run_model.specs.GoodRun.{AreLegal}
-use Rattle.run_model.proofs.LowStamps.{closed_size}
+use Rattle.run_model.specs.StoreSections.{StoreSection, made_in, closing_of}
+use Rattle.run_model.specs.GoodRun.{IsLegalTo}
 use Rattle.run_model.proofs.SectionGood.{closing_is, each_regrouped}
 use Rattle.receipt_text.specs.Receipts.{mark_of}
 use Rattle.history_check.specs.Replay.{before_each}
-use Rattle.history_check.specs.Steps.{step_op, is_store_access, is_unchanged, place_by, step_of, found_states, ending_states}
-use Rattle.history_check.proofs.Alike.{flag_of}
+use Rattle.history_check.specs.Steps.{step_op, is_unchanged, place_by, step_of, found_states, ending_states}
+use Rattle.history_check.proofs.Alike.{is_store_access, flag_of}
 use Rattle.history_check.proofs.Serialized.{Ascending, sorted_run, run_legal, run_fixes, fixed_run}
 
 -- ---- a section
-pub section_fixes : (w : RunState) (ts : List RepliedLine) (quiet : Option RepliedLine) (ms : List Receipt) → AreLegal (record { before = w; replied_lines = ts; quiet = quiet }) → Regrouped (receipts_made w ts) ms → Ascending ms → (before_each ms ≡ found_states (states_of w) (map step_of ms)) × (states_of (section_end w ts) ≡ ending_states (states_of w) (map step_of ms))
-section_fixes w ts quiet ms g same up =
-    run_fixes (states_of w) (states_of (section_end w ts)) ms (sorted_run (states_of w) (states_of (section_end w ts)) (receipts_made w ts) ms same up (closed_size w ts) g.in_table g.legal)
+pub section_fixes : (s : StoreSection) (closing : List State) (ms : List Receipt) → length closing ≡ length s.opening → IsLegalTo s closing → Regrouped (made_in s) ms → Ascending ms → (before_each ms ≡ found_states s.opening (map step_of ms)) × (closing ≡ ending_states s.opening (map step_of ms))
+section_fixes s closing ms size g same up = run_fixes s.opening closing ms (sorted_run s.opening closing (made_in s) ms same up size g.in_table g.legal)
 
-closed_states : (w : RunState) (ts : List RepliedLine) → states_of (section_end w ts) ≡ closing_states (states_of w) (receipts_made w ts)
-unfolding section_end
-closed_states w ts = refl
-
-pub fixed_section : (w : RunState) (ts : List RepliedLine) (quiet : Option RepliedLine) (ms : List Receipt) → Regrouped ms (receipts_made w ts) → AllByRecursion (λ (r : Receipt). r.entry < length (states_of w)) ms → before_each ms ≡ found_states (states_of w) (map step_of ms) → AreLegal (record { before = w; replied_lines = ts; quiet = quiet }) × (states_of (section_end w ts) ≡ ending_states (states_of w) (map step_of ms))
-fixed_section w ts quiet ms same within found =
-    let a = states_of w in
+pub fixed_section : (s : StoreSection) (ms : List Receipt) → Regrouped ms (made_in s) → AllByRecursion (λ (r : Receipt). r.entry < length s.opening) ms → before_each ms ≡ found_states s.opening (map step_of ms) → IsLegalTo s (closing_of s) × (closing_of s ≡ ending_states s.opening (map step_of ms))
+fixed_section s ms same within found =
+    let a = s.opening in
     let b = ending_states a (map step_of ms) in
     let run : IsRun a ms b = fixed_run a ms within found in
-    let legal : (e : ℕ) → IsLegal (state_at a e) (history e (receipts_made w ts)) (state_at b e) = run_legal a b ms (receipts_made w ts) same run in
-    let close : states_of (section_end w ts) ≡ b = closed_states w ts ∙ closing_is a b (receipts_made w ts) (run-length a b ms run) (λ e k. legal e) in
-    (record { in_table = each_regrouped (λ (r : Receipt). r.entry < length a) same within; legal = λ e k. subst (λ s. IsLegal (state_at a e) (history e (receipts_made w ts)) (state_at s e)) (sym close) (legal e) }, close)
+    let legal : (e : ℕ) → IsLegal (state_at a e) (history e (made_in s)) (state_at b e) = run_legal a b ms (made_in s) same run in
+    let close : closing_of s ≡ b = closing_is a b (made_in s) (run-length a b ms run) (λ e k. legal e) in
+    (record { in_table = each_regrouped (λ (r : Receipt). r.entry < length a) same within; legal = λ e k. subst (λ z. IsLegal (state_at a e) (history e (made_in s)) (state_at z e)) (sym close) (legal e) }, close)
 
 -- ---- places by marks
 digit_first : (r c : Bool) → nat_le 2 ((if r then 2 else 0) + (if c then 1 else 0)) ≡ r

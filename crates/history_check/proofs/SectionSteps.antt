@@ -2,7 +2,7 @@
 use Rattle.std.proofs.Common.{◌≡◌, ℕ, ◌<◌, ◌≤◌, List, [], ◌∷◌, ◌++◌, true, false, ap, sym, ◌∙◌, refl, subst, ◌⊎◌, inl, inr, append_assoc, length, take, drop, eqb}
 use Rattle.std.proofs.lemmas.Bool.{cases_Bool, eqb-true}
 use Rattle.entry_model.specs.State.{State}
-use Rattle.hpt_walk.specs.Access.{AccessContext}
+use Rattle.run_model.specs.StoreContexts.{StoreContext}
 use Rattle.tlb_model.specs.Processor.{Processor}
 use Rattle.trace_line.specs.declared.line.TraceLine.{TraceLine}
 use Rattle.trace_line.specs.Lines.{is_quiet}
@@ -55,19 +55,19 @@ order_back F G ps t ts low leads h cpu e = at (cases_Bool (eqb t.line.cpu cpu)) 
       subst (λ f. InOrder e f (events_by (processor_at (processors_after ps t) cpu) (lines_of_processor cpu ts))) (sym (leads.others cpu other e)) (subst (λ q. InOrder e (F cpu e) (events_by q (lines_of_processor cpu ts))) (sym (processor_other ps t cpu other)) kept)
 
 -- ---- what is left to judge
-abbrev pub judged : AccessContext → List State → List TraceLine → List ℕ → List State → Judged
+abbrev pub judged : StoreContext → List State → List TraceLine → List ℕ → List State → Judged
 judged context closing ls ns found = record { context = context; closing = closing; lines = ls; counts = ns; found = found }
 
 -- What is left decides, both ways.
-pub record IsLeft (context : AccessContext) (closing : List State) (ls ms : List TraceLine) (ns ks : List ℕ) (found states : List State) (ps qs : List Processor) (F G : ℕ → ℕ → ℕ) (given text : List ℕ) : Type 0 where
+pub record IsLeft (context : StoreContext) (closing : List State) (ls ms : List TraceLine) (ns ks : List ℕ) (found states : List State) (ps qs : List Processor) (F G : ℕ → ℕ → ℕ) (given text : List ℕ) : Type 0 where
   pub on : (rs : List Reply) (rest : List ℕ) (later : List Processor) → AreReplied (judged context closing ms ks states) qs G text rs rest later → (whole : List Reply) × AreReplied (judged context closing ls ns found) ps F given whole rest later
   pub back : (rs : List Reply) (rest : List ℕ) (later : List Processor) → AreReplied (judged context closing ls ns found) ps F given rs rest later → (part : List Reply) × AreReplied (judged context closing ms ks states) qs G text part rest later
 
-pub all_left : (context : AccessContext) (closing : List State) (ls : List TraceLine) (ns : List ℕ) (found : List State) (ps : List Processor) (F : ℕ → ℕ → ℕ) (given : List ℕ) → IsLeft context closing ls ls ns ns found found ps ps F F given given
+pub all_left : (context : StoreContext) (closing : List State) (ls : List TraceLine) (ns : List ℕ) (found : List State) (ps : List Processor) (F : ℕ → ℕ → ℕ) (given : List ℕ) → IsLeft context closing ls ls ns ns found found ps ps F F given given
 all_left context closing ls ns found ps F given = record { on = λ rs rest later h. (rs, h); back = λ rs rest later h. (rs, h) }
 
 -- one line with the reply that stands
-pub more_on : (context : AccessContext) (closing : List State) (l : TraceLine) (ls : List TraceLine) (n : ℕ) (ns : List ℕ) (states : List State) (ps qs : List Processor) (F G : ℕ → ℕ → ℕ) (text : List ℕ) (b : ℕ) (h : HasReply context closing (processor_at ps l.cpu) l (take n states) text b) → l.cpu < length ps → n ≤ length states → qs ≡ processors_after ps (record { line = l; reply = h.reply }) → AllLeadTo F l.cpu (events_in (processor_at ps l.cpu) (record { line = l; reply = h.reply })) G → (rs : List Reply) (rest : List ℕ) (later : List Processor) → AreReplied (judged context closing ls ns (drop n states)) qs G (drop b text) rs rest later → AreReplied (judged context closing (l ∷ ls) (n ∷ ns) states) ps F text (h.reply ∷ rs) rest later
+pub more_on : (context : StoreContext) (closing : List State) (l : TraceLine) (ls : List TraceLine) (n : ℕ) (ns : List ℕ) (states : List State) (ps qs : List Processor) (F G : ℕ → ℕ → ℕ) (text : List ℕ) (b : ℕ) (h : HasReply context closing (processor_at ps l.cpu) l (take n states) text b) → l.cpu < length ps → n ≤ length states → qs ≡ processors_after ps (record { line = l; reply = h.reply }) → AllLeadTo F l.cpu (events_in (processor_at ps l.cpu) (record { line = l; reply = h.reply })) G → (rs : List Reply) (rest : List ℕ) (later : List Processor) → AreReplied (judged context closing ls ns (drop n states)) qs G (drop b text) rs rest later → AreReplied (judged context closing (l ∷ ls) (n ∷ ns) states) ps F text (h.reply ∷ rs) rest later
 more_on context closing l ls n ns states ps qs F G text b h low few next leads rs rest later k =
     let t : RepliedLine = record { line = l; reply = h.reply } in
     let ts = lines_with_replies ls rs in
@@ -79,7 +79,7 @@ more_on context closing l ls n ns states ps qs F G text b h low few next leads r
     }
 
 -- and the other way: there is no other reply
-pub more_back : (context : AccessContext) (closing : List State) (l : TraceLine) (ls : List TraceLine) (n : ℕ) (ns : List ℕ) (states : List State) (ps qs : List Processor) (F G : ℕ → ℕ → ℕ) (text : List ℕ) (b : ℕ) (h : HasReply context closing (processor_at ps l.cpu) l (take n states) text b) → is_quiet l.act ≡ false → l.cpu < length ps → qs ≡ processors_after ps (record { line = l; reply = h.reply }) → AllLeadTo F l.cpu (events_in (processor_at ps l.cpu) (record { line = l; reply = h.reply })) G → (rs : List Reply) (rest : List ℕ) (later : List Processor) → AreReplied (judged context closing (l ∷ ls) (n ∷ ns) states) ps F text rs rest later → (part : List Reply) × AreReplied (judged context closing ls ns (drop n states)) qs G (drop b text) part rest later
+pub more_back : (context : StoreContext) (closing : List State) (l : TraceLine) (ls : List TraceLine) (n : ℕ) (ns : List ℕ) (states : List State) (ps qs : List Processor) (F G : ℕ → ℕ → ℕ) (text : List ℕ) (b : ℕ) (h : HasReply context closing (processor_at ps l.cpu) l (take n states) text b) → is_quiet l.act ≡ false → l.cpu < length ps → qs ≡ processors_after ps (record { line = l; reply = h.reply }) → AllLeadTo F l.cpu (events_in (processor_at ps l.cpu) (record { line = l; reply = h.reply })) G → (rs : List Reply) (rest : List ℕ) (later : List Processor) → AreReplied (judged context closing (l ∷ ls) (n ∷ ns) states) ps F text rs rest later → (part : List Reply) × AreReplied (judged context closing ls ns (drop n states)) qs G (drop b text) part rest later
 more_back context closing l ls n ns states ps qs F G text b h plain low next leads [] rest later k = absurd k.stand
 more_back context closing l ls n ns states ps qs F G text b h plain low next leads (r ∷ rs) rest later k =
     let p = processor_at ps l.cpu in

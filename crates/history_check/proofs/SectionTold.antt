@@ -11,12 +11,12 @@ use Rattle.trace_reply.specs.declared.reply.Reply.{Reply}
 use Rattle.history_check.specs.declared.mark_steps.LineStep.{LineStep}
 use Rattle.history_check.specs.PlacedSteps.{PlacedStep, FindStates}
 use Rattle.history_check.specs.OrderedSteps.{numbered, numbered_by}
-use Rattle.history_check.specs.FoundSection.{ArePlain, AreOnProcessors, Opening, opening_of, HasSection, HasNoSection}
+use Rattle.history_check.specs.FoundSection.{ArePlain, AreOnProcessors, Opening, HasSection, HasNoSection}
 use Rattle.history_check.specs.JudgedLines.{AreReplied}
 use Rattle.history_check.specs.SectionMarks.{ReadMarks, NoMarks}
 use Rattle.history_check.proofs.Short.{LowStates}
 use Rattle.history_check.proofs.SectionSteps.{judged}
-use Rattle.history_check.proofs.WholeSection.{Told, told_section, no_marks, no_replies}
+use Rattle.history_check.proofs.WholeSection.{told_section, no_marks, no_replies}
 
 -- ---- what the parts tell of one opening
 -- What is asked of the opening.
@@ -35,22 +35,13 @@ abbrev Replied : Opening → List TraceLine → List ℕ → List ℕ → List S
 Replied o ls given counts listed closing rs rest later = AreReplied (judged o.context closing ls counts listed) o.processors (λ cpu e. front_at (opening_fronts o.states) e) given rs rest later
 
 section_has : (o : Opening) (ls : List TraceLine) (given : List ℕ) (steps : List LineStep) (counts : List ℕ) (listed closing : List State) (n : ℕ) (later : List Processor) → IsOpening o ls → HasSteps o ls given steps counts listed closing → (rs : List Reply) × Replied o ls given counts listed closing rs (drop n given) later → HasSection o ls given n closing later
-section_has o ls given steps counts listed closing n later is has told w e =
-    let all : Told o ls given n closing later = record { steps = steps; counts = counts; listed = listed; read = has.read; find = has.find; replies = told.0; replied = told.1 } in
-    let here : Told (opening_of w) ls given n closing later = subst (λ z. Told z ls given n closing later) (sym e) all in
-    let k = told_section w ls given n closing later is.plain (subst (λ z. AreOnProcessors (length z.processors) ls) (sym e) is.cpus) here in
-    (here.replies, k.0, k.1)
+section_has o ls given steps counts listed closing n later is has h = told_section o ls given n closing later is.plain is.cpus (record { steps = steps; counts = counts; listed = listed; read = has.read; find = has.find; replies = h.0; replied = h.1 })
 
 section_has_not : (o : Opening) (ls : List TraceLine) (given : List ℕ) (steps : List LineStep) (counts : List ℕ) (listed closing : List State) → IsOpening o ls → HasSteps o ls given steps counts listed closing → ((rs : List Reply) (rest : List ℕ) (later : List Processor) → Replied o ls given counts listed closing rs rest later → ⊥) → HasNoSection o ls given
-section_has_not o ls given steps counts listed closing is has none w e rs rest h =
-    let is' : IsOpening (opening_of w) ls = subst (λ z. IsOpening z ls) (sym e) is in
-    let has' : HasSteps (opening_of w) ls given steps counts listed closing = subst (λ z. HasSteps z ls given steps counts listed closing) (sym e) has in
-    no_replies w ls given steps counts listed closing is'.plain is'.cpus is'.few is'.low has'.read has'.find (λ rs rest later k. none rs rest later (subst (λ z. Replied z ls given counts listed closing rs rest later) e k)) rs rest h
+section_has_not o ls given steps counts listed closing is has none = no_replies o ls given steps counts listed closing is.plain is.cpus is.few is.low has.read has.find none
 
 pub marks_has_not : (o : Opening) (ls : List TraceLine) (given : List ℕ) → IsOpening o ls → NoMarks o.context (length o.states) ls given → HasNoSection o ls given
-marks_has_not o ls given is none w e rs rest h =
-    let is' : IsOpening (opening_of w) ls = subst (λ z. IsOpening z ls) (sym e) is in
-    no_marks w ls given is'.plain is'.cpus is'.few is'.low (subst (λ z. NoMarks z.context (length z.states) ls given) (sym e) none) rs rest h
+marks_has_not o ls given is none = no_marks o ls given is.plain is.cpus is.few is.low none
 
 -- ---- as `judge_lines` tells it
 -- with the opening's pairs, the closing states and the states found as the code has them

@@ -13,8 +13,8 @@ use Rattle.entry_model.proofs.RunHistory.{run_history}
 use Rattle.run_model.proofs.SectionGood.{each_regrouped}
 use Rattle.run_model.proofs.OneProcessor.{chain_run}
 use Rattle.history_check.specs.Replay.{before_each}
-use Rattle.history_check.specs.Steps.{step_op, next_by, step_of, after_step, found_states, ending_states}
-use Rattle.history_check.proofs.NextStates.{next_is}
+use Rattle.history_check.specs.Steps.{step_op, unless_worn, next_by, step_of, after_step, found_states, ending_states}
+use Rattle.history_check.proofs.NextStates.{step_next}
 
 -- ---- sorted lists
 abbrev NotBefore : Receipt → List Receipt → Type 0
@@ -62,7 +62,7 @@ run_legal a b ms rs same run e = history_regrouped e (state_at a e) (state_at b 
 
 -- ---- what a run fixes
 receipt_step : (a : List State) (r : Receipt) → r.before ≡ state_at a r.entry → states_after a r ≡ after_step a (step_of r)
-receipt_step a r h = ap (slice_set a r.entry) (next_is r ∙ ap (next_by (step_op r.op) r.answer) h)
+receipt_step a r h = ap (slice_set a r.entry) (step_next r ∙ ap (next_by (unless_worn r.answer (step_op r.op)) r.answer) h)
 
 pub run_fixes : (a b : List State) (rs : List Receipt) → IsRun a rs b → (before_each rs ≡ found_states a (map step_of rs)) × (b ≡ ending_states a (map step_of rs))
 run_fixes a b [] h = (refl, h)

@@ -27,16 +27,19 @@ use Rattle.trace_read.specs.Trace.{AcceptedTrace, IsAccepted}
 use Rattle.trace_reply.specs.Replies.{RepliedLine, receipts_in}
 use Rattle.run_model.specs.RunState.{RunState, states_of, opening_run, run_resize, run_quiet_line}
 use Rattle.run_model.specs.Histories.{receipts_by}
-use Rattle.run_model.specs.Sections.{receipts_made, section_end}
-use Rattle.run_model.specs.GoodRun.{AreLegal}
+use Rattle.run_model.specs.Sections.{section_end}
+use Rattle.run_model.specs.StoreSections.{StoreSection, made_in, closing_of}
+use Rattle.run_model.specs.GoodRun.{IsLegalTo}
 use Rattle.run_model.proofs.Each.{each_map, each_at, each_of_map, each_front, each_back}
 use Rattle.run_model.proofs.Memories.{IsAllowed, MemoryStands, memory_prepared, memory_committed, opening_stands}
 use Rattle.run_model.proofs.OpeningEntries.{each_opening}
 use Rattle.run_model.proofs.LowStamps.{each_from_histories, each_state, closed_size}
-use Rattle.run_model.proofs.LinesByProcessor.{Cpus, file_listed}
-use Rattle.run_model.proofs.SectionGood.{each_regrouped}
+use Rattle.run_model.proofs.LinesByProcessor.{file_listed}
+use Rattle.run_model.proofs.OneProcessor.{closing_size}
+use Rattle.run_model.proofs.SectionGood.{OnCpus, each_regrouped}
 use Rattle.entry_model.proofs.Regroup.{regrouped_back}
 use Rattle.history_check.proofs.TextMarks.{IsShort, AreShort}
+use Rattle.history_check.proofs.GoodStores.{each_pair}
 
 abbrev pub IsLow : State → Type 0
 IsLow s = s.stamp < 2 ^ 32
@@ -57,25 +60,21 @@ legal_low a b (r ∷ rs) h k =
     let rest = legal_low (after_of r) b rs h.1 (stamp_fits r.before r.op here) in
     ((here, rest.0), rest.1)
 
-each_both : (P Q : Receipt → Type 0) (rs : List Receipt) → AllByRecursion P rs → AllByRecursion Q rs → AllByRecursion (λ r. P r × Q r) rs
-each_both P Q [] h k = tt
-each_both P Q (r ∷ rs) h k = ((h.0, k.0), each_both P Q rs h.1 k.1)
-
-small_table : (w : RunState) → IsPlain w → length (states_of w) ≤ 2 ^ 18
+pub small_table : (w : RunState) → IsPlain w → length (states_of w) ≤ 2 ^ 18
 small_table w h =
     let size : length (states_of w) ≡ 2 ^ (w.memory.table.order - 4) = h.memory.size in
     let high : w.memory.table.order ≤ 22 = h.high in
     let less : w.memory.table.order - 4 ≤ 18 = omega arith in
     subst (λ n. n ≤ 2 ^ 18) (sym size) (pow_mono less)
 
-section_low : (w : RunState) (ts : List RepliedLine) (quiet : Option RepliedLine) → length (states_of w) ≤ 2 ^ 18 → LowStates (states_of w) → AreLegal (record { before = w; replied_lines = ts; quiet = quiet }) → AreShort (receipts_made w ts) × LowStates (states_of (section_end w ts))
-section_low w ts quiet few low g =
-    let n = length (states_of w) in
-    let along : (e : ℕ) → e < n → AllByRecursion (λ (r : Receipt). IsLow r.before) (history e (receipts_made w ts)) × IsLow (state_at (states_of (section_end w ts)) e) = λ e k. legal_low (state_at (states_of w) e) (state_at (states_of (section_end w ts)) e) (history e (receipts_made w ts)) (g.legal e k) (each_at IsLow (states_of w) e (empty_state 0) (omega arith) low) in
-    let stamps = each_from_histories (λ (r : Receipt). IsLow r.before) n (receipts_made w ts) g.in_table (λ e k. (along e k).0) in
-    let both = each_both (λ (r : Receipt). r.entry < n) (λ (r : Receipt). IsLow r.before) (receipts_made w ts) g.in_table stamps in (
-      each_map (λ (r : Receipt). (r.entry < n) × IsLow r.before) IsShort (receipts_made w ts) (λ r x. record { entry = omega (arith, x.0); stamp = omega (arith, x.1) }) both,
-      each_state IsLow (states_of (section_end w ts)) (λ e k. (along e (subst (λ l. e < l) (closed_size w ts) k)).1),
+pub section_low : (s : StoreSection) (closing : List State) → length closing ≡ length s.opening → length s.opening ≤ 2 ^ 18 → LowStates s.opening → IsLegalTo s closing → AreShort (made_in s) × LowStates closing
+section_low s closing size few low g =
+    let n = length s.opening in
+    let along : (e : ℕ) → e < n → AllByRecursion (λ (r : Receipt). IsLow r.before) (history e (made_in s)) × IsLow (state_at closing e) = λ e k. legal_low (state_at s.opening e) (state_at closing e) (history e (made_in s)) (g.legal e k) (each_at IsLow s.opening e (empty_state 0) (omega arith) low) in
+    let stamps = each_from_histories (λ (r : Receipt). IsLow r.before) n (made_in s) g.in_table (λ e k. (along e k).0) in
+    let both = each_pair (λ (r : Receipt). r.entry < n) (λ (r : Receipt). IsLow r.before) (made_in s) g.in_table stamps in (
+      each_map (λ (r : Receipt). (r.entry < n) × IsLow r.before) IsShort (made_in s) (λ r x. record { entry = omega (arith, x.0); stamp = omega (arith, x.1) }) both,
+      each_state IsLow closing (λ e k. (along e (subst (λ l. e < l) size k)).1),
     )
 
 -- The receipts of each line of a section.
@@ -90,17 +89,12 @@ closed_by : (w : RunState) (ts : List RepliedLine) → IsPlain w → length (sta
 unfolding section_end
 closed_by w ts h size low = record { memory = record { limited = h.memory.limited; low = h.memory.low; size = size ∙ h.memory.size; allowed = h.memory.allowed }; high = h.high; low = low }
 
-closed_plain : (w : RunState) (ts : List RepliedLine) → IsPlain w → LowStates (states_of (section_end w ts)) → IsPlain (section_end w ts)
+pub closed_plain : (w : RunState) (ts : List RepliedLine) → IsPlain w → LowStates (states_of (section_end w ts)) → IsPlain (section_end w ts)
 closed_plain w ts h low = closed_by w ts h (closed_size w ts) low
 
-pub section_short : (w : RunState) (ts : List RepliedLine) (quiet : Option RepliedLine) → Cpus (length w.processors) ts → IsPlain w → AreLegal (record { before = w; replied_lines = ts; quiet = quiet }) → ShortLines ts × IsPlain (section_end w ts)
-section_short w ts quiet within h g =
-    let all = section_low w ts quiet (small_table w h) h.low g in
-    (short_lines ts (each_regrouped IsShort (regrouped_back (file_listed (length w.processors) ts within)) all.0), closed_plain w ts h all.1)
-
--- The receipts of a good section on a small table with low stamps have marks.
-pub lines_short : (w : RunState) (ts : List RepliedLine) (quiet : Option RepliedLine) → Cpus (length w.processors) ts → length (states_of w) ≤ 2 ^ 18 → LowStates (states_of w) → AreLegal (record { before = w; replied_lines = ts; quiet = quiet }) → ShortLines ts
-lines_short w ts quiet within few low g = short_lines ts (each_regrouped IsShort (regrouped_back (file_listed (length w.processors) ts within)) (section_low w ts quiet few low g).0)
+-- The receipts of a good section on a small store with low stamps have marks.
+pub lines_short : (s : StoreSection) → OnCpus s → length s.opening ≤ 2 ^ 18 → LowStates s.opening → IsLegalTo s (closing_of s) → ShortLines s.replied_lines
+lines_short s within few low g = short_lines s.replied_lines (each_regrouped IsShort (regrouped_back (file_listed (length s.processors) s.replied_lines within)) (section_low s (closing_of s) (closing_size s.opening (made_in s)) few low g).0)
 
 -- ---- quiet lines
 abbrev CommitsLow : CommitOutcome → Type 0

@@ -31,7 +31,7 @@ pub step_within : (ls : List TraceLine) (a : List State) (order : List LineStep)
 step_within ls a order i states found d low h = (subst (AllByRecursion (IsStepOf (length states) (length ls) (length order))) (drop_more order i d low) h.within).0
 
 -- the next step
-pub step_made : (ls : List TraceLine) (a : List State) (order : List LineStep) (i : ℕ) (states found : List State) (d : LineStep) (l : TraceLine) (s t : State) → i < length order → s ≡ get_or states (get_or order i d).entry s → t ≡ next_by (line_op (get_or ls (get_or order i d).line l).act) (get_or order i d).answer s → AreMade ls a order i states found → AreMade ls a order (i + 1) (set states (get_or order i d).entry t) (set found (get_or order i d).index s)
+pub step_made : (ls : List TraceLine) (a : List State) (order : List LineStep) (i : ℕ) (states found : List State) (d : LineStep) (l : TraceLine) (s t : State) → i < length order → s ≡ get_or states (get_or order i d).entry s → t ≡ next_by (line_op (get_or ls (get_or order i d).line l).act (get_or order i d).answer) (get_or order i d).answer s → AreMade ls a order i states found → AreMade ls a order (i + 1) (set states (get_or order i d).entry t) (set found (get_or order i d).index s)
 step_made ls a order i states found d l s t low before after h =
     let x = get_or order i d in
     let rest = map (numbered_by ls) (drop (i + 1) order) in
@@ -40,7 +40,7 @@ step_made ls a order i states found d l s t low before after h =
     let step = (numbered_by ls x).placed.step in
     let at : s ≡ state_at states x.entry = before ∙ get_or_default states x.entry s (empty_state 0) here.entry in
     let line : (get_or ls x.line l).act ≡ act_at ls x.line = ap (λ (z : TraceLine). z.act) (get_or_default ls x.line l past_lines here.line) in
-    let next : set states x.entry t ≡ after_step states step = ap (set states x.entry) (after ∙ (λ j. next_by (line_op (line j)) x.answer (at j))) in
+    let next : set states x.entry t ≡ after_step states step = ap (set states x.entry) (after ∙ (λ j. next_by (line_op (line j) x.answer) x.answer (at j))) in
     record {
       first = h.first;
       blank = h.blank;
@@ -61,7 +61,7 @@ pub step_kept : (ls : List TraceLine) (a : List State) (order : List LineStep) (
 step_kept ls a order i states found d s low before still h =
     let x = get_or order i d in
     let same : set states x.entry s ≡ states = set_own states x.entry s before (step_within ls a order i states found d low h).entry in
-    subst (λ z. AreMade ls a order (i + 1) z (set found x.index s)) same (step_made ls a order i states found d past_lines s s low before (unchanged_next (line_op (get_or ls x.line past_lines).act) x.answer s still) h)
+    subst (λ z. AreMade ls a order (i + 1) z (set found x.index s)) same (step_made ls a order i states found d past_lines s s low before (unchanged_next (line_op (get_or ls x.line past_lines).act x.answer) x.answer s still) h)
 
 -- all steps
 pub all_found : (ls : List TraceLine) (a : List State) (order : List LineStep) (i : ℕ) (states found : List State) → length order ≤ i → AreMade ls a order i states found → AreWritten (length order) (found_in_order a (map (numbered_by ls) order)) found

@@ -1,6 +1,6 @@
 -- A section, from what its parts tell of it.
 use Rattle.std.specs.List.{AllByRecursion}
-use Rattle.std.proofs.Common.{◌≡◌, ℕ, zero, suc, ◌+◌, ◌<◌, ◌≤◌, ◌^◌, List, [], ◌∷◌, ◌++◌, ap, sym, ◌∙◌, refl, subst, map, take, drop, length, arith, None}
+use Rattle.std.proofs.Common.{◌≡◌, ℕ, zero, suc, ◌+◌, ◌<◌, ◌≤◌, ◌^◌, List, [], ◌∷◌, ◌++◌, ap, sym, ◌∙◌, refl, subst, map, take, drop, length, arith}
 use Rattle.std.proofs.lemmas.List.{length-map, length-append, take-append-drop}
 use Rattle.std.proofs.Math.Seq.{take-append_seam, drop-append_seam}
 use Rattle.entry_model.specs.State.{State}
@@ -8,16 +8,15 @@ use Rattle.entry_model.specs.declared.receipt.Receipt.{Receipt}
 use Rattle.entry_model.specs.History.{pair_of}
 use Rattle.entry_model.specs.Run.{state_at}
 use Rattle.entry_model.specs.Fronts.{front_at, opening_fronts}
-use Rattle.hpt_walk.specs.Access.{AccessContext}
+use Rattle.run_model.specs.StoreContexts.{StoreContext, access_of}
+use Rattle.run_model.specs.StoreSections.{closing_of}
 use Rattle.tlb_model.specs.Processor.{Processor}
 use Rattle.trace_line.specs.declared.line.TraceLine.{TraceLine}
 use Rattle.trace_reply.specs.declared.reply.Reply.{Reply}
 use Rattle.trace_reply.specs.Replies.{RepliedLine, AreReplies, receipts_in, lines_with_replies}
 use Rattle.run_model.specs.Processors.{processor_at, processors_after}
 use Rattle.run_model.specs.LineReplies.{IsCallReply, IsReplyToAccess}
-use Rattle.run_model.specs.RunState.{RunState, context_of, states_of}
 use Rattle.run_model.specs.Histories.{InOrder, receipts_by, lines_of_processor, events_by}
-use Rattle.run_model.specs.Sections.{section_end, processors_after_lines}
 use Rattle.run_model.specs.GoodRun.{EachLineOfProcessor, IsAccessLine}
 use Rattle.run_model.proofs.Undisturbed.{processors_on}
 use Rattle.entry_model.proofs.Regroup.{regrouped_back}
@@ -31,7 +30,7 @@ use Rattle.history_check.specs.ReplyMarks.{marks_in}
 use Rattle.history_check.specs.Replay.{before_each}
 use Rattle.history_check.specs.PlacedSteps.{PlacedStep, placed_step, placed_line, FindStates, AreInTable}
 use Rattle.history_check.specs.OrderedSteps.{numbered, numbered_by}
-use Rattle.history_check.specs.FoundSection.{ArePlain, AreOnProcessors, IsFound, Opening, opening_of, run_with}
+use Rattle.history_check.specs.FoundSection.{ArePlain, AreOnProcessors, Opening, section_on, IsFound, HasSection, HasNoSection}
 use Rattle.history_check.specs.LineReply.{StandsOn}
 use Rattle.history_check.specs.JudgedLines.{processors_behind, AllStand, AllInOrder, AreReplied}
 use Rattle.history_check.specs.SectionMarks.{section_steps, HasItsMarks, ShowMarks, MarkEntries, ReadMarks, NoMarks}
@@ -66,7 +65,7 @@ placed_append [] ys = refl
 placed_append (x ∷ xs) ys = ap (λ l. placed_step x ∷ l) (placed_append xs ys)
 
 -- ---- from the lines that stand
-stand_kinds : (context : AccessContext) (closing : List State) (ps : List Processor) (ls : List TraceLine) (ns : List ℕ) (found : List State) (rs : List Reply) → AllStand context closing ps ls ns found rs → AreReplies ls rs
+stand_kinds : (context : StoreContext) (closing : List State) (ps : List Processor) (ls : List TraceLine) (ns : List ℕ) (found : List State) (rs : List Reply) → AllStand context closing ps ls ns found rs → AreReplies ls rs
 stand_kinds context closing ps [] [] found [] h = tt
 stand_kinds context closing ps [] [] found (r ∷ rs) h = absurd h
 stand_kinds context closing ps [] (n ∷ ns) found rs h = absurd h
@@ -74,7 +73,7 @@ stand_kinds context closing ps (l ∷ ls) [] found rs h = absurd h
 stand_kinds context closing ps (l ∷ ls) (n ∷ ns) found [] h = absurd h
 stand_kinds context closing ps (l ∷ ls) (n ∷ ns) found (r ∷ rs) h = (h.1.reply.kind, stand_kinds context closing (processors_after ps (record { line = l; reply = r })) ls ns (drop n found) rs h.2)
 
-stand_before : (context : AccessContext) (closing : List State) (ps : List Processor) (ls : List TraceLine) (ns : List ℕ) (found : List State) (rs : List Reply) → AllStand context closing ps ls ns found rs → before_each (receipts_by (lines_with_replies ls rs)) ≡ found
+stand_before : (context : StoreContext) (closing : List State) (ps : List Processor) (ls : List TraceLine) (ns : List ℕ) (found : List State) (rs : List Reply) → AllStand context closing ps ls ns found rs → before_each (receipts_by (lines_with_replies ls rs)) ≡ found
 stand_before context closing ps [] [] found [] h = sym h
 stand_before context closing ps [] [] found (r ∷ rs) h = absurd h
 stand_before context closing ps [] (n ∷ ns) found rs h = absurd h
@@ -83,19 +82,19 @@ stand_before context closing ps (l ∷ ls) (n ∷ ns) found [] h = absurd h
 stand_before context closing ps (l ∷ ls) (n ∷ ns) found (r ∷ rs) h =
     before_append (receipts_in r) (receipts_by (lines_with_replies ls rs)) ∙ (λ i. h.1.before i ++ stand_before context closing (processors_after ps (record { line = l; reply = r })) ls ns (drop n found) rs h.2 i) ∙ take-append-drop n found
 
-stand_calls : (context : AccessContext) (closing : List State) (ps : List Processor) (ls : List TraceLine) (ns : List ℕ) (found : List State) (rs : List Reply) → AllStand context closing ps ls ns found rs → InFileOrder (λ p t. IsCallReply context t.line.act t.reply) ps (lines_with_replies ls rs)
+stand_calls : (context : StoreContext) (closing : List State) (ps : List Processor) (ls : List TraceLine) (ns : List ℕ) (found : List State) (rs : List Reply) → AllStand context closing ps ls ns found rs → InFileOrder (λ p t. IsCallReply context t.line.act t.reply) ps (lines_with_replies ls rs)
 stand_calls context closing ps [] ns found rs h = tt
 stand_calls context closing ps (l ∷ ls) [] found rs h = absurd h
 stand_calls context closing ps (l ∷ ls) (n ∷ ns) found [] h = absurd h
 stand_calls context closing ps (l ∷ ls) (n ∷ ns) found (r ∷ rs) h = (h.1.reply.call, stand_calls context closing (processors_after ps (record { line = l; reply = r })) ls ns (drop n found) rs h.2)
 
-stand_accesses : (context : AccessContext) (closing : List State) (ps : List Processor) (ls : List TraceLine) (ns : List ℕ) (found : List State) (rs : List Reply) → AllStand context closing ps ls ns found rs → InFileOrder (IsAccessLine context closing) ps (lines_with_replies ls rs)
+stand_accesses : (context : StoreContext) (closing : List State) (ps : List Processor) (ls : List TraceLine) (ns : List ℕ) (found : List State) (rs : List Reply) → AllStand context closing ps ls ns found rs → InFileOrder (IsAccessLine (access_of context) closing) ps (lines_with_replies ls rs)
 stand_accesses context closing ps [] ns found rs h = tt
 stand_accesses context closing ps (l ∷ ls) [] found rs h = absurd h
 stand_accesses context closing ps (l ∷ ls) (n ∷ ns) found [] h = absurd h
 stand_accesses context closing ps (l ∷ ls) (n ∷ ns) found (r ∷ rs) h = (record { reply = h.1.reply.access; gone = h.1.gone }, stand_accesses context closing (processors_after ps (record { line = l; reply = r })) ls ns (drop n found) rs h.2)
 
-stand_marks : (context : AccessContext) (closing : List State) (ps : List Processor) (ls : List TraceLine) (ns : List ℕ) (found : List State) (rs : List Reply) → ArePlain ls → AllStand context closing ps ls ns found rs → AllByRecursion (HasItsMarks context) (lines_with_replies ls rs)
+stand_marks : (context : StoreContext) (closing : List State) (ps : List Processor) (ls : List TraceLine) (ns : List ℕ) (found : List State) (rs : List Reply) → ArePlain ls → AllStand context closing ps ls ns found rs → AllByRecursion (HasItsMarks context) (lines_with_replies ls rs)
 stand_marks context closing ps [] ns found rs plain h = tt
 stand_marks context closing ps (l ∷ ls) [] found rs plain h = absurd h
 stand_marks context closing ps (l ∷ ls) (n ∷ ns) found [] plain h = absurd h
@@ -103,7 +102,7 @@ stand_marks context closing ps (l ∷ ls) (n ∷ ns) found (r ∷ rs) plain h =
     (record { marks = h.1.marks; few = (shown.line_shows context (processor_at ps l.cpu) l.act r plain.0 h.1.reply.call h.1.reply.access).few }, stand_marks context closing (processors_after ps (record { line = l; reply = r })) ls ns (drop n found) rs plain.1 h.2)
 
 -- ---- steps by marks
-steps_by_marks : (context : AccessContext) (ps : List Processor) (ls : List TraceLine) (rs : List Reply) → ArePlain ls → AreReplies ls rs → InFileOrder (λ p t. IsCallReply context t.line.act t.reply) ps (lines_with_replies ls rs) → InFileOrder (λ p t. IsReplyToAccess context p t.line.act t.reply) ps (lines_with_replies ls rs) → section_steps ls (map marks_in rs) ≡ map placed_step (receipts_by (lines_with_replies ls rs))
+steps_by_marks : (context : StoreContext) (ps : List Processor) (ls : List TraceLine) (rs : List Reply) → ArePlain ls → AreReplies ls rs → InFileOrder (λ p t. IsCallReply context t.line.act t.reply) ps (lines_with_replies ls rs) → InFileOrder (λ p t. IsReplyToAccess (access_of context) p t.line.act t.reply) ps (lines_with_replies ls rs) → section_steps ls (map marks_in rs) ≡ map placed_step (receipts_by (lines_with_replies ls rs))
 steps_by_marks context ps [] [] plain kinds call access = refl
 steps_by_marks context ps [] (r ∷ rs) plain kinds call access = absurd kinds
 steps_by_marks context ps (l ∷ ls) [] plain kinds call access = absurd kinds
@@ -113,7 +112,7 @@ steps_by_marks context ps (l ∷ ls) (r ∷ rs) plain kinds call access =
     let here : placed_line l.act (marks_in r) ≡ map placed_step (receipts_in r) = sym (shown.line_shows context (processor_at ps l.cpu) l.act r plain.0 call.0 access.0).steps in
     (λ i. here i ++ steps_by_marks context (processors_after ps t) ls rs plain.1 kinds.1 call.1 access.1 i) ∙ sym (placed_append (receipts_in r) (receipts_by ts))
 
-just_access : (context : AccessContext) (closing : List State) (ps : List Processor) (ts : List RepliedLine) → InFileOrder (IsAccessLine context closing) ps ts → InFileOrder (λ p t. IsReplyToAccess context p t.line.act t.reply) ps ts
+just_access : (context : StoreContext) (closing : List State) (ps : List Processor) (ts : List RepliedLine) → InFileOrder (IsAccessLine (access_of context) closing) ps ts → InFileOrder (λ p t. IsReplyToAccess (access_of context) p t.line.act t.reply) ps ts
 just_access context closing ps [] h = tt
 just_access context closing ps (t ∷ ts) h = (h.0.reply, just_access context closing (processors_after ps t) ts h.1)
 
@@ -132,18 +131,13 @@ pub record Told (o : Opening) (ls : List TraceLine) (given : List ℕ) (n : ℕ)
 found_order : (a : List State) (ps : List Processor) (ts : List RepliedLine) → AllInOrder (λ cpu e. front_at (opening_fronts a) e) ps ts → (cpu e : ℕ) → InOrder e (pair_of (state_at a e)) (events_by (processor_at ps cpu) (lines_of_processor cpu ts))
 found_order a ps ts h cpu e = subst (λ p. InOrder e p (events_by (processor_at ps cpu) (lines_of_processor cpu ts))) (front_is a e) (h cpu e)
 
-closed_as : (w : RunState) (ts : List RepliedLine) (closing : List State) (later : List Processor) → Cpus (length w.processors) ts → states_of (section_end w ts) ≡ closing → later ≡ processors_behind w.processors ts → section_end w ts ≡ run_with w closing later
-unfolding section_end
-closed_as w ts closing later cpus states behind =
-    let processors : processors_after_lines 0 w.processors ts ≡ later = own_processors w.processors ts cpus ∙ sym (behind_is w.processors ts) ∙ sym behind in
-    λ i. run_with w (states i) (processors i)
-
-pub told_section : (w : RunState) (ls : List TraceLine) (given : List ℕ) (n : ℕ) (closing : List State) (later : List Processor) → ArePlain ls → AreOnProcessors (length w.processors) ls → (h : Told (opening_of w) ls given n closing later) → IsFound w ls None given h.replies (drop n given) × (section_end w (lines_with_replies ls h.replies) ≡ run_with w closing later)
-told_section w ls given n closing later plain on h =
-    let context = context_of w in
-    let ps = w.processors in
+pub told_section : (o : Opening) (ls : List TraceLine) (given : List ℕ) (n : ℕ) (closing : List State) (later : List Processor) → ArePlain ls → AreOnProcessors (length o.processors) ls → Told o ls given n closing later → HasSection o ls given n closing later
+told_section o ls given n closing later plain on h =
+    let context = o.context in
+    let ps = o.processors in
     let rs = h.replies in
     let ts = lines_with_replies ls rs in
+    let s = section_on o ts in
     let cpus : Cpus (length ps) ts = cpus_of (length ps) ls rs on in
     let stand = h.replied.stand in
     let kinds : AreReplies ls rs = stand_kinds context closing ps ls h.counts h.listed rs stand in
@@ -151,24 +145,27 @@ told_section w ls given n closing later plain on h =
     let accesses = stand_accesses context closing ps ls h.counts h.listed rs stand in
     let shows : ShowMarks context ls given rs (drop n given) = record { kinds = kinds; marks = stand_marks context closing ps ls h.counts h.listed rs plain stand; text = h.replied.text } in
     let steps : section_steps ls h.read.marks ≡ map placed_step (receipts_by ts) = ap (section_steps ls) (sym (h.read.only rs (drop n given) shows)) ∙ steps_by_marks context ps ls rs plain kinds calls (just_access context closing ps ts accesses) in
-    let found = found_section w ts None h.listed closing cpus (subst (AreInTable (length (states_of w))) steps h.read.in_table) (subst (λ z. FindStates (states_of w) z h.listed closing) steps (h.find (section_steps ls h.read.marks) h.read.numbers)) (stand_before context closing ps ls h.counts h.listed rs stand) in (
-      record {
-        kinds = kinds;
-        good = (
-          found.0,
-          found_order (states_of w) ps ts h.replied.in_order,
-          λ cpu. own_lines (λ p t. IsCallReply context t.line.act t.reply) ps ts cpu cpus calls,
-          λ cpu. subst (λ z. EachLineOfProcessor (IsAccessLine context z) (processor_at ps cpu) (lines_of_processor cpu ts)) (sym found.1) (own_lines (IsAccessLine context closing) ps ts cpu cpus accesses),
-          tt,
-        );
-        text = h.replied.text;
-      },
-      closed_as w ts closing later cpus found.1 h.replied.behind,
-    )
+    let found = found_section s h.listed closing cpus (subst (AreInTable (length o.states)) steps h.read.in_table) (subst (λ z. FindStates o.states z h.listed closing) steps (h.find (section_steps ls h.read.marks) h.read.numbers)) (stand_before context closing ps ls h.counts h.listed rs stand) in
+    record {
+      replies = rs;
+      found =
+          record {
+            kinds = kinds;
+            good = (
+              found.0,
+              found_order o.states ps ts h.replied.in_order,
+              λ cpu. own_lines (λ p t. IsCallReply context t.line.act t.reply) ps ts cpu cpus calls,
+              λ cpu. subst (λ z. EachLineOfProcessor (IsAccessLine (access_of context) z) (processor_at ps cpu) (lines_of_processor cpu ts)) (sym found.1) (own_lines (IsAccessLine (access_of context) closing) ps ts cpu cpus accesses),
+            );
+            text = h.replied.text;
+          };
+      closes = found.1;
+      behind = own_processors ps ts cpus ∙ sym (behind_is ps ts) ∙ sym h.replied.behind;
+    }
 
 -- ---- a section that isn't
 -- the lines of a good section stand on the states before its receipts
-good_stand : (context : AccessContext) (closing : List State) (ps : List Processor) (ls : List TraceLine) (rs : List Reply) → AreReplies ls rs → ShortLines (lines_with_replies ls rs) → InFileOrder (λ p t. IsCallReply context t.line.act t.reply) ps (lines_with_replies ls rs) → InFileOrder (IsAccessLine context closing) ps (lines_with_replies ls rs) → AllStand context closing ps ls (map (λ (r : Reply). length (marks_in r)) rs) (before_each (receipts_by (lines_with_replies ls rs))) rs
+good_stand : (context : StoreContext) (closing : List State) (ps : List Processor) (ls : List TraceLine) (rs : List Reply) → AreReplies ls rs → ShortLines (lines_with_replies ls rs) → InFileOrder (λ p t. IsCallReply context t.line.act t.reply) ps (lines_with_replies ls rs) → InFileOrder (IsAccessLine (access_of context) closing) ps (lines_with_replies ls rs) → AllStand context closing ps ls (map (λ (r : Reply). length (marks_in r)) rs) (before_each (receipts_by (lines_with_replies ls rs))) rs
 good_stand context closing ps [] [] kinds short calls accesses = refl
 good_stand context closing ps [] (r ∷ rs) kinds short calls accesses = absurd kinds
 good_stand context closing ps (l ∷ ls) [] kinds short calls accesses = absurd kinds
@@ -190,36 +187,37 @@ good_stand context closing ps (l ∷ ls) (r ∷ rs) kinds short calls accesses =
     let behind = good_stand context closing (processors_after ps (record { line = l; reply = r })) ls rs kinds.1 short.1 calls.1 accesses.1 in
     subst (λ z. AllStand context closing ps (l ∷ ls) (n ∷ map (λ (r : Reply). length (marks_in r)) rs) z (r ∷ rs)) (sym all) (few, here, subst (λ z. AllStand context closing (processors_after ps (record { line = l; reply = r })) ls (map (λ (r : Reply). length (marks_in r)) rs) z rs) (sym left) behind)
 
-short_shows : (context : AccessContext) (ps : List Processor) (ls : List TraceLine) (rs : List Reply) → ArePlain ls → AreReplies ls rs → ShortLines (lines_with_replies ls rs) → InFileOrder (λ p t. IsCallReply context t.line.act t.reply) ps (lines_with_replies ls rs) → InFileOrder (λ p t. IsReplyToAccess context p t.line.act t.reply) ps (lines_with_replies ls rs) → AllByRecursion (HasItsMarks context) (lines_with_replies ls rs)
+short_shows : (context : StoreContext) (ps : List Processor) (ls : List TraceLine) (rs : List Reply) → ArePlain ls → AreReplies ls rs → ShortLines (lines_with_replies ls rs) → InFileOrder (λ p t. IsCallReply context t.line.act t.reply) ps (lines_with_replies ls rs) → InFileOrder (λ p t. IsReplyToAccess (access_of context) p t.line.act t.reply) ps (lines_with_replies ls rs) → AllByRecursion (HasItsMarks context) (lines_with_replies ls rs)
 short_shows context ps [] rs plain kinds short calls accesses = tt
 short_shows context ps (l ∷ ls) [] plain kinds short calls accesses = tt
 short_shows context ps (l ∷ ls) (r ∷ rs) plain kinds short calls accesses =
     (record { marks = short_marks (receipts_in r) short.0; few = (shown.line_shows context (processor_at ps l.cpu) l.act r plain.0 calls.0 accesses.0).few }, short_shows context (processors_after ps (record { line = l; reply = r })) ls rs plain.1 kinds.1 short.1 calls.1 accesses.1)
 
--- What holds of each good section of a run, whatever the parts tell.
-record Good (w : RunState) (ls : List TraceLine) (given : List ℕ) (rs : List Reply) (rest : List ℕ) : Type 0 where
-  pub cpus : Cpus (length w.processors) (lines_with_replies ls rs)
+-- What holds of each good section of a store, whatever the parts tell.
+record Good (o : Opening) (ls : List TraceLine) (given : List ℕ) (rs : List Reply) (rest : List ℕ) : Type 0 where
+  pub cpus : Cpus (length o.processors) (lines_with_replies ls rs)
   pub short : ShortLines (lines_with_replies ls rs)
-  pub calls : InFileOrder (λ p t. IsCallReply (context_of w) t.line.act t.reply) w.processors (lines_with_replies ls rs)
-  pub accesses : InFileOrder (IsAccessLine (context_of w) (states_of (section_end w (lines_with_replies ls rs)))) w.processors (lines_with_replies ls rs)
-  pub shows : ShowMarks (context_of w) ls given rs rest
+  pub calls : InFileOrder (λ p t. IsCallReply o.context t.line.act t.reply) o.processors (lines_with_replies ls rs)
+  pub accesses : InFileOrder (IsAccessLine (access_of o.context) (closing_of (section_on o (lines_with_replies ls rs)))) o.processors (lines_with_replies ls rs)
+  pub shows : ShowMarks o.context ls given rs rest
   pub steps : section_steps ls (map marks_in rs) ≡ map placed_step (receipts_by (lines_with_replies ls rs))
 
-good_facts : (w : RunState) (ls : List TraceLine) (given : List ℕ) (rs : List Reply) (rest : List ℕ) → ArePlain ls → AreOnProcessors (length w.processors) ls → length (states_of w) ≤ 2 ^ 18 → LowStates (states_of w) → IsFound w ls None given rs rest → Good w ls given rs rest
-good_facts w ls given rs rest plain on few low h =
+good_facts : (o : Opening) (ls : List TraceLine) (given : List ℕ) (rs : List Reply) (rest : List ℕ) → ArePlain ls → AreOnProcessors (length o.processors) ls → length o.states ≤ 2 ^ 18 → LowStates o.states → IsFound o ls given rs rest → Good o ls given rs rest
+good_facts o ls given rs rest plain on few low h =
     let ts = lines_with_replies ls rs in
-    let cpus : Cpus (length w.processors) ts = cpus_of (length w.processors) ls rs on in
-    let short = lines_short w ts None cpus few low h.good.0 in
-    let calls = file_lines (λ p t. IsCallReply (context_of w) t.line.act t.reply) w.processors ts cpus h.good.2 in
-    let accesses = file_lines (IsAccessLine (context_of w) (states_of (section_end w ts))) w.processors ts cpus h.good.3 in
-    let plainly = just_access (context_of w) (states_of (section_end w ts)) w.processors ts accesses in
+    let s = section_on o ts in
+    let cpus : Cpus (length o.processors) ts = cpus_of (length o.processors) ls rs on in
+    let short = lines_short s cpus few low h.good.0 in
+    let calls = file_lines (λ p t. IsCallReply o.context t.line.act t.reply) o.processors ts cpus h.good.2 in
+    let accesses = file_lines (IsAccessLine (access_of o.context) (closing_of s)) o.processors ts cpus h.good.3 in
+    let plainly = just_access o.context (closing_of s) o.processors ts accesses in
     record {
       cpus = cpus;
       short = short;
       calls = calls;
       accesses = accesses;
-      shows = record { kinds = h.kinds; marks = short_shows (context_of w) w.processors ls rs plain h.kinds short calls plainly; text = h.text };
-      steps = steps_by_marks (context_of w) w.processors ls rs plain h.kinds calls plainly;
+      shows = record { kinds = h.kinds; marks = short_shows o.context o.processors ls rs plain h.kinds short calls plainly; text = h.text };
+      steps = steps_by_marks o.context o.processors ls rs plain h.kinds calls plainly;
     }
 
 -- the receipts are of entries of the table, and so are the marks
@@ -234,30 +232,32 @@ mark_entries size (l ∷ ls) [] kinds h = tt
 mark_entries size (l ∷ ls) (r ∷ rs) kinds h = (entries_in size (receipts_in r) (each_front (λ (r : Receipt). r.entry < size) (receipts_in r) (receipts_by (lines_with_replies ls rs)) h), mark_entries size ls rs kinds.1 (each_back (λ (r : Receipt). r.entry < size) (receipts_in r) (receipts_by (lines_with_replies ls rs)) h))
 
 -- no marks were read
-pub no_marks : (w : RunState) (ls : List TraceLine) (given : List ℕ) → ArePlain ls → AreOnProcessors (length w.processors) ls → length (states_of w) ≤ 2 ^ 18 → LowStates (states_of w) → NoMarks (context_of w) (length (states_of w)) ls given → (rs : List Reply) (rest : List ℕ) → IsFound w ls None given rs rest → ⊥
-no_marks w ls given plain on few low none rs rest h =
-    let g = good_facts w ls given rs rest plain on few low h in
+pub no_marks : (o : Opening) (ls : List TraceLine) (given : List ℕ) → ArePlain ls → AreOnProcessors (length o.processors) ls → length o.states ≤ 2 ^ 18 → LowStates o.states → NoMarks o.context (length o.states) ls given → HasNoSection o ls given
+no_marks o ls given plain on few low none rs rest h =
+    let g = good_facts o ls given rs rest plain on few low h in
     let ts = lines_with_replies ls rs in
-    none rs rest g.shows (mark_entries (length (states_of w)) ls rs h.kinds (each_regrouped (λ (r : Receipt). r.entry < length (states_of w)) (regrouped_back (file_listed (length w.processors) ts g.cpus)) h.good.0.in_table))
+    none rs rest g.shows (mark_entries (length o.states) ls rs h.kinds (each_regrouped (λ (r : Receipt). r.entry < length o.states) (regrouped_back (file_listed (length o.processors) ts g.cpus)) h.good.0.in_table))
 
 map_length : (rs : List Reply) → map (λ (ms : List Mark). length ms) (map marks_in rs) ≡ map (λ (r : Reply). length (marks_in r)) rs
 map_length [] = refl
 map_length (r ∷ rs) = ap (λ l. length (marks_in r) ∷ l) (map_length rs)
 
 -- no replies stand
-pub no_replies : (w : RunState) (ls : List TraceLine) (given : List ℕ) (steps : List LineStep) (counts : List ℕ) (listed closing : List State) → ArePlain ls → AreOnProcessors (length w.processors) ls → length (states_of w) ≤ 2 ^ 18 → LowStates (states_of w) → ReadMarks (context_of w) (length (states_of w)) ls given steps counts → ((xs : List PlacedStep) → map (numbered_by ls) steps ≡ numbered 0 xs → FindStates (states_of w) xs listed closing) → ((rs : List Reply) (rest : List ℕ) (later : List Processor) → AreReplied (judged (context_of w) closing ls counts listed) w.processors (λ cpu e. front_at (opening_fronts (states_of w)) e) given rs rest later → ⊥) → (rs : List Reply) (rest : List ℕ) → IsFound w ls None given rs rest → ⊥
-no_replies w ls given steps counts listed closing plain on few low read find none rs rest h =
-    let g = good_facts w ls given rs rest plain on few low h in
+pub no_replies : (o : Opening) (ls : List TraceLine) (given : List ℕ) (steps : List LineStep) (counts : List ℕ) (listed closing : List State) → ArePlain ls → AreOnProcessors (length o.processors) ls → length o.states ≤ 2 ^ 18 → LowStates o.states → ReadMarks o.context (length o.states) ls given steps counts → ((xs : List PlacedStep) → map (numbered_by ls) steps ≡ numbered 0 xs → FindStates o.states xs listed closing) → ((rs : List Reply) (rest : List ℕ) (later : List Processor) → AreReplied (judged o.context closing ls counts listed) o.processors (λ cpu e. front_at (opening_fronts o.states) e) given rs rest later → ⊥) → HasNoSection o ls given
+no_replies o ls given steps counts listed closing plain on few low read find none rs rest h =
+    let g = good_facts o ls given rs rest plain on few low h in
     let ts = lines_with_replies ls rs in
-    let context = context_of w in
+    let s = section_on o ts in
+    let context = o.context in
+    let ps = o.processors in
     let marks : map marks_in rs ≡ read.marks = read.only rs rest g.shows in
     let placed : section_steps ls read.marks ≡ map placed_step (receipts_by ts) = ap (section_steps ls) (sym marks) ∙ g.steps in
     let counted : counts ≡ map (λ (r : Reply). length (marks_in r)) rs = read.counts ∙ ap (map (λ (ms : List Mark). length ms)) (sym marks) ∙ map_length rs in
-    let found = section_finds w ts None listed closing g.cpus h.good.0 (subst (λ z. FindStates (states_of w) z listed closing) placed (find (section_steps ls read.marks) read.numbers)) in
-    let stand : AllStand context (states_of (section_end w ts)) w.processors ls (map (λ (r : Reply). length (marks_in r)) rs) (before_each (receipts_by ts)) rs = good_stand context (states_of (section_end w ts)) w.processors ls rs h.kinds g.short g.calls g.accesses in
-    none rs rest (processors_behind w.processors ts) (record {
-      stand = subst (λ (z : List State). AllStand context z w.processors ls counts listed rs) found.1 (subst (λ z. AllStand context (states_of (section_end w ts)) w.processors ls z listed rs) (sym counted) (subst (λ z. AllStand context (states_of (section_end w ts)) w.processors ls (map (λ (r : Reply). length (marks_in r)) rs) z rs) found.0 stand));
-      in_order = λ cpu e. subst (λ p. InOrder e p (events_by (processor_at w.processors cpu) (lines_of_processor cpu ts))) (sym (front_is (states_of w) e)) (h.good.1 cpu e);
+    let found = section_finds s listed closing g.cpus h.good.0 (subst (λ z. FindStates o.states z listed closing) placed (find (section_steps ls read.marks) read.numbers)) in
+    let stand : AllStand context (closing_of s) ps ls (map (λ (r : Reply). length (marks_in r)) rs) (before_each (receipts_by ts)) rs = good_stand context (closing_of s) ps ls rs h.kinds g.short g.calls g.accesses in
+    none rs rest (processors_behind ps ts) (record {
+      stand = subst (λ (z : List State). AllStand context z ps ls counts listed rs) found.1 (subst (λ z. AllStand context (closing_of s) ps ls z listed rs) (sym counted) (subst (λ z. AllStand context (closing_of s) ps ls (map (λ (r : Reply). length (marks_in r)) rs) z rs) found.0 stand));
+      in_order = λ cpu e. subst (λ p. InOrder e p (events_by (processor_at ps cpu) (lines_of_processor cpu ts))) (sym (front_is o.states e)) (h.good.1 cpu e);
       text = h.text;
       behind = refl;
     })

@@ -1,9 +1,7 @@
 -- One section of a run, found where a text begins.
-use Rattle.std.specs.Prelude.{◌≡◌, ℕ, ◌<◌, List, [], ◌∷◌, ◌++◌, drop, Option, None, false}
+use Rattle.std.specs.Prelude.{◌≡◌, ℕ, ◌<◌, List, [], ◌∷◌, ◌++◌, drop, false}
 use Rattle.std.specs.List.{AllByRecursion}
 use Rattle.entry_model.specs.State.{State}
-use Rattle.hpt_resize.specs.TableMemory.{with_states}
-use Rattle.hpt_walk.specs.Access.{AccessContext}
 use Rattle.tlb_model.specs.Processor.{Processor}
 use Rattle.trace_line.specs.declared.line.TraceLine.{TraceLine}
 use Rattle.trace_line.specs.Lines.{is_quiet}
@@ -11,8 +9,10 @@ use Rattle.trace_reply.specs.declared.reply.Reply.{Reply}
 use Rattle.trace_reply.specs.Replies.{RepliedLine, AreReplies, lines_with_replies}
 use Rattle.reply_text.specs.Text.{reply_text}
 use Rattle.run_model.specs.RunState.{RunState, context_of, states_of}
-use Rattle.run_model.specs.Sections.{section_end}
-use Rattle.run_model.specs.GoodRun.{IsGoodSection}
+use Rattle.run_model.specs.StoreContexts.{StoreContext}
+use Rattle.run_model.specs.StoreSections.{StoreSection, closing_of}
+use Rattle.run_model.specs.Sections.{processors_after_lines}
+use Rattle.run_model.specs.GoodRun.{IsGoodTo}
 
 -- ---- the lines of a section
 -- None of the lines is quiet.
@@ -29,29 +29,13 @@ lines_text [] = []
 lines_text (t ∷ ts) = reply_text t.line t.reply ++ lines_text ts
 
 -- ---- a section and a text
--- With these replies the lines are a good section of a run that is so far, and their text stands first in the given one, before the rest.
-pub record IsFound
-    (w : RunState)
-    (ls : List TraceLine)
-    (quiet : Option RepliedLine)
-    (given : List ℕ)
-    (rs : List Reply)
-    (rest : List ℕ)
-    : Type 0
-  where
-    pub kinds : AreReplies ls rs
-    pub good :
-        IsGoodSection
-        (record { before = w; replied_lines = lines_with_replies ls rs; quiet = quiet })
-    pub text : given ≡ lines_text (lines_with_replies ls rs) ++ rest
-
--- What a section needs of the run so far.
+-- What a section of a store needs of what was before it.
 pub record Opening : Type 0 where
-  pub context : AccessContext
+  pub context : StoreContext
   pub states : List State
   pub processors : List Processor
 
--- That part of a run.
+-- That of the page table in a run that is so far.
 abbrev pub opening_of : RunState → Opening
 opening_of w = record {
   context = context_of w;
@@ -59,26 +43,47 @@ opening_of w = record {
   processors = w.processors;
 }
 
--- The run with these states of its table, and these processors.
-abbrev pub run_with : RunState → List State → List Processor → RunState
-run_with w states processors =
-    record w { memory = with_states w.memory states; processors = processors }
+-- The section that opens so, of these lines.
+abbrev pub section_on : Opening → List RepliedLine → StoreSection
+section_on o ts = record {
+  context = o.context;
+  opening = o.states;
+  processors = o.processors;
+  replied_lines = ts;
+}
 
--- Each run with this opening has good replies to the lines, whose text is what stands before the last part of the text; the section closes on these states and processors.
-abbrev pub HasSection :
-    Opening → List TraceLine → List ℕ → ℕ → List State → List Processor → Type 0
-HasSection o ls text n states processors =
-    (w : RunState)
-    → opening_of w ≡ o
-    → (rs : List Reply)
-    × IsFound w ls None text rs (drop n text)
-    × (section_end w (lines_with_replies ls rs) ≡ run_with w states processors)
+-- The section is good, and closes on the states that its receipts leave.
+abbrev pub IsGoodOn : Opening → List RepliedLine → Type 0
+IsGoodOn o ts = IsGoodTo (section_on o ts) (closing_of (section_on o ts))
 
--- No run with this opening has good replies to the lines with whose text the text begins.
+-- With these replies the lines are a good section of a store, and their text stands first in the given one, before the rest.
+pub record IsFound
+    (o : Opening)
+    (ls : List TraceLine)
+    (given : List ℕ)
+    (rs : List Reply)
+    (rest : List ℕ)
+    : Type 0
+  where
+    pub kinds : AreReplies ls rs
+    pub good : IsGoodOn o (lines_with_replies ls rs)
+    pub text : given ≡ lines_text (lines_with_replies ls rs) ++ rest
+
+-- The lines have good replies, whose text is what stands before the last part of the text; the section closes on these states and processors.
+pub record HasSection
+    (o : Opening)
+    (ls : List TraceLine)
+    (text : List ℕ)
+    (n : ℕ)
+    (states : List State)
+    (processors : List Processor)
+    : Type 0
+  where
+    pub replies : List Reply
+    pub found : IsFound o ls text replies (drop n text)
+    pub closes : closing_of (section_on o (lines_with_replies ls replies)) ≡ states
+    pub behind : processors_after_lines 0 o.processors (lines_with_replies ls replies) ≡ processors
+
+-- The lines have no good replies with whose text the text begins.
 abbrev pub HasNoSection : Opening → List TraceLine → List ℕ → Type 0
-HasNoSection o ls text =
-    (w : RunState)
-    → opening_of w ≡ o
-    → (rs : List Reply) (rest : List ℕ)
-    → IsFound w ls None text rs rest
-    → ⊥
+HasNoSection o ls text = (rs : List Reply) (rest : List ℕ) → IsFound o ls text rs rest → ⊥

@@ -1,7 +1,7 @@
 -- The lines of a section, judged one after the other in file order.
 use Rattle.std.specs.Prelude.{◌≡◌, ℕ, ◌≤◌, List, [], ◌∷◌, ◌++◌, length, take, drop}
 use Rattle.entry_model.specs.State.{State}
-use Rattle.hpt_walk.specs.Access.{AccessContext}
+use Rattle.run_model.specs.StoreContexts.{StoreContext}
 use Rattle.tlb_model.specs.Processor.{Processor}
 use Rattle.trace_line.specs.declared.line.TraceLine.{TraceLine}
 use Rattle.trace_reply.specs.declared.reply.Reply.{Reply}
@@ -18,7 +18,7 @@ processors_behind processors (t ∷ ts) = processors_behind (processors_after pr
 
 -- There is one reply for each line, which stands on as many of the states found as the line's count says; none is left over.
 abbrev pub AllStand :
-    AccessContext
+    StoreContext
     → List State
     → List Processor
     → List TraceLine
@@ -48,7 +48,7 @@ AllInOrder fronts ps ts =
 
 -- What of a section the judge has before it: closing states, the lines' counts of states found, the states found.
 pub record Judged : Type 0 where
-  pub context : AccessContext
+  pub context : StoreContext
   pub closing : List State
   pub lines : List TraceLine
   pub counts : List ℕ

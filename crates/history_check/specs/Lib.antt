@@ -6,6 +6,7 @@ pub mod Steps
 pub mod Hits
 pub mod ReplayLaws
 pub mod FoundSection
+pub mod FoundStores
 pub mod PlacedSteps
 pub mod OrderedSteps
 pub mod MarkSteps
@@ -14,3 +15,5 @@ pub mod FrontKeeping
 pub mod JudgedLines
 pub mod SectionMarks
 pub mod JudgedRun
+pub mod PartedText
+pub mod StoreParts

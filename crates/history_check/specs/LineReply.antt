@@ -17,6 +17,7 @@ use Rattle.trace_reply.specs.Replies.{IsOfKind, receipts_in}
 use Rattle.reply_text.specs.Text.{reply_text}
 use Rattle.run_model.specs.Processors.{gone_line_of}
 use Rattle.run_model.specs.LineReplies.{IsCallReply, IsReplyToAccess}
+use Rattle.run_model.specs.StoreContexts.{StoreContext, access_of}
 use Rattle.receipt_text.specs.Marks.{IsMark}
 use Rattle.history_check.specs.ReplyMarks.{marks_in, way_of}
 use Rattle.history_check.specs.Replay.{before_each}
@@ -27,15 +28,15 @@ IsAccessOn context p a r =
     IsAccessReply context (cached_line p.cache) a (segment_of p.slots a.ea) r
 
 -- It is a reply of this processor to what a line asks.
-pub record IsReplyTo (context : AccessContext) (p : Processor) (act : Act) (r : Reply) : Type 0
+pub record IsReplyTo (context : StoreContext) (p : Processor) (act : Act) (r : Reply) : Type 0
   where
     pub kind : IsOfKind act r
     pub call : IsCallReply context act r
-    pub access : IsReplyToAccess context p act r
+    pub access : IsReplyToAccess (access_of context) p act r
 
 -- And it is by operations that found these states.
 pub record IsReplyOn
-    (context : AccessContext)
+    (context : StoreContext)
     (p : Processor)
     (act : Act)
     (found : List State)
@@ -65,7 +66,7 @@ pub record FitsText
 
 -- The text begins with that of no such reply.
 abbrev pub FitsNoReply :
-    AccessContext → Processor → TraceLine → List State → List ℕ → Type 0
+    StoreContext → Processor → TraceLine → List State → List ℕ → Type 0
 FitsNoReply context p l found given =
     (r : Reply) (rest : List ℕ)
     → IsReplyOn context p l.act found r
@@ -74,7 +75,7 @@ FitsNoReply context p l found given =
 
 -- The reply stands: it is one to the line by operations that found these states, its receipts have marks, and a cached line that was gone has left its stamp when the section closes.
 pub record StandsOn
-    (context : AccessContext)
+    (context : StoreContext)
     (closing : List State)
     (p : Processor)
     (l : TraceLine)
@@ -92,7 +93,7 @@ pub record StandsOn
 
 -- A reply stands whose text, of n bytes, is what the text begins with.
 pub record HasReply
-    (context : AccessContext)
+    (context : StoreContext)
     (closing : List State)
     (p : Processor)
     (l : TraceLine)

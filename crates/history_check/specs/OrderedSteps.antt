@@ -38,7 +38,11 @@ numbered_by ls x = record {
       record {
         place = x.place;
         step =
-            record { entry = x.entry; op = line_op (act_at ls x.line); answer = x.answer };
+            record {
+              entry = x.entry;
+              op = line_op (act_at ls x.line) x.answer;
+              answer = x.answer;
+            };
       };
 }
 

@@ -1,7 +1,7 @@
 -- The marks of a section's lines, read from a text that begins with their replies.
 use Rattle.std.specs.Prelude.{◌≡◌, ℕ, ◌<◌, ◌≤◌, ◌⊎◌, List, [], ◌∷◌, ◌++◌, length, map}
 use Rattle.std.specs.List.{AllByRecursion}
-use Rattle.hpt_walk.specs.Access.{AccessContext}
+use Rattle.run_model.specs.StoreContexts.{StoreContext}
 use Rattle.trace_line.specs.declared.line.TraceLine.{TraceLine}
 use Rattle.trace_reply.specs.declared.reply.Reply.{Reply}
 use Rattle.trace_reply.specs.Replies.{RepliedLine, AreReplies, lines_with_replies}
@@ -20,7 +20,7 @@ section_steps (l ∷ ls) [] = []
 section_steps (l ∷ ls) (ms ∷ mss) = placed_line l.act ms ++ section_steps ls mss
 
 -- The reply's marks are in their ranges, and no more than its line's operations: an access has sixteen.
-pub record HasItsMarks (context : AccessContext) (t : RepliedLine) : Type 0 where
+pub record HasItsMarks (context : StoreContext) (t : RepliedLine) : Type 0 where
   pub marks : AllByRecursion IsMark (marks_in t.reply)
   pub few :
       (length (marks_in t.reply) ≤ 16)
@@ -28,7 +28,7 @@ pub record HasItsMarks (context : AccessContext) (t : RepliedLine) : Type 0 wher
 
 -- The lines have these replies, whose marks their texts show, and the text begins with these, before the rest.
 pub record ShowMarks
-    (context : AccessContext)
+    (context : StoreContext)
     (ls : List TraceLine)
     (given : List ℕ)
     (rs : List Reply)
@@ -46,7 +46,7 @@ MarkEntries size rs =
 
 -- The lines' marks that were read: their steps, which are on entries of a table of this size, and how many each line has. Any replies with whose text the text begins have these marks.
 pub record ReadMarks
-    (context : AccessContext)
+    (context : StoreContext)
     (size : ℕ)
     (ls : List TraceLine)
     (given : List ℕ)
@@ -66,7 +66,7 @@ pub record ReadMarks
         → map marks_in rs ≡ marks
 
 -- The text begins with no replies to the lines that show marks of entries of a table of this size.
-abbrev pub NoMarks : AccessContext → ℕ → List TraceLine → List ℕ → Type 0
+abbrev pub NoMarks : StoreContext → ℕ → List TraceLine → List ℕ → Type 0
 NoMarks context size ls text =
     (rs : List Reply) (rest : List ℕ)
     → ShowMarks context ls text rs rest

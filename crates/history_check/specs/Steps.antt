@@ -4,13 +4,13 @@ use Rattle.basics.specs.Words.{bool_eq}
 use Rattle.entry_model.specs.State.{State}
 use Rattle.authority_mask.specs.Authority.{no_masks}
 use Rattle.entry_model.specs.declared.operation.Op.{Op}
-use Rattle.entry_model.specs.declared.operation.Op.TheVariants.{Access, Remove, Protect}
+use Rattle.entry_model.specs.declared.operation.Op.TheVariants.{Access, Remove, Protect, Read}
 use Rattle.entry_model.specs.declared.operation.Test.{Test}
 use Rattle.entry_model.specs.declared.operation.Answer.{Answer}
 use Rattle.entry_model.specs.declared.operation.Answer.TheVariants.{Entered, Removed, Protected, Was}
 use Rattle.entry_model.specs.declared.receipt.Receipt.{Receipt}
-use Rattle.entry_model.specs.Receipt.{is_at}
-use Rattle.entry_model.specs.Reply.{reply_of, touched_state, is_store}
+use Rattle.entry_model.specs.Receipt.{is_at, is_worn}
+use Rattle.entry_model.specs.Reply.{reply_of, touched_state}
 use Rattle.entry_model.specs.Run.{state_at}
 use Rattle.entry_model.specs.Trial.{Call}
 use Rattle.receipt_text.specs.declared.mark.Mark.{Mark}
@@ -26,6 +26,10 @@ step_op (Access tag base key no_execute want masks) = Access 0 0 false false wan
 step_op (Remove test) = Remove no_test
 step_op (Protect test flags) = Protect no_test flags
 step_op other = other
+
+-- This of an operation that was answered so. At the last stamp nothing changes whatever the operation was, and so nothing is kept of it.
+abbrev pub unless_worn : Answer → Op → Op
+unless_worn answer op = if is_worn answer then Read else op
 
 -- The answer says that the stamp was raised.
 abbrev pub raises_stamp : Answer → Bool
@@ -50,7 +54,11 @@ pub record Step : Type 0 where
 
 -- That of a receipt.
 abbrev pub step_of : Receipt → Step
-step_of r = record { entry = r.entry; op = step_op r.op; answer = r.answer }
+step_of r = record {
+  entry = r.entry;
+  op = unless_worn r.answer (step_op r.op);
+  answer = r.answer;
+}
 
 -- The states after a step.
 abbrev pub after_step : List State → Step → List State
@@ -67,11 +75,6 @@ ending_states a [] = a
 ending_states a (x ∷ xs) = ending_states (after_step a x) xs
 
 -- ---- places
--- The operation is a store of a processor.
-abbrev pub is_store_access : Op → Bool
-is_store_access (Access tag base key no_execute want masks) = is_store want
-is_store_access other = false
-
 -- Nothing was changed by an operation, a store of a processor or none, as the answer and R and C before tell.
 abbrev pub is_unchanged : Bool → Answer → Bool → Bool → Bool
 is_unchanged store answer r c =

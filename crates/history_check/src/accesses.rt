@@ -9,6 +9,7 @@ ghost use Rattle.history_check.specs.Replay.{before_each};
 ghost use Rattle.entry_model.specs.declared.access_reply.AccessReply.{AccessReply};
 ghost use Rattle.entry_model.specs.declared.access_reply.By.TheVariants.{Hit, Walk};
 ghost use Rattle.hpt_walk.specs.Access.{IsHit, IsWalk};
+ghost use Rattle.run_model.specs.StoreContexts.{access_of};
 ghost use Rattle.history_check.specs.Hits.{IsHitBy};
 
 use crate::context::Context;
@@ -102,16 +103,21 @@ pub fn hit_end(
         (λ end.
         (end.by ≡ Some Hit)
         × (before_each receipts.new ≡ found.now)
-        × IsHit context.now segment.now request.now line.now (access_reply_with end receipts.new)
+        × IsHit
+        (access_of context.now)
+        segment.now
+        request.now
+        line.now
+        (access_reply_with end receipts.new)
         × ((q : AccessReply)
         → q.by ≡ Some Hit
-        → IsHit context.now segment.now request.now line.now q
+        → IsHit (access_of context.now) segment.now request.now line.now q
         → before_each q.receipts ≡ found.now
         → access_reply_with end receipts.new ≡ q)) }
     ensures none { IfNone
         result
         ((q : AccessReply)
-        → IsHit context.now segment.now request.now line.now q
+        → IsHit (access_of context.now) segment.now request.now line.now q
         → before_each q.receipts ≡ found.now
         → ⊥) }
 {
@@ -141,7 +147,7 @@ pub fn walk_end(
 ) -> AccessEnd
     ensures by { result.by ≡ Some Walk }
     ensures walk { IsWalk
-        context.now
+        (access_of context.now)
         segment.now
         request.now
         (access_reply_with result receipts.new) }
@@ -149,7 +155,7 @@ pub fn walk_end(
         → before_each receipts.new ≡ found.now }
     ensures only { (q : AccessReply)
         → q.by ≡ Some Walk
-        → IsWalk context.now segment.now request.now q
+        → IsWalk (access_of context.now) segment.now request.now q
         → before_each q.receipts ≡ found.now
         → access_reply_with result receipts.new ≡ q }
 {

@@ -1,21 +1,25 @@
+use bus_window::Window;
 use frame_grants::Grants;
 use std::marker::Model;
 
-/// What the lines of a section have in common: the binary logarithm of the table's size in bytes,
-/// and the granted memory.
+/// What the lines of a section on one store of entries have in common: the binary logarithm of the
+/// store's size in bytes, the granted memory, and the DMA window whose entries the store has. The
+/// entries of the page table are no window's.
 #[derive(Drop)]
 pub struct Context<'a> {
     pub order: u8,
     pub grants: &'a Grants,
+    pub window: Option<Window>,
 }
 
 impl<'a> Model for Context<'a> {
     ghost use Rattle.std.specs.Prelude.{◌≤◌};
-    ghost use Rattle.hpt_walk.specs.Access.{AccessContext, access_context};
+    ghost use Rattle.run_model.specs.StoreContexts.{StoreContext};
 
-    ghost Value = { AccessContext };
+    ghost Value = { StoreContext };
 
-    ghost view = { λ c. access_context c.order c.grants.now.grants };
+    ghost view = { λ c.
+        record { order = c.order; grants = c.grants.now.grants; window = c.window } };
 
     ghost invariant = { λ c. (18 ≤ c.order) × (c.order ≤ 22) };
 }

@@ -1,16 +1,27 @@
-ghost use Rattle.std.specs.Prelude.{◌≡◌, ◌≤◌, ◌<◌, ◌+◌, ◌-◌, ◌^◌, ℕ, List, length, drop, map, replicate, true, None, IfOk, IfSome, IfNone, OnOk};
-ghost use Rattle.tlb_model.specs.Processor.{new_processor};
+ghost use Rattle.std.specs.Prelude.{◌≡◌, ◌≤◌, ◌<◌, ◌+◌, ◌-◌, ◌^◌, ℕ, List, length, drop, map, true, false, IfOk, IfSome, IfNone, OnOk};
+ghost use Rattle.std.specs.List.{list_any};
+ghost use Rattle.bus_window.specs.Windows.{BusWindow};
+ghost use Rattle.partition.specs.PartitionState.{HasStates};
 ghost use Rattle.trace_line.specs.Lines.{is_quiet};
+ghost use Rattle.trace_line.specs.declared.line.TraceLine.{TraceLine};
 ghost use Rattle.trace_reply.specs.declared.reply.Reply.{Reply};
 ghost use Rattle.trace_reply.specs.Replies.{lines_with_replies};
-ghost use Rattle.run_model.specs.RunState.{opening_run, run_quiet_line, run_resize, shown_of, without_cache};
-ghost use Rattle.run_model.specs.Sections.{section_end};
-ghost use Rattle.history_check.specs.FoundSection.{ArePlain, AreOnProcessors, IsFound};
+ghost use Rattle.run_model.specs.RunState.{shown_of, without_cache};
+ghost use Rattle.run_model.specs.SerialRun.{opening_stores};
+ghost use Rattle.run_model.specs.Windows as windows_of;
+ghost use Rattle.history_check.specs.FoundSection.{ArePlain, AreOnProcessors, HasNoSection, opening_of};
+ghost use Rattle.history_check.specs.FoundStores.{AreFound, run_quiet_on, stores_behind, windows_in};
+ghost use Rattle.history_check.specs.JudgedRun.{resize_on, run_state_of};
+ghost use Rattle.history_check.specs.StoreParts.{HasTablePart, HaveParts, HaveNoParts};
 
 use crate::context::Context;
-use crate::processor::Processor;
+use crate::parting::{is_on_window, lines_end, marked_part};
+use crate::processor::{Processor, new_processors};
 use crate::section::section_found;
+use crate::window_entries::WindowEntries;
+use bus_window::Window;
 use entry_model::HReply;
+use frame_grants::Grants;
 use papr_codes::{Hcall, Rc};
 use partition::Partition;
 use std::alloc::{AllocError, Global};
@@ -24,29 +35,22 @@ use trace_reply::{Reply, Shown};
 pub struct JudgedRun {
     partition: Partition,
     processors: Vec<Processor>,
+    windows: Vec<WindowEntries>,
 }
 
 impl Model for JudgedRun {
     ghost use Rattle.partition.specs.PartitionState.{HasStates};
-    ghost use Rattle.run_model.specs.RunState.{RunState};
-    ghost use Rattle.history_check.specs.JudgedRun.{run_state_of};
+    ghost use Rattle.run_model.specs.SerialRun.{AllStores};
+    ghost use Rattle.trace_read.specs.Configuration.{NumbersDiffer};
+    ghost use Rattle.history_check.specs.JudgedRun.{stores_of};
+    ghost use Rattle.history_check.specs.FoundStores.{windows_in};
 
-    ghost Value = { RunState };
+    ghost Value = { AllStores };
 
-    ghost view = { λ r. run_state_of r.partition r.processors.items };
+    ghost view = { λ r. stores_of r.partition r.processors.items r.windows.items };
 
-    ghost invariant = { λ r. HasStates r.partition };
-}
-
-/// So many processors, with no segment and nothing cached.
-fn new_processors(alloc: Global, count: u32) -> Result<Vec<Processor>, AllocError>
-    ensures { IfOk result (λ processors. processors.items ≡ replicate count new_processor) }
-{
-    let mut processors = Vec::with_capacity(alloc, count as usize)?;
-    for _ in 0..count {
-        processors.push(Processor::new())?;
-    }
-    Ok(processors)
+    ghost invariant = { λ r.
+        HasStates r.partition × NumbersDiffer (windows_in r.windows.items) };
 }
 
 /// Clears the cache of each processor.
@@ -58,17 +62,158 @@ fn clear_caches(processors: &mut Vec<Processor>)
     }
 }
 
+/// Whether a line names one of the windows.
+fn is_on_any(windows: &[WindowEntries], act: &Act) -> bool
+    ensures { result
+        ≡ list_any (λ (w : BusWindow). windows_of.is_on_window w act.now) (windows_in windows.now) }
+{
+    for entries in windows {
+        if is_on_window(&entries.window(), act) {
+            return true;
+        }
+    }
+    false
+}
+
+/// Which of the lines name none of the windows.
+fn marks_of_table(
+    alloc: Global,
+    windows: &[WindowEntries],
+    lines: &[TraceLine],
+) -> Result<Vec<bool>, AllocError>
+    ensures { IfOk
+        result
+        (λ marks.
+        marks.items
+        ≡ map
+        (λ (l : TraceLine). windows_of.is_on_table (windows_in windows.now) l.act)
+        lines.now) }
+{
+    let mut marks = Vec::with_capacity(alloc, lines.len())?;
+    for line in lines {
+        marks.push(!is_on_any(windows, &line.act))?;
+    }
+    Ok(marks)
+}
+
+/// The windows of a trace before its first line.
+fn opening_windows(alloc: Global, windows: &[Window]) -> Result<Vec<WindowEntries>, AllocError>
+    ensures { IfOk
+        result
+        (λ opened.
+        opened.items
+        ≡ map
+        (λ (w : BusWindow). record { window = w; states = windows_of.opening_window })
+        windows.now) }
+{
+    let mut opened = Vec::with_capacity(alloc, windows.len())?;
+    for window in windows {
+        opened.push(WindowEntries::new(alloc, *window)?)?;
+    }
+    Ok(opened)
+}
+
+/// Finds a section of the page table: how many bytes stand first that are the text of good replies
+/// to these lines. `None` where there are no such replies; then nothing is told of the table.
+fn table_found(
+    alloc: Global,
+    partition: &mut Partition,
+    processors: &mut Vec<Processor>,
+    lines: &[TraceLine],
+    text: &[u8],
+) -> Result<Option<usize>, AllocError>
+    requires has_states { HasStates partition.old }
+    requires plain { ArePlain lines.now }
+    requires cpus { AreOnProcessors (length processors.old.items) lines.now }
+    requires few { length lines.now ≤ 2 ^ 17 }
+    ensures within { IfOk result (λ found. IfSome found (λ count. count ≤ length text.now)) }
+    ensures some { IfOk
+        result
+        (λ found.
+        IfSome
+        found
+        (λ count.
+        HasTablePart
+        (run_state_of partition.old processors.old.items)
+        (run_state_of partition.new processors.new.items)
+        lines.now
+        text.now
+        count)) }
+    ensures none { IfOk
+        result
+        (λ found.
+        IfNone
+        found
+        (HasNoSection
+        (opening_of (run_state_of partition.old processors.old.items))
+        lines.now
+        text.now)) }
+    ensures has_states { HasStates partition.new }
+{
+    let order = partition.order();
+    let mut states = partition.take_states();
+    let context = Context {
+        order,
+        grants: partition.grants(),
+        window: None,
+    };
+    let found = section_found(alloc, &context, &mut states, processors, lines, text);
+    partition.put_states(states);
+    found
+}
+
+/// Finds the section of each window: whether the part of the text that is its lines' begins with
+/// good replies to them. Where one has no such replies, nothing is told of the windows.
+fn windows_found(
+    alloc: Global,
+    grants: &Grants,
+    cpus: usize,
+    windows: &mut Vec<WindowEntries>,
+    lines: &[TraceLine],
+    text: &[u8],
+) -> Result<bool, AllocError>
+    requires plain { ArePlain lines.now }
+    requires cpus { AreOnProcessors cpus lines.now }
+    requires few { length lines.now ≤ 2 ^ 17 }
+    ensures some { IfOk
+        result
+        (λ found.
+        found ≡ true
+        → HaveParts
+        grants.now.grants
+        cpus
+        lines.now
+        text.now
+        windows.old.items
+        windows.new.items) }
+    ensures none { IfOk
+        result
+        (λ found.
+        found ≡ false
+        → HaveNoParts grants.now.grants cpus lines.now text.now windows.old.items) }
+    ensures windows { windows_in windows.new.items ≡ windows_in windows.old.items }
+{
+    for i in 0..windows.len() {
+        if !windows[i].section(alloc, grants, cpus, lines, text)? {
+            return Ok(false);
+        }
+    }
+    Ok(true)
+}
+
 impl JudgedRun {
     /// Before the first line of a trace of this configuration.
     #[tactic(auto, unfolding(run_model::specs::RunState::opening_run))]
     pub fn open(alloc: Global, config: &Config) -> Result<JudgedRun, AllocError>
-        ensures { IfOk result (λ run. run ≡ opening_run config.now) }
+        ensures { IfOk result (λ run. run ≡ opening_stores config.now) }
     {
         let partition = Partition::open(alloc, config)?;
-        let processors = new_processors(alloc, config.cpus)?;
+        let processors = new_processors(alloc, config.cpus as usize)?;
+        let windows = opening_windows(alloc, config.windows.as_slice())?;
         Ok(JudgedRun {
             partition,
             processors,
+            windows,
         })
     }
 
@@ -81,7 +226,7 @@ impl JudgedRun {
         text: &[u8],
     ) -> Result<Option<usize>, AllocError>
         requires plain { ArePlain lines.now }
-        requires cpus { AreOnProcessors (length self.old.processors) lines.now }
+        requires cpus { AreOnProcessors (length self.old.table.processors) lines.now }
         requires few { length lines.now ≤ 2 ^ 17 }
         ensures within { IfOk result (λ found. IfSome found (λ count. count ≤ length text.now)) }
         ensures some { IfOk
@@ -91,46 +236,58 @@ impl JudgedRun {
             found
             (λ count.
             (rs : List Reply)
-            × IsFound self.old lines.now None text.now rs (drop count text.now)
-            × (self.new ≡ section_end self.old (lines_with_replies lines.now rs)))) }
+            × AreFound self.old lines.now text.now rs (drop count text.now)
+            × (self.new ≡ stores_behind self.old (lines_with_replies lines.now rs)))) }
         ensures none { IfOk
             result
             (λ found.
             IfNone
             found
             ((rs : List Reply) (rest : List ℕ)
-            → IsFound self.old lines.now None text.now rs rest
+            → AreFound self.old lines.now text.now rs rest
             → ⊥)) }
     {
-        let order = self.partition.order();
-        let mut states = self.partition.take_states();
-        let context = Context {
-            order,
-            grants: self.partition.grants(),
-        };
-        let found = section_found(
+        if self.windows.is_empty() {
+            let found = table_found(
+                alloc,
+                &mut self.partition,
+                &mut self.processors,
+                lines,
+                text,
+            )?;
+            return Ok(found);
+        }
+        let grants = self.partition.grants();
+        let cpus = self.processors.len();
+        if !windows_found(alloc, grants, cpus, &mut self.windows, lines, text)? {
+            return Ok(None);
+        }
+        let marks = marks_of_table(alloc, self.windows.as_slice(), lines)?;
+        let part = marked_part(alloc, lines, text, marks.as_slice())?;
+        let found = table_found(
             alloc,
-            &context,
-            &mut states,
+            &mut self.partition,
             &mut self.processors,
-            lines,
-            text,
-        );
-        self.partition.put_states(states);
-        found
+            part.lines.as_slice(),
+            part.text.as_slice(),
+        )?;
+        match found {
+            None => Ok(None),
+            Some(_) => Ok(Some(lines_end(text, lines.len()))),
+        }
     }
 
     /// The reply to a quiet line, as the run gives it.
     #[tactic(auto, unfolding(run_model::specs::RunState::run_quiet_line, trace_line::specs::Lines::is_quiet))]
     pub fn quiet(&mut self, alloc: Global, act: &Act) -> Result<Reply, AllocError>
         requires quiet { is_quiet act.now ≡ true }
-        requires number { self.old.memory.table.number < 2 ^ 32 - 1 }
+        requires number { self.old.table.memory.table.number < 2 ^ 32 - 1 }
         ensures reply { IfOk
             result
-            (λ reply. (reply, self.new) ≡ run_quiet_line self.old act.now) }
+            (λ reply. (reply, self.new) ≡ run_quiet_on self.old act.now) }
         ensures number { OnOk
             result
-            (self.new.memory.table.number ≤ self.old.memory.table.number + 1) }
+            (self.new.table.memory.table.number ≤ self.old.table.memory.table.number + 1) }
     {
         match *act {
             Act::Call { number, args, .. } => {
@@ -144,7 +301,7 @@ impl JudgedRun {
     // The table, as a dump shows it.
     #[tactic(auto, unfolding(run_model::specs::RunState::shown_of))]
     fn shown(&self, alloc: Global) -> Result<Shown, AllocError>
-        ensures { IfOk result (λ shown. shown ≡ shown_of self.now.memory) }
+        ensures { IfOk result (λ shown. shown ≡ shown_of self.now.table.memory) }
     {
         let order = self.partition.order();
         Shown::of_table(
@@ -159,13 +316,13 @@ impl JudgedRun {
     // One of the two resize calls. A committed resize clears each processor's cache.
     #[tactic(auto, unfolding(run_model::specs::RunState::run_resize))]
     fn resize(&mut self, alloc: Global, hcall: Hcall, args: &[u64; 8]) -> Result<HReply, AllocError>
-        requires number { self.old.memory.table.number < 2 ^ 32 - 1 }
+        requires number { self.old.table.memory.table.number < 2 ^ 32 - 1 }
         ensures reply { IfOk
             result
-            (λ reply. (Reply.Hcall reply, self.new) ≡ run_resize self.old hcall args.now) }
+            (λ reply. (Reply.Hcall reply, self.new) ≡ resize_on self.old hcall args.now) }
         ensures number { OnOk
             result
-            (self.new.memory.table.number ≤ self.old.memory.table.number + 1) }
+            (self.new.table.memory.table.number ≤ self.old.table.memory.table.number + 1) }
     {
         match hcall {
             Hcall::Prepare => self.partition.prepare(alloc, args[0], args[1]),

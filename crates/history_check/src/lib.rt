@@ -15,6 +15,7 @@ mod laws;
 mod line_reply;
 mod mark_steps;
 mod ordering;
+mod parting;
 mod placed;
 mod processor;
 mod reading;
@@ -22,6 +23,7 @@ mod replay;
 mod section;
 mod steps;
 mod verdict;
+mod window_entries;
 
 pub use checking::check_replies;
 pub use laws::{at_most_one, earlier_sections_stand, good_runs_are_good, one_verdict};

@@ -5,6 +5,7 @@ ghost use Rattle.entry_model.specs.declared.access_reply.By.TheVariants.{Hit};
 ghost use Rattle.entry_model.specs.Replies.{access_reply_with};
 ghost use Rattle.tlb_model.specs.Cache.{cached_line};
 ghost use Rattle.hpt_walk.specs.Access.{IsByWay};
+ghost use Rattle.run_model.specs.StoreContexts.{access_of};
 ghost use Rattle.trace_line.specs.Lines.{is_quiet};
 ghost use Rattle.trace_reply.specs.declared.reply.Reply.{Reply};
 ghost use Rattle.trace_reply.specs.Places.{reply_in};
@@ -13,13 +14,14 @@ ghost use Rattle.history_check.specs.Replay.{before_each};
 ghost use Rattle.history_check.specs.LineReply.{IsAccessOn, IsHitReply, IsReplyTo, IsReplyOn, FitsText, FitsNoReply};
 
 use crate::accesses::{hit_end, walk_end};
-use crate::calls::call_on;
+use crate::calls::{call_on, device_on};
 use crate::context::Context;
 use crate::fitting::fitting;
 use crate::processor::Processor;
-use entry_model::{AccessEnd, DeviceOutcome, EntryState, Outcome, Receipts};
+use entry_model::{AccessEnd, EntryState, Outcome, Receipts};
 use hpt_walk::Request;
 use papr_codes::Hcall;
+use run_model::Surroundings;
 use slb_model::{Segment, Slb};
 use std::alloc::AllocError;
 use trace_line::{Act, TraceLine};
@@ -49,7 +51,7 @@ fn cached_end(
         (end.by ≡ Some Hit)
         × (before_each receipts.new ≡ found.now)
         × IsByWay
-        context.now
+        (access_of context.now)
         segment.now
         request.now
         (cached_line processor.now.cache segment.now.page)
@@ -58,7 +60,7 @@ fn cached_end(
     ensures only { (q : AccessReply)
         → q.by ≡ Some Hit
         → IsByWay
-        context.now
+        (access_of context.now)
         segment.now
         request.now
         (cached_line processor.now.cache segment.now.page)
@@ -82,14 +84,14 @@ fn uncached_end(
     receipts: &mut Receipts,
 ) -> AccessEnd
     ensures reply { IsAccessOn
-        context.now
+        (access_of context.now)
         processor.now
         request.now
         (access_reply_with result receipts.new) }
     ensures before { length receipts.new ≡ length found.now
         → before_each receipts.new ≡ found.now }
     ensures only { (q : AccessReply)
-        → IsAccessOn context.now processor.now request.now q
+        → IsAccessOn (access_of context.now) processor.now request.now q
         → (q.by ≡ Some Hit → ⊥)
         → before_each q.receipts ≡ found.now
         → access_reply_with result receipts.new ≡ q }
@@ -162,10 +164,14 @@ fn put_other(
         → reply_in place.new ≡ q }
 {
     let receipts = &mut place.receipts;
+    let around = Surroundings {
+        grants: context.grants,
+        window: context.window,
+    };
     match *act {
         Act::Call { number, args, .. } => {
             let hcall = Hcall::of_number(number);
-            let registers = call_on(found, context.order, context.grants, hcall, &args, receipts);
+            let registers = call_on(found, context.order, &around, hcall, &args, receipts);
             place.end = ReplyEnd::Hcall(registers);
         }
         Act::Access { want, ea, user } => {
@@ -178,9 +184,9 @@ fn put_other(
             let end = uncached_end(context, processor, &request, found, receipts);
             place.end = ReplyEnd::Access(end);
         }
-        Act::Device { .. } => {
-            receipts.clear();
-            place.end = ReplyEnd::Device(DeviceOutcome::NoWindow);
+        Act::Device { write, ioba, .. } => {
+            let outcome = device_on(found, context.order, &around, ioba, write, receipts);
+            place.end = ReplyEnd::Device(outcome);
         }
         Act::SlbMte { rb, rs } => place.end = ReplyEnd::Segment(is_accepted(rb, rs)),
         Act::SlbClear => place.end = ReplyEnd::Segment(true),

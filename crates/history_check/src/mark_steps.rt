@@ -1,6 +1,6 @@
 ghost use Rattle.std.specs.Prelude.{◌≡◌, ◌≤◌, ◌<◌, ◌+◌, ◌^◌, ◌++◌, length, OnOk};
 ghost use Rattle.history_check.specs.Steps as steps_of;
-ghost use Rattle.history_check.specs.PlacedSteps.{line_op};
+ghost use Rattle.history_check.specs.PlacedSteps.{is_store_act};
 ghost use Rattle.history_check.specs.MarkSteps as steps_by;
 
 use crate::steps::raises_stamp;
@@ -26,7 +26,7 @@ pub struct LineStep {
 
 /// Whether the operations of a line are stores of a processor.
 fn is_store(act: &Act) -> bool
-    ensures { result ≡ steps_of.is_store_access (line_op act.now) }
+    ensures { result ≡ is_store_act act.now }
 {
     matches!(
         act,
@@ -81,7 +81,7 @@ pub fn put_steps(
         result
         (steps.new.items
         ≡ steps.old.items
-        ++ steps_by.mark_steps line (length steps.old.items) (line_op act.now) marks.now) }
+        ++ steps_by.mark_steps line (length steps.old.items) act.now marks.now) }
 {
     let store = is_store(act);
     for mark in marks {

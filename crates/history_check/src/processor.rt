@@ -1,4 +1,5 @@
-ghost use Rattle.std.specs.Prelude.{◌≡◌, List, Some};
+ghost use Rattle.std.specs.Prelude.{◌≡◌, List, Some, replicate, IfOk};
+ghost use Rattle.tlb_model.specs.Processor.{new_processor};
 ghost use Rattle.entry_model.specs.declared.receipt.Receipt.{Receipt};
 ghost use Rattle.entry_model.specs.Receipt as receipts;
 ghost use Rattle.entry_model.specs.Replies.{access_reply_with};
@@ -14,6 +15,7 @@ use authority_mask::Masks;
 use entry_model::{AccessEnd, Answer, By, Line, Receipt};
 use power_addr::Page;
 use slb_model::{Segment, Slb};
+use std::alloc::{AllocError, Global};
 use std::marker::Model;
 use tlb_model::Tlb;
 use trace_line::Act;
@@ -44,6 +46,17 @@ fn found_of(list: &[Receipt]) -> Option<Receipt>
     list.iter()
         .copied()
         .find(|receipt| !matches!(receipt.answer, Answer::NoMatch))
+}
+
+/// So many processors, with no segment and nothing cached.
+pub fn new_processors(alloc: Global, count: usize) -> Result<Vec<Processor>, AllocError>
+    ensures { IfOk result (λ processors. processors.items ≡ replicate count new_processor) }
+{
+    let mut processors = Vec::with_capacity(alloc, count)?;
+    for _ in 0..count {
+        processors.push(Processor::new())?;
+    }
+    Ok(processors)
 }
 
 impl Processor {

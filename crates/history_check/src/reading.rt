@@ -21,7 +21,7 @@ pub struct SectionSteps {
 }
 
 /// What stands before the first LF, and what stands behind it.
-fn first_line(text: &[u8]) -> Option<(&[u8], &[u8])>
+pub fn first_line(text: &[u8]) -> Option<(&[u8], &[u8])>
     ensures lacks { IfSome result (λ parts. lacks 10 parts.0.now ≡ true) }
     ensures parts { IfSome result (λ parts. text.now ≡ parts.0.now ++ 10 ∷ parts.1.now) }
     ensures none { IfNone result (lacks 10 text.now ≡ true) }

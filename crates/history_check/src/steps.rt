@@ -5,6 +5,7 @@ ghost use Rattle.history_check.specs.Steps as steps_of;
 ghost use Rattle.history_check.specs.PlacedSteps as placed_of;
 
 use authority_mask::Masks;
+use dma_window::entering;
 use entry_model::{Answer, EntryState, Op, Test, reply};
 use hpte_fields::normal;
 use papr_codes::Hcall;
@@ -17,9 +18,20 @@ const NO_TEST: Test = Test {
     andcond: None,
 };
 
-/// What is kept of each operation of a hypervisor call with these arguments.
-fn call_op(hcall: Hcall, args: &[u64; 8]) -> Op
-    ensures { result ≡ placed_of.call_op hcall args.now }
+/// What is kept of each operation by which this TCE is put: the answer tells whether it emptied the
+/// entry or was to enter the TCE there.
+fn tce_op(tce: u64, answer: Answer) -> Op
+    ensures { result ≡ placed_of.tce_op tce answer }
+{
+    match answer {
+        Answer::Entered | Answer::Taken => entering(tce),
+        _ => Op::Remove { test: NO_TEST },
+    }
+}
+
+/// What is kept of each operation of a hypervisor call with these arguments that was answered so.
+fn call_op(hcall: Hcall, args: &[u64; 8], answer: Answer) -> Op
+    ensures { result ≡ placed_of.call_op hcall args.now answer }
 {
     match hcall {
         Hcall::Enter => match normal(args[2], args[3]) {
@@ -33,16 +45,18 @@ fn call_op(hcall: Hcall, args: &[u64; 8]) -> Op
         },
         Hcall::ClearRef => Op::ClearRef,
         Hcall::ClearMod => Op::ClearMod,
+        Hcall::PutTce => tce_op(args[2], answer),
         _ => Op::Read,
     }
 }
 
-/// What is kept of each operation of a line: its test, and the segment and the masks of an access, are not.
-fn line_op(act: &Act) -> Op
-    ensures { result ≡ placed_of.line_op act.now }
+/// What is kept of each operation of a line that was answered so: its test, and the segment and the
+/// masks of an access, are not.
+fn act_op(act: &Act, answer: Answer) -> Op
+    ensures { result ≡ placed_of.act_op act.now answer }
 {
     match act {
-        Act::Call { number, args, .. } => call_op(Hcall::of_number(*number), args),
+        Act::Call { number, args, .. } => call_op(Hcall::of_number(*number), args, answer),
         Act::Access { want, .. } => Op::Access {
             tag: 0,
             base: 0,
@@ -53,6 +67,16 @@ fn line_op(act: &Act) -> Op
         },
         _ => Op::Read,
     }
+}
+
+/// The same, and nothing where the stamp was at its last value.
+fn line_op(act: &Act, answer: Answer) -> Op
+    ensures { result ≡ placed_of.line_op act.now answer }
+{
+    if matches!(answer, Answer::Worn) {
+        return Op::Read;
+    }
+    act_op(act, answer)
 }
 
 /// Whether the answer says that the stamp was raised.
@@ -111,10 +135,10 @@ pub fn may_change(answer: Answer) -> bool
 
 /// The state after an operation of a line, which was answered so on this state.
 pub fn next_state(act: &Act, answer: Answer, state: &EntryState) -> EntryState
-    ensures { result ≡ steps_of.next_by (placed_of.line_op act.now) answer state.now }
+    ensures { result ≡ steps_of.next_by (placed_of.line_op act.now answer) answer state.now }
 {
     if may_change(answer) {
-        state_after(&line_op(act), answer, state)
+        state_after(&line_op(act, answer), answer, state)
     } else {
         *state
     }

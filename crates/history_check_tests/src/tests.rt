@@ -116,6 +116,43 @@ const RESIZE_REPLIES: &str = "8 0 H_ENTER 0 0x20 | 0x20.0.0.entered
 25 0 H_RESIZE_HPT_COMMIT 2
 ";
 
+/// A DMA window's entry, and the page table's of the same index, over two sections.
+const WINDOW: &str = "order 18
+cpus 2
+ram 0x0 0x2000000000 0x40000000
+window 0x10 0x0 16
+begin
+0 H_PUT_TCE 0x10 0x1000 0x3003
+0 H_ENTER 0x8000000000 0x1 0x1001 0x4012
+1 dmaread 0x10 0x1008
+dump
+1 H_PUT_TCE 0x10 0x1000 0x5001
+0 H_GET_TCE 0x10 0x1000
+0 dmawrite 0x10 0x1008
+0 H_READ 0x0 0x1
+";
+
+const WINDOW_REPLIES: &str = "6 0 H_PUT_TCE 0 | 0x1.0.0.notfound 0x1.0.0.entered
+7 0 H_ENTER 0 0x1 | 0x1.0.0.entered
+8 1 dmaread at 0x2000003008 | 0x1.1.0.read
+9 dump table 0 order 18 place 0x1000000000 entries 1
+ 0x1 0x1001 0x4012 1
+10 1 H_PUT_TCE 0 | 0x1.1.0.removed 0x1.2.0.entered
+11 0 H_GET_TCE 0 0x5001 | 0x1.3.0.read
+12 0 dmawrite denied | 0x1.3.0.read
+13 0 H_READ 0 0x1001 0x4012 | 0x1.1.0.read
+";
+
+/// Two processors that put a TCE at the same page.
+const PUTS: &str = "order 18
+cpus 2
+ram 0x0 0x2000000000 0x40000000
+window 0x10 0x0 16
+begin
+0 H_PUT_TCE 0x10 0x1000 0x3003
+1 H_PUT_TCE 0x10 0x1000 0x5001
+";
+
 /// The verdict on a text of replies.
 fn verdict(alloc: Global, input: &str, text: &str) -> Result<Verdict, Fail> {
     let trace = match parse(alloc, input.as_bytes()) {
@@ -173,5 +210,40 @@ fn hits_and_walks_are_good(rt: HostRuntime) -> Result<(), Fail> {
 fn sections_with_resizes_are_good(rt: HostRuntime) -> Result<(), Fail> {
     let alloc = rt.alloc();
     assert_eq!(rt; verdict(alloc, RESIZE, RESIZE_REPLIES)?, Verdict::Good);
+    Ok(())
+}
+
+#[test]
+fn sections_of_windows_are_good(rt: HostRuntime) -> Result<(), Fail> {
+    let alloc = rt.alloc();
+    assert_eq!(rt; verdict(alloc, WINDOW, WINDOW_REPLIES)?, Verdict::Good);
+    Ok(())
+}
+
+#[test]
+fn a_put_that_meets_another_is_good(rt: HostRuntime) -> Result<(), Fail> {
+    let alloc = rt.alloc();
+    let told = verdict(
+        alloc,
+        PUTS,
+        "6 0 H_PUT_TCE 1 | 0x1.0.0.notfound 0x1.1.0.taken
+7 1 H_PUT_TCE 0 | 0x1.0.0.notfound 0x1.0.0.entered
+",
+    )?;
+    assert_eq!(rt; told, Verdict::Good);
+    Ok(())
+}
+
+#[test]
+fn puts_that_both_find_the_entry_empty_are_bad(rt: HostRuntime) -> Result<(), Fail> {
+    let alloc = rt.alloc();
+    let told = verdict(
+        alloc,
+        PUTS,
+        "6 0 H_PUT_TCE 0 | 0x1.0.0.notfound 0x1.0.0.entered
+7 1 H_PUT_TCE 0 | 0x1.0.0.notfound 0x1.0.0.entered
+",
+    )?;
+    assert_eq!(rt; told, Verdict::Bad(1));
     Ok(())
 }

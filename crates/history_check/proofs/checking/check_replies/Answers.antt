@@ -1,12 +1,12 @@
 use Rattle.std.proofs.Common.{◌≡◌, ◌∙◌, ◌-◌, ◌≤◌, [], ap, sym, arith, drop, take, length, length-drop, List, ℕ}
 use Rattle.std.proofs.lemmas.List.{take_all, drop_all}
-use Rattle.run_model.specs.RunState.{opening_run}
+use Rattle.run_model.specs.SerialRun.{AllStores, opening_stores}
 use Rattle.history_check.proofs.JudgedSections.{at_first, at_next, front_cpus, front_few, few_standing, number_stays, first_number, no_section, no_reply, no_last, last_ends, last_goes_on}
 use Rattle.history_check.proofs.checking.check_replies.Goals as goal
 
 pub loop-plain-init : goal.loop-plain-init
 loop-plain-init c =
-    let run = c.in_ok-run.ensures ∙ ap (λ t. opening_run t.config) c.trace.view_is in
+    let run = c.in_ok-run.ensures ∙ ap (λ t. opening_stores t.config) c.trace.view_is in
     let lines = c.as_slice-lines.ensures ∙ ap (λ t. t.lines) c.trace.view_is in
     record {
       reached = rw (run, lines) (at_first c.args.trace.now c.args.text.now c.keeps_limits.ensures);
@@ -29,7 +29,7 @@ pub quiet-requires-clause-number : goal.quiet-requires-clause-number
 quiet-requires-clause-number c =
     let few = few_standing _ _ _ _ _ _ c.keeps_limits.ensures c.loop-plain.invariant.reached in
     let found = rw c.in-Some-2.is at c.in_ok-count.ensures.some in
-    omega (arith, few, c.loop-plain.invariant.number, ap (λ w. w.memory.table.number) found.2 ∙ number_stays _ _)
+    omega (arith, few, c.loop-plain.invariant.number, ap (λ (w : AllStores). w.table.memory.table.number) found.2 ∙ number_stays _ _)
 
 -- The text behind a section that was found, as a slice.
 behind : (text : List ℕ) (count : ℕ) → take (length text - count) (drop count text) ≡ drop count text
@@ -46,7 +46,7 @@ loop-plain-preserved-in-Some-3 c =
     let told = rw c.in-Some-3.is at c.in_ok-behind.ensures.some in
     record {
       reached = at_next _ _ _ _ _ _ _ _ (rw c.in-Some.ensures.parts at c.loop-plain.invariant.reached) c.in-Some.ensures.plain c.in-Some.ensures.quiet found.0 _ _ _ _ _ found.1 found.2 c.in_ok-reply.ensures.reply (sym (behind c.loop-plain.rest.now c.in-Some-2.count) ∙ told);
-      number = omega (arith, c.in_ok-reply.ensures.number, c.loop-plain.invariant.number, ap (λ w. w.memory.table.number) found.2 ∙ number_stays _ _);
+      number = omega (arith, c.in_ok-reply.ensures.number, c.loop-plain.invariant.number, ap (λ (w : AllStores). w.table.memory.table.number) found.2 ∙ number_stays _ _);
     }
 
 pub loop-plain-preserved : goal.loop-plain-preserved
@@ -55,7 +55,7 @@ loop-plain-preserved c =
     let told = rw c.in-Some-3.is at c.in_ok-behind.ensures.some in
     record {
       reached = at_next _ _ _ _ _ _ _ _ (rw c.in-Some.ensures.parts at c.loop-plain.invariant.reached) c.in-Some.ensures.plain c.in-Some.ensures.quiet found.0 _ _ _ _ _ found.1 found.2 c.in_ok-reply.ensures.reply (sym (behind c.loop-plain.rest.now c.in-Some-2.count) ∙ told);
-      number = omega (arith, c.in_ok-reply.ensures.number, c.loop-plain.invariant.number, ap (λ w. w.memory.table.number) found.2 ∙ number_stays _ _);
+      number = omega (arith, c.in_ok-reply.ensures.number, c.loop-plain.invariant.number, ap (λ (w : AllStores). w.table.memory.table.number) found.2 ∙ number_stays _ _);
     }
 
 pub returns-in-Some-4 : goal.returns-in-Some-4

@@ -5,7 +5,7 @@ use Rattle.history_check.proofs.checking.check_replies.Given as goal
 abbrev pub invariant-loop-plain : goal.invariant-loop-plain
 invariant-loop-plain l = record {
   reached : AtSection l.trace l.text l.standing l.run l.lines l.rest;
-  number : l.run.memory.table.number ≤ l.standing;
+  number : l.run.table.memory.table.number ≤ l.standing;
 }
 
 abbrev pub decreases-loop-plain : goal.decreases-loop-plain

@@ -1,12 +1,24 @@
-use Rattle.std.proofs.Common.{ap, ◌∙◌, replicate}
+use Rattle.std.proofs.Common.{ap, ◌∙◌, map, replicate, sym, subst}
+use Rattle.bus_window.specs.Windows.{BusWindow}
 use Rattle.tlb_model.specs.Processor.{new_processor}
 use Rattle.run_model.specs.RunState.{opening_run}
+use Rattle.run_model.specs.SerialRun.{WindowState}
+use Rattle.run_model.specs.Windows.{opening_window}
 use Rattle.partition.specs.PartitionState.{opening_partition}
+use Rattle.trace_read.specs.Configuration.{NumbersDiffer}
 use Rattle.history_check.specs.JudgedRun.{run_state_of}
+use Rattle.history_check.proofs.WindowLoops.{opened_windows}
 use Rattle.history_check.proofs.judged_run.JudgedRun.open.Goals as goal
+
+abbrev at_first : BusWindow → WindowState
+at_first w = record { window = w; states = opening_window }
+
+pub invariant_of-result : goal.invariant_of-result
+invariant_of-result c = (c.in_ok-partition.ensures.has_states, subst NumbersDiffer (sym (opened_windows c.as_slice.result.now c.in_ok-windows.windows.items c.in_ok-windows.ensures)) (subst NumbersDiffer (sym c.as_slice.ensures.items) c.as_slice.ensures.windows.differ))
 
 pub returns : goal.returns
 unfolding opening_run opening_partition
 returns c =
     let processors = c.in_ok-processors.ensures ∙ ap (λ n. replicate n new_processor) (ap (λ config. config.cpus) c.config.view_is) in
-    λ i. run_state_of (c.in_ok-partition.ensures.ok i) (processors i)
+    let windows = c.in_ok-windows.ensures ∙ ap (map at_first) (c.as_slice.ensures.items ∙ ap (λ config. config.windows) c.config.view_is) in
+    λ i. record { table = run_state_of (c.in_ok-partition.ensures.ok i) (processors i); windows = windows i }

@@ -1,27 +1,60 @@
-use Rattle.std.proofs.Common.{◌∙◌, sym, ap, length}
-use Rattle.hpt_resize.specs.TableMemory.{with_states}
-use Rattle.hpt_walk.specs.Access.{access_context}
-use Rattle.partition.specs.PartitionState.{PartitionState, with_memory}
-use Rattle.history_check.specs.FoundSection.{opening_of, run_with}
+use Rattle.std.proofs.Common.{◌≡◌, ◌≤◌, ◌<◌, ◌∙◌, false, ap, sym, subst, map, length, List, arith}
+use Rattle.std.proofs.lemmas.Grind.{common_steps}
+use Rattle.trace_line.specs.Lines.{is_quiet}
+use Rattle.trace_line.specs.declared.line.TraceLine.{TraceLine}
+use Rattle.run_model.specs.Windows.{is_on_table}
+use Rattle.run_model.specs.SerialRun.{AllStores}
+use Rattle.history_check.specs.FoundSection.{ArePlain, AreOnProcessors}
 use Rattle.history_check.specs.JudgedRun.{run_state_of}
-use Rattle.history_check.proofs.JudgedRuns.{found_in_run, not_in_run, entries_few}
+use Rattle.history_check.specs.PartedText.{marked_lines, marked_text}
+use Rattle.history_check.specs.FoundStores.{windows_in}
+use Rattle.history_check.proofs.PartedTexts.{marked_is}
+use Rattle.history_check.proofs.WindowLoops.{each_marked, marked_few}
+use Rattle.history_check.proofs.JudgedStores.{table_alone, table_not_alone, not_on_windows, not_on_table, whole_found}
 use Rattle.history_check.proofs.judged_run.JudgedRun.section.Goals as goal
 
-pub section_found-found-requires-clause-few : goal.section_found-found-requires-clause-few
-section_found-found-requires-clause-few c = entries_few _ _ (ap length c.take_states-states.ensures.states ∙ c.self.invariant) c.order-order.ensures.sound.order_high
+pub returns-then-is_empty-clause-some : goal.returns-then-is_empty-clause-some
+returns-then-is_empty-clause-some c =
+    let none : length c.self.inside.windows.items ≡ 0 = grind (arith, common_steps, c.is_empty.ensures, c.if-is_empty.true) in
+    table_alone c.args.lines.now c.args.text.now c.in_ok-found.found c.args.self.now (run_state_of c.self.inside.partition c.self.inside.processors.items) (run_state_of c.table_found.new.partition c.table_found.new.processors.items) c.self.inside.windows.items c.self.view_is none c.in_ok-found.ensures.some
+
+pub returns-then-is_empty-clause-none : goal.returns-then-is_empty-clause-none
+returns-then-is_empty-clause-none c =
+    let none : length c.self.inside.windows.items ≡ 0 = grind (arith, common_steps, c.is_empty.ensures, c.if-is_empty.true) in
+    table_not_alone c.args.lines.now c.args.text.now c.in_ok-found.found c.args.self.now (run_state_of c.self.inside.partition c.self.inside.processors.items) c.self.inside.windows.items c.self.view_is none c.in_ok-found.ensures.none
+
+pub returns-then-not-branch-clause-none : goal.returns-then-not-branch-clause-none
+returns-then-not-branch-clause-none c =
+    let count : c.len-cpus.result ≡ length c.self.inside.processors.items = grind (arith, common_steps, c.len-cpus.ensures) in
+    not_on_windows c.args.lines.now c.args.text.now c.args.self.now (run_state_of c.self.inside.partition c.self.inside.processors.items) c.self.inside.windows.items _ _ c.self.view_is (ap (λ g. g.grants) c.grants-grants.ensures) count c.requires.plain (c.in_ok-windows_found.ensures.none c.if-not-branch.true)
+
+pub table_found-requires-2-clause-plain : goal.table_found-requires-2-clause-plain
+table_found-requires-2-clause-plain c = subst ArePlain (sym (c.as_slice-3.ensures.value ∙ c.in_ok-part.ensures.lines)) (each_marked (λ (l : TraceLine). is_quiet l.act ≡ false) c.as_slice-2.result.now c.args.lines.now c.requires.plain)
+
+pub table_found-requires-2-clause-cpus : goal.table_found-requires-2-clause-cpus
+table_found-requires-2-clause-cpus c =
+    let count : length c.args.self.now.table.processors ≡ length c.self.inside.processors.items = ap (λ (s : AllStores). length s.table.processors) (sym c.self.view_is) in
+    let own : AreOnProcessors (length c.self.inside.processors.items) c.args.lines.now = subst (λ n. AreOnProcessors n c.args.lines.now) count c.requires.cpus in
+    subst (AreOnProcessors (length c.self.inside.processors.items)) (sym (c.as_slice-3.ensures.value ∙ c.in_ok-part.ensures.lines)) (each_marked (λ (l : TraceLine). l.cpu < length c.self.inside.processors.items) c.as_slice-2.result.now c.args.lines.now own)
+
+pub table_found-requires-2-clause-few : goal.table_found-requires-2-clause-few
+table_found-requires-2-clause-few c = subst (λ (z : List TraceLine). length z ≤ 131072) (sym (c.as_slice-3.ensures.value ∙ c.in_ok-part.ensures.lines)) (omega (arith, c.requires.few, marked_few c.as_slice-2.result.now c.args.lines.now))
+
+pub returns-in-None-clause-none : goal.returns-in-None-clause-none
+returns-in-None-clause-none c =
+    let ws = ap windows_in c.as_slice.ensures.value ∙ c.windows_found.ensures.windows in
+    let marks = c.as_slice-2.ensures.value ∙ c.in_ok-marks.ensures ∙ ap (λ z. map (λ (l : TraceLine). is_on_table z l.act) c.args.lines.now) ws in
+    let lines = c.as_slice-3.ensures.value ∙ c.in_ok-part.ensures.lines ∙ ap (λ z. marked_lines z c.args.lines.now) marks ∙ marked_is (is_on_table (windows_in c.self.inside.windows.items)) c.args.lines.now in
+    let text = c.as_slice-4.ensures.value ∙ c.in_ok-part.ensures.text ∙ ap (λ z. marked_text z c.args.text.now) marks in
+    let none = rw c.in-None.is at c.in_ok-found-2.ensures.none in
+    not_on_table c.args.lines.now c.args.text.now c.args.self.now (run_state_of c.self.inside.partition c.self.inside.processors.items) c.self.inside.windows.items c.as_slice-3.result.now c.as_slice-4.result.now c.self.view_is c.requires.plain lines text none
 
 pub returns-clause-some : goal.returns-clause-some
 returns-clause-some c =
-    let order = sym c.order-order.ensures.value in
-    let grants = sym (ap (λ g. g.grants) c.grants.ensures ∙ ap (λ (p : PartitionState). p.granted.grants) c.take_states-states.ensures.out) in
-    let opening = ap opening_of (sym c.self.view_is) ∙ (λ i. record { context = access_context (order i) (grants i); states = sym c.take_states-states.ensures.states i; processors = c.self.inside.processors.items }) in
-    let put = c.put_states.ensures.put ∙ ap (λ (p : PartitionState). with_memory p (with_states p.memory c.section_found-found.new.states.items)) c.take_states-states.ensures.out in
-    let after = ap (λ (p : PartitionState). run_state_of p c.section_found-found.new.processors.items) put ∙ ap (λ w. run_with w c.section_found-found.new.states.items c.section_found-found.new.processors.items) c.self.view_is in
-    found_in_run _ _ _ _ _ _ _ _ opening after c.section_found-found.ensures.some
-
-pub returns-clause-none : goal.returns-clause-none
-returns-clause-none c =
-    let order = sym c.order-order.ensures.value in
-    let grants = sym (ap (λ g. g.grants) c.grants.ensures ∙ ap (λ (p : PartitionState). p.granted.grants) c.take_states-states.ensures.out) in
-    let opening = ap opening_of (sym c.self.view_is) ∙ (λ i. record { context = access_context (order i) (grants i); states = sym c.take_states-states.ensures.states i; processors = c.self.inside.processors.items }) in
-    not_in_run _ _ _ _ _ opening c.section_found-found.ensures.none
+    let ws = ap windows_in c.as_slice.ensures.value ∙ c.windows_found.ensures.windows in
+    let marks = c.as_slice-2.ensures.value ∙ c.in_ok-marks.ensures ∙ ap (λ z. map (λ (l : TraceLine). is_on_table z l.act) c.args.lines.now) ws in
+    let lines = c.as_slice-3.ensures.value ∙ c.in_ok-part.ensures.lines ∙ ap (λ z. marked_lines z c.args.lines.now) marks ∙ marked_is (is_on_table (windows_in c.self.inside.windows.items)) c.args.lines.now in
+    let text = c.as_slice-4.ensures.value ∙ c.in_ok-part.ensures.text ∙ ap (λ z. marked_text z c.args.text.now) marks in
+    let found = rw c.in-Some.is at c.in_ok-found-2.ensures.some in
+    let count : c.len-cpus.result ≡ length c.self.inside.processors.items = grind (arith, common_steps, c.len-cpus.ensures) in
+    whole_found c.args.lines.now c.args.text.now c.args.self.now (run_state_of c.self.inside.partition c.self.inside.processors.items) (run_state_of c.table_found-2.new.partition c.table_found-2.new.processors.items) c.self.inside.windows.items c.windows_found.new.windows.items _ _ c.as_slice-3.result.now c.as_slice-4.result.now c.in-Some.field-0 c.lines_end.result c.self.view_is (ap (λ g. g.grants) c.grants-grants.ensures) count c.requires.plain c.self.invariant.1 (c.in_ok-windows_found.ensures.some c.if-not-branch.false) lines text found c.lines_end.ensures.behind

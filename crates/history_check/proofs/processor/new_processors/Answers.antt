@@ -1,7 +1,7 @@
 use Rattle.std.proofs.Common.{◌≡◌}
 use Rattle.tlb_model.specs.Processor.{new_processor}
 use Rattle.run_model.proofs.ProcessorLists.{empty_more}
-use Rattle.history_check.proofs.judged_run.new_processors.Goals as goal
+use Rattle.history_check.proofs.processor.new_processors.Goals as goal
 
 pub loop-preserved : goal.loop-preserved
 unfolding new_processor

@@ -9,6 +9,8 @@ from common import Bad
 REFERENCED, CHANGED = 2, 1
 CHANGES = ("entered", "removed", "protected", "was", "at")
 COMMIT = "H_RESIZE_HPT_COMMIT"
+ON_WINDOWS = ("H_PUT_TCE", "H_GET_TCE", "dmaread", "dmawrite")
+TABLE, WINDOW = "table", "window"
 
 RECEIPT = re.compile(r"0x([0-9a-f]{1,16})\.([0-9]+)\.([0-3])\.([a-z]+)")
 
@@ -25,6 +27,7 @@ class Receipt:
     stamp: int
     bits: int
     answer: str
+    store: str  # which the entry is of: the page `table`, or a DMA `window`
 
     @property
     def bits_after(self) -> Optional[int]:
@@ -72,9 +75,28 @@ class Reply:
     line: int
     cpu: Optional[int]  # none of a dump
     call: str
-    ending: str  # a code, or `at`, `denied`, `masked`, `nopage`, `nosegment`, `nowindow`, `ok`, `refused`
+    # A code; of an access `at`, `denied`, `masked`, `nopage`, `nosegment`, of a device's `at`,
+    # `denied`, `nowindow`; `ok`, `refused`.
+    ending: str
     words: list[str]
     receipts: list[Receipt] = field(default_factory=list)
+    store: str = TABLE  # which all receipts are of
+
+    @property
+    def of_table(self) -> list[Receipt]:
+        """The receipts of the page table's entries: all of them, or none."""
+        return self.receipts if self.store == TABLE else []
+
+
+def store_of(call: str, ending: str, words: list[str], answers: list[str]) -> str:
+    """Which store a line is on. Of a call by its number the form of the reply tells it."""
+    is_on_window = call in ON_WINDOWS
+    if call == "hcall" and answers:
+        # Other calls that read or remove an entry, or find none, have other words or codes.
+        is_get = (answers, len(words)) == (["read"], 1)
+        is_put = answers[0] in ("removed", "notfound") and not words and ending in ("0", "1")
+        is_on_window = is_get or is_put
+    return WINDOW if is_on_window else TABLE
 
 
 def reply_of(text: str, table: int) -> Reply:
@@ -86,11 +108,13 @@ def reply_of(text: str, table: int) -> Reply:
     if len(words) < 4 or not (words[0].isdigit() and words[1].isdigit()):
         raise Bad(f"this is no reply: {text.strip()[:60]}")
     line, cpu, call = int(words[0]), int(words[1]), words[2]
+    found = RECEIPT.findall(tail)
+    store = store_of(call, words[3], words[4:], [answer for *_state, answer in found])
     receipts = [
-        Receipt(table, line, cpu, call, int(entry, 16), int(stamp), int(bits), answer)
-        for entry, stamp, bits, answer in RECEIPT.findall(tail)
+        Receipt(table, line, cpu, call, int(entry, 16), int(stamp), int(bits), answer, store)
+        for entry, stamp, bits, answer in found
     ]
-    return Reply(table, line, cpu, call, words[3], words[4:], receipts)
+    return Reply(table, line, cpu, call, words[3], words[4:], receipts, store)
 
 
 def replies_of(text: Iterable[str]) -> Iterator[tuple[Reply, list[int]]]:

@@ -1,4 +1,4 @@
-"""The lines of a trace: which are quiet, what a resize call asks, and how many lines papr takes."""
+"""The lines of a trace: which are quiet, what some calls ask, and how many lines papr takes."""
 
 from argparse import ArgumentTypeError
 from dataclasses import dataclass
@@ -13,6 +13,8 @@ ORDERS = range(18, 23)
 
 PREPARE, COMMIT = "H_RESIZE_HPT_PREPARE", "H_RESIZE_HPT_COMMIT"
 RESIZES = {0x36C: PREPARE, 0x370: COMMIT}
+PUTS = {0x20: "H_PUT_TCE"}
+A_PAGE, PERMISSIONS = 2**12, 0x3  # of a DMA window's page in bytes, and of a TCE
 
 
 @dataclass(frozen=True)
@@ -22,6 +24,25 @@ class Resize:
     name: str
     flags: int
     shift: int
+
+
+@dataclass(frozen=True)
+class Put:
+    """An H_PUT_TCE, by its name or by its number."""
+
+    liobn: int
+    ioba: int
+    tce: int
+
+    @property
+    def entry(self) -> tuple[int, int]:
+        """The window's number, and the page of its bus addresses."""
+        return self.liobn, self.ioba // A_PAGE
+
+    @property
+    def empties(self) -> bool:
+        """Whether the TCE permits nothing, and so empties the entry."""
+        return not self.tce & PERMISSIONS
 
 
 def read_order(word: str) -> int:
@@ -45,17 +66,32 @@ def is_run_line(words: list[str]) -> bool:
     return bool(words) and (words[0][0].isdigit() or words[0] == "dump")
 
 
-def resize_of(words: list[str]) -> Optional[Resize]:
-    """The resize call that a line makes, or nothing of any other line."""
+def call_of(
+    words: list[str], calls: dict[int, str], count: int
+) -> Optional[tuple[str, list[int]]]:
+    """The name and the arguments of one of these calls, or nothing of any other line."""
     if len(words) < 3:
         return None
     name, first = words[1], 2
     if name == "hcall":
-        name, first = RESIZES.get(number_of(words, 2) or 0, ""), 3
-    flags, shift = number_of(words, first), number_of(words, first + 1)
-    if name not in RESIZES.values() or flags is None or shift is None:
+        name, first = calls.get(number_of(words, 2) or 0, ""), 3
+    if name not in calls.values():
         return None
-    return Resize(name, flags, shift)
+    found = (number_of(words, first + place) for place in range(count))
+    given = [number for number in found if number is not None]
+    return (name, given) if len(given) == count else None
+
+
+def resize_of(words: list[str]) -> Optional[Resize]:
+    """The resize call that a line makes, or nothing of any other line."""
+    call = call_of(words, RESIZES, 2)
+    return None if call is None else Resize(call[0], *call[1])
+
+
+def put_of(words: list[str]) -> Optional[Put]:
+    """The H_PUT_TCE that a line makes, or nothing of any other line."""
+    call = call_of(words, PUTS, 3)
+    return None if call is None else Put(*call[1])
 
 
 def is_quiet(words: list[str]) -> bool:

@@ -8,7 +8,8 @@
  * (resizing.c). Nothing is cached: each access is a walk, so where papr writes `hit` this writes `walk`,
  * with the receipts of the whole walk; the answer is the same.
  *
- * A trace is taken to be one that papr accepts: but for its numbers nothing is checked.
+ * A trace is taken to be one that papr accepts: but for its numbers nothing is checked. The library has no
+ * DMA windows, so that a trace with a line `window` is refused.
  */
 #include "replay.h"
 
@@ -281,6 +282,11 @@ static int replay(char *text)
         lines[n].text = strsep(&text, "\n");
         if (lines[n].text[0] != '#' && !split(&lines[n])) {
             printf("papr: line %lu: number\n", n + 1);
+            free(lines);
+            return 2;
+        }
+        if (lines[n].words && !strcmp(lines[n].word[0], "window")) {
+            fprintf(stderr, "replay: line %lu: the library has no DMA windows\n", n + 1);
             free(lines);
             return 2;
         }

@@ -8,7 +8,6 @@ use Rattle.entry_model.specs.declared.receipt.Receipt.{Receipt}
 use Rattle.entry_model.specs.CachedLines.{AllLater}
 use Rattle.entry_model.specs.Run.{IsRun, IsStep, state_at}
 use Rattle.entry_model.proofs.RunHistory.{own_state, other_state}
-use Rattle.hpt_walk.specs.Access.{AccessContext}
 use Rattle.tlb_model.specs.Processor.{Processor}
 use Rattle.papr_table.specs.TableState.{TableState, IsMade, IsGone}
 use Rattle.trace_line.specs.declared.act.Act.{Act}
@@ -18,6 +17,7 @@ use Rattle.trace_reply.specs.Replies.{receipts_in}
 use Rattle.run_model.specs.Processors.{gone_line_of}
 use Rattle.run_model.specs.LineReplies.{IsCallReply, IsReplyToAccess}
 use Rattle.run_model.specs.SerialRun.{line_result}
+use Rattle.run_model.specs.StoreContexts.{StoreContext, access_of}
 use Rattle.run_model.proofs.OneReply.{IsPassed, replied_line_is}
 
 -- ---- lines that are gone
@@ -37,7 +37,7 @@ passed_before a t rs None run past gone = tt
 passed_before a t rs (Some line) run past gone = gone_before a t.states rs line run past gone
 
 -- ---- a line that runs alone
-pub alone : (set : AccessContext) (processor : Processor) (act : Act) (reply : Reply) (a b : TableState) → is_quiet act ≡ false → IsMade a b (receipts_in reply) → IsCallReply set act reply → IsReplyToAccess set processor act reply → IfSome (gone_line_of processor act reply) (λ line. AllLater line (receipts_in reply)) → IfSome (gone_line_of processor act reply) (IsGone b) → (reply, b.states) ≡ line_result set processor a.states act
+pub alone : (set : StoreContext) (processor : Processor) (act : Act) (reply : Reply) (a b : TableState) → is_quiet act ≡ false → IsMade a b (receipts_in reply) → IsCallReply set act reply → IsReplyToAccess (access_of set) processor act reply → IfSome (gone_line_of processor act reply) (λ line. AllLater line (receipts_in reply)) → IfSome (gone_line_of processor act reply) (IsGone b) → (reply, b.states) ≡ line_result set processor a.states act
 alone set processor act reply a b not_quiet made call access later gone =
     replied_line_is set processor a.states b.states (record { line = record { number = 0; cpu = 0; act = act }; reply = reply }) not_quiet
     (record { call = call; access = access; gone = passed_before a.states b (receipts_in reply) (gone_line_of processor act reply) made.run later gone; run = made.run })

@@ -4,6 +4,8 @@ use Rattle.std.specs.Prelude.{◌<◌, length, option_map, MatchOption}
 use Rattle.std.specs.List.{AllByRecursion}
 use Rattle.std.proofs.Math.Path.{transport, transport⁻¹}
 use Rattle.std.proofs.lemmas.Bool.{cases_Bool}
+use Rattle.bus_window.specs.Windows.{BusWindow}
+use Rattle.frame_grants.specs.Grants.{GrantedMemory}
 use Rattle.entry_model.specs.Run.{state_at}
 use Rattle.papr_codes.specs.declared.calls.Hcall.{Hcall}
 use Rattle.papr_codes.specs.Hcalls.{hcall_of}
@@ -14,11 +16,16 @@ use Rattle.trace_read.specs.Trace.{AcceptedTrace}
 use Rattle.trace_reply.specs.declared.reply.Reply.{Reply}
 use Rattle.trace_reply.specs.Replies.{RepliedLine, AreReplies, IsOfKind, lines_with_replies}
 use Rattle.run_model.specs.RunState.{RunState, opening_run, run_quiet_line, states_of}
-use Rattle.run_model.specs.Sections.{Section, QuietPart, cut, cut_before, sections_from, sections_of, section_end}
+use Rattle.run_model.specs.Quiet.{QuietPart, cut, cut_before}
+use Rattle.run_model.specs.Sections.{Section, sections_from, sections_of, section_end}
+use Rattle.run_model.specs.Windows.{is_on_table, lines_on_table, table_lines}
 use Rattle.run_model.specs.ShownStores.{ShowsChange, StoresAreShown, StaysShown, NoStoreIsLostIn, NoSetBitIsLostIn, ClearedBitsAreShown, carried_to, history_in, closing_state}
 use Rattle.run_model.specs.CommittedResizes.{commits_call, commits_by, is_committed, LeavesTable, ResizesKeepTranslations}
 use Rattle.run_model.specs.Landings.{AccessesLand, IsUnworn}
+use Rattle.run_model.specs.DeviceLandings.{DeviceLands}
 use Rattle.run_model.specs.Assurances.{Assures}
+use Rattle.run_model.proofs.Each.{each_filter}
+use Rattle.run_model.proofs.StoreLines.{kinds_each}
 use Rattle.lpar_set.specs.SetLaws.{without_place}
 use Rattle.papr_codes.specs.declared.calls.Hcall.TheVariants as calls
 use Rattle.trace_line.specs.declared.act.Act.TheVariants as acts
@@ -60,12 +67,34 @@ front_erased t x kind = at (cases_Bool (is_quiet t.line.act)) where
   at (inl q) = rw q
   at (inr q) = rw (q, same_reply t.line.act t.reply q kind)
 
-cut_erased : (ls : List TraceLine) (rs : List Reply) → AreReplies ls rs → cut (lines_with_replies ls (map without_place rs)) ≡ erased_cut (cut (lines_with_replies ls rs))
-cut_erased [] rs kinds = refl
-cut_erased (l ∷ ls) [] kinds = refl
-cut_erased (l ∷ ls) (r ∷ rs) kinds =
-    let t : RepliedLine = record { line = l; reply = r } in
-    ap (cut_before (erased_line t)) (cut_erased ls rs kinds.1) ∙ front_erased t (cut (lines_with_replies ls rs)) kinds.0
+-- Each line has a reply of its kind.
+abbrev AreOfKind : List RepliedLine → Type 0
+AreOfKind ts = AllByRecursion (λ (t : RepliedLine). IsOfKind t.line.act t.reply) ts
+
+cut_erased : (ts : List RepliedLine) → AreOfKind ts → cut (map erased_line ts) ≡ erased_cut (cut ts)
+cut_erased [] kinds = refl
+cut_erased (t ∷ ts) kinds = ap (cut_before (erased_line t)) (cut_erased ts kinds.1) ∙ front_erased t (cut ts) kinds.0
+
+replies_erased : (ls : List TraceLine) (rs : List Reply) → lines_with_replies ls (map without_place rs) ≡ map erased_line (lines_with_replies ls rs)
+replies_erased [] rs = refl
+replies_erased (l ∷ ls) [] = refl
+replies_erased (l ∷ ls) (r ∷ rs) = ap (λ ts. erased_line (record { line = l; reply = r }) ∷ ts) (replies_erased ls rs)
+
+-- Which lines are on the page table doesn't hang on the replies.
+on_table_erased : (ws : List BusWindow) (ts : List RepliedLine) → lines_on_table ws (map erased_line ts) ≡ map erased_line (lines_on_table ws ts)
+on_table_erased ws [] = refl
+on_table_erased ws (t ∷ ts) = at (cases_Bool (is_on_table ws t.line.act)) (on_table_erased ws ts) where
+  at : (is_on_table ws t.line.act ≡ true) ⊎ (is_on_table ws t.line.act ≡ false) → lines_on_table ws (map erased_line ts) ≡ map erased_line (lines_on_table ws ts) → lines_on_table ws (map erased_line (t ∷ ts)) ≡ map erased_line (lines_on_table ws (t ∷ ts))
+  at (inl q) rest = rw q (ap (λ us. erased_line t ∷ us) rest)
+  at (inr q) rest = rw q rest
+
+table_erased : (t : AcceptedTrace) (rs : List Reply) → AreReplies t.lines rs → cut (table_lines t (map without_place rs)) ≡ erased_cut (cut (table_lines t rs))
+table_erased t rs kinds =
+    let ws = t.config.windows in
+    let ts = lines_with_replies t.lines rs in
+    ap (λ us. cut (lines_on_table ws us)) (replies_erased t.lines rs)
+    ∙ ap cut (on_table_erased ws ts)
+    ∙ cut_erased (lines_on_table ws ts) (each_filter (λ (x : RepliedLine). IsOfKind x.line.act x.reply) (λ (x : RepliedLine). is_on_table ws x.line.act) ts (kinds_each t.lines rs kinds))
 
 from_erased : (w : RunState) (ts : List RepliedLine) (qs : List QuietPart) → sections_from w ts (map erased_part qs) ≡ map erased (sections_from w ts qs)
 from_erased w ts [] = refl
@@ -76,8 +105,8 @@ from_erased w ts (q ∷ qs) =
 pub sections_erased : (t : AcceptedTrace) (rs : List Reply) → AreReplies t.lines rs → sections_of t (map without_place rs) ≡ map erased (sections_of t rs)
 sections_erased t rs kinds =
     let w = opening_run t.config in
-    let c = cut (lines_with_replies t.lines rs) in
-    ap (λ (x : List RepliedLine × List QuietPart). sections_from w x.0 x.1) (cut_erased t.lines rs kinds) ∙ from_erased w c.0 c.1
+    let c = cut (table_lines t rs) in
+    ap (λ (x : List RepliedLine × List QuietPart). sections_from w x.0 x.1) (table_erased t rs kinds) ∙ from_erased w c.0 c.1
 
 -- ---- what holds of them
 each_erased : (Q : Section → Type 0) → ((s : Section) → Q (erased s) ≡ Q s) → (ss : List Section) → AllByRecursion Q (map erased ss) ≡ AllByRecursion Q ss
@@ -164,6 +193,24 @@ unworn_erased : (rs : List Reply) → AllByRecursion IsUnworn (map without_place
 unworn_erased [] = refl
 unworn_erased (r ∷ rs) = λ i. unworn_reply r i × unworn_erased rs i
 
+-- The device's access of a line, if it is one, lands so.
+abbrev LandsSo : GrantedMemory → RepliedLine → Type 0
+LandsSo granted t = DeviceLands granted t.line.act t.reply
+
+device_erased : (granted : GrantedMemory) (act : Act) (r : Reply) → DeviceLands granted act (without_place r) ≡ DeviceLands granted act r
+device_erased granted (acts.Device write liobn ioba) (replies.Hcall h) = refl
+device_erased granted (acts.Device write liobn ioba) (replies.Access a) = refl
+device_erased granted (acts.Device write liobn ioba) (replies.Segment accepted) = refl
+device_erased granted (acts.Device write liobn ioba) replies.MaskSet = refl
+device_erased granted (acts.Device write liobn ioba) (replies.Device d) = refl
+device_erased granted (acts.Device write liobn ioba) (replies.Dump shown) = refl
+device_erased granted act r = refl
+
+devices_erased : (granted : GrantedMemory) (ls : List TraceLine) (rs : List Reply) → AllByRecursion (LandsSo granted) (lines_with_replies ls (map without_place rs)) ≡ AllByRecursion (LandsSo granted) (lines_with_replies ls rs)
+devices_erased granted [] rs = refl
+devices_erased granted (l ∷ ls) [] = refl
+devices_erased granted (l ∷ ls) (r ∷ rs) = λ i. device_erased granted l.act r i × devices_erased granted ls rs i
+
 -- ---- all that a run assures
 -- Erasing the places keeps it.
 assured_in : (t : AcceptedTrace) (rs : List Reply) → AreReplies t.lines rs → Assures t rs → Assures t (map without_place rs)
@@ -176,6 +223,7 @@ assured_in t rs kinds h =
       cleared = rw same (transport⁻¹ (each_erased ClearedBitsAreShown (λ s. refl) ss) h.cleared);
       pages = rw same (resizes_in ss h.pages);
       landings = rw same (transport⁻¹ (each_erased (AccessesLand t.config.granted) (λ s. refl) ss) h.landings);
+      devices = transport⁻¹ (devices_erased t.config.granted t.lines rs) h.devices;
       unworn = transport⁻¹ (unworn_erased rs) h.unworn;
     }
 
@@ -190,6 +238,7 @@ assured_out t rs kinds h =
       cleared = transport (each_erased ClearedBitsAreShown (λ s. refl) ss) (rw same at h.cleared);
       pages = resizes_out ss (rw same at h.pages);
       landings = transport (each_erased (AccessesLand t.config.granted) (λ s. refl) ss) (rw same at h.landings);
+      devices = transport (devices_erased t.config.granted t.lines rs) h.devices;
       unworn = transport (unworn_erased rs) h.unworn;
     }
 

@@ -1,19 +1,21 @@
 -- The first lines of an accepted trace make one, so replies as of their serial run assure what it does.
-use Rattle.std.proofs.Common.{◌≡◌, refl, ap, sym, subst, map, ℕ, zero, suc, ◌<◌, ◌≤◌, ◌^◌, List, [], ◌∷◌, Bool, true, false, take, length, ◌⊎◌, inl, inr, arith, length-take}
+use Rattle.std.proofs.Common.{◌≡◌, refl, ap, sym, subst, ◌∙◌, map, ℕ, zero, suc, ◌<◌, ◌≤◌, ◌^◌, List, [], ◌∷◌, Bool, true, false, take, length, ◌⊎◌, inl, inr, arith, length-take}
 use Rattle.std.specs.Prelude.{cond, count_by}
 use Rattle.std.specs.List.{AllByRecursion}
 use Rattle.std.proofs.lemmas.Bool.{cases_Bool}
 use Rattle.std.proofs.lemmas.List.Sums.{sum_by-take-le}
+use Rattle.bus_window.specs.Windows.{BusWindow}
 use Rattle.trace_line.specs.declared.line.TraceLine.{TraceLine}
 use Rattle.trace_line.specs.Lines.{IsTrace, IsSpelt, is_quiet, is_dump}
 use Rattle.trace_read.specs.Trace.{AcceptedTrace, IsAccepted}
 use Rattle.trace_reply.specs.declared.reply.Reply.{Reply}
 use Rattle.trace_reply.specs.Replies.{AreReplies}
 use Rattle.run_model.specs.RunState.{RunState, opening_run}
-use Rattle.run_model.specs.SerialRun.{run_line, replies_from, serial_replies}
+use Rattle.run_model.specs.SerialRun.{run_line, replies_from, store_replies_from, serial_replies}
 use Rattle.run_model.specs.Assurances.{Assures}
 use Rattle.run_model.proofs.GoodAssured.{serial_assures}
-use Rattle.run_model.proofs.SerialGood.{serial_good}
+use Rattle.run_model.proofs.SerialStores.{no_windows, opened}
+use Rattle.run_model.proofs.StoresGood.{serial_good}
 use Rattle.lpar_set.specs.SetLaws.{is_no_mem, served, first_lines, without_place, RunsAsIfAlone}
 use Rattle.lpar_set.proofs.ErasedPlaces.{assured_like}
 
@@ -38,13 +40,24 @@ first_accepted n t is =
       few_quiet = omega (arith, count_take (λ (l : TraceLine). is_quiet l.act) n t.lines);
       few_dumps = omega (arith, count_take (λ (l : TraceLine). is_dump l.act) n t.lines);
     } in
-    record { configured = is.configured; sound = is.sound; entries = is.entries; lines = lines }
+    record { configured = is.configured; sound = is.sound; entries = is.entries; windows = is.windows; lines = lines }
+
+-- ---- the replies
+-- Where there is no DMA window each line is on the page table, and the serial run is that of the table.
+serial_alone : (t : AcceptedTrace) → t.config.windows ≡ [] → serial_replies t ≡ replies_from (opening_run t.config) t.lines
+serial_alone t none =
+    let w = opening_run t.config in
+    ap (λ (ws : List BusWindow). store_replies_from (record { table = w; windows = map opened ws }) t.lines) none ∙ no_windows w t.lines
 
 -- The first lines have the first replies.
-pub first_replies : (w : RunState) (ls : List TraceLine) (n : ℕ) → replies_from w (take n ls) ≡ take n (replies_from w ls)
+first_replies : (w : RunState) (ls : List TraceLine) (n : ℕ) → replies_from w (take n ls) ≡ take n (replies_from w ls)
 first_replies w ls zero = refl
 first_replies w [] (suc n) = refl
 first_replies w (l ∷ ls) (suc n) = ap (λ rs. (run_line w l).0 ∷ rs) (first_replies (run_line w l).1 ls n)
+
+-- They are those of the serial run.
+pub first_of_serial : (t : AcceptedTrace) (n : ℕ) → t.config.windows ≡ [] → replies_from (opening_run t.config) (take n t.lines) ≡ take n (serial_replies t)
+first_of_serial t n none = first_replies (opening_run t.config) t.lines n ∙ ap (take n) (sym (serial_alone t none))
 
 -- ---- the lines before the first H_NO_MEM
 -- The replies before it are those to the first lines.
@@ -57,9 +70,9 @@ served_kinds (l ∷ ls) (r ∷ rs) kinds = at (cases_Bool (is_no_mem r)) (served
   at (inl q) rest = rw q tt
   at (inr q) rest = rw q (kinds.0, rest)
 
-pub served_assured : (t : AcceptedTrace) (rs : List Reply) → IsAccepted t → AreReplies t.lines rs → RunsAsIfAlone t (served rs) → Assures (first_lines (length (served rs)) t) (served rs)
-served_assured t rs is kinds alone =
+pub served_assured : (t : AcceptedTrace) (rs : List Reply) → IsAccepted t → t.config.windows ≡ [] → AreReplies t.lines rs → RunsAsIfAlone t (served rs) → Assures (first_lines (length (served rs)) t) (served rs)
+served_assured t rs is none kinds alone =
     let first = first_lines (length (served rs)) t in
     let accepted : IsAccepted first = first_accepted (length (served rs)) t is in
-    let like : map without_place (served rs) ≡ map without_place (serial_replies first) = subst (λ qs. map without_place (served rs) ≡ map without_place qs) (sym (first_replies (opening_run t.config) t.lines (length (served rs)))) alone in
+    let like : map without_place (served rs) ≡ map without_place (serial_replies first) = subst (λ qs. map without_place (served rs) ≡ map without_place qs) (sym (serial_alone first none ∙ first_of_serial t (length (served rs)) none)) alone in
     assured_like first (served rs) (serial_replies first) (served_kinds t.lines rs kinds) (serial_good first accepted).kinds like (serial_assures first accepted)

@@ -33,6 +33,7 @@ read_partition number machine line = record {
       cpus = 1;
       granted = record { pool_base = 0x1000000000; pool_order = 19; grants = storage_at machine };
       entries = [];
+      windows = [];
     };
     lines = line ∷ [];
   };
@@ -75,7 +76,7 @@ refused_entry : set_of (codes "0 entry x\n") ≡ Err (1, whys.Lpar)
 unfolding set_of after_set_lines after_set_line after_set_words after_allowed after_numbered_words with_shared after_member after_own with_given after_text after_words after_form form_of form_named run_form verb_of call_named other_verb number_within with_order pool_named grant_named with_granted with_begin number_at number_of range_refusal add_refusal grant_refusals with_grant run_act dump_act act_by arguments_from mode_at after_act may_add is_quiet hcall_of row_of lowest_place multiples taken_with
 refused_entry = refl
 
-refused_window : set_of (codes "0 window x\n") ≡ Err (1, whys.Lpar)
+refused_window : set_of (codes "0 window 1 0 4\n") ≡ Err (1, whys.Lpar)
 unfolding set_of after_set_lines after_set_line after_set_words after_allowed after_numbered_words with_shared after_member after_own with_given after_text after_words after_form form_of form_named run_form verb_of call_named other_verb number_within with_order pool_named grant_named with_granted with_begin number_at number_of range_refusal add_refusal grant_refusals with_grant run_act dump_act act_by arguments_from mode_at after_act may_add is_quiet hcall_of row_of lowest_place multiples taken_with
 refused_window = refl
 

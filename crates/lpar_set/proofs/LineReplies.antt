@@ -28,6 +28,7 @@ use Rattle.trace_reply.specs.Replies.{IsOfKind}
 use Rattle.run_model.specs.Processors.{processor_at}
 use Rattle.run_model.specs.RunState.{RunState, context_of, states_of, run_resize, run_quiet_line}
 use Rattle.run_model.specs.SerialRun.{current_line, result_by_line, result_by_segment, line_result, run_line}
+use Rattle.run_model.specs.StoreContexts.{access_of, table_context}
 use Rattle.run_model.proofs.SerialGood.{quiet_kind}
 use Rattle.papr_codes.specs.declared.calls.Hcall.TheVariants as calls
 use Rattle.trace_line.specs.declared.act.Act.TheVariants as acts
@@ -78,7 +79,7 @@ segment_suits : (context : AccessContext) (p : Processor) (states : List State) 
 segment_suits context p states a None = (tt, tt)
 segment_suits context p states a (Some seg) = line_suits context states seg a (current_line states (cached_line p.cache seg.page))
 
-busy_suits : (context : AccessContext) (p : Processor) (states : List State) (act : Act) → is_quiet act ≡ false → Suits context.grants act (line_result context p states act).0
+busy_suits : (context : AccessContext) (p : Processor) (states : List State) (act : Act) → is_quiet act ≡ false → Suits context.grants act (line_result (table_context context) p states act).0
 unfolding line_result is_quiet
 busy_suits context p states (acts.Call number args spelt) q = (tt, tt)
 busy_suits context p states (acts.Access want ea user) q = segment_suits context p states (request want ea user p.masks) (segment_of p.slots ea)
@@ -112,4 +113,4 @@ line_reply w l = at (cases_Bool (is_quiet l.act)) where
   at (inl q) =
       let leaves = quiet_leaves w l.act in
       rw q ((quiet_kind w l.act q, leaves.0), leaves.1)
-  at (inr q) = rw q (busy_suits (context_of w) (processor_at w.processors l.cpu) (states_of w) l.act q, refl)
+  at (inr q) = rw q (busy_suits (access_of (context_of w)) (processor_at w.processors l.cpu) (states_of w) l.act q, refl)

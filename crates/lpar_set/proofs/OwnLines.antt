@@ -71,37 +71,39 @@ Moves (givens.Grant grant) old new = HasGranted grant old new
 Moves (givens.Begin order) old new = HasOpened order old new
 Moves givens.Run old new = HasRun old new
 
--- And no line of a set moves the pool, gives an entry, or counts itself.
+-- And no line of a set moves the pool, gives an entry or a window, or counts itself.
 pub record HasMoved (given : Given) (old new : Reading) : Type 0 where
   pub taken : new.taken ≡ old.taken
   pub base : new.config.granted.pool_base ≡ old.config.granted.pool_base
   pub order : new.config.granted.pool_order ≡ old.config.granted.pool_order
   pub entries : new.config.entries ≡ old.config.entries
+  pub windows : new.config.windows ≡ old.config.windows
   pub moves : Moves given old new
 
 -- ---- configuration lines
--- A setting leaves the grants and the entries.
+-- A setting leaves the grants, the entries and the windows.
 record Leaves (c d : Configuration) : Type 0 where
   granted : d.granted ≡ c.granted
   entries : d.entries ≡ c.entries
+  windows : d.windows ≡ c.windows
 
 order_leaves : (c d : Configuration) (ws : List (List ℕ)) → with_order c ws ≡ Ok d → Leaves c d
 unfolding with_order
 order_leaves c d ws e =
     let t = steps_taken (number_within ws 18 22) _ d e in
-    subst (Leaves c) (same_ok _ _ _ refl t.rest) (record { granted = refl; entries = refl })
+    subst (Leaves c) (same_ok _ _ _ refl t.rest) (record { granted = refl; entries = refl; windows = refl })
 
 limit_leaves : (c d : Configuration) (ws : List (List ℕ)) → with_limit c ws ≡ Ok d → Leaves c d
 unfolding with_limit
 limit_leaves c d ws e =
     let t = steps_taken (number_within ws c.order 22) _ d e in
-    subst (Leaves c) (same_ok _ _ _ refl t.rest) (record { granted = refl; entries = refl })
+    subst (Leaves c) (same_ok _ _ _ refl t.rest) (record { granted = refl; entries = refl; windows = refl })
 
 cpus_leave : (c d : Configuration) (ws : List (List ℕ)) → with_cpus c ws ≡ Ok d → Leaves c d
 unfolding with_cpus
 cpus_leave c d ws e =
     let t = steps_taken (number_within ws 1 64) _ d e in
-    subst (Leaves c) (same_ok _ _ _ refl t.rest) (record { granted = refl; entries = refl })
+    subst (Leaves c) (same_ok _ _ _ refl t.rest) (record { granted = refl; entries = refl; windows = refl })
 
 begin_leaves : (c d : Configuration) (ws : List (List ℕ)) → with_begin c ws ≡ Ok d → d ≡ c
 unfolding with_begin
@@ -134,21 +136,24 @@ not_running form stages.Cpus is here = refl
 not_running form stages.Pool is here = refl
 not_running form stages.Grants is here = refl
 not_running form stages.Entries is here = refl
+not_running form stages.Windows is here = refl
 not_running forms.Order stages.Lines is here = absurd (false≢true here)
 not_running forms.Limit stages.Lines is here = absurd (false≢true here)
 not_running forms.Cpus stages.Lines is here = absurd (false≢true here)
 not_running forms.Pool stages.Lines is here = absurd (false≢true here)
 not_running (forms.Grant kind) stages.Lines is here = absurd (false≢true here)
 not_running forms.Entry stages.Lines is here = absurd (false≢true here)
+not_running forms.Window stages.Lines is here = absurd (false≢true here)
 not_running forms.Begin stages.Lines is here = absurd (false≢true here)
 not_running (forms.Run verb) stages.Lines is here = absurd (false≢true is)
 not_running forms.Dump stages.Lines is here = absurd (false≢true is)
 
 -- ---- lines of each form
--- No form of the whole: a pool, or an entry.
+-- No form of the whole: a pool, an entry or a window.
 abbrev is_own : Form → Bool
 is_own forms.Pool = false
 is_own forms.Entry = false
+is_own forms.Window = false
 is_own other = true
 
 -- What a configuration line tells is what the reading has behind it.
@@ -167,6 +172,7 @@ setting_moves r stage said s before after each e =
       base = ap (λ g. g.pool_base) leaves.granted;
       order = ap (λ g. g.pool_order) leaves.granted;
       entries = leaves.entries;
+      windows = leaves.windows;
       moves = record { granted = leaves.granted; lines = refl; before = before; after = after };
     }) e
 
@@ -181,6 +187,7 @@ grant_moves r kind ws s before e =
       base = ap (λ (d : Configuration). d.granted.pool_base) adds.added;
       order = ap (λ (d : Configuration). d.granted.pool_order) adds.added;
       entries = ap (λ (d : Configuration). d.entries) adds.added;
+      windows = ap (λ (d : Configuration). d.windows) adds.added;
       moves = record { granted = ap (λ (d : Configuration). d.granted) adds.added; lines = refl; before = before; after = refl };
     })) e
 
@@ -194,6 +201,7 @@ begin_moves r ws s before e =
       base = ap (λ (d : Configuration). d.granted.pool_base) same;
       order = ap (λ (d : Configuration). d.granted.pool_order) same;
       entries = ap (λ (d : Configuration). d.entries) same;
+      windows = ap (λ (d : Configuration). d.windows) same;
       moves = record { order = refl; config = same; lines = refl; before = before; after = refl };
     }) e
 
@@ -208,6 +216,7 @@ act_moves r said s running e =
       base = refl;
       order = refl;
       entries = refl;
+      windows = refl;
       moves = record { config = refl; line = record { number = r.taken; cpu = x.value.0; act = x.value.1 }; lines = refl; before = running; after = running };
     })
 
@@ -219,6 +228,7 @@ form_moves forms.Cpus r ws s own here e = setting_moves r stages.Pool (with_cpus
 form_moves forms.Pool r ws s own here e = absurd (false≢true own)
 form_moves (forms.Grant kind) r ws s own here e = grant_moves r kind ws s (not_running (forms.Grant kind) r.stage refl here) e
 form_moves forms.Entry r ws s own here e = absurd (false≢true own)
+form_moves forms.Window r ws s own here e = absurd (false≢true own)
 form_moves forms.Begin r ws s own here e = begin_moves r ws s (not_running forms.Begin r.stage refl here) e
 form_moves (forms.Run verb) r ws s own here e = act_moves r (run_act r.config.cpus verb ws) s here e
 form_moves forms.Dump r ws s own here e = act_moves r (dump_act ws) s here e
@@ -240,9 +250,9 @@ own_if : (test : Bool) (form : Form) (o : Option Form) → (test ≡ true → is
 own_if true form o here rest = own_some form (here refl)
 own_if false form o here rest = rest
 
-named_own : (w : List ℕ) → bytes_eq (codes "pool") w ≡ false → bytes_eq (codes "entry") w ≡ false → AreOwn (form_named w)
+named_own : (w : List ℕ) → bytes_eq (codes "pool") w ≡ false → bytes_eq (codes "window") w ≡ false → bytes_eq (codes "entry") w ≡ false → AreOwn (form_named w)
 unfolding form_named
-named_own w no_pool no_entry =
+named_own w no_pool no_window no_entry =
     own_if (bytes_eq (codes "order") w) forms.Order _ (λ is. refl)
     (own_if (bytes_eq (codes "limit") w) forms.Limit _ (λ is. refl)
     (own_if (bytes_eq (codes "cpus") w) forms.Cpus _ (λ is. refl)
@@ -250,8 +260,9 @@ named_own w no_pool no_entry =
     (own_if (bytes_eq (codes "ram") w) (forms.Grant Ram) _ (λ is. refl)
     (own_if (bytes_eq (codes "io") w) (forms.Grant Io) _ (λ is. refl)
     (own_if (bytes_eq (codes "entry") w) forms.Entry _ (λ is. sym no_entry ∙ is)
+    (own_if (bytes_eq (codes "window") w) forms.Window _ (λ is. sym no_window ∙ is)
     (own_if (bytes_eq (codes "begin") w) forms.Begin _ (λ is. refl)
-    (own_if (bytes_eq (codes "dump") w) forms.Dump _ (λ is. refl) own_none))))))))
+    (own_if (bytes_eq (codes "dump") w) forms.Dump _ (λ is. refl) own_none)))))))))
 
 run_own : (ws : List (List ℕ)) (form : Form) → run_form ws ≡ Ok form → is_own form ≡ true
 unfolding run_form
@@ -269,8 +280,8 @@ unfolding form_of
 form_own [] form own e = absurd (never_ok _ form e)
 form_own (w ∷ ws) form own e =
     let pool = or_parts (bytes_eq (codes "pool") w) _ own in
-    let entry = or_parts (bytes_eq (codes "window") w) (bytes_eq (codes "entry") w) pool.1 in
-    form_by (begins_with_digit w) w ws form (named_own w pool.0 entry.1) e
+    let others = or_parts (bytes_eq (codes "window") w) (bytes_eq (codes "entry") w) pool.1 in
+    form_by (begins_with_digit w) w ws form (named_own w pool.0 others.0 others.1) e
 
 -- ---- lines
 -- The form of a line that was accepted.
@@ -293,7 +304,7 @@ words_move old new ws own e =
     rw formed.is (form_moves formed.form old ws new (form_own ws formed.form own formed.is) formed.here formed.rest)
 
 remark_moves : (old new : Reading) → old ≡ new → HasMoved givens.Remark old new
-remark_moves old new same = subst (HasMoved givens.Remark old) same (record { taken = refl; base = refl; order = refl; entries = refl; moves = refl })
+remark_moves old new same = subst (HasMoved givens.Remark old) same (record { taken = refl; base = refl; order = refl; entries = refl; windows = refl; moves = refl })
 
 text_by : (remark : Bool) (old new : Reading) (ws : List (List ℕ)) → is_of_the_whole ws ≡ false → (if remark then Ok old else after_words old ws) ≡ Ok new → HasMoved (if remark then givens.Remark else given_if (form_of ws) old.config ws) old new
 text_by true old new ws own e = remark_moves old new (same_ok _ _ _ refl e)
@@ -312,6 +323,7 @@ run_given forms.Cpus c ws run = absurd (false≢true (sym run))
 run_given forms.Pool c ws run = absurd (false≢true (sym run))
 run_given (forms.Grant kind) c ws run = absurd (false≢true (sym run))
 run_given forms.Entry c ws run = absurd (false≢true (sym run))
+run_given forms.Window c ws run = absurd (false≢true (sym run))
 run_given forms.Begin c ws run = absurd (false≢true (sym run))
 run_given (forms.Run verb) c ws run = refl
 run_given forms.Dump c ws run = refl
@@ -339,6 +351,7 @@ setting_given forms.Cpus c ws is = refl
 setting_given forms.Pool c ws is = refl
 setting_given (forms.Grant kind) c ws is = granted_no_run (grant_named kind ws)
 setting_given forms.Entry c ws is = refl
+setting_given forms.Window c ws is = refl
 setting_given forms.Begin c ws is = refl
 setting_given (forms.Run verb) c ws is = absurd (false≢true is)
 setting_given forms.Dump c ws is = absurd (false≢true is)

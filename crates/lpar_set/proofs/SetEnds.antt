@@ -86,7 +86,7 @@ each_of : (r : SetReading) (ns : List ℕ) → IsSetReading r → AllByRecursion
 each_of r [] is below accepted = tt
 each_of r (n ∷ ns) is below accepted =
     let beside = is_beside r n is in
-    (record { number = below.0; accepted = accepted.0; base = beside.base; order = beside.order; empty = beside.empty }, each_of r ns is below.1 accepted.1)
+    (record { number = below.0; accepted = accepted.0; base = beside.base; order = beside.order; empty = beside.empty; windows = beside.windows }, each_of r ns is below.1 accepted.1)
 
 -- Pairs of a list that is mapped.
 pairs_map : {X Y : Type 0} (R : Y → Y → Type 0) (f : X → Y) (xs : List X) (e : X) → ((i j : ℕ) → i < j → j < length xs → R (f (get_or xs i e)) (f (get_or xs j e))) → AllPairs R (map f xs)

@@ -41,7 +41,7 @@ begun_there r m begun = begun_option r.pool_base r.pool_order (reading_at r m) b
 
 -- ---- what all have
 beside_option : (base order taken : ℕ) (o : Option Reading) → IfSome o (IsBeside base order taken) → IsBeside base order taken (unwrap_or o (reading_beside base order))
-beside_option base order taken None is = record { base = refl; order = refl; empty = refl; none = λ stopped. refl; behind = omega arith }
+beside_option base order taken None is = record { base = refl; order = refl; empty = refl; windows = refl; none = λ stopped. refl; behind = omega arith }
 beside_option base order taken (Some reading) is = is
 
 -- The reading of a number stands beside the pool, also where it doesn't occur yet.
@@ -72,4 +72,4 @@ beside_later (None ∷ os) base order taken later most all = (tt, beside_later o
 beside_later (Some reading ∷ os) base order taken later most all =
     let is : IsBeside base order taken reading = all.0 in
     let behind : reading.taken ≤ taken = is.behind in
-    (record { base = is.base; order = is.order; empty = is.empty; none = is.none; behind = omega (arith, behind, most) }, beside_later os base order taken later most all.1)
+    (record { base = is.base; order = is.order; empty = is.empty; windows = is.windows; none = is.none; behind = omega (arith, behind, most) }, beside_later os base order taken later most all.1)

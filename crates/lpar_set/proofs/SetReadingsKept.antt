@@ -43,6 +43,7 @@ moved_beside r number given new is moved =
       base = moved.base ∙ old.base;
       order = moved.order ∙ old.order;
       empty = moved.entries ∙ old.empty;
+      windows = moved.windows ∙ old.windows;
       none = none_after given (retaken r number) new moved.moves old.none;
       behind = omega (arith, taken);
     }

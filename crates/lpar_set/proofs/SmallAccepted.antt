@@ -53,11 +53,13 @@ of_set number machine lines few placed off is = record {
     };
     sound = sound machine placed off;
     entries = record { each = tt; rising = tt };
+    windows = record { each = tt; few = omega arith; differ = tt };
     lines = is;
   };
   base = refl;
   order = refl;
   empty = refl;
+  windows = refl;
 }
 
 lower_trace : IsTrace 1 lower_lines

@@ -33,6 +33,7 @@ small_partition number machine lines = record {
       cpus = 1;
       granted = record { pool_base = 0x1000000000; pool_order = 19; grants = storage_at machine };
       entries = [];
+      windows = [];
     };
     lines = lines;
   };

@@ -12,12 +12,13 @@ sets_are_assured s is = record {
   count = reply_count s (opening_set s) s.turns;
   each = λ k inside.
       let rs = replies_of k s.turns (set_replies s) in
+      let own = of_set s is k inside in
       let kinds = kinds_of s is k inside in
       let alone = runs_as_if_alone s is k inside in
       record {
         kinds = kinds;
         at_home = at_home_of s is k inside;
         alone = alone;
-        assured = served_assured (partition_at s k).trace rs (of_set s is k inside).accepted kinds alone;
+        assured = served_assured (partition_at s k).trace rs own.accepted own.windows kinds alone;
       };
 }

@@ -10,11 +10,12 @@ use Rattle.lpar_set.specs.OpeningTables.{HasRoomFor, with_openings}
 use Rattle.lpar_set.specs.SetTrace.{AreStrangers, turns_of}
 use Rattle.lpar_set.specs.SetGrammar.{SetReading, reading_of, grants_read}
 
--- A partition's reading stands beside this pool, opens with no entry, has no run line before its `begin`, and has taken no line behind the last.
+-- A partition's reading stands beside this pool, opens with no entry, has no window, has no run line before its `begin`, and has taken no line behind the last.
 pub record IsBeside (pool_base pool_order taken : ℕ) (reading : Reading) : Type 0 where
   pub base : reading.config.granted.pool_base ≡ pool_base
   pub order : reading.config.granted.pool_order ≡ pool_order
   pub empty : reading.config.entries ≡ []
+  pub windows : reading.config.windows ≡ []
   pub none : is_running reading.stage ≡ false → reading.lines ≡ []
   pub behind : reading.taken ≤ taken
 

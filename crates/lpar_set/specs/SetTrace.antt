@@ -53,13 +53,14 @@ AreStrangers grants others =
     (λ (g : Grant). AllByRecursion (λ (other : Grant). meets_machine g other ≡ false) others)
     grants
 
--- Such a partition may be one of a set over this pool: its number is below 8, its trace is an accepted one beside the pool, and its opening table has no entry.
+-- Such a partition may be one of a set over this pool: its number is below 8, its trace is an accepted one beside the pool, its opening table has no entry, and it has no DMA window.
 pub record IsOfSet (pool_base pool_order : ℕ) (p : NumberedTrace) : Type 0 where
   pub number : p.number < 8
   pub accepted : IsAccepted p.trace
   pub base : p.trace.config.granted.pool_base ≡ pool_base
   pub order : p.trace.config.granted.pool_order ≡ pool_order
   pub empty : p.trace.config.entries ≡ []
+  pub windows : p.trace.config.windows ≡ []
 
 -- Each turn is one of a partition.
 abbrev pub IsTurnOf : AcceptedSet → Turn → Type 0

@@ -10,12 +10,13 @@ ghost use Rattle.trace_reply.specs.Places.{reply_in};
 ghost use Rattle.run_model.specs.Processors.{processor_after, gone_line_of};
 ghost use Rattle.run_model.specs.LineReplies.{IsCallReply, IsReplyToAccess};
 ghost use Rattle.run_model.specs.SerialRun.{line_result};
+ghost use Rattle.run_model.specs.StoreContexts.{table_context};
 
 use entry_model::DeviceOutcome;
 use frame_grants::Grants;
 use papr_codes::Hcall;
 use papr_table::PlainTable;
-use run_model::make_call;
+use run_model::{Surroundings, make_call};
 use trace_line::Act;
 use trace_reply::{ReplyEnd, ReplyPlace};
 use vcpu::Cpu;
@@ -33,7 +34,7 @@ pub fn run_act(
     requires seen { AllCached (IsSeen table.old) cpu.old.cache }
     ensures reply { (reply_in place.new, table.new.states)
         ≡ line_result
-        (access_context table.old.order grants.now.grants)
+        (table_context (access_context table.old.order grants.now.grants))
         cpu.old
         table.old.states
         act.now }
@@ -58,7 +59,7 @@ fn apply_act(
     requires seen { AllCached (IsSeen table.old) cpu.old.cache }
     ensures made { IsMade table.old table.new (receipts_in (reply_in place.new)) }
     ensures call { IsCallReply
-        (access_context table.old.order grants.now.grants)
+        (table_context (access_context table.old.order grants.now.grants))
         act.now
         (reply_in place.new) }
     ensures access { IsReplyToAccess
@@ -80,7 +81,12 @@ fn apply_act(
     match *act {
         Act::Call { number, args, .. } => {
             let hcall = Hcall::of_number(number);
-            let registers = make_call(table, grants, hcall, &args, &mut place.receipts);
+            // A partition of a set has no window.
+            let around = Surroundings {
+                grants,
+                window: None,
+            };
+            let registers = make_call(table, &around, hcall, &args, &mut place.receipts);
             place.end = ReplyEnd::Hcall(registers);
         }
         Act::Access { want, ea, user } => {

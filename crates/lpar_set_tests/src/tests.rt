@@ -37,7 +37,7 @@ const REFUSED: &[(&str, u32, Why)] = &[
     ("0 begin\nx begin\n", 2, Why::Lpar),
     ("0 pool 0x0 20\n", 1, Why::Lpar),
     ("0 entry old 0x20 0\n", 1, Why::Lpar),
-    ("0 window 1 2 3\n", 1, Why::Lpar),
+    ("0 window 0x1 0x0 4\n", 1, Why::Lpar),
     ("shared pool 1\n", 1, Why::Lpar),
     ("0\nshared 0x1000000000 19\n", 2, Why::Place),
     ("shared 0x1000000000 17\n", 1, Why::Range),

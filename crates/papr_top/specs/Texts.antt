@@ -3,8 +3,8 @@ use Rattle.std.specs.Prelude.{◌≡◌, ℕ, List, length}
 use Rattle.trace_read.specs.Trace.{AcceptedTrace}
 use Rattle.trace_reply.specs.declared.reply.Reply.{Reply}
 use Rattle.trace_reply.specs.declared.shown.Shown.{Shown}
-use Rattle.run_model.specs.RunState.{opening_run, shown_of}
-use Rattle.run_model.specs.SerialRun.{serial_replies, state_after_lines}
+use Rattle.run_model.specs.RunState.{shown_of}
+use Rattle.run_model.specs.SerialRun.{serial_replies, opening_stores, stores_after_lines}
 use Rattle.run_model.specs.GoodRun.{IsGoodRun}
 use Rattle.run_model.specs.Assurances.{Assures}
 use Rattle.reply_text.specs.Text.{text_of}
@@ -28,7 +28,8 @@ pub record IsParallelText (t : AcceptedTrace) (text : List ℕ) : Type 0 where
 
 -- The table at the end of the serial run.
 abbrev pub table_at_end : AcceptedTrace → Shown
-table_at_end t = shown_of (state_after_lines (opening_run t.config) t.lines).memory
+table_at_end t =
+    shown_of (stores_after_lines (opening_stores t.config) t.lines).table.memory
 
 -- The summary of the serial run of a trace, with the valid entries of the table at its end.
 unfoldable pub drill_text : AcceptedTrace → List ℕ

@@ -8,7 +8,7 @@ use papr_codes::Rc;
 use partition::Partition;
 use std::alloc::{AllocError, Global};
 use std::test::Fail;
-use trace_read::{Config, EntryLines};
+use trace_read::{Config, EntryLines, WindowLines};
 
 /// A partition with a table of the lowest order.
 fn smallest(alloc: Global, limit: u8, pool_order: u8) -> Result<Partition, AllocError>
@@ -29,6 +29,7 @@ fn smallest(alloc: Global, limit: u8, pool_order: u8) -> Result<Partition, Alloc
         pool_order,
         grants: Grants::new(0x10_0000_0000, pool_order),
         entries: EntryLines::new(alloc),
+        windows: WindowLines::new(),
     };
     Partition::open(alloc, &config)
 }

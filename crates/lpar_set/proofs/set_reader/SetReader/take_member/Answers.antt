@@ -1,4 +1,4 @@
-use Rattle.std.proofs.Common.{◌≡◌, ◌∙◌, ◌<◌, false, length, ap, subst, sym, arith}
+use Rattle.std.proofs.Common.{◌≡◌, ◌∙◌, ◌<◌, false, length, subst, sym, arith}
 use Rattle.trace_read.specs.Grammar.{after_text}
 use Rattle.trace_read.specs.TextLines.{texts}
 use Rattle.lpar_set.specs.SetGrammar.{SetReading, reading_of, after_own}

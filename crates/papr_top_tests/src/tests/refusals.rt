@@ -54,7 +54,7 @@ const REFUSED_INPUTS: &[(&str, &str)] = &[
     ("limit 20\norder 18\nbegin\n", "papr: line 2: place\n"),
     ("begin\n0 load 0x5000 root\n", "papr: line 2: mode\n"),
     ("begin\n0 H_FLUSH 0x0 0x20\n", "papr: line 2: word\n"),
-    ("order 18\nwindow 0x0\n", "papr: line 2: word\n"),
+    ("order 18\nwall 0x0\n", "papr: line 2: word\n"),
     ("order 18\r\r\nbegin\n", "papr: line 1: ascii\n"),
 ];
 

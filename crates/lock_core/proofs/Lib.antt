@@ -10,7 +10,6 @@ pub mod Whole
 pub mod Opening
 pub mod FrontsKept
 pub mod Listed
-pub mod Joining
 pub mod Telling
 pub mod Shown
 pub mod StateSteps

@@ -7,7 +7,8 @@ ghost use Rattle.lock_core.specs.Runs.{run, receipts_of};
 ghost use Rattle.lock_core.specs.Steps.{after_step};
 
 use entry_model::EntryState;
-use lock_core::{Core, CoreError, Step, every_history_is_legal};
+use lock_core::{CoreError, Step, every_history_is_legal};
+use lock_machine::Core;
 use std::alloc::Global;
 
 /// Takes a step, or leaves it out where it isn't allowed.

@@ -1,0 +1,4 @@
+mod Allowed
+mod Memory
+mod Sizes
+mod Joining

@@ -1,4 +1,6 @@
 pub mod Each
+pub mod HeldLines
+pub mod Commits
 pub mod LinesByProcessor
 pub mod LineReceipts
 pub mod StoreLines

@@ -1,6 +1,7 @@
 pub mod StoreContexts
 pub mod Quiet
 pub mod RunState
+pub mod HeldLines
 pub mod Processors
 pub mod LineReplies
 pub mod SerialRun

@@ -1,7 +1,5 @@
 pub mod Acting
 pub mod WindowPlaces
-pub mod Holding
-pub mod Resizing
 pub mod RunSteps
 pub mod OpeningMachine
 pub mod WorkSteps

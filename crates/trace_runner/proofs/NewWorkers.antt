@@ -14,7 +14,7 @@ use Rattle.run_model.specs.StoreContexts.{StoreContext}
 use Rattle.tlb_model.specs.Processor.{Processor}
 use Rattle.trace_line.specs.declared.line.TraceLine.{TraceLine}
 use Rattle.trace_runner.specs.declared.worker.Worker.{Worker}
-use Rattle.trace_runner.specs.MachineState.{Holding}
+use Rattle.run_model.specs.HeldLines.{Holding}
 use Rattle.trace_runner.specs.Workers.{Keeping, lines_of_cpu, IsFresh, IsRest, IsSeenBy, HasRun, AreOwn, IsReady}
 use Rattle.trace_runner.proofs.SectionWork.{below_or}
 

@@ -22,7 +22,7 @@ use Rattle.run_model.specs.Sections.{processors_after_lines}
 use Rattle.run_model.proofs.LinesByProcessor.{own_yes, own_processors}
 use Rattle.run_model.proofs.SectionGood.{section_legal}
 use Rattle.trace_runner.specs.declared.worker.Worker.{Worker}
-use Rattle.trace_runner.specs.MachineState.{AllHold}
+use Rattle.run_model.specs.HeldLines.{AllHold}
 use Rattle.trace_runner.specs.Workers.{Keeping, lines_of_cpu, count_with_lines, processors_before, HasRun, IsDone, AreDone, AllNumbered}
 use Rattle.trace_runner.specs.SectionRun.{HasNoOtherPass, pass_count, RanTogether}
 use Rattle.trace_runner.specs.StoreRuns.{AllKeep, HavePicked, RanStore, section_on}

@@ -29,7 +29,7 @@ use Rattle.run_model.specs.StoreSections.{StoreSection, made_in as made_by}
 use Rattle.run_model.specs.ParallelRun.{Works, AllWork, RunsApart}
 use Rattle.run_model.proofs.Each.{each_append}
 use Rattle.trace_runner.specs.declared.worker.Worker.{Worker}
-use Rattle.trace_runner.specs.MachineState.{Holding, AllHold}
+use Rattle.run_model.specs.HeldLines.{Holding, AllHold}
 use Rattle.trace_runner.specs.Workers.{Keeping, lines_of_cpu, replied_lines_of_cpu, count_with_lines, processors_before, IsSeenBy, HasRun, IsIdle, IsDone, AllNumbered}
 use Rattle.trace_runner.proofs.Numbered.{all_of}
 use Rattle.trace_runner.specs.SectionRun.{made_in, all_made, pass_count, IsGoneFor, IsSeenFor, AnyGone, AnySeen, IsJoinOf}

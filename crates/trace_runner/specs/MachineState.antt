@@ -1,16 +1,11 @@
 -- What the machine that runs a trace carries: a partition, its processors and its windows.
 use Rattle.std.specs.Prelude.{List}
-use Rattle.std.specs.List.{AllByRecursion}
-use Rattle.entry_model.specs.State.{State}
-use Rattle.tlb_model.specs.Cache.{AllCached}
-use Rattle.entry_model.specs.declared.line.Line.{Line}
-use Rattle.entry_model.specs.CachedLines.{Holds}
-use Rattle.entry_model.specs.Run.{state_at}
 use Rattle.tlb_model.specs.Processor.{Processor}
 use Rattle.trace_read.specs.Configuration.{NumbersDiffer}
 use Rattle.partition.specs.PartitionState.{PartitionState, HasStates}
 use Rattle.run_model.specs.RunState.{RunState}
 use Rattle.run_model.specs.SerialRun.{WindowState, AllStores}
+use Rattle.run_model.specs.HeldLines.{AllHold}
 use Rattle.trace_runner.specs.Windows.{windows_of}
 
 -- The run state of a partition and its processors.
@@ -27,15 +22,6 @@ stores_of partition processors windows = record {
   table = run_state_of partition processors;
   windows = windows;
 }
-
--- Each line that is cached holds of its entry's state.
-abbrev pub Holding : List State → Line → Type 0
-Holding states line = Holds line (state_at states line.entry)
-
--- Each line that a processor has cached does.
-abbrev pub AllHold : List State → List Processor → Type 0
-AllHold states processors =
-    AllByRecursion (λ (p : Processor). AllCached (Holding states) p.cache) processors
 
 -- The table has its states, all cached lines hold of them, and the numbers of the windows differ.
 pub record IsMachine

@@ -20,7 +20,7 @@ use Rattle.run_model.specs.Sections.{processor_after_lines}
 use Rattle.run_model.specs.Histories.{receipts_by}
 use Rattle.run_model.specs.ParallelRun.{Works}
 use Rattle.trace_runner.specs.declared.worker.Worker.{Worker}
-use Rattle.trace_runner.specs.MachineState.{Holding}
+use Rattle.run_model.specs.HeldLines.{Holding}
 
 -- A line with its reply.
 abbrev pub replied_line : TraceLine → Reply → RepliedLine

@@ -7,7 +7,7 @@ ghost use Rattle.entry_model.specs.Fronts.{opening_fronts};
 ghost use Rattle.tlb_model.specs.Cache.{AllCached};
 ghost use Rattle.entry_lock.specs.PassOfTable.{IsOf, view_of};
 ghost use Rattle.run_model.specs.StoreContexts.{StoreContext};
-ghost use Rattle.trace_runner.specs.MachineState.{AllHold, Holding};
+ghost use Rattle.run_model.specs.HeldLines.{AllHold, Holding};
 ghost use Rattle.trace_runner.specs.DealtLines.{AreDealt, count_with_own};
 ghost use Rattle.trace_runner.specs.Workers.{count_with_lines, processors_before, AreOwn, AreReady, IsFresh, IsReady, IsRest};
 

@@ -2,7 +2,7 @@
 ghost use Rattle.std.specs.Prelude.{◌≡◌, ◌≤◌, length, vec_len, IfOk};
 ghost use Rattle.hpte_fields.specs.TableSize.{entry_count};
 ghost use Rattle.run_model.specs.StoreContexts.{context_on};
-ghost use Rattle.trace_runner.specs.MachineState.{AllHold};
+ghost use Rattle.run_model.specs.HeldLines.{AllHold};
 ghost use Rattle.trace_runner.specs.StoreRuns.{AreRunnable, RanStore};
 
 use crate::gate::Gate;

@@ -1,4 +1,4 @@
-use Rattle.lpar_set.proofs.HeldCaches.{cache_on}
+use Rattle.run_model.proofs.HeldLines.{cache_on}
 use Rattle.lpar_set.proofs.act.apply_act.Goals as goal
 
 pub returns-in-Call-clause-seen : goal.returns-in-Call-clause-seen

@@ -2,9 +2,9 @@ use Rattle.std.proofs.Common.{◌≡◌, ◌∙◌, sym, subst, length, List, []
 use Rattle.std.proofs.lemmas.Bool.{eqb-true}
 use Rattle.tlb_model.specs.Processor.{Processor}
 use Rattle.trace_line.specs.declared.line.TraceLine.{TraceLine}
-use Rattle.trace_runner.specs.MachineState.{AllHold}
+use Rattle.run_model.specs.HeldLines.{AllHold}
 use Rattle.trace_runner.specs.StoreRuns.{RanWindow}
-use Rattle.trace_runner.proofs.Holding.{empty_hold}
+use Rattle.run_model.proofs.HeldLines.{empty_hold}
 use Rattle.trace_runner.proofs.NewWorkers.{nil_of}
 use Rattle.trace_runner.proofs.StoresRan.{window_idle}
 use Rattle.trace_runner.proofs.all_stores.run_on_window.Goals as goal

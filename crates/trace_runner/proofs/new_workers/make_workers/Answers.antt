@@ -1,7 +1,7 @@
 use Rattle.std.proofs.Common.{◌≡◌, ◌+◌, ◌∙◌, ◌++◌, sym, ap, refl, subst, suc, arith, length, ◌∷◌, Some, reverse}
 use Rattle.std.proofs.lemmas.List.{reverse-reverse}
 use Rattle.trace_runner.specs.declared.worker.Worker.{Worker}
-use Rattle.trace_runner.specs.MachineState.{AllHold}
+use Rattle.run_model.specs.HeldLines.{AllHold}
 use Rattle.trace_runner.specs.Workers.{processors_before, AreOwn, IsReady, IsRest, AllNumbered}
 use Rattle.trace_runner.specs.DealtLines.{count_with_own}
 use Rattle.trace_runner.proofs.JoinedWorkers.{popped_first, popped_count}

@@ -1,7 +1,7 @@
 use Rattle.std.proofs.Common.{◌≡◌, ◌+◌, ◌++◌, List, length, reverse, vec_capacity}
 use Rattle.run_model.specs.StoreContexts.{StoreContext}
 use Rattle.trace_line.specs.declared.line.TraceLine.{TraceLine}
-use Rattle.trace_runner.specs.MachineState.{AllHold}
+use Rattle.run_model.specs.HeldLines.{AllHold}
 use Rattle.trace_runner.specs.Workers.{processors_before, AreOwn, IsReady, IsRest, AllNumbered}
 use Rattle.trace_runner.specs.DealtLines.{AreDealt, count_with_own}
 use Rattle.trace_runner.proofs.new_workers.make_workers.Given as goal

@@ -4,7 +4,7 @@ use Rattle.trace_read.specs.Configuration.{Configuration}
 use Rattle.hpt_resize.specs.TableMemory.{empty_states, with_entries}
 use Rattle.hpt_resize.proofs.OpeningStates.{opening-length}
 use Rattle.lpar_set.specs.SetRun.{opening_member}
-use Rattle.lpar_set.proofs.HeldCaches.{empty_hold}
+use Rattle.run_model.proofs.HeldLines.{empty_hold}
 use Rattle.lpar_set.proofs.OpenedMember.{opened_place, opened_is}
 use Rattle.lpar_set.proofs.member.Member.open.Goals as goal
 

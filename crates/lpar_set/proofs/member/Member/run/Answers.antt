@@ -2,8 +2,8 @@ use Rattle.std.proofs.Common.{ap, sym, subst, ◌∙◌, List, length}
 use Rattle.entry_model.specs.State.{State}
 use Rattle.trace_reply.specs.Replies.{receipts_in}
 use Rattle.trace_reply.specs.Places.{reply_in}
-use Rattle.lpar_set.specs.BetweenLines.{AllHold}
-use Rattle.lpar_set.proofs.HeldCaches.{all_on}
+use Rattle.run_model.specs.HeldLines.{AllHold}
+use Rattle.run_model.proofs.HeldLines.{all_on}
 use Rattle.lpar_set.proofs.member.Member.run.Goals as goal
 
 pub invariant_of-self : goal.invariant_of-self

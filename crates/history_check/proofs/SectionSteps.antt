@@ -15,7 +15,7 @@ use Rattle.run_model.proofs.LinesByProcessor.{own_yes, own_no, processor_own, pr
 use Rattle.history_check.specs.FoundSection.{lines_text}
 use Rattle.history_check.specs.FrontKeeping.{AllLeadTo}
 use Rattle.history_check.specs.LineReply.{HasReply}
-use Rattle.history_check.specs.JudgedLines.{processors_behind, AllStand, AllInOrder, Judged, AreReplied}
+use Rattle.history_check.specs.JudgedLines.{processors_behind, AllStand, AllInOrder, judged, AreReplied}
 use Rattle.history_check.proofs.OneReply.{one_reply}
 
 -- ---- fronts
@@ -55,8 +55,6 @@ order_back F G ps t ts low leads h cpu e = at (cases_Bool (eqb t.line.cpu cpu)) 
       subst (λ f. InOrder e f (events_by (processor_at (processors_after ps t) cpu) (lines_of_processor cpu ts))) (sym (leads.others cpu other e)) (subst (λ q. InOrder e (F cpu e) (events_by q (lines_of_processor cpu ts))) (sym (processor_other ps t cpu other)) kept)
 
 -- ---- what is left to judge
-abbrev pub judged : StoreContext → List State → List TraceLine → List ℕ → List State → Judged
-judged context closing ls ns found = record { context = context; closing = closing; lines = ls; counts = ns; found = found }
 
 -- What is left decides, both ways.
 pub record IsLeft (context : StoreContext) (closing : List State) (ls ms : List TraceLine) (ns ks : List ℕ) (found states : List State) (ps qs : List Processor) (F G : ℕ → ℕ → ℕ) (given text : List ℕ) : Type 0 where

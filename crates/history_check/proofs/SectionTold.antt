@@ -1,5 +1,4 @@
 -- What a section's function owes, by what its parts tell.
-use Rattle.std.specs.Prelude.{IfSome, IfNone}
 use Rattle.std.proofs.Common.{map, ◌≡◌, ℕ, ◌+◌, ◌<◌, ◌≤◌, ◌^◌, List, [], ◌∷◌, ◌++◌, ap, sym, ◌∙◌, refl, subst, take, drop, get_or, length, Option, Some, None}
 use Rattle.std.proofs.lemmas.List.{take_more}
 use Rattle.entry_model.specs.State.{State}
@@ -11,11 +10,10 @@ use Rattle.trace_reply.specs.declared.reply.Reply.{Reply}
 use Rattle.history_check.specs.declared.mark_steps.LineStep.{LineStep}
 use Rattle.history_check.specs.PlacedSteps.{PlacedStep, FindStates}
 use Rattle.history_check.specs.OrderedSteps.{numbered, numbered_by}
-use Rattle.history_check.specs.FoundSection.{ArePlain, AreOnProcessors, Opening, HasSection, HasNoSection}
-use Rattle.history_check.specs.JudgedLines.{AreReplied}
+use Rattle.history_check.specs.FoundSection.{ArePlain, AreOnProcessors, Opening, HasSection, HasNoSection, TellsSection}
+use Rattle.history_check.specs.JudgedLines.{judged, AreReplied, TellsLines}
 use Rattle.history_check.specs.SectionMarks.{ReadMarks, NoMarks}
 use Rattle.history_check.proofs.Short.{LowStates}
-use Rattle.history_check.proofs.SectionSteps.{judged}
 use Rattle.history_check.proofs.WholeSection.{told_section, no_marks, no_replies}
 
 -- ---- what the parts tell of one opening
@@ -48,13 +46,9 @@ marks_has_not o ls given is none = no_marks o ls given is.plain is.cpus is.few i
 abbrev Judges : Opening → List TraceLine → List ℕ → List ℕ → List ℕ → List State → List State → List Reply → List ℕ → List Processor → Type 0
 Judges o ls given counts opening found closed rs rest later = AreReplied (judged o.context closed ls counts found) o.processors (λ cpu e. front_at opening e) given rs rest later
 
-pub some_told : (o : Opening) (ls : List TraceLine) (given : List ℕ) (steps : List LineStep) (counts opening : List ℕ) (listed found closing closed : List State) (later : List Processor) (j : Option ℕ) → IsOpening o ls → HasSteps o ls given steps counts listed closing → opening ≡ opening_fronts o.states → found ≡ listed → closed ≡ closing → IfSome j (λ n. (rs : List Reply) × Judges o ls given counts opening found closed rs (drop n given) later) → IfSome j (λ n. HasSection o ls given n closing later)
-some_told o ls given steps counts opening listed found closing closed later None is has pairs f c h = tt
-some_told o ls given steps counts opening listed found closing closed later (Some n) is has pairs f c h = section_has o ls given steps counts listed closing n later is has (h.0, subst (λ (z : List ℕ × List State × List State). Judges o ls given counts z.0 z.1 z.2 h.0 (drop n given) later) (λ i. (pairs i, f i, c i)) h.1)
-
-pub none_told : (o : Opening) (ls : List TraceLine) (given : List ℕ) (steps : List LineStep) (counts opening : List ℕ) (listed found closing closed : List State) (j : Option ℕ) → IsOpening o ls → HasSteps o ls given steps counts listed closing → opening ≡ opening_fronts o.states → found ≡ listed → closed ≡ closing → IfNone j ((rs : List Reply) (rest : List ℕ) (later : List Processor) → Judges o ls given counts opening found closed rs rest later → ⊥) → IfNone j (HasNoSection o ls given)
-none_told o ls given steps counts opening listed found closing closed None is has pairs f c h = section_has_not o ls given steps counts listed closing is has (λ rs rest later k. h rs rest later (subst (λ (z : List ℕ × List State × List State). Judges o ls given counts z.0 z.1 z.2 rs rest later) (λ i. (sym pairs i, sym f i, sym c i)) k))
-none_told o ls given steps counts opening listed found closing closed (Some n) is has pairs f c h = tt
+pub lines_told : (o : Opening) (ls : List TraceLine) (given : List ℕ) (steps : List LineStep) (counts opening : List ℕ) (listed found closing closed : List State) (later : List Processor) (j : Option ℕ) → IsOpening o ls → HasSteps o ls given steps counts listed closing → opening ≡ opening_fronts o.states → found ≡ listed → closed ≡ closing → TellsLines (judged o.context closed ls counts found) o.processors (λ cpu e. front_at opening e) given j later → TellsSection o ls given j closing later
+lines_told o ls given steps counts opening listed found closing closed later (Some n) is has pairs f c h = (h.0, section_has o ls given steps counts listed closing n later is has (h.1.0, subst (λ (z : List ℕ × List State × List State). Judges o ls given counts z.0 z.1 z.2 h.1.0 (drop n given) later) (λ i. (pairs i, f i, c i)) h.1.1))
+lines_told o ls given steps counts opening listed found closing closed later None is has pairs f c h = section_has_not o ls given steps counts listed closing is has (λ rs rest later k. h rs rest later (subst (λ (z : List ℕ × List State × List State). Judges o ls given counts z.0 z.1 z.2 rs rest later) (λ i. (sym pairs i, sym f i, sym c i)) k))
 
 -- ---- the pairs of the opening states
 pub pairs_more : (pairs more : List ℕ) (ss : List State) (i : ℕ) (s : State) → i < length ss → s ≡ get_or ss i s → pairs ≡ opening_fronts (take i ss) → more ≡ pairs ++ pair_of s ∷ [] → more ≡ opening_fronts (take (i + 1) ss)

@@ -32,13 +32,12 @@ use Rattle.history_check.specs.PlacedSteps.{PlacedStep, placed_step, placed_line
 use Rattle.history_check.specs.OrderedSteps.{numbered, numbered_by}
 use Rattle.history_check.specs.FoundSection.{ArePlain, AreOnProcessors, Opening, section_on, IsFound, HasSection, HasNoSection}
 use Rattle.history_check.specs.LineReply.{StandsOn}
-use Rattle.history_check.specs.JudgedLines.{processors_behind, AllStand, AllInOrder, AreReplied}
+use Rattle.history_check.specs.JudgedLines.{processors_behind, AllStand, AllInOrder, AreReplied, judged}
 use Rattle.history_check.specs.SectionMarks.{section_steps, HasItsMarks, ShowMarks, MarkEntries, ReadMarks, NoMarks}
 use Rattle.history_check.proofs.TextMarks.{short_marks}
 use Rattle.history_check.proofs.Short.{LowStates, ShortLines, lines_short}
 use Rattle.history_check.proofs.LineSteps as shown
 use Rattle.history_check.proofs.FoundStates.{section_finds, found_section}
-use Rattle.history_check.proofs.SectionSteps.{judged}
 
 -- ---- fronts
 front_is : (a : List State) (e : ℕ) → front_at (opening_fronts a) e ≡ pair_of (state_at a e)

@@ -1,10 +1,11 @@
 -- Loops over windows, over lines, and over lines of text.
-use Rattle.std.specs.Prelude.{◌||◌, if◌then◌else◌}
-use Rattle.std.specs.List.{AllByRecursion, list_any}
-use Rattle.std.proofs.Common.{◌≡◌, ℕ, zero, suc, ◌+◌, ◌<◌, ◌≤◌, List, [], ◌∷◌, ◌++◌, Bool, true, false, ap, sym, ◌∙◌, refl, subst, map, length, take, drop, get_or, set, arith, append_assoc, append-nil}
+use Rattle.std.specs.Prelude.{if◌then◌else◌}
+use Rattle.std.specs.List.{AllByRecursion}
+use Rattle.std.proofs.Common.{◌≡◌, ℕ, zero, suc, ◌+◌, ◌<◌, ◌≤◌, List, [], ◌∷◌, ◌++◌, Bool, true, false, ap, sym, ◌∙◌, refl, subst, filter, map, length, take, drop, get_or, set, arith, append_assoc, append-nil}
 use Rattle.std.proofs.lemmas.List.{take_more, drop_more, drop-drop}
 use Rattle.bus_window.specs.Windows.{BusWindow}
 use Rattle.frame_grants.specs.declared.grant.Grant.{Grant}
+use Rattle.trace_line.specs.declared.act.Act.{Act}
 use Rattle.trace_line.specs.declared.line.TraceLine.{TraceLine}
 use Rattle.entry_model.specs.State.{State}
 use Rattle.tlb_model.specs.Processor.{Processor}
@@ -15,6 +16,7 @@ use Rattle.history_check.specs.PartedText.{first_told, behind_told, marked_lines
 use Rattle.history_check.specs.FoundStores.{window_opening, windows_in}
 use Rattle.history_check.specs.StoreParts.{HasPart, HasNoPart, HaveParts, HaveNoParts}
 use Rattle.history_check.proofs.ListedStates.{past_end}
+use Rattle.history_check.proofs.PartedTexts.{marked_is}
 
 -- ---- lists
 pub map_more : {A B : Type 0} (f : A → B) (xs : List A) (i : ℕ) (x : A) (ys more : List B) → i < length xs → x ≡ get_or xs i x → ys ≡ map f (take i xs) → more ≡ ys ++ f x ∷ [] → more ≡ map f (take (i + 1) xs)
@@ -80,19 +82,6 @@ module _ (grants : List Grant) (cpus : ℕ) (ls : List TraceLine) (text : List �
   pub part_is_not : (v u : WindowState) (own : List TraceLine) (told : List ℕ) → v ≡ u → own ≡ trace_lines_on_window v.window ls → told ≡ part_text (is_on_window v.window) ls text → HasNoSection (window_opening grants cpus v) own told → HasNoPart grants cpus ls text u
   part_is_not v u own told same lines words h = subst (HasNoPart grants cpus ls text) same (subst (λ (z : List TraceLine × List ℕ). HasNoSection (window_opening grants cpus v) z.0 z.1) (λ i. (lines i, words i)) h)
 
--- ---- whether one of them has a line
-any_at : (f : BusWindow → Bool) (vs : List WindowState) (i : ℕ) (v : WindowState) → i < length vs → v ≡ get_or vs i v → list_any f (windows_in (drop i vs)) ≡ (f v.window || list_any f (windows_in (drop (i + 1) vs)))
-any_at f vs i v low at = ap (λ z. list_any f (windows_in z)) (drop_more vs i v low ∙ ap (λ z. z ∷ drop (i + 1) vs) (sym at))
-
-pub any_next : (f : BusWindow → Bool) (vs : List WindowState) (i : ℕ) (v : WindowState) → i < length vs → v ≡ get_or vs i v → f v.window ≡ false → list_any f (windows_in vs) ≡ list_any f (windows_in (drop i vs)) → list_any f (windows_in vs) ≡ list_any f (windows_in (drop (i + 1) vs))
-any_next f vs i v low at off h = h ∙ any_at f vs i v low at ∙ rw off refl
-
-pub any_here : (f : BusWindow → Bool) (vs : List WindowState) (i : ℕ) (v : WindowState) → i < length vs → v ≡ get_or vs i v → f v.window ≡ true → list_any f (windows_in vs) ≡ list_any f (windows_in (drop i vs)) → true ≡ list_any f (windows_in vs)
-any_here f vs i v low at on h = sym (h ∙ any_at f vs i v low at ∙ rw on refl)
-
-pub any_none : (f : BusWindow → Bool) (vs : List WindowState) (i : ℕ) → length vs ≤ i → list_any f (windows_in vs) ≡ list_any f (windows_in (drop i vs)) → false ≡ list_any f (windows_in vs)
-any_none f vs i past h = sym (h ∙ ap (λ z. list_any f (windows_in z)) (past_end vs i past))
-
 -- ---- marked lines
 -- The lines so far, and those of the marks that are left.
 pub record AreMarked (marks : List Bool) (lines : List TraceLine) (text : List ℕ) (i : ℕ) (rest : List ℕ) (own : List TraceLine) (told : List ℕ) : Type 0 where
@@ -131,3 +120,10 @@ marked_few [] lines = omega arith
 marked_few (m ∷ marks) [] = omega arith
 marked_few (true ∷ marks) (l ∷ lines) = omega (arith, marked_few marks lines)
 marked_few (false ∷ marks) (l ∷ lines) = omega (arith, marked_few marks lines)
+
+-- those of the lines that pass a test
+pub own_each : (P : TraceLine → Type 0) (f : Act → Bool) (ls : List TraceLine) → AllByRecursion P ls → AllByRecursion P (filter (λ (l : TraceLine). f l.act) ls)
+own_each P f ls h = subst (AllByRecursion P) (marked_is f ls) (each_marked P (map (λ (l : TraceLine). f l.act) ls) ls h)
+
+pub own_few : (f : Act → Bool) (ls : List TraceLine) → length (filter (λ (l : TraceLine). f l.act) ls) ≤ length ls
+own_few f ls = omega (arith, ap length (marked_is f ls), marked_few (map (λ (l : TraceLine). f l.act) ls) ls)

@@ -1,5 +1,5 @@
 -- One section of a run, found where a text begins.
-use Rattle.std.specs.Prelude.{◌≡◌, ℕ, ◌<◌, List, [], ◌∷◌, ◌++◌, drop, false}
+use Rattle.std.specs.Prelude.{◌≡◌, ℕ, ◌<◌, ◌≤◌, Option, Some, None, List, [], ◌∷◌, ◌++◌, drop, length, false}
 use Rattle.std.specs.List.{AllByRecursion}
 use Rattle.entry_model.specs.State.{State}
 use Rattle.tlb_model.specs.Processor.{Processor}
@@ -82,8 +82,17 @@ pub record HasSection
     pub replies : List Reply
     pub found : IsFound o ls text replies (drop n text)
     pub closes : closing_of (section_on o (lines_with_replies ls replies)) ≡ states
-    pub behind : processors_after_lines 0 o.processors (lines_with_replies ls replies) ≡ processors
+    pub behind :
+        processors_after_lines 0 o.processors (lines_with_replies ls replies) ≡ processors
 
 -- The lines have no good replies with whose text the text begins.
 abbrev pub HasNoSection : Opening → List TraceLine → List ℕ → Type 0
 HasNoSection o ls text = (rs : List Reply) (rest : List ℕ) → IsFound o ls text rs rest → ⊥
+
+-- What is told of a section: with a number, that it is found, with so many bytes of the text, and
+-- what it leaves; with none, that it is not.
+abbrev pub TellsSection :
+    Opening → List TraceLine → List ℕ → Option ℕ → List State → List Processor → Type 0
+TellsSection o ls text (Some n) states processors =
+    (n ≤ length text) × HasSection o ls text n states processors
+TellsSection o ls text None states processors = HasNoSection o ls text

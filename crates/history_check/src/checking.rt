@@ -1,7 +1,9 @@
-ghost use Rattle.std.specs.Prelude.{◌≡◌, ◌++◌, ◌∷◌, ℕ, List, true, IfOk, IfSome, IfNone};
+ghost use Rattle.std.specs.Prelude.{◌≡◌, ◌≤◌, ◌<◌, ◌+◌, ◌-◌, ◌^◌, ◌++◌, ◌∷◌, ℕ, List, true, IfOk, IfSome, IfNone, OnOk};
 ghost use Rattle.trace_line.specs.Lines.{is_quiet};
 ghost use Rattle.reply_text.specs.Text.{reply_text};
+ghost use Rattle.run_model.specs.SerialRun.{opening_stores};
 ghost use Rattle.history_check.specs.FoundSection.{ArePlain};
+ghost use Rattle.history_check.specs.FoundStores.{run_quiet_on};
 ghost use Rattle.history_check.specs.Verdict.{IsVerdict};
 
 use crate::judged_run::JudgedRun;
@@ -52,15 +54,51 @@ fn behind_reply<'a>(
     Ok(text.strip_prefix(told.as_bytes()))
 }
 
-/// The verdict on a text of replies to a trace: `Good` where it is the text of a good run of the
-/// trace, else `Bad` with the first section that no good run explains. Sections are counted from 1,
-/// and a quiet line ends each but the last; where all are explained and something follows them, it
-/// is one more than there are.
-pub fn check_replies(alloc: Global, trace: &Trace, text: &[u8]) -> Result<Verdict, AllocError>
+/// What stands in the text behind the reply to a quiet line, which the run then has behind it.
+/// `None` where that reply does not stand first.
+fn behind_quiet<'a>(
+    alloc: Global,
+    run: &mut JudgedRun,
+    line: &TraceLine,
+    text: &'a [u8],
+) -> Result<Option<&'a [u8]>, AllocError>
+    requires quiet { is_quiet line.now.act ≡ true }
+    requires number { run.old.table.memory.table.number < 2 ^ 32 - 1 }
+    ensures some { IfOk
+        result
+        (λ behind.
+        IfSome
+        behind
+        (λ rest.
+        text.now ≡ reply_text line.now (run_quiet_on run.old line.now.act).0 ++ rest.now)) }
+    ensures none { IfOk
+        result
+        (λ behind.
+        IfNone
+        behind
+        ((rest : List ℕ)
+        → text.now ≡ reply_text line.now (run_quiet_on run.old line.now.act).0 ++ rest
+        → ⊥)) }
+    ensures run { OnOk result (run.new ≡ (run_quiet_on run.old line.now.act).1) }
+    ensures number { OnOk
+        result
+        (run.new.table.memory.table.number ≤ run.old.table.memory.table.number + 1) }
+{
+    let reply = run.quiet(alloc, &line.act)?;
+    behind_reply(alloc, line, &reply, text)
+}
+
+/// The verdict on a text of replies to a trace, from a run that has just been opened on.
+fn judge_sections(
+    alloc: Global,
+    run: &mut JudgedRun,
+    trace: &Trace,
+    text: &[u8],
+) -> Result<Verdict, AllocError>
+    requires opened { run.old ≡ opening_stores trace.now.config }
     ensures { IfOk result (λ verdict. IsVerdict trace.now text.now verdict) }
 {
     trace.keeps_limits();
-    let mut run = JudgedRun::open(alloc, &trace.config)?;
     let mut lines = trace.lines.as_slice();
     let mut rest = text;
     let mut standing = 0;
@@ -68,8 +106,7 @@ pub fn check_replies(alloc: Global, trace: &Trace, text: &[u8]) -> Result<Verdic
         let Some(count) = run.section(alloc, plain, rest)? else {
             return Ok(Verdict::Bad(standing + 1));
         };
-        let reply = run.quiet(alloc, &quiet.act)?;
-        let Some(behind) = behind_reply(alloc, quiet, &reply, &rest[count..])? else {
+        let Some(behind) = behind_quiet(alloc, run, quiet, &rest[count..])? else {
             return Ok(Verdict::Bad(standing + 1));
         };
         rest = behind;
@@ -81,4 +118,15 @@ pub fn check_replies(alloc: Global, trace: &Trace, text: &[u8]) -> Result<Verdic
         Some(_) => Ok(Verdict::Bad(standing + 2)),
         None => Ok(Verdict::Bad(standing + 1)),
     }
+}
+
+/// The verdict on a text of replies to a trace: `Good` where it is the text of a good run of the
+/// trace, else `Bad` with the first section that no good run explains. Sections are counted from 1,
+/// and a quiet line ends each but the last; where all are explained and something follows them, it
+/// is one more than there are.
+pub fn check_replies(alloc: Global, trace: &Trace, text: &[u8]) -> Result<Verdict, AllocError>
+    ensures { IfOk result (λ verdict. IsVerdict trace.now text.now verdict) }
+{
+    let mut run = JudgedRun::open(alloc, &trace.config)?;
+    judge_sections(alloc, &mut run, trace, text)
 }

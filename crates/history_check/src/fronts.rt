@@ -12,8 +12,8 @@ use entry_model::{EntryState, Line, Receipt};
 use std::alloc::{AllocError, Global};
 use std::collections::HashMap;
 
-/// The fronts of one processor: of each entry, the pair of stamp and number of bits that it has come
-/// to in a section.
+/// The fronts of one processor: of each entry, the pair of stamp and number of bits that it has
+/// come to in a section.
 #[derive(Drop)]
 pub struct Fronts {
     /// Those of all entries, or of none where that takes too much room.

@@ -12,10 +12,11 @@ ghost use Rattle.run_model.specs.Windows as windows_of;
 ghost use Rattle.history_check.specs.FoundSection.{ArePlain, AreOnProcessors, HasNoSection, opening_of};
 ghost use Rattle.history_check.specs.FoundStores.{AreFound, run_quiet_on, stores_behind, windows_in};
 ghost use Rattle.history_check.specs.JudgedRun.{resize_on, run_state_of};
+ghost use Rattle.history_check.specs.PartedText.{part_text};
 ghost use Rattle.history_check.specs.StoreParts.{HasTablePart, HaveParts, HaveNoParts};
 
 use crate::context::Context;
-use crate::parting::{is_on_window, lines_end, marked_part};
+use crate::parting::{Part, is_on_window, lines_end, marked_part};
 use crate::processor::{Processor, new_processors};
 use crate::section::section_found;
 use crate::window_entries::WindowEntries;
@@ -94,6 +95,29 @@ fn marks_of_table(
         marks.push(!is_on_any(windows, &line.act))?;
     }
     Ok(marks)
+}
+
+/// The lines that name none of the windows, and their part of the text.
+fn table_part(
+    alloc: Global,
+    windows: &[WindowEntries],
+    lines: &[TraceLine],
+    text: &[u8],
+) -> Result<Part, AllocError>
+    ensures lines { IfOk
+        result
+        (λ part.
+        part.lines.items
+        ≡ windows_of.trace_lines_on_table (windows_in windows.now) lines.now) }
+    ensures text { IfOk
+        result
+        (λ part.
+        part.text.items
+        ≡ part_text (windows_of.is_on_table (windows_in windows.now)) lines.now text.now) }
+{
+    let marks = marks_of_table(alloc, windows, lines)?;
+    let part = marked_part(alloc, lines, text, marks.as_slice())?;
+    Ok(part)
 }
 
 /// The windows of a trace before its first line.
@@ -262,8 +286,7 @@ impl JudgedRun {
         if !windows_found(alloc, grants, cpus, &mut self.windows, lines, text)? {
             return Ok(None);
         }
-        let marks = marks_of_table(alloc, self.windows.as_slice(), lines)?;
-        let part = marked_part(alloc, lines, text, marks.as_slice())?;
+        let part = table_part(alloc, self.windows.as_slice(), lines, text)?;
         let found = table_found(
             alloc,
             &mut self.partition,

@@ -1,12 +1,8 @@
-ghost use Rattle.std.specs.Prelude.{◌≡◌, ◌<◌, ◌++◌, true, false, ℕ, List, IfOk, IfSome, IfNone};
+ghost use Rattle.std.specs.Prelude.{◌≡◌, ◌<◌, true, false, IfOk, IfSome};
 ghost use Rattle.entry_model.specs.Run.{state_at};
 ghost use Rattle.trace_line.specs.Lines.{is_quiet};
-ghost use Rattle.trace_reply.specs.declared.reply.Reply.{Reply};
-ghost use Rattle.reply_text.specs.Text.{reply_text};
-ghost use Rattle.run_model.specs.Processors.{processor_after};
-ghost use Rattle.run_model.specs.Histories.{Event, InOrder, events_in};
-ghost use Rattle.history_check.specs.FrontKeeping.{front_of, LeadsTo};
-ghost use Rattle.history_check.specs.LineReply.{StandsOn, HasReply};
+ghost use Rattle.history_check.specs.FrontKeeping.{front_of};
+ghost use Rattle.history_check.specs.JudgedLines.{TellsReply};
 
 use crate::context::Context;
 use crate::fitting::receipts_of;
@@ -53,39 +49,22 @@ pub fn judge_line(
     place: &mut ReplyPlace,
 ) -> Result<Option<usize>, AllocError>
     requires { is_quiet line.now.act ≡ false }
-    ensures some { IfOk
+    ensures { IfOk
         result
         (λ o.
-        IfSome
-        o
-        (λ n.
-        (h : HasReply
-        context.now
-        closing.now
+        TellsReply
+        (record {
+          context = context.now;
+          closing = closing.now;
+          line = line.now;
+          found = found.now;
+          given = given.now;
+        })
         processor.old
-        line.now
-        found.now
-        given.now
-        n)
-        × (processor.new ≡ processor_after processor.old line.now.act h.reply)
-        × LeadsTo
         (front_of fronts.old opening.now)
-        (events_in processor.old (record { line = line.now; reply = h.reply }))
-        (front_of fronts.new opening.now))) }
-    ensures none { IfOk
-        result
-        (λ o.
-        IfNone
         o
-        ((r : Reply) (rest : List ℕ) (later : List Event)
-        → StandsOn context.now closing.now processor.old line.now found.now r
-        → given.now ≡ reply_text line.now r ++ rest
-        → ((e : ℕ)
-        → InOrder
-        e
-        (front_of fronts.old opening.now e)
-        (events_in processor.old (record { line = line.now; reply = r }) ++ later))
-        → ⊥)) }
+        processor.new
+        (front_of fronts.new opening.now)) }
 {
     let Some(count) = line_reply(context, processor, line, found, given, out, place)? else {
         return Ok(None);

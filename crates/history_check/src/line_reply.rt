@@ -117,7 +117,8 @@ fn put_hit(
     found: &[EntryState],
     place: &mut ReplyPlace,
 ) -> bool
-    ensures yes { result ≡ true → IsReplyOn context.now processor.now act.now found.now (reply_in place.new) }
+    ensures yes { result ≡ true
+        → IsReplyOn context.now processor.now act.now found.now (reply_in place.new) }
     ensures only { (q : Reply)
         → IsReplyOn context.now processor.now act.now found.now q
         → IsHitReply q

@@ -37,7 +37,8 @@ fn is_store(act: &Act) -> bool
     )
 }
 
-/// Whether an operation, a store or none, changed nothing, as its answer and R and C before it tell.
+/// Whether an operation, a store or none, changed nothing, as its answer and R and C before it
+/// tell.
 fn is_unchanged(store: bool, answer: Answer, referenced: bool, changed: bool) -> bool
     ensures { result ≡ steps_of.is_unchanged store answer referenced changed }
 {

@@ -1,4 +1,5 @@
 ghost use Rattle.std.specs.Prelude.{◌≡◌, ◌≤◌, ◌++◌, ◌∷◌, [], length, drop, map, if◌then◌else◌, IfOk, OnOk};
+ghost use Rattle.std.specs.List.{list_any};
 ghost use Rattle.trace_line.specs.declared.line.TraceLine.{TraceLine};
 ghost use Rattle.run_model.specs.Windows as windows_of;
 ghost use Rattle.history_check.specs.PartedText.{first_told, behind_told, behind_lines, marked_lines, marked_text};
@@ -48,6 +49,19 @@ pub fn is_on_window(window: &Window, act: &Act) -> bool
         None => false,
         Some(number) => window.has_number(number),
     }
+}
+
+/// Whether one of the lines names the window.
+pub fn is_named(window: &Window, lines: &[TraceLine]) -> bool
+    ensures { result
+        ≡ list_any (λ (l : TraceLine). windows_of.is_on_window window.now l.act) lines.now }
+{
+    for line in lines {
+        if is_on_window(window, &line.act) {
+            return true;
+        }
+    }
+    false
 }
 
 /// Which of the lines name the window.

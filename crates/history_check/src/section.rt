@@ -1,8 +1,8 @@
-ghost use Rattle.std.specs.Prelude.{◌≡◌, ◌≤◌, ◌<◌, ◌^◌, length, IfOk, IfSome, IfNone};
+ghost use Rattle.std.specs.Prelude.{◌≡◌, ◌≤◌, ◌<◌, ◌^◌, length, IfOk};
 ghost use Rattle.std.specs.List.{AllByRecursion};
 ghost use Rattle.entry_model.specs.State.{State};
 ghost use Rattle.entry_model.specs.Fronts.{opening_fronts};
-ghost use Rattle.history_check.specs.FoundSection.{ArePlain, AreOnProcessors, HasSection, HasNoSection};
+ghost use Rattle.history_check.specs.FoundSection.{ArePlain, AreOnProcessors, TellsSection};
 ghost use Rattle.history_check.specs.SectionMarks.{ReadMarks};
 
 use crate::context::Context;
@@ -57,13 +57,10 @@ fn section_by_steps(
         text.now
         steps.items
         counts.now }
-    ensures some { IfOk
+    ensures told { IfOk
         result
-        (λ o.
-        IfSome
-        o
-        (λ n.
-        HasSection
+        (λ found.
+        TellsSection
         (record {
           context = context.now;
           states = states.old.items;
@@ -71,23 +68,9 @@ fn section_by_steps(
         })
         lines.now
         text.now
-        n
+        found
         states.new.items
-        processors.new.items)) }
-    ensures within { IfOk result (λ o. IfSome o (λ n. n ≤ length text.now)) }
-    ensures none { IfOk
-        result
-        (λ o.
-        IfNone
-        o
-        (HasNoSection
-        (record {
-          context = context.now;
-          states = states.old.items;
-          processors = processors.old.items;
-        })
-        lines.now
-        text.now)) }
+        processors.new.items) }
     ensures states { length states.new.items ≡ length states.old.items }
     ensures processors { length processors.new.items ≡ length processors.old.items }
 {
@@ -122,13 +105,10 @@ pub fn section_found(
     requires cpus { AreOnProcessors (length processors.old.items) lines.now }
     requires few { length states.old.items ≤ 2 ^ 18 }
     requires few_lines { length lines.now ≤ 2 ^ 17 }
-    ensures some { IfOk
+    ensures told { IfOk
         result
         (λ found.
-        IfSome
-        found
-        (λ count.
-        HasSection
+        TellsSection
         (record {
           context = context.now;
           states = states.old.items;
@@ -136,23 +116,9 @@ pub fn section_found(
         })
         lines.now
         text.now
-        count
-        states.new.items
-        processors.new.items)) }
-    ensures within { IfOk result (λ found. IfSome found (λ count. count ≤ length text.now)) }
-    ensures none { IfOk
-        result
-        (λ found.
-        IfNone
         found
-        (HasNoSection
-        (record {
-          context = context.now;
-          states = states.old.items;
-          processors = processors.old.items;
-        })
-        lines.now
-        text.now)) }
+        states.new.items
+        processors.new.items) }
     ensures states { length states.new.items ≡ length states.old.items }
     ensures processors { length processors.new.items ≡ length processors.old.items }
 {

@@ -6,7 +6,7 @@ ghost use Rattle.history_check.specs.FoundStores.{window_opening};
 ghost use Rattle.history_check.specs.StoreParts.{HasPart, HasNoPart};
 
 use crate::context::Context;
-use crate::parting::{Part, marked_part, marks_of_window};
+use crate::parting::{Part, is_named, marked_part, marks_of_window};
 use crate::processor::new_processors;
 use crate::section::section_found;
 use bus_window::Window;
@@ -144,6 +144,9 @@ impl WindowEntries {
             → HasNoPart grants.now.grants cpus lines.now text.now self.old) }
         ensures window { self.new.window ≡ self.old.window }
     {
+        if !is_named(&self.window, lines) {
+            return Ok(true);
+        }
         let marks = marks_of_window(alloc, &self.window, lines)?;
         let part = marked_part(alloc, lines, text, marks.as_slice())?;
         let found = part_found(alloc, grants, self.window, cpus, &mut self.states, &part)?;

@@ -1,10 +1,13 @@
 use Rattle.std.proofs.Common.{◌≡◌, ◌≤◌, ◌<◌, ◌∙◌, false, ap, sym, subst, length, List, arith}
+use Rattle.std.specs.List.{list_any}
 use Rattle.trace_line.specs.Lines.{is_quiet}
 use Rattle.trace_line.specs.declared.line.TraceLine.{TraceLine}
+use Rattle.run_model.specs.SerialRun.{WindowState}
 use Rattle.run_model.specs.Windows.{is_on_window}
 use Rattle.history_check.specs.FoundSection.{ArePlain, AreOnProcessors}
 use Rattle.history_check.specs.PartedText.{marked_lines, marked_text}
 use Rattle.history_check.proofs.PartedTexts.{marked_is}
+use Rattle.history_check.proofs.NoLines.{unnamed_part}
 use Rattle.history_check.proofs.WindowLoops.{each_marked, marked_few, part_is, part_is_not}
 use Rattle.history_check.proofs.window_entries.WindowEntries.section.Goals as goal
 
@@ -32,3 +35,8 @@ returns-clause-none c = λ none.
     let lines = c.in_ok-part.ensures.lines ∙ ap (λ z. marked_lines z c.args.lines.now) marks ∙ marked_is (is_on_window w) c.args.lines.now in
     let text = c.in_ok-part.ensures.text ∙ ap (λ z. marked_text z c.args.text.now) marks in
     part_is_not c.args.grants.now.grants c.args.cpus c.args.lines.now c.args.text.now (record { window = w; states = c.self.inside.states.items }) c.args.self.now c.in_ok-part.part.lines.items c.in_ok-part.part.text.items c.self.view_is lines text (c.in_ok-found.ensures.none none)
+
+pub returns-then-not-is_named-clause-some : goal.returns-then-not-is_named-clause-some
+returns-then-not-is_named-clause-some c = λ found.
+    let none = subst (λ w. list_any (λ (l : TraceLine). is_on_window w l.act) c.args.lines.now ≡ false) (ap (λ (v : WindowState). v.window) c.self.view_is) (sym c.is_named.ensures ∙ c.if-not-is_named.true) in
+    unnamed_part c.args.grants.now.grants c.args.cpus c.args.lines.now c.args.text.now c.args.self.now none

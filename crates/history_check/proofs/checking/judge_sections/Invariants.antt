@@ -1,6 +1,6 @@
 use Rattle.std.proofs.Common.{◌≤◌, length}
 use Rattle.history_check.proofs.JudgedSections.{AtSection}
-use Rattle.history_check.proofs.checking.check_replies.Given as goal
+use Rattle.history_check.proofs.checking.judge_sections.Given as goal
 
 abbrev pub invariant-loop-plain : goal.invariant-loop-plain
 invariant-loop-plain l = record {

@@ -1,3 +1,4 @@
 pub mod Verdicts
 pub mod Endings
+mod CommandEnds
 pub mod ImageEnds

@@ -1,10 +1,10 @@
-ghost use Rattle.std.specs.Prelude.{◌≡◌, ◌≢◌, ◌≤◌, ◌⊎◌, None, Some};
+ghost use Rattle.std.specs.Prelude.{◌≡◌, ◌≢◌, ◌≤◌, None, false};
 ghost use Rattle.trace_io.specs.Outside.{Rose};
 ghost use Rattle.trace_gen.specs.Generated.{generated_trace};
 ghost use Rattle.papr_edge.specs.Commands.{without_par};
 ghost use Rattle.papr_edge.specs.Commands as words_of;
-ghost use Rattle.papr_edge.specs.Ends.{IsAnswered};
-ghost use Rattle.papr_top.specs.Top.{IsOutcome, HasInput, HasRefusedInput, EndsDrill};
+ghost use Rattle.papr_top.specs.Top.{EndsDrill};
+ghost use Rattle.papr_top.specs.Ends.{EndsCommand, reads_source};
 
 use crate::answer::{par_answer, run_answer, summary};
 use crate::imaging::image_answer;
@@ -61,50 +61,24 @@ pub fn papr_serial<S: Source, K: Sink>(
     source: &mut S,
     sink: &mut K,
 ) -> Status
-    // What was read and written.
-    ensures outcome { IsOutcome
+    ensures ends { EndsCommand
         (without_par (words_of.command_of words.now))
         (record {
-          left = S.left source.old;
-          left_after = S.left source.new;
-          taken = K.taken sink.old;
-          taken_after = K.taken sink.new;
+          run = record {
+            left = S.left source.old;
+            left_after = S.left source.new;
+            taken = K.taken sink.old;
+            taken_after = K.taken sink.new;
+          };
+          source_faults = S.faults source.old;
+          source_faults_after = S.faults source.new;
+          sink_faults = K.faults sink.old;
+          sink_faults_after = K.faults sink.new;
         })
         result }
-    // The words alone decide whether they are used rightly.
-    ensures usage { without_par (words_of.command_of words.now) ≡ None
-        → (result ≡ Status.Usage) ⊎ (result ≡ Status.WriteFault) }
-    // A command that has its input is done where nothing fails, unless memory ends.
-    ensures complete { HasInput (without_par (words_of.command_of words.now)) (S.left source.old)
-        → ¬ Rose (S.faults source.old) (S.faults source.new)
-        → ¬ Rose (K.faults sink.old) (K.faults sink.new)
-        → IsAnswered (without_par (words_of.command_of words.now)) result
-        ⊎ (result ≡ Status.Memory) }
-    // An input that can't be read so is refused there, unless memory ends.
-    ensures refuses { HasRefusedInput
-        (without_par (words_of.command_of words.now))
-        (S.left source.old)
-        → ¬ Rose (S.faults source.old) (S.faults source.new)
-        → ¬ Rose (K.faults sink.old) (K.faults sink.new)
-        → (result ≡ Status.Refused) ⊎ (result ≡ Status.Memory) }
-    // Under other words than `run`, `check`, `set` and `image` the source is left as it is.
-    ensures untouched { words_of.command_of words.now ≢ Some Command.Run
-        → words_of.command_of words.now ≢ Some Command.Check
-        → words_of.command_of words.now ≢ Some Command.Set
-        → words_of.command_of words.now ≢ Some (Command.Image Layout.Old)
-        → words_of.command_of words.now ≢ Some (Command.Image Layout.New)
+    // A command that doesn't read the source leaves it as it is.
+    ensures untouched { reads_source (without_par (words_of.command_of words.now)) ≡ false
         → source.new ≡ source.old }
-    // A fault is one of the source's or of the sink's own, and else their counts stand.
-    ensures read_fault { result ≡ Status.ReadFault
-        → Rose (S.faults source.old) (S.faults source.new) }
-    ensures write_fault { result ≡ Status.WriteFault
-        → Rose (K.faults sink.old) (K.faults sink.new) }
-    ensures no_read_fault { result ≢ Status.ReadFault
-        → S.faults source.new ≡ S.faults source.old }
-    ensures no_write_fault { result ≢ Status.WriteFault
-        → K.faults sink.new ≡ K.faults sink.old }
-    ensures source_faults { S.faults source.old ≤ S.faults source.new }
-    ensures sink_faults { K.faults sink.old ≤ K.faults sink.new }
 {
     match command_of(words) {
         Some(Command::Run) => answer_input(alloc, source, sink, |trace| run_answer(alloc, trace)),
@@ -138,50 +112,24 @@ pub fn papr<R: Threads + Wait + Sync, S: Source, K: Sink, G: Gate + Sync>(
     sink: &mut K,
     gate: &G,
 ) -> Status
-    // What was read and written.
-    ensures outcome { IsOutcome
+    ensures ends { EndsCommand
         (words_of.command_of words.now)
         (record {
-          left = S.left source.old;
-          left_after = S.left source.new;
-          taken = K.taken sink.old;
-          taken_after = K.taken sink.new;
+          run = record {
+            left = S.left source.old;
+            left_after = S.left source.new;
+            taken = K.taken sink.old;
+            taken_after = K.taken sink.new;
+          };
+          source_faults = S.faults source.old;
+          source_faults_after = S.faults source.new;
+          sink_faults = K.faults sink.old;
+          sink_faults_after = K.faults sink.new;
         })
         result }
-    // The words alone decide whether they are used rightly.
-    ensures usage { words_of.command_of words.now ≡ None
-        → (result ≡ Status.Usage) ⊎ (result ≡ Status.WriteFault) }
-    // A command that has its input is done where nothing fails, unless memory ends.
-    ensures complete { HasInput (words_of.command_of words.now) (S.left source.old)
-        → ¬ Rose (S.faults source.old) (S.faults source.new)
-        → ¬ Rose (K.faults sink.old) (K.faults sink.new)
-        → IsAnswered (words_of.command_of words.now) result ⊎ (result ≡ Status.Memory) }
-    // An input that can't be read so is refused there, unless memory ends.
-    ensures refuses { HasRefusedInput
-        (words_of.command_of words.now)
-        (S.left source.old)
-        → ¬ Rose (S.faults source.old) (S.faults source.new)
-        → ¬ Rose (K.faults sink.old) (K.faults sink.new)
-        → (result ≡ Status.Refused) ⊎ (result ≡ Status.Memory) }
-    // Under other words than `run`, `par`, `check`, `set` and `image` the source is left as it is.
-    ensures untouched { words_of.command_of words.now ≢ Some Command.Run
-        → words_of.command_of words.now ≢ Some Command.Par
-        → words_of.command_of words.now ≢ Some Command.Check
-        → words_of.command_of words.now ≢ Some Command.Set
-        → words_of.command_of words.now ≢ Some (Command.Image Layout.Old)
-        → words_of.command_of words.now ≢ Some (Command.Image Layout.New)
+    // A command that doesn't read the source leaves it as it is.
+    ensures untouched { reads_source (words_of.command_of words.now) ≡ false
         → source.new ≡ source.old }
-    // A fault is one of the source's or of the sink's own, and else their counts stand.
-    ensures read_fault { result ≡ Status.ReadFault
-        → Rose (S.faults source.old) (S.faults source.new) }
-    ensures write_fault { result ≡ Status.WriteFault
-        → Rose (K.faults sink.old) (K.faults sink.new) }
-    ensures no_read_fault { result ≢ Status.ReadFault
-        → S.faults source.new ≡ S.faults source.old }
-    ensures no_write_fault { result ≢ Status.WriteFault
-        → K.faults sink.new ≡ K.faults sink.old }
-    ensures source_faults { S.faults source.old ≤ S.faults source.new }
-    ensures sink_faults { K.faults sink.old ≤ K.faults sink.new }
 {
     match command_of(words) {
         Some(Command::Par) => answer_input(

@@ -16,10 +16,11 @@ pub record Sides : Type 0 where
   pub sink_faults : ℕ
   pub sink_faults_after : ℕ
 
--- The source failed in the call, or the sink did.
+-- The source failed in the call.
 abbrev pub SourceFailed : Sides → Type 0
 SourceFailed sides = Rose sides.source_faults sides.source_faults_after
 
+-- The sink failed in the call.
 abbrev pub SinkFailed : Sides → Type 0
 SinkFailed sides = Rose sides.sink_faults sides.sink_faults_after
 

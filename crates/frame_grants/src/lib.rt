@@ -12,6 +12,3 @@ mod range;
 pub use error::GrantError;
 pub use grant::{Grant, Kind};
 pub use grants::Grants;
-
-#[cfg(test)]
-mod tests;

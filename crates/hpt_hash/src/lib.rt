@@ -8,8 +8,6 @@
 mod entry;
 mod hash;
 mod laws;
-#[cfg(test)]
-mod tests;
 
 pub use entry::page_of;
 pub use hash::groups;

@@ -11,6 +11,3 @@ mod tree;
 
 pub use error::PoolError;
 pub use pool::Pool;
-
-#[cfg(test)]
-mod tests;

@@ -11,7 +11,7 @@ use std::alloc::{AllocError, Global};
 pub const LEAF_ORDER: u8 = 18;
 
 /// What a node of the tree says of its block.
-#[derive(Clone, Copy, PartialEq, Eq, Debug)]
+#[derive(Clone, Copy)]
 pub enum Node {
     /// It is a taken block.
     Taken,

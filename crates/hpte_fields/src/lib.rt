@@ -16,6 +16,3 @@ pub use laws::constants_are_as_defined;
 pub use second::{frame, key, no_execute, pp, protected, wimg};
 pub use stored::normal;
 pub use table_size::{GROUP_SIZE, entry_count};
-
-#[cfg(test)]
-mod tests;

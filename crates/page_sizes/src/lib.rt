@@ -9,6 +9,3 @@ mod size;
 
 pub use decoding::decode;
 pub use size::PageSize;
-
-#[cfg(test)]
-mod tests;

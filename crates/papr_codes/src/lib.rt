@@ -12,6 +12,3 @@ mod flag_bits;
 pub use calls::Hcall;
 pub use codes::Rc;
 pub use flag_bits::CallFlags;
-
-#[cfg(test)]
-mod tests;

@@ -4,6 +4,3 @@
 mod plain;
 
 pub use plain::PlainTable;
-
-#[cfg(test)]
-mod tests;

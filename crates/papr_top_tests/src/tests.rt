@@ -84,6 +84,15 @@ fn wanted(alloc: Global, row: &Row) -> Result<(Status, String), Fail> {
     Ok((Status::Done, text))
 }
 
+/// What was answered is this status and this text.
+fn expect(rt: &impl Abort, name: &str, answered: &(Status, String), status: Status, text: &str) {
+    assert_eq!(rt;
+        (answered.0, answered.1.as_str()),
+        (status, text),
+        "at {name}"
+    );
+}
+
 /// Each row's lines have the replies that it names.
 fn check_rows(rt: &impl Abort, alloc: Global, rows: &[Row]) -> Result<(), Fail> {
     for row in rows {

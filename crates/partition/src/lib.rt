@@ -11,6 +11,3 @@ pub use laws::{
 };
 pub use partition_state::Partition;
 pub use states::opening_states;
-
-#[cfg(test)]
-mod tests;

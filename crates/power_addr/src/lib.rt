@@ -3,7 +3,5 @@
 #![tactic(auto)]
 
 mod page;
-#[cfg(test)]
-mod tests;
 
 pub use page::Page;

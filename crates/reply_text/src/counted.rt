@@ -6,7 +6,7 @@ use entry_model::{By, Outcome};
 use papr_codes::Rc;
 
 /// What the summary of a run counts of the replies, in its order.
-#[derive(Clone, Copy, PartialEq, Eq, Debug)]
+#[derive(Clone, Copy)]
 pub enum Counted {
     /// Hypervisor calls.
     Hcalls,

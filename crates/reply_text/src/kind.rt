@@ -7,7 +7,7 @@ use papr_codes::Rc;
 use trace_reply::{Reply, ReplyEnd, ReplyPlace};
 
 /// What a summary looks at in a reply.
-#[derive(Clone, Copy, PartialEq, Eq, Debug)]
+#[derive(Clone, Copy)]
 pub enum ReplyKind {
     /// Of a hypervisor call, with this code.
     Call(Rc),

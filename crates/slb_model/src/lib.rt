@@ -11,6 +11,3 @@ mod slot;
 pub use error::BadSlb;
 pub use segment::Segment;
 pub use slb::Slb;
-
-#[cfg(test)]
-mod tests;

@@ -21,7 +21,7 @@ const NO_EXECUTE: u64 = 0x200;
 const BASE_PAGE: u64 = 0x130;
 
 /// A valid slot.
-#[derive(Clone, Copy, PartialEq, Eq, Debug)]
+#[derive(Clone, Copy)]
 pub struct Slot {
     /// The upper 36 bits of the effective addresses in the segment; of a 1 TB segment the upper 24 count.
     pub esid: u64,

@@ -5,8 +5,6 @@
 #![tactic(auto)]
 
 mod protection;
-#[cfg(test)]
-mod tests;
 mod want;
 
 pub use protection::allows;

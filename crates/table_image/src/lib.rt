@@ -8,8 +8,6 @@ mod error;
 mod image;
 mod laws;
 mod layout;
-#[cfg(test)]
-mod tests;
 
 pub use digits::{digits_of, words_of};
 pub use entry::ImageEntry;

@@ -8,6 +8,3 @@ mod line_set;
 mod tlb;
 
 pub use tlb::Tlb;
-
-#[cfg(test)]
-mod tests;

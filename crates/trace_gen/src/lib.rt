@@ -6,6 +6,3 @@ mod line;
 mod trace;
 
 pub use trace::generate;
-
-#[cfg(test)]
-mod tests;

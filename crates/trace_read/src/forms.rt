@@ -9,7 +9,7 @@ use crate::why::Why;
 use frame_grants::Kind;
 
 /// The form of a line, as its first words tell it.
-#[derive(Clone, Copy, PartialEq, Eq, Debug)]
+#[derive(Clone, Copy)]
 pub enum Form {
     /// `order S`
     Order,

@@ -4,7 +4,7 @@ ghost use Rattle.trace_read.specs.Places.{is_running, comes_at};
 use crate::forms::Form;
 
 /// The first form of line that may still come. Configuration lines come in this order.
-#[derive(Clone, Copy, PartialEq, Eq, Debug)]
+#[derive(Clone, Copy)]
 pub enum Stage {
     /// `order`
     Order,

@@ -8,7 +8,7 @@ use papr_codes::Hcall;
 use storage_prot::Want;
 
 /// What a processor does, as the word behind it says.
-#[derive(Clone, Copy, PartialEq, Eq, Debug)]
+#[derive(Clone, Copy)]
 pub enum Verb {
     /// A hypervisor call by its name, and how many arguments it has.
     Named(Hcall, u8),

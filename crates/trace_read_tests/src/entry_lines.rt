@@ -1,6 +1,7 @@
 use std::alloc::Global;
+use std::process::Abort;
 use std::test::Fail;
-use trace_read::{TraceError, parse};
+use trace_read::{Trace, TraceError, parse};
 
 /// An order and 1 GB of memory; the lines behind them are the third and so forth.
 const GRANTED: &str = "order 18\nram 0 0x2000000000 0x40000000\n";
@@ -41,21 +42,30 @@ const ACCEPTED: &[(&str, (u32, u64, u64))] = &[
     ),
 ];
 
+/// The trace of a line behind the memory, and `begin`.
+fn begun(alloc: Global, line: &str) -> Result<Trace, Fail> {
+    let mut input = String::from_str(alloc, GRANTED)?;
+    input.push_str(line)?;
+    input.push_str("\nbegin\n")?;
+    Ok(parse(alloc, input.as_bytes())?)
+}
+
+/// A trace has this entry alone.
+fn check_entry(rt: &impl Abort, line: &str, trace: &Trace, words: (u32, u64, u64)) {
+    let entries = trace.config.entries.as_slice();
+    assert_eq!(rt; entries.len(), 1);
+    let entry = &entries[0];
+    assert_eq!(rt;
+        (entry.index, entry.dword0, entry.dword1),
+        words,
+        "at {line}"
+    );
+}
+
 #[test]
 fn entries_are_read(rt: HostRuntime) -> Result<(), Fail> {
     for (line, words) in ACCEPTED {
-        let mut input = String::from_str(rt.alloc(), GRANTED)?;
-        input.push_str(line)?;
-        input.push_str("\nbegin\n")?;
-        let trace = parse(rt.alloc(), input.as_bytes())?;
-        let entries = trace.config.entries.as_slice();
-        assert_eq!(rt; entries.len(), 1);
-        let entry = &entries[0];
-        assert_eq!(rt;
-            (entry.index, entry.dword0, entry.dword1),
-            *words,
-            "at {line}"
-        );
+        check_entry(&rt, line, &begun(rt.alloc(), line)?, *words);
     }
     Ok(())
 }

@@ -1,7 +1,8 @@
 use frame_grants::{Grant, Kind};
+use std::process::Abort;
 use std::test::Fail;
 use trace_read::{
-    Given, LineRefused, MOST_LINES, TraceReader, Why, is_remark_line, is_setting, is_text,
+    Given, LineRefused, MOST_LINES, Trace, TraceReader, Why, is_remark_line, is_setting, is_text,
     pool_named, read_words,
 };
 
@@ -44,22 +45,37 @@ const GIVEN: &[(u32, &str, Given)] = &[
     (131_072, "dump", Given::Run),
 ];
 
-#[test]
-fn numbered_lines_give_a_trace(rt: HostRuntime) -> Result<(), Fail> {
-    let mut reader = TraceReader::new(rt.alloc(), BASE, 20);
-    assert_eq!(rt; reader.taken(), 0);
+/// Takes the lines of [`GIVEN`].
+fn take_given(rt: &impl Abort, reader: &mut TraceReader<'static>) -> Result<(), Fail> {
     for (number, line, given) in GIVEN {
-        assert_eq!(rt; taken(&mut reader, *number, line)?, Ok(*given), "at {line}");
+        assert_eq!(rt; taken(reader, *number, line)?, Ok(*given), "at {line}");
         assert_eq!(rt; reader.taken(), *number);
     }
-    assert!(rt; reader.is_running());
-    assert_eq!(rt; reader.lines(), 2);
+    Ok(())
+}
+
+/// What a reader tells behind the lines of [`GIVEN`].
+fn check_reader(rt: &impl Abort, reader: &TraceReader<'_>) {
+    assert_eq!(rt; (reader.is_running(), reader.lines()), (true, 2));
     assert_eq!(rt; reader.grants().list().len(), 1);
-    let trace = reader.end()?;
+}
+
+/// The trace of the lines of [`GIVEN`].
+fn check_trace(rt: &impl Abort, trace: &Trace) {
     assert_eq!(rt; trace.config.pool_base, BASE);
     let lines = trace.lines.as_slice();
     assert_eq!(rt; lines.len(), 2);
     assert_eq!(rt; (lines[0].number, lines[1].number), (9, 131_072));
+}
+
+#[test]
+fn numbered_lines_give_a_trace(rt: HostRuntime) -> Result<(), Fail> {
+    let mut reader = TraceReader::new(rt.alloc(), BASE, 20);
+    assert_eq!(rt; reader.taken(), 0);
+    take_given(&rt, &mut reader)?;
+    check_reader(&rt, &reader);
+    let trace = reader.end()?;
+    check_trace(&rt, &trace);
     Ok(())
 }
 
@@ -84,24 +100,37 @@ const REFUSED: &[(u32, &str, Why, Option<Grant>)] = &[
     (7, "io 0x1000 0x2000000000 0", Why::Empty, None),
 ];
 
-#[test]
-fn a_refused_line_changes_nothing(rt: HostRuntime) -> Result<(), Fail> {
-    let mut reader = TraceReader::new(rt.alloc(), BASE, 20);
+/// Refuses the lines of [`REFUSED`].
+fn refuse_all(rt: &impl Abort, reader: &mut TraceReader<'static>) -> Result<(), Fail> {
     for (number, line, why, grant) in REFUSED {
         let refused = LineRefused::Refused {
             why: *why,
             grant: *grant,
         };
-        assert_eq!(rt;
-            taken(&mut reader, *number, line)?,
-            Err(refused),
-            "at {line}"
-        );
+        assert_eq!(rt; taken(reader, *number, line)?, Err(refused), "at {line}");
         assert_eq!(rt; reader.taken(), 0);
     }
+    Ok(())
+}
+
+#[test]
+fn a_refused_line_changes_nothing(rt: HostRuntime) -> Result<(), Fail> {
+    let mut reader = TraceReader::new(rt.alloc(), BASE, 20);
+    refuse_all(&rt, &mut reader)?;
     assert_eq!(rt; taken(&mut reader, 1, "order 18")?, Ok(Given::Setting));
     assert!(rt; !reader.is_running());
     assert!(rt; matches!(reader.end(), Err(Why::Begin)));
+    Ok(())
+}
+
+/// What the words of a line that names a pool tell.
+fn check_words(rt: &impl Abort, words: &[&[u8]]) -> Result<(), Fail> {
+    assert_eq!(rt; words.len(), 3);
+    assert_eq!(rt; (is_setting(words), is_remark_line(words)), (true, false));
+    match pool_named(words) {
+        Ok(range) => assert_eq!(rt; (range.base, range.order), (0x30_0000_0000, 20)),
+        Err(_) => return Err("no range".into()),
+    }
     Ok(())
 }
 
@@ -111,13 +140,7 @@ fn words_are_read_as_their_line(rt: HostRuntime) -> Result<(), Fail> {
     assert!(rt; is_text(line));
     let mut words = Vec::new(rt.alloc());
     read_words(&mut words, line)?;
-    assert_eq!(rt; words.len(), 3);
-    assert!(rt; is_setting(&words));
-    assert!(rt; !is_remark_line(&words));
-    match pool_named(&words) {
-        Ok(range) => assert_eq!(rt; (range.base, range.order), (0x30_0000_0000, 20)),
-        Err(_) => return Err("no range".into()),
-    }
+    check_words(&rt, &words)?;
     let mut reader = TraceReader::new(rt.alloc(), BASE, 20);
     assert_eq!(rt; reader.words(4, &words), Ok(Given::Setting));
     assert_eq!(rt; reader.taken(), 4);

@@ -1,9 +1,10 @@
 use bus_window::Window;
 use std::alloc::Global;
+use std::process::Abort;
 use std::test::Fail;
 use storage_prot::Want;
-use trace_line::Act;
-use trace_read::{TraceError, Why, parse};
+use trace_line::{Act, TraceLine};
+use trace_read::{Config, TraceError, parse};
 
 /// The first refused line of an input and the word of its reason; none where it is accepted.
 fn refusal(alloc: Global, input: &[u8]) -> Result<Option<(u32, &'static str)>, Fail> {
@@ -14,13 +15,18 @@ fn refusal(alloc: Global, input: &[u8]) -> Result<Option<(u32, &'static str)>, F
     }
 }
 
-/// `begin`, and then a line so many times.
-fn repeated(alloc: Global, line: &str, count: u32) -> Result<String, Fail> {
-    let mut input = String::from_str(alloc, "begin\n")?;
+/// A front, and behind it a part so many times.
+fn with_parts(alloc: Global, front: &str, part: &str, count: u32) -> Result<String, Fail> {
+    let mut input = String::from_str(alloc, front)?;
     for _ in 0..count {
-        input.push_str(line)?;
+        input.push_str(part)?;
     }
     Ok(input)
+}
+
+/// `begin`, and then a line so many times.
+fn repeated(alloc: Global, line: &str, count: u32) -> Result<String, Fail> {
+    with_parts(alloc, "begin\n", line, count)
 }
 
 /// Each kind of line once, and some in two spellings.
@@ -66,16 +72,15 @@ fn device(write: bool, liobn: u64, ioba: u64) -> Act {
     Act::Device { write, liobn, ioba }
 }
 
-#[test]
-fn the_configuration_is_read(rt: HostRuntime) -> Result<(), Fail> {
-    let trace = parse(rt.alloc(), WHOLE.as_bytes())?;
-    let config = &trace.config;
-    assert_eq!(rt; config.order, 19);
-    assert_eq!(rt; config.limit, 20);
-    assert_eq!(rt; config.cpus, 2);
-    assert_eq!(rt; config.pool_base, 0x20_0000_0000);
-    assert_eq!(rt; config.pool_order, 20);
+/// The settings of [`WHOLE`], and how many grants it has.
+fn check_settings(rt: &impl Abort, config: &Config) {
+    assert_eq!(rt; (config.order, config.limit, config.cpus), (19, 20, 2));
+    assert_eq!(rt; (config.pool_base, config.pool_order), (0x20_0000_0000, 20));
     assert_eq!(rt; config.grants.list().len(), 2);
+}
+
+/// The entries of [`WHOLE`].
+fn check_entries(rt: &impl Abort, config: &Config) {
     let entries = config.entries.as_slice();
     let expected = [
         (0x20, 0x1001, 0xa192),
@@ -85,10 +90,22 @@ fn the_configuration_is_read(rt: HostRuntime) -> Result<(), Fail> {
     for (entry, words) in entries.iter().zip(expected) {
         assert_eq!(rt; (entry.index, entry.dword0, entry.dword1), words);
     }
+}
+
+/// The windows of [`WHOLE`].
+fn check_windows(rt: &impl Abort, config: &Config) {
     let windows = config.windows.as_slice();
     assert_eq!(rt; windows.len(), 2);
     assert_eq!(rt; Some(windows[0]), Window::new(1, 0x5000, 2));
     assert_eq!(rt; Some(windows[1]), Window::new(2, 0, 1));
+}
+
+#[test]
+fn the_configuration_is_read(rt: HostRuntime) -> Result<(), Fail> {
+    let trace = parse(rt.alloc(), WHOLE.as_bytes())?;
+    check_settings(&rt, &trace.config);
+    check_entries(&rt, &trace.config);
+    check_windows(&rt, &trace.config);
     Ok(())
 }
 
@@ -116,9 +133,7 @@ fn each_kind_of_line_is_read(rt: HostRuntime) -> Result<(), Fail> {
     ];
     assert_eq!(rt; lines.len(), expected.len());
     for (line, (number, cpu, act)) in lines.iter().zip(expected) {
-        assert_eq!(rt; line.number, number);
-        assert_eq!(rt; line.cpu, cpu);
-        assert!(rt; line.act == act);
+        assert_eq!(rt; *line, TraceLine { number, cpu, act });
     }
     Ok(())
 }
@@ -260,27 +275,32 @@ fn past_the_most_bytes_nothing_is_read(rt: HostRuntime) -> Result<(), Fail> {
     Ok(())
 }
 
+/// Fronts of a line that goes on with 50,000 words, and what refuses it.
+const LONG_LINES: [(&str, Option<(u32, &str)>); 3] = [
+    ("", Some((1, "word"))),
+    ("begin\n#", None),
+    ("begin\n0 H_READ ", Some((2, "count"))),
+];
+
 #[test]
 fn a_line_may_have_100_kilobytes(rt: HostRuntime) -> Result<(), Fail> {
-    let alloc = rt.alloc();
-    let mut spaces = String::new(alloc);
-    let mut words = String::new(alloc);
-    for _ in 0..50_000 {
-        spaces.push_str(" \t")?;
-        words.push_str("0 ")?;
+    for (front, told) in LONG_LINES {
+        let input = with_parts(rt.alloc(), front, "0 ", 50_000)?;
+        assert_eq!(rt; refusal(rt.alloc(), input.as_bytes())?, told, "at {front}");
     }
-    let mut input = String::from_str(alloc, "begin\n0")?;
-    input.push_str(spaces.as_str())?;
-    input.push_str("H_READ 0x1 0x2\n#")?;
-    input.push_str(words.as_str())?;
-    let trace = parse(alloc, input.as_bytes())?;
-    let lines = trace.lines.as_slice();
-    assert_eq!(rt; lines.len(), 1);
-    assert_eq!(rt; (lines[0].number, lines[0].cpu), (2, 0));
-    assert!(rt; lines[0].act == call(0x0C, [1, 2, 0, 0, 0, 0, 0, 0], true));
-    assert_eq!(rt; refusal(alloc, words.as_bytes())?, Some((1, "word")));
-    input.push_str("\n0 H_READ ")?;
-    input.push_str(words.as_str())?;
-    assert_eq!(rt; refusal(alloc, input.as_bytes())?, Some((4, "count")));
+    Ok(())
+}
+
+#[test]
+fn words_may_lie_100_kilobytes_apart(rt: HostRuntime) -> Result<(), Fail> {
+    let mut input = with_parts(rt.alloc(), "begin\n0", " \t", 50_000)?;
+    input.push_str("H_READ 0x1 0x2\n")?;
+    let trace = parse(rt.alloc(), input.as_bytes())?;
+    let read = TraceLine {
+        number: 2,
+        cpu: 0,
+        act: call(0x0C, [1, 2, 0, 0, 0, 0, 0, 0], true),
+    };
+    assert_eq!(rt; trace.lines.as_slice(), [read].as_slice());
     Ok(())
 }

@@ -1,7 +1,8 @@
 use bus_window::Window;
 use std::alloc::Global;
+use std::process::Abort;
 use std::test::Fail;
-use trace_read::{TraceError, parse};
+use trace_read::{Trace, TraceError, parse};
 
 /// The first refused line and the word of its reason; none where the trace is accepted.
 fn refusal(alloc: Global, input: &str) -> Result<Option<(u32, &'static str)>, Fail> {
@@ -26,19 +27,28 @@ const ACCEPTED: &[(&str, (u64, u64, u64))] = &[
     ),
 ];
 
+/// The trace of a line and `begin`.
+fn begun(alloc: Global, line: &str) -> Result<Trace, Fail> {
+    let mut input = String::from_str(alloc, line)?;
+    input.push_str("\nbegin\n")?;
+    Ok(parse(alloc, input.as_bytes())?)
+}
+
+/// A trace has this window alone.
+fn check_window(rt: &impl Abort, line: &str, trace: &Trace, (liobn, base, pages): (u64, u64, u64)) {
+    let windows = trace.config.windows.as_slice();
+    assert_eq!(rt; windows.len(), 1);
+    assert_eq!(rt;
+        Some(windows[0]),
+        Window::new(liobn, base, pages),
+        "at {line}"
+    );
+}
+
 #[test]
 fn windows_are_read(rt: HostRuntime) -> Result<(), Fail> {
-    for (line, (liobn, base, pages)) in ACCEPTED {
-        let mut input = String::from_str(rt.alloc(), line)?;
-        input.push_str("\nbegin\n")?;
-        let trace = parse(rt.alloc(), input.as_bytes())?;
-        let windows = trace.config.windows.as_slice();
-        assert_eq!(rt; windows.len(), 1);
-        assert_eq!(rt;
-            Some(windows[0]),
-            Window::new(*liobn, *base, *pages),
-            "at {line}"
-        );
+    for (line, window) in ACCEPTED {
+        check_window(&rt, line, &begun(rt.alloc(), line)?, *window);
     }
     Ok(())
 }

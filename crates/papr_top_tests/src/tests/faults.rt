@@ -1,6 +1,6 @@
 ghost use Rattle.std.specs.Prelude.{◌≤◌};
 
-use super::{list, text_in};
+use super::{expect, list, text_in};
 use papr_top::{Status, papr_serial};
 use std::alloc::Global;
 use std::test::Fail;
@@ -35,19 +35,24 @@ fn a_fault_of_source_or_sink_ends_the_run(rt: HostRuntime) -> Result<(), Fail> {
     let whole = "4 0 H_ENTER 0 0x20 | 0x20.0.0.entered\n";
     let run: &[&str] = &["run"];
     let drill: &[&str] = &["drill", "1", "0"];
-    for (words, read, write, status, text) in [
-        (run, 0, 0, Status::Done, whole),
-        (run, 1, 0, Status::ReadFault, ""),
-        (run, 2, 0, Status::ReadFault, ""),
-        (run, 2, 1, Status::ReadFault, ""),
-        (run, 0, 1, Status::WriteFault, ""),
-        (run, 0, 2, Status::WriteFault, "4 0 H_EN"),
-        (drill, 1, 2, Status::WriteFault, "lines 4\n"),
-        (&[], 1, 2, Status::WriteFault, "papr: us"),
+    for (name, words, faults, status, text) in [
+        ("no fault", run, (0, 0), Status::Done, whole),
+        ("the first read", run, (1, 0), Status::ReadFault, ""),
+        ("the second read", run, (2, 0), Status::ReadFault, ""),
+        ("a read and a write", run, (2, 1), Status::ReadFault, ""),
+        ("the first write", run, (0, 1), Status::WriteFault, ""),
+        (
+            "the second write",
+            run,
+            (0, 2),
+            Status::WriteFault,
+            "4 0 H_EN",
+        ),
+        ("a drill", drill, (1, 2), Status::WriteFault, "lines 4\n"),
+        ("no word", &[], (1, 2), Status::WriteFault, "papr: us"),
     ] {
-        let (ended, written) = faulty(alloc, words, INPUT, (16, 8), (read, write))?;
-        assert_eq!(rt; ended, status, "at {words:?}, {read}, {write}");
-        assert_eq!(rt; written.as_str(), text, "at {words:?}, {read}, {write}");
+        let answered = faulty(alloc, words, INPUT, (16, 8), faults)?;
+        expect(&rt, name, &answered, status, text);
     }
     Ok(())
 }

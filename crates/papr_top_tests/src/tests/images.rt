@@ -1,7 +1,7 @@
 //! Images of tables that were worked out by hand.
 
 use super::faults::faulty;
-use super::{BASIS, push_lines};
+use super::{BASIS, expect, push_lines};
 use papr_top::Status;
 use std::alloc::Global;
 use std::test::Fail;
@@ -137,16 +137,24 @@ fn imaged(alloc: Global, words: &[&str], input: &str) -> Result<(Status, String)
     faulty(alloc, words, input, (4096, 4096), (0, 0))
 }
 
+/// What the program answers and writes over the lines of a row.
+fn image_of(alloc: Global, row: &ImageRow) -> Result<(Status, String), Fail> {
+    let mut input = String::new(alloc);
+    push_lines(&mut input, BASIS)?;
+    push_lines(&mut input, row.lines)?;
+    imaged(alloc, &["image", row.layout], input.as_str())
+}
+
 #[test]
 fn tables_are_written_as_they_are_at_the_end(rt: HostRuntime) -> Result<(), Fail> {
-    let alloc = rt.alloc();
     for row in IMAGES {
-        let mut input = String::new(alloc);
-        push_lines(&mut input, BASIS)?;
-        push_lines(&mut input, row.lines)?;
-        let (status, text) = imaged(alloc, &["image", row.layout], input.as_str())?;
-        assert_eq!(rt; status, row.status, "at {}", row.name);
-        assert_eq!(rt; text.as_str(), row.written, "at {}", row.name);
+        expect(
+            &rt,
+            row.name,
+            &image_of(rt.alloc(), row)?,
+            row.status,
+            row.written,
+        );
     }
     Ok(())
 }
@@ -158,9 +166,8 @@ fn a_refused_trace_has_no_image(rt: HostRuntime) -> Result<(), Fail> {
         ("order 17\nbegin\n", "papr: line 1: range\n"),
         ("order 18\n", "papr: line 2: begin\n"),
     ] {
-        let (status, text) = imaged(alloc, &["image", "new"], input)?;
-        assert_eq!(rt; status, Status::Refused, "at {input}");
-        assert_eq!(rt; text.as_str(), line, "at {input}");
+        let answered = imaged(alloc, &["image", "new"], input)?;
+        expect(&rt, input, &answered, Status::Refused, line);
     }
     Ok(())
 }
@@ -169,14 +176,18 @@ fn a_refused_trace_has_no_image(rt: HostRuntime) -> Result<(), Fail> {
 fn a_fault_leaves_a_front_of_the_image(rt: HostRuntime) -> Result<(), Fail> {
     let alloc = rt.alloc();
     let input = "begin\n0 H_ENTER 0x0 0x20 0x1001 0x3012\n";
-    for (read, write, status, text) in [
-        (2, 0, Status::ReadFault, ""),
-        (0, 1, Status::WriteFault, ""),
-        (0, 3, Status::WriteFault, "image old order "),
+    for (name, faults, status, text) in [
+        ("the second read", (2, 0), Status::ReadFault, ""),
+        ("the first write", (0, 1), Status::WriteFault, ""),
+        (
+            "the third write",
+            (0, 3),
+            Status::WriteFault,
+            "image old order ",
+        ),
     ] {
-        let (ended, written) = faulty(alloc, &["image", "old"], input, (16, 8), (read, write))?;
-        assert_eq!(rt; ended, status, "at {read}, {write}");
-        assert_eq!(rt; written.as_str(), text, "at {read}, {write}");
+        let answered = faulty(alloc, &["image", "old"], input, (16, 8), faults)?;
+        expect(&rt, name, &answered, status, text);
     }
     Ok(())
 }

@@ -1,6 +1,6 @@
 //! Verdicts on texts that were worked out by hand: right ones, texts of other schedules, and wrong ones.
 
-use super::{list, text_in};
+use super::{expect, list, text_in};
 use papr_top::{Status, papr_serial};
 use std::alloc::Global;
 use std::test::Fail;
@@ -117,9 +117,8 @@ fn input_of(alloc: Global, trace: &str, line: &str, text: &str) -> Result<String
 fn texts_are_judged(rt: HostRuntime) -> Result<(), Fail> {
     for row in VERDICTS {
         let input = input_of(rt.alloc(), row.trace, "replies\n", row.text)?;
-        let (status, written) = check(rt.alloc(), input.as_bytes())?;
-        assert_eq!(rt; status, row.status, "{}", row.name);
-        assert_eq!(rt; written.as_str(), row.written, "{}", row.name);
+        let answered = check(rt.alloc(), input.as_bytes())?;
+        expect(&rt, row.name, &answered, row.status, row.written);
     }
     Ok(())
 }
@@ -148,9 +147,8 @@ const REFUSED_INPUTS: &[(&str, &str)] = &[
 #[test]
 fn an_input_without_a_trace_or_a_text_is_refused(rt: HostRuntime) -> Result<(), Fail> {
     for (input, text) in REFUSED_INPUTS {
-        let (status, written) = check(rt.alloc(), input.as_bytes())?;
-        assert_eq!(rt; status, Status::Refused, "at {input}");
-        assert_eq!(rt; written.as_str(), *text, "at {input}");
+        let answered = check(rt.alloc(), input.as_bytes())?;
+        expect(&rt, input, &answered, Status::Refused, text);
     }
     Ok(())
 }

@@ -7,10 +7,12 @@ use papr_top::{Status, papr_serial};
 use reply_text::{put_reply, summary_of, text_of};
 use std::alloc::Global;
 use std::fmt::Write;
+use std::process::Abort;
 use std::test::Fail;
 use trace_io::{MemorySink, MemorySource};
 use trace_read::{Trace, parse};
-use trace_runner::{run_serial, run_to_text, run_with_table};
+use trace_reply::Replies;
+use trace_runner::{Ran, run_serial, run_to_text, run_with_table};
 
 const CONFIG: &str = "order 20
 cpus 64
@@ -182,8 +184,28 @@ fn its_replies_have_the_same_text(rt: HostRuntime) -> Result<(), Fail> {
     let trace = trace(alloc)?;
     let replies = run_serial(alloc, &trace)?;
     assert_eq!(rt; replies.as_slice().len(), 4172);
-    assert!(rt; text_of(alloc, &trace, &replies)? == told(alloc)?);
+    check_texts(&rt, alloc, &trace, &replies)
+}
+
+/// The text of the replies at once, and reply by reply.
+fn check_texts(
+    rt: &impl Abort,
+    alloc: Global,
+    trace: &Trace,
+    replies: &Replies,
+) -> Result<(), Fail> {
+    let told = told(alloc)?;
+    assert!(rt; text_of(alloc, trace, replies)? == told);
+    assert!(rt; put_all(alloc, trace, replies)? == told);
     Ok(())
+}
+
+fn put_all(alloc: Global, trace: &Trace, replies: &Replies) -> Result<String, Fail> {
+    let mut text = String::new(alloc);
+    for (line, reply) in trace.lines.as_slice().iter().zip(replies.as_slice()) {
+        put_reply(&mut text, line, reply)?;
+    }
+    Ok(text)
 }
 
 #[test]
@@ -191,13 +213,12 @@ fn its_last_table_is_counted(rt: HostRuntime) -> Result<(), Fail> {
     let alloc = rt.alloc();
     let trace = trace(alloc)?;
     let ran = run_with_table(alloc, &trace)?;
+    check_summary(&rt, alloc, &trace, &ran)
+}
+
+fn check_summary(rt: &impl Abort, alloc: Global, trace: &Trace, ran: &Ran) -> Result<(), Fail> {
     assert_eq!(rt; ran.table.states.as_slice().len(), 2048);
-    let mut text = String::new(alloc);
-    for (line, reply) in trace.lines.as_slice().iter().zip(ran.replies.as_slice()) {
-        put_reply(&mut text, line, reply)?;
-    }
-    assert!(rt; text == told(alloc)?);
-    let summary = summary_of(alloc, &trace, &ran.replies, &ran.table)?;
+    let summary = summary_of(alloc, trace, &ran.replies, &ran.table)?;
     assert_eq!(rt; summary.as_str(), SUMMARY);
     Ok(())
 }

@@ -1,10 +1,11 @@
 use super::accesses::{CHANGED_PAGES, WALKS};
 use super::entries::CALLS;
 use super::resizing::{REFUSED_RESIZES, RESIZED};
-use super::{Row, input_of, list, text_in, wanted};
+use super::{Row, expect, input_of, list, text_in, wanted};
 use papr_top::{OpenGate, Status, papr};
 use std::alloc::Global;
 use std::fmt::Write;
+use std::process::Abort;
 use std::sync::Wait;
 use std::test::Fail;
 use std::thread::Threads;
@@ -46,58 +47,58 @@ fn has_one_processor(row: &Row) -> bool {
 
 #[test]
 fn one_processor_has_the_replies_of_the_serial_run(rt: HostRuntime) -> Result<(), Fail> {
-    let alloc = rt.alloc();
     for table in [RESIZED, REFUSED_RESIZES, WALKS, CHANGED_PAGES, CALLS] {
         assert!(rt; table.iter().any(has_one_processor));
         for row in table {
             if has_one_processor(row) {
-                let input = input_of(alloc, row)?;
-                let answered = together(&rt, alloc, input.as_str())?;
-                assert_eq!(rt; answered, wanted(alloc, row)?, "at {}", row.name);
+                check_row(&rt, rt.alloc(), row)?;
             }
         }
     }
     Ok(())
 }
 
-#[test]
-fn eight_of_many_processors_enter_a_page_of_one_group(rt: HostRuntime) -> Result<(), Fail> {
-    let alloc = rt.alloc();
+/// The row's lines have the replies that it names.
+fn check_row<R: Abort + Threads + Wait + Sync>(
+    rt: &R,
+    alloc: Global,
+    row: &Row,
+) -> Result<(), Fail> {
+    let answered = together(rt, alloc, input_of(alloc, row)?.as_str())?;
+    assert_eq!(rt; answered, wanted(alloc, row)?, "at {}", row.name);
+    Ok(())
+}
+
+/// Each of 64 processors enters the page, and reads an entry of its group; a dump at the end.
+fn entering_and_reading(alloc: Global) -> Result<String, Fail> {
     let mut input = String::from_str(alloc, "cpus 64\nram 0x0 0x2000000000 0x40000000\nbegin\n")?;
     for cpu in 0..64u32 {
         write!(input, "{cpu} H_ENTER 0 0x20 0x1001 0x3012\n")?;
         write!(input, "{cpu} H_READ 0 0x2{}\n", cpu % 8)?;
     }
     input.push_str("dump\n")?;
-    let (status, text) = together(&rt, alloc, input.as_str())?;
+    Ok(input)
+}
+
+/// How many lines of the text have this part.
+fn count(text: &str, part: &str) -> usize {
+    text.split('\n').filter(|line| line.contains(part)).count()
+}
+
+#[test]
+fn eight_of_many_processors_enter_a_page_of_one_group(rt: HostRuntime) -> Result<(), Fail> {
+    let input = entering_and_reading(rt.alloc())?;
+    let (status, text) = together(&rt, rt.alloc(), input.as_str())?;
     assert_eq!(rt; status, Status::Done);
-    let entered = text
-        .as_str()
-        .split('\n')
-        .filter(|line| line.ends_with(".entered"))
-        .count();
-    let full = text
-        .as_str()
-        .split('\n')
-        .filter(|line| line.contains(" H_ENTER -6 "))
-        .count();
-    assert_eq!(rt; (entered, full), (8, 56));
-    let read = text
-        .as_str()
-        .split('\n')
-        .filter(|line| line.ends_with(".read"))
-        .count();
-    assert_eq!(rt; read, 64);
-    let shown = text
-        .as_str()
-        .split('\n')
-        .filter(|line| line.ends_with(" 0x1001 0x3012 1"))
-        .count();
-    assert_eq!(rt; shown, 8);
-    assert!(rt;
-        text.as_str()
-            .contains("dump table 0 order 18 place 0x1000000000 entries 8\n")
-    );
+    for (part, times) in [
+        (".entered", 8),
+        (" H_ENTER -6 ", 56),
+        (".read", 64),
+        (" 0x1001 0x3012 1", 8),
+        ("dump table 0 order 18 place 0x1000000000 entries 8", 1),
+    ] {
+        assert_eq!(rt; count(text.as_str(), part), times, "of {part}");
+    }
     Ok(())
 }
 
@@ -112,11 +113,13 @@ fn other_words_behind_par_are_wrong(rt: HostRuntime) -> Result<(), Fail> {
         &["par "],
     ];
     for words in forms {
-        let (status, text) = faulty(&rt, alloc, words, "begin\n", (1, 0))?;
-        assert_eq!(rt;
-            (status, text.as_str()),
-            (Status::Usage, "papr: usage\n"),
-            "at {words:?}"
+        let answered = faulty(&rt, alloc, words, "begin\n", (1, 0))?;
+        expect(
+            &rt,
+            "other words",
+            &answered,
+            Status::Usage,
+            "papr: usage\n",
         );
     }
     Ok(())
@@ -141,8 +144,8 @@ fn an_input_is_refused_and_a_fault_ends_a_parallel_run(rt: HostRuntime) -> Resul
         ),
         ("", (0, 0), Status::Refused, "papr: line 1: begin\n"),
     ] {
-        let (ended, written) = faulty(&rt, alloc, par, input, faults)?;
-        assert_eq!(rt; (ended, written.as_str()), (status, text), "at {faults:?}");
+        let answered = faulty(&rt, alloc, par, input, faults)?;
+        expect(&rt, input, &answered, status, text);
     }
     Ok(())
 }

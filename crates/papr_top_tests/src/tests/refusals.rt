@@ -1,6 +1,7 @@
-use super::{list, run, text_in};
+use super::{expect, list, run, text_in};
 use papr_top::{Status, papr_serial};
 use std::alloc::Global;
+use std::process::Abort;
 use std::test::Fail;
 use trace_io::{MemorySink, MemorySource};
 
@@ -62,59 +63,67 @@ const REFUSED_INPUTS: &[(&str, &str)] = &[
 fn an_input_is_refused_at_its_first_wrong_line(rt: HostRuntime) -> Result<(), Fail> {
     let alloc = rt.alloc();
     for (input, text) in REFUSED_INPUTS {
-        let (status, written) = run(alloc, input.as_bytes())?;
-        assert_eq!(rt; status, Status::Refused, "at {input}");
-        assert_eq!(rt; written.as_str(), *text, "at {input}");
+        let answered = run(alloc, input.as_bytes())?;
+        expect(&rt, input, &answered, Status::Refused, text);
     }
     Ok(())
 }
 
 #[test]
 fn a_byte_that_is_no_ascii_is_refused(rt: HostRuntime) -> Result<(), Fail> {
-    let (status, text) = run(
+    let answered = run(
         rt.alloc(),
         b"order 18\r\n\r\nbegin \t\r\n0 H_READ 0x0 \xc3\xa9\n",
     )?;
-    assert_eq!(rt; status, Status::Refused);
-    assert_eq!(rt; text.as_str(), "papr: line 4: ascii\n");
+    expect(
+        &rt,
+        "é",
+        &answered,
+        Status::Refused,
+        "papr: line 4: ascii\n",
+    );
     Ok(())
 }
 
-/// A text, and then a line so many times.
-fn repeated(alloc: Global, front: &str, line: &str, count: u32) -> Result<String, Fail> {
-    let mut input = String::from_str(alloc, front)?;
+/// What is answered to `begin`, and then a line so many times.
+fn repeated(alloc: Global, line: &str, count: u32) -> Result<(Status, String), Fail> {
+    let mut input = String::from_str(alloc, "begin\n")?;
     for _ in 0..count {
         input.push_str(line)?;
     }
-    Ok(input)
+    run(alloc, input.as_bytes())
+}
+
+/// Lines, how many of each there may be, and what one more is answered.
+const MOST: &[(&str, u32, &str)] = &[
+    ("#\n", 131_071, "papr: line 131073: lines\n"),
+    ("dump\n", 16, "papr: line 18: dumps\n"),
+    (
+        "0 H_RESIZE_HPT_PREPARE 0x0 0\n",
+        256,
+        "papr: line 258: quiet\n",
+    ),
+    ("0 hcall 0x36c 0x0 0x0\n", 256, "papr: line 258: quiet\n"),
+];
+
+fn check_limit(
+    rt: &impl Abort,
+    alloc: Global,
+    line: &str,
+    most: u32,
+    text: &str,
+) -> Result<(), Fail> {
+    let (status, _) = repeated(alloc, line, most)?;
+    assert_eq!(rt; status, Status::Done, "at {line}");
+    let answered = repeated(alloc, line, most.saturating_add(1))?;
+    expect(rt, line, &answered, Status::Refused, text);
+    Ok(())
 }
 
 #[test]
 fn one_more_than_a_limit_is_refused(rt: HostRuntime) -> Result<(), Fail> {
-    let alloc = rt.alloc();
-    for (front, line, most, text) in [
-        ("begin\n", "#\n", 131_071, "papr: line 131073: lines\n"),
-        ("begin\n", "dump\n", 16, "papr: line 18: dumps\n"),
-        (
-            "begin\n",
-            "0 H_RESIZE_HPT_PREPARE 0x0 0\n",
-            256,
-            "papr: line 258: quiet\n",
-        ),
-        (
-            "begin\n",
-            "0 hcall 0x36c 0x0 0x0\n",
-            256,
-            "papr: line 258: quiet\n",
-        ),
-    ] {
-        let most_lines = repeated(alloc, front, line, most)?;
-        let (status, _) = run(alloc, most_lines.as_bytes())?;
-        assert_eq!(rt; status, Status::Done, "at {line}");
-        let one_more = repeated(alloc, front, line, most + 1)?;
-        let (status, written) = run(alloc, one_more.as_bytes())?;
-        assert_eq!(rt; status, Status::Refused, "at {line}");
-        assert_eq!(rt; written.as_str(), text, "at {line}");
+    for (line, most, text) in MOST {
+        check_limit(&rt, rt.alloc(), line, *most, text)?;
     }
     Ok(())
 }

@@ -1,6 +1,7 @@
 use super::{list, text_in};
 use papr_top::{Status, papr_serial};
 use std::alloc::Global;
+use std::process::Abort;
 use std::test::Fail;
 use trace_io::{MemorySink, MemorySource};
 
@@ -12,48 +13,63 @@ fn answer_to(alloc: Global, words: &[&str]) -> Result<(Status, String), Fail> {
     Ok((status, text_in(alloc, &sink)?))
 }
 
-#[test]
-fn words_of_no_listed_form_are_answered_before_anything_is_read(
-    rt: HostRuntime,
+/// These words are answered by this status and this text.
+fn check(
+    rt: &impl Abort,
+    alloc: Global,
+    words: &[&str],
+    wanted: (Status, &str),
 ) -> Result<(), Fail> {
-    let alloc = rt.alloc();
-    let forms: &[&[&str]] = &[
-        &[],
-        &[""],
-        &["par"],
-        &["Run"],
-        &["run "],
-        &["run", "run"],
-        &["run", ""],
-        &["drill"],
-        &["drill", "1"],
-        &["drill 1 0"],
-        &["drill", "1", "100001"],
-        &["drill", "1", "4294967296"],
-        &["drill", "x", "1"],
-        &["drill", "1", "x"],
-        &["drill", "1", "-1"],
-        &["drill", "1", ""],
-        &["drill", "18446744073709551616", "0"],
-        &["drill", "1", "0", "0"],
-        &["1", "0", "drill"],
-        &["image"],
-        &["image", ""],
-        &["image", "older"],
-        &["image", "Old"],
-        &["image", "old", "new"],
-        &["images", "old"],
-        &["old"],
-    ];
-    for words in forms {
-        let (status, text) = answer_to(alloc, words)?;
-        assert_eq!(rt; status, Status::Usage, "at {words:?}");
-        assert_eq!(rt; text.as_str(), "papr: usage\n", "at {words:?}");
+    let (status, text) = answer_to(alloc, words)?;
+    assert_eq!(rt; (status, text.as_str()), wanted, "at {words:?}");
+    Ok(())
+}
+
+/// Words of no form.
+const OF_NO_FORM: &[&[&str]] = &[
+    &[],
+    &[""],
+    &["par"],
+    &["Run"],
+    &["run "],
+    &["run", "run"],
+    &["run", ""],
+    &["drill"],
+    &["drill", "1"],
+    &["drill 1 0"],
+    &["drill", "1", "100001"],
+    &["drill", "1", "4294967296"],
+    &["drill", "x", "1"],
+    &["drill", "1", "x"],
+    &["drill", "1", "-1"],
+    &["drill", "1", ""],
+    &["drill", "18446744073709551616", "0"],
+    &["drill", "1", "0", "0"],
+    &["1", "0", "drill"],
+    &["image"],
+    &["image", ""],
+    &["image", "older"],
+    &["image", "Old"],
+    &["image", "old", "new"],
+    &["images", "old"],
+    &["old"],
+];
+
+#[test]
+fn words_of_no_form_are_answered_before_anything_is_read(rt: HostRuntime) -> Result<(), Fail> {
+    for words in OF_NO_FORM {
+        check(&rt, rt.alloc(), words, (Status::Usage, "papr: usage\n"))?;
     }
-    for words in [&["run"] as &[&str], &["image", "old"], &["image", "new"]] {
-        let (status, text) = answer_to(alloc, words)?;
-        assert_eq!(rt; status, Status::ReadFault, "at {words:?}");
-        assert_eq!(rt; text.as_str(), "", "at {words:?}");
+    Ok(())
+}
+
+/// Words that ask for something.
+const OF_A_FORM: &[&[&str]] = &[&["run"], &["image", "old"], &["image", "new"]];
+
+#[test]
+fn words_of_a_form_read_the_source(rt: HostRuntime) -> Result<(), Fail> {
+    for words in OF_A_FORM {
+        check(&rt, rt.alloc(), words, (Status::ReadFault, ""))?;
     }
     Ok(())
 }

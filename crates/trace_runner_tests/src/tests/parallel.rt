@@ -1,12 +1,12 @@
 //! Parallel runs that a gate holds, so that a schedule is forced.
-use super::{accepted, replies};
+use super::{accepted, replies, serial_text};
 use reply_text::text_of;
 use std::alloc::Global;
 use std::sync::Wait;
 use std::sync::atomic::{AtomicU64, Ordering};
 use std::test::Fail;
 use std::thread::Threads;
-use trace_runner::{Gate, OpenGate, parallel_to_text, run_parallel, run_serial};
+use trace_runner::{Gate, OpenGate, parallel_to_text, run_parallel};
 
 /// The text of the replies of a parallel run.
 fn together<R: Threads + Wait + Sync, G: Gate + Sync>(
@@ -316,10 +316,9 @@ fn the_stores_of_a_section_are_put_together_in_file_order(rt: HostRuntime) -> Re
 fn the_text_of_one_processor_is_that_of_the_serial_run(rt: HostRuntime) -> Result<(), Fail> {
     let alloc = rt.alloc();
     let trace = accepted(alloc, QUIET_LINES)?;
-    let serial = run_serial(alloc, &trace)?;
     assert_eq!(rt;
         parallel_to_text(&rt, alloc, &trace, &OpenGate)?.as_str(),
-        text_of(alloc, &trace, &serial)?.as_str()
+        serial_text(alloc, &trace)?.as_str()
     );
     Ok(())
 }

@@ -67,10 +67,12 @@ fn entry(dword0: u64, dword1: u64, bits: (bool, bool), stamp: u32) -> EntryState
 
 /// The reply is the wanted one.
 fn expect(rt: &impl Abort, name: &str, reply: &HReply, wanted: &Wanted) {
-    assert_eq!(rt; reply.rc, wanted.rc, "at {name}");
-    assert_eq!(rt; reply.words.as_slice(), wanted.words, "at {name}");
     let made = reply.receipts.as_slice();
-    assert_eq!(rt; made.len(), wanted.receipts.len(), "at {name}");
+    assert_eq!(rt;
+        (reply.rc, reply.words.as_slice(), made.len()),
+        (wanted.rc, wanted.words, wanted.receipts.len()),
+        "at {name}"
+    );
     for (receipt, told) in made.iter().zip(wanted.receipts) {
         let is = (receipt.entry, receipt.before.stamp, receipt.answer);
         assert_eq!(rt; is, *told, "at {name}");

@@ -1,6 +1,6 @@
 //! A trace of some thousand lines on large tables, with as many processors as there may be. What its
 //! lines are answered is written down here line by line, and each way to run it must give that text.
-ghost use Rattle.std.specs.Prelude.{◌<◌};
+ghost use Rattle.std.specs.Prelude.{◌≡◌, ◌<◌, length};
 
 use super::{list, text_in};
 use papr_top::{Status, papr_serial};
@@ -188,12 +188,9 @@ fn its_replies_have_the_same_text(rt: HostRuntime) -> Result<(), Fail> {
 }
 
 /// The text of the replies at once, and reply by reply.
-fn check_texts(
-    rt: &impl Abort,
-    alloc: Global,
-    trace: &Trace,
-    replies: &Replies,
-) -> Result<(), Fail> {
+fn check_texts(rt: &impl Abort, alloc: Global, trace: &Trace, replies: &Replies) -> Result<(), Fail>
+    requires { length trace.now.lines ≡ length replies.now.items }
+{
     let told = told(alloc)?;
     assert!(rt; text_of(alloc, trace, replies)? == told);
     assert!(rt; put_all(alloc, trace, replies)? == told);

@@ -5,7 +5,6 @@
 #![tactic(auto)]
 
 mod act;
-mod cpus;
 mod laws;
 mod member;
 mod members;

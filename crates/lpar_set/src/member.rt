@@ -1,16 +1,16 @@
-ghost use Rattle.std.specs.Prelude.{◌≡◌, ◌≢◌, ◌<◌, ◌-◌, ◌^◌, length, true, false, None, Contains, IfOk, OnOk, OnErr};
+ghost use Rattle.std.specs.Prelude.{◌≡◌, ◌≢◌, ◌<◌, ◌-◌, ◌^◌, length, map, true, false, None, Contains, IfOk, OnOk, OnErr, if◌then◌else◌};
 ghost use Rattle.hpt_pool.specs.Pool.{PoolState, block_at, lowest_place};
 ghost use Rattle.hpt_resize.specs.Resize.{IsHeld};
 ghost use Rattle.hpt_resize.specs.TableMemory.{prepare_result, commit_result};
 ghost use Rattle.trace_line.specs.Lines.{is_quiet};
 ghost use Rattle.trace_reply.specs.Places.{reply_in};
-ghost use Rattle.run_model.specs.RunState.{run_quiet_line, run_resize, after_prepare, after_commit, shown_of};
+ghost use Rattle.run_model.specs.RunState.{run_quiet_line, run_resize, after_prepare, after_commit, shown_of, is_success};
+ghost use Rattle.tlb_model.specs.Processor.{without_cache};
 ghost use Rattle.run_model.specs.SerialRun.{run_line};
 ghost use Rattle.lpar_set.specs.OpeningTables.{with_opening};
 ghost use Rattle.lpar_set.specs.SetRun.{with_pool, opening_member};
 
 use crate::act::run_act;
-use crate::cpus::{clear_after, empty_cpus};
 use entry_model::HReply;
 use frame_grants::Grants;
 use hpt_pool::Pool;
@@ -24,7 +24,7 @@ use std::mem;
 use trace_line::{Act, TraceLine};
 use trace_read::Config;
 use trace_reply::{Reply, ReplyPlace, Shown};
-use vcpu::Cpu;
+use vcpu::{Cpu, clear_caches, empty_cpus};
 
 /// A partition of a set between two of its lines: all that it carries but the pool, in which the blocks
 /// of its tables lie, and which each call is passed.
@@ -255,5 +255,15 @@ impl Member {
         let answer = self.resize.commit(pool, &mut self.current, flags, shift);
         clear_after(&mut self.cpus, answer.rc);
         HReply::without_receipts(answer.rc)
+    }
+}
+
+/// Clears the cache of each processor after a commit that was answered so, if it succeeded.
+fn clear_after(cpus: &mut Vec<Cpu>, rc: Rc)
+    ensures { cpus.new.items
+        ≡ (if is_success rc then map without_cache cpus.old.items else cpus.old.items) }
+{
+    if matches!(rc, Rc::Success) {
+        clear_caches(cpus);
     }
 }

@@ -1,5 +1,5 @@
 -- What a commit leaves of the table, and the processors behind it of their cached lines.
-use Rattle.std.proofs.Common.{◌≡◌, ◌⊎◌, ◌∙◌, inl, inr, ℕ, List, map, if◌then◌else◌, true, false, refl, ap, sym, subst, Option, Some, None}
+use Rattle.std.proofs.Common.{◌≡◌, ◌⊎◌, inl, inr, ℕ, List, map, if◌then◌else◌, refl, sym, subst, Option, Some, None}
 use Rattle.std.proofs.lemmas.Bool.{cond_both}
 use Rattle.papr_codes.specs.declared.codes.Rc.{Rc}
 use Rattle.papr_codes.specs.declared.codes.Rc.TheVariants.{Success}
@@ -9,8 +9,8 @@ use Rattle.hpt_resize.specs.Rehash.{collision_of}
 use Rattle.hpt_resize.specs.Pending.{PendingTable}
 use Rattle.hpt_resize.specs.TableMemory.{TableMemory, commit_result}
 use Rattle.hpt_resize.specs.Resize.{Table, CommitOutcome, commit_refusal, carry_outcome, complete_outcome, answer_outcome, outcome_of_commit}
-use Rattle.tlb_model.specs.Processor.{Processor}
-use Rattle.run_model.specs.RunState.{is_success, without_cache}
+use Rattle.tlb_model.specs.Processor.{Processor, without_cache}
+use Rattle.run_model.specs.RunState.{is_success}
 use Rattle.run_model.specs.HeldLines.{AllHold}
 use Rattle.run_model.proofs.HeldLines.{none_hold}
 
@@ -51,6 +51,7 @@ pub result_moves : (memory : TableMemory) (flags shift : ℕ) → ((commit_resul
 unfolding commit_result
 result_moves memory flags shift = commit_moves flags shift memory.pending memory.pool memory.table
 
-pub table_stays : (rc : Rc) (old new : Table) → (rc ≡ Success) ⊎ (new ≡ old) → is_success rc ≡ false → new ≡ old
-table_stays rc old new (inl done) off = let clash : true ≡ false = sym (ap is_success done) ∙ off in cc
-table_stays rc old new (inr same) off = same
+-- Where it did not succeed, the table stays.
+pub table_stays : (rc : Rc) (old new : Table) → (rc ≡ Success) ⊎ (new ≡ old) → (rc ≡ Success → ⊥) → new ≡ old
+table_stays rc old new (inl done) failed = absurd (failed done)
+table_stays rc old new (inr same) failed = same

@@ -12,7 +12,7 @@ use Rattle.slb_model.specs.Buffer.{segment_of}
 use Rattle.hpt_walk.specs.Access.{AccessContext, request}
 use Rattle.hpt_walk.proofs.Masked.{masked_where_refused, zero_refuses_none}
 use Rattle.tlb_model.specs.Cache.{cached_line}
-use Rattle.tlb_model.specs.Processor.{Processor, new_processor}
+use Rattle.tlb_model.specs.Processor.{Processor, new_processor, without_cache}
 use Rattle.trace_line.specs.declared.act.Act.{Act}
 use Rattle.trace_line.specs.declared.act.Act.TheVariants as acts
 use Rattle.trace_line.specs.declared.line.TraceLine.{TraceLine}
@@ -24,7 +24,7 @@ use Rattle.trace_reply.specs.Replies.{RepliedLine, lines_with_replies}
 use Rattle.run_model.specs.StoreContexts.{access_of}
 use Rattle.run_model.specs.Processors.{processor_at, processor_after}
 use Rattle.run_model.specs.LineReplies.{IsReplyToAccess}
-use Rattle.run_model.specs.RunState.{RunState, context_of, states_of, opening_run, run_quiet_line, run_resize, without_cache}
+use Rattle.run_model.specs.RunState.{RunState, context_of, states_of, opening_run, run_quiet_line, run_resize}
 use Rattle.run_model.specs.Histories.{lines_of_processor}
 use Rattle.run_model.specs.Quiet.{QuietPart, cut}
 use Rattle.run_model.specs.Windows.{is_on_table, table_lines}

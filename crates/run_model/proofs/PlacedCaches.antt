@@ -28,7 +28,7 @@ use Rattle.entry_model.specs.Receipt.{is_at, is_decided, is_no_match, found_of}
 use Rattle.entry_model.proofs.Heights.{at_valid}
 use Rattle.tlb_model.specs.Cache.{is_of, set_of, set_number, cached_line, without_page, AllInSet, AllCached}
 use Rattle.tlb_model.specs.CacheAfter.{kept_line, set_with, after_walk, cache_after}
-use Rattle.tlb_model.specs.Processor.{Processor, new_processor}
+use Rattle.tlb_model.specs.Processor.{Processor, new_processor, without_cache}
 use Rattle.tlb_model.proofs.CachedPages.{all_filter, all_put_last, all_in_set_of, all_written, all_cached, all_empty, cached_is_of}
 use Rattle.hpt_walk.specs.Access.{AccessContext, logical_of, landing_at, outcome_by, outcome_of, refused_by, refusing_mask, IsByWay, IsAccessReply, request, mode_for}
 use Rattle.hpt_walk.specs.declared.request.Request.{Request}
@@ -44,7 +44,7 @@ use Rattle.hpt_resize.specs.TableMemory.{TableMemory, commit_result}
 use Rattle.run_model.specs.StoreContexts.{access_of}
 use Rattle.run_model.specs.Processors.{processor_at, processor_after}
 use Rattle.run_model.specs.LineReplies.{IsReplyToAccess}
-use Rattle.run_model.specs.RunState.{RunState, context_of, without_cache, run_resize, run_quiet_line}
+use Rattle.run_model.specs.RunState.{RunState, context_of, run_resize, run_quiet_line}
 use Rattle.run_model.specs.Histories.{lines_of_processor, receipts_by}
 use Rattle.run_model.specs.Sections.{processor_after_lines, processors_after_lines}
 use Rattle.run_model.specs.GoodRun.{EachLineOfProcessor, IsAccessLine}

@@ -18,14 +18,14 @@ use Rattle.entry_model.proofs.Regroup.{history_regrouped}
 use Rattle.entry_model.proofs.RunHistory.{run_history, own_state, other_state}
 use Rattle.run_model.specs.StoreContexts.{StoreContext, access_of}
 use Rattle.run_model.specs.StoreSections.{StoreSection, made_in, closing_of}
-use Rattle.tlb_model.specs.Processor.{Processor}
+use Rattle.tlb_model.specs.Processor.{Processor, without_cache}
 use Rattle.papr_codes.specs.Hcalls.{hcall_of}
 use Rattle.papr_codes.specs.declared.calls.Hcall.{Hcall}
 use Rattle.trace_line.specs.declared.act.Act.{Act}
 use Rattle.trace_reply.specs.Replies.{RepliedLine, receipts_in}
 use Rattle.run_model.specs.Processors.{processor_at, processor_after, processors_after, gone_line_of}
 use Rattle.run_model.specs.LineReplies.{IsCallReply}
-use Rattle.run_model.specs.RunState.{RunState, context_of, states_of, without_cache, run_resize, run_quiet_line}
+use Rattle.run_model.specs.RunState.{RunState, context_of, states_of, run_resize, run_quiet_line}
 use Rattle.hpt_resize.specs.TableMemory.{with_states}
 use Rattle.run_model.specs.Histories.{lines_of_processor, receipts_by, closing_from, closing_states, Event, made, InOrder, gone_events, events_by}
 use Rattle.entry_model.specs.Fronts.{pair_beyond}

@@ -10,14 +10,14 @@ use Rattle.papr_codes.specs.Hcalls.{hcall_of}
 use Rattle.entry_model.specs.State.{State}
 use Rattle.hpt_resize.specs.Resize.{Table}
 use Rattle.hpt_resize.specs.TableMemory.{TableMemory, prepare_result, commit_result}
-use Rattle.tlb_model.specs.Processor.{Processor}
+use Rattle.tlb_model.specs.Processor.{Processor, without_cache}
 use Rattle.trace_line.specs.declared.act.Act.{Act}
 use Rattle.trace_line.specs.declared.line.TraceLine.{TraceLine}
 use Rattle.trace_line.specs.Lines.{is_quiet}
 use Rattle.trace_reply.specs.declared.reply.Reply.{Reply}
 use Rattle.trace_reply.specs.Replies.{RepliedLine, lines_with_replies}
 use Rattle.run_model.specs.Processors.{processor_at, processors_after}
-use Rattle.run_model.specs.RunState.{RunState, context_of, states_of, without_cache, is_success, after_prepare, after_commit, run_resize, run_quiet_line}
+use Rattle.run_model.specs.RunState.{RunState, context_of, states_of, is_success, after_prepare, after_commit, run_resize, run_quiet_line}
 use Rattle.run_model.specs.SerialRun.{line_result, with_result, run_line, replies_from}
 use Rattle.run_model.specs.Quiet.{cut}
 use Rattle.run_model.proofs.Undisturbed.{IsUndisturbed, Stands}

@@ -2,13 +2,12 @@
 use Rattle.std.specs.Prelude.{ℕ, List, [], map, replicate, if◌then◌else◌, slice_index, Bool, true, false}
 use Rattle.frame_grants.specs.declared.grant.Grant.{Grant}
 use Rattle.entry_model.specs.State.{State}
-use Rattle.tlb_model.specs.Cache.{empty_cache}
 use Rattle.papr_codes.specs.declared.calls.Hcall.{Hcall}
 use Rattle.papr_codes.specs.declared.codes.Rc.{Rc}
 use Rattle.papr_codes.specs.Hcalls.{hcall_of}
 use Rattle.hpt_resize.specs.TableMemory.{TableMemory, opening_memory, prepare_result, commit_result}
 use Rattle.hpt_walk.specs.Access.{access_context}
-use Rattle.tlb_model.specs.Processor.{Processor, new_processor}
+use Rattle.tlb_model.specs.Processor.{Processor, new_processor, without_cache}
 use Rattle.trace_read.specs.Configuration.{Configuration}
 use Rattle.trace_line.specs.declared.act.Act.{Act}
 use Rattle.run_model.specs.StoreContexts.{StoreContext, table_context}
@@ -56,10 +55,6 @@ shown_of memory =
     table_shown memory.table.number memory.table.order memory.table.place memory.table.states
 
 -- ---- quiet lines
--- A processor that has forgotten its cached translations.
-abbrev pub without_cache : Processor → Processor
-without_cache processor = record processor { cache = empty_cache }
-
 -- The code is H_SUCCESS.
 abbrev pub is_success : Rc → Bool
 is_success rc.Success = true

@@ -1,4 +1,5 @@
 pub mod Apart
 pub mod Placed
 pub mod CachedPages
+pub mod ProcessorLists
 mod Rows

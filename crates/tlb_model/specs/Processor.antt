@@ -16,3 +16,7 @@ pub record Processor : Type 0 where
 -- No segment, masks that refuse nothing, and no cached translation.
 unfoldable pub new_processor : Processor
 new_processor = record { slots = no_slots; masks = no_masks; cache = empty_cache }
+
+-- A processor that has forgotten its cached translations.
+abbrev pub without_cache : Processor → Processor
+without_cache processor = record processor { cache = empty_cache }

@@ -8,7 +8,7 @@ ghost use Rattle.trace_runner.specs.StoreRuns.{AddsWindows, AllRunnable, AreRunn
 
 use crate::gate::Gate;
 use crate::log::RunLog;
-use crate::machine::{Machine, empty_cpus};
+use crate::machine::Machine;
 use crate::store_run::{StoreRun, run_store};
 use crate::stores::deal_stores;
 use crate::windows::{WINDOW_ORDER, WindowEntries};
@@ -18,6 +18,7 @@ use std::alloc::{AllocError, Global};
 use std::sync::Wait;
 use std::thread::Threads;
 use trace_line::TraceLine;
+use vcpu::empty_cpus;
 
 /// Runs the lines on the page table. What its processors keep of the replies is put behind the other
 /// logs.

@@ -1,7 +1,6 @@
-ghost use Rattle.std.specs.Prelude.{◌≡◌, ◌<◌, ◌≤◌, ◌+◌, ◌-◌, ◌^◌, length, map, true, false, replicate, Some, IfOk, OnOk, vec_len};
-ghost use Rattle.tlb_model.specs.Processor.{new_processor};
+ghost use Rattle.std.specs.Prelude.{◌≡◌, ◌<◌, ◌≤◌, ◌+◌, ◌-◌, ◌^◌, length, true, false, Some, IfOk, OnOk, vec_len};
 ghost use Rattle.trace_line.specs.Lines.{is_quiet};
-ghost use Rattle.run_model.specs.RunState.{run_quiet_line, run_resize, shown_of, without_cache, is_success};
+ghost use Rattle.run_model.specs.RunState.{run_quiet_line, run_resize, shown_of};
 ghost use Rattle.run_model.specs.SerialRun.{opening_stores, run_line, run_on_windows, run_store_line};
 ghost use Rattle.trace_reply.specs.Places.{reply_in};
 ghost use Rattle.trace_runner.specs.Windows.{place_from, windows_of};
@@ -18,7 +17,7 @@ use std::marker::Model;
 use trace_line::{Act, TraceLine};
 use trace_read::Config;
 use trace_reply::{Reply, ReplyPlace, Shown};
-use vcpu::Cpu;
+use vcpu::{Cpu, clear_caches, empty_cpus};
 
 /// A partition with its processors and its DMA windows, between two lines.
 #[derive(Drop)]
@@ -37,32 +36,6 @@ impl Model for Machine {
     ghost view = { λ m. stores_of m.partition m.cpus.items m.windows.items };
 
     ghost invariant = { λ m. IsMachine m.partition m.cpus.items m.windows.items };
-}
-
-/// So many processors, with no segment and nothing cached.
-pub fn empty_cpus(alloc: Global, count: u32) -> Result<Vec<Cpu>, AllocError>
-    ensures { IfOk result (λ cpus. cpus.items ≡ replicate count new_processor) }
-{
-    let mut cpus = Vec::with_capacity(alloc, count as usize)?;
-    for _ in 0..count {
-        cpus.push(Cpu::new())?;
-    }
-    Ok(cpus)
-}
-
-fn is_success(rc: Rc) -> bool
-    ensures { result ≡ is_success rc }
-{
-    matches!(rc, Rc::Success)
-}
-
-/// Clears the cache of each processor.
-fn clear_caches(cpus: &mut Vec<Cpu>)
-    ensures { cpus.new.items ≡ map without_cache cpus.old.items }
-{
-    for i in 0..cpus.len() {
-        cpus[i].clear_cache();
-    }
 }
 
 impl Machine {
@@ -205,7 +178,7 @@ impl Machine {
             Hcall::Prepare => self.partition.prepare(alloc, args[0], args[1]),
             Hcall::Commit => {
                 let reply = self.partition.commit(args[0], args[1]);
-                if is_success(reply.rc) {
+                if matches!(reply.rc, Rc::Success) {
                     clear_caches(&mut self.cpus);
                 }
                 Ok(reply)

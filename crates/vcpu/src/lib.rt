@@ -10,11 +10,13 @@ mod asking;
 mod by_cache;
 mod by_walk;
 mod cpu;
+mod cpus;
 mod landing;
 mod passing;
 
 pub use asking::{key, operation};
 pub use by_walk::kept_line;
 pub use cpu::Cpu;
+pub use cpus::{clear_caches, empty_cpus};
 pub use landing::{outcome, outcome_at};
 pub use passing::refill;

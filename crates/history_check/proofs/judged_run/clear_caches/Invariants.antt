@@ -1,5 +1,5 @@
 use Rattle.std.proofs.Common.{◌≡◌, ◌++◌, map, take, drop}
-use Rattle.run_model.specs.RunState.{without_cache}
+use Rattle.tlb_model.specs.Processor.{without_cache}
 use Rattle.history_check.proofs.judged_run.clear_caches.Given as goal
 
 -- Those so far have no cache, and the others are as they were.

@@ -1,6 +1,6 @@
 use Rattle.std.proofs.Common.{◌≡◌}
 use Rattle.tlb_model.specs.Processor.{new_processor}
-use Rattle.run_model.proofs.ProcessorLists.{empty_more}
+use Rattle.tlb_model.proofs.ProcessorLists.{empty_more}
 use Rattle.history_check.proofs.processor.new_processors.Goals as goal
 
 pub loop-preserved : goal.loop-preserved

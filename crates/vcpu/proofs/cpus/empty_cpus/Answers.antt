@@ -1,7 +1,7 @@
 use Rattle.std.proofs.Common.{◌≡◌}
 use Rattle.tlb_model.specs.Processor.{new_processor}
-use Rattle.run_model.proofs.ProcessorLists.{empty_more}
-use Rattle.lpar_set.proofs.cpus.empty_cpus.Goals as goal
+use Rattle.tlb_model.proofs.ProcessorLists.{empty_more}
+use Rattle.vcpu.proofs.cpus.empty_cpus.Goals as goal
 
 pub loop-preserved : goal.loop-preserved
 unfolding new_processor

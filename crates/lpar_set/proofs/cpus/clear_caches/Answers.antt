@@ -1,7 +1,0 @@
-use Rattle.std.proofs.Common.{arith}
-use Rattle.std.proofs.lemmas.Grind.{common_steps}
-use Rattle.run_model.proofs.ProcessorLists.{clear_replied_line}
-use Rattle.lpar_set.proofs.cpus.clear_caches.Goals as goal
-
-pub loop-i-preserved : goal.loop-i-preserved
-loop-i-preserved c = clear_replied_line c.args.cpus.now.items c.loop-i.cpus.items c.loop-i.i c.index_mut.result.now c.clear_cache.new.self (grind (arith, common_steps)) c.loop-i.invariant c.index_mut.ensures.value c.clear_cache.ensures

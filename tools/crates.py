@@ -1,6 +1,7 @@
 """The crates of this repository and what each stands on, as crates.txt lists them."""
 
 from pathlib import Path
+from typing import Iterator
 
 from common import HERE, Bad
 
@@ -48,3 +49,8 @@ def with_those_below(names: list[str], uses: dict[str, list[str]]) -> list[str]:
 def folders_of(name: str) -> list[Path]:
     """Where the files of a crate are that its proof and its library rest on."""
     return [part for part in (CRATES / name / it for it in PARTS) if part.is_dir()]
+
+
+def files_of(name: str) -> Iterator[Path]:
+    """The files that a crate's proof and its library rest on."""
+    return (f for part in folders_of(name) for f in part.rglob("*") if f.is_file())

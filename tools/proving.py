@@ -96,7 +96,7 @@ class Builder:
             status = self.run(name, command(name, self.lines[name], self.built, 1))
         if is_program and status == 0:
             status = self.run(f"link {name}", self.kit.linking(name, self.built))
-        elif status == 0:
+        if status == 0:
             kept.write_text(stamp, encoding="utf-8")
         return status == 0
 

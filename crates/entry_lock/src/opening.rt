@@ -32,9 +32,7 @@ fn words_of(alloc: Global, states: &[EntryState]) -> Result<Vec<u64>, AllocError
     words.push(0)?;
     for state in states {
         is_fair(state);
-        words.push(word_from(&settled_word(state)))?;
-        words.push(state.dword0)?;
-        words.push(state.dword1)?;
+        words.extend_from_slice(&[word_from(&settled_word(state)), state.dword0, state.dword1])?;
     }
     Ok(words)
 }

@@ -1,11 +1,30 @@
 ghost use Rattle.std.specs.Prelude.{◌≡◌, length, IfOk};
 ghost use Rattle.lpar_set.specs.SetLaws.{IsSetAssured};
-ghost use Rattle.lpar_set.specs.SetRun.{set_replies};
+ghost use Rattle.lpar_set.specs.SetRun.{opening_set, set_replies};
 
 use crate::members::Members;
 use crate::set::SetTrace;
 use std::alloc::{AllocError, Global};
 use trace_reply::{Replies, ReplyPlace};
+
+/// The replies to all lines of a set, whose partitions are before their first ones.
+fn run_turns(alloc: Global, set: &SetTrace, members: &mut Members) -> Result<Replies, AllocError>
+    requires { members.old ≡ opening_set set.now }
+    ensures replies { IfOk result (λ r. r.items ≡ set_replies set.now) }
+    ensures count { IfOk result (λ r. length r.items ≡ length set.now.turns) }
+    ensures room { IfOk result (λ r. r.spare ≡ 0) }
+{
+    set.keeps_limits();
+    let turns = set.turns();
+    let mut replies = Replies::new(alloc);
+    replies.reserve(turns.len())?;
+    for turn in turns {
+        let mut place = ReplyPlace::new();
+        members.line(alloc, turn.partition, set.line_of(turn), &mut place)?;
+        replies.push(place.into_reply())?;
+    }
+    Ok(replies)
+}
 
 /// The replies to the lines of a set, one after the other in file order, in no more room than they need.
 /// The only error is want of memory.
@@ -16,14 +35,6 @@ pub fn run_set(alloc: Global, set: &SetTrace) -> Result<Replies, AllocError>
     ensures assured { IsSetAssured set.now (set_replies set.now) }
 {
     set.keeps_limits();
-    let turns = set.turns();
     let mut members = Members::open(alloc, set)?;
-    let mut replies = Replies::new(alloc);
-    replies.reserve(turns.len())?;
-    for turn in turns {
-        let mut place = ReplyPlace::new();
-        members.line(alloc, turn.partition, set.line_of(turn), &mut place)?;
-        replies.push(place.into_reply())?;
-    }
-    Ok(replies)
+    run_turns(alloc, set, &mut members)
 }

@@ -2,7 +2,7 @@ ghost use Rattle.std.specs.Prelude.{◌≡◌, ◌++◌, length, IfOk, OnOk, str
 ghost use Rattle.std.specs.List.{flat_map};
 ghost use Rattle.trace_reply.specs.Places.{reply_in};
 ghost use Rattle.lpar_set.specs.SetLaws.{IsSetAssured};
-ghost use Rattle.lpar_set.specs.SetRun.{set_replies};
+ghost use Rattle.lpar_set.specs.SetRun.{opening_set, set_replies};
 ghost use Rattle.lpar_set.specs.SetText.{number_text, numbered_entry, numbered_reply};
 
 use crate::members::Members;
@@ -114,6 +114,28 @@ pub fn set_text(alloc: Global, set: &SetTrace, replies: &Replies) -> Result<Stri
     Ok(out)
 }
 
+/// The texts of the replies to all lines of a set, whose partitions are before their first ones. Each is
+/// written as soon as its line has run.
+fn turns_to_text(alloc: Global, set: &SetTrace, members: &mut Members) -> Result<String, AllocError>
+    requires { members.old ≡ opening_set set.now }
+    ensures { IfOk
+        result
+        (λ s.
+        string_bytes s ≡ Rattle.lpar_set.specs.SetText.set_text set.now (set_replies set.now)) }
+{
+    set.keeps_limits();
+    let turns = set.turns();
+    let mut out = String::new(alloc);
+    // One place for the replies to all lines.
+    let mut place = ReplyPlace::new();
+    for turn in turns {
+        let line = set.line_of(turn);
+        members.line(alloc, turn.partition, line, &mut place)?;
+        put_numbered_place(&mut out, set.number_of(turn), line, &place)?;
+    }
+    Ok(out)
+}
+
 /// The text of the run of a set. No reply is kept longer than it takes to write it. The only error is
 /// want of memory.
 pub fn set_to_text(alloc: Global, set: &SetTrace) -> Result<String, AllocError>
@@ -124,15 +146,6 @@ pub fn set_to_text(alloc: Global, set: &SetTrace) -> Result<String, AllocError>
     ensures assured { IsSetAssured set.now (set_replies set.now) }
 {
     set.keeps_limits();
-    let turns = set.turns();
     let mut members = Members::open(alloc, set)?;
-    let mut out = String::new(alloc);
-    // One place for the replies to all lines.
-    let mut place = ReplyPlace::new();
-    for turn in turns {
-        let line = set.line_of(turn);
-        members.line(alloc, turn.partition, line, &mut place)?;
-        put_numbered_place(&mut out, set.number_of(turn), line, &place)?;
-    }
-    Ok(out)
+    turns_to_text(alloc, set, &mut members)
 }

@@ -12,11 +12,7 @@ use trace_io::{StdSink, StdSource};
 
 /// The words behind the program's name.
 fn words(rt: &(impl Env + Alloc<A = Global>)) -> io::Result<Vec<String>> {
-    let mut words = Vec::new(rt.alloc());
-    for word in env::args(rt)?.skip(1) {
-        words.push(word)?;
-    }
-    Ok(words)
+    Ok(env::args(rt)?.skip(1).collect(rt.alloc())?)
 }
 
 fn main(rt: HostRuntime) -> ExitCode {

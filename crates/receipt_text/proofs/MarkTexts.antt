@@ -1,11 +1,13 @@
 -- The text of marks is cut in one way, so a line has one list of marks.
-use Rattle.std.proofs.Common.{◌≡◌, ℕ, ◌<◌, ◌≤◌, ◌^◌, ◌+◌, ◌*◌, List, [], ◌∷◌, ◌++◌, true, false, ap, sym, ◌∙◌, refl, subst, inl, length, arith, Option, Some, None, append_assoc, append-nil, length-append, drop}
-use Rattle.std.specs.Prelude.{if◌then◌else◌, ◌==◌, codes, MatchOption}
+use Rattle.std.proofs.Common.{◌≡◌, ℕ, ◌<◌, ◌≤◌, ◌^◌, List, [], ◌∷◌, ◌++◌, true, false, ap, sym, ◌∙◌, refl, subst, inl, length, arith, Option, Some, None, append_assoc, append-nil, length-append, drop}
+use Rattle.std.specs.Prelude.{◌==◌, codes, find, option_map, unwrap_or, IfNone, MatchOption}
+use Rattle.std.specs.Str.{bytes_eq}
 use Rattle.std.specs.List.{AllByRecursion, flat_map}
 use Rattle.std.specs.Fmt.{digits, decimal}
 use Rattle.std.specs.Str.Parse.{digits_value}
 use Rattle.std.proofs.lemmas.Fmt.{decimal_injective, digits_is_IsNumeral}
 use Rattle.std.proofs.lemmas.List.{append_cancel_right}
+use Rattle.std.proofs.lemmas.Option.{none-some}
 use Rattle.entry_model.specs.declared.operation.Answer.{Answer}
 use Rattle.entry_model.specs.declared.operation.Answer.TheVariants as answers
 use Rattle.receipt_text.specs.declared.mark.Mark.{Mark}
@@ -22,42 +24,36 @@ hex_same m n p q e =
     let d : digits 16 false m ≡ digits 16 false n = ap (drop 2) e in
     sym (digits_is_IsNumeral 16 false (omega arith) (omega arith) m (omega arith)).1 ∙ ap (digits_value 16) d ∙ (digits_is_IsNumeral 16 false (omega arith) (omega arith) n (omega arith)).1
 
--- The first byte and the length.
-abbrev key_of : List ℕ → ℕ
-key_of [] = 0
-key_of (x ∷ xs) = x * 16 + length xs
+-- All answers.
+abbrev pub all_answers : List Answer
+all_answers =
+    answers.Entered ∷ answers.Taken ∷ answers.Removed ∷ answers.Protected ∷ answers.Was ∷ answers.Words
+    ∷ answers.NotFound ∷ answers.NoMatch ∷ answers.Denied ∷ answers.Masked ∷ answers.At ∷ answers.Worn ∷ []
 
-abbrev answer_by : ℕ → Answer
-answer_by k =
-    if k == 101 * 16 + 6 then answers.Entered
-    else if k == 116 * 16 + 4 then answers.Taken
-    else if k == 114 * 16 + 6 then answers.Removed
-    else if k == 112 * 16 + 8 then answers.Protected
-    else if k == 119 * 16 + 2 then answers.Was
-    else if k == 114 * 16 + 3 then answers.Words
-    else if k == 110 * 16 + 7 then answers.NotFound
-    else if k == 110 * 16 + 6 then answers.NoMatch
-    else if k == 100 * 16 + 5 then answers.Denied
-    else if k == 109 * 16 + 5 then answers.Masked
-    else if k == 97 * 16 + 1 then answers.At
-    else answers.Worn
+-- The first of them whose word a word is.
+abbrev pub answer_found : List ℕ → Option Answer
+answer_found word = find (λ a. bytes_eq (answer_word a) word) all_answers
 
-answer_back : (a : Answer) → answer_by (key_of (answer_word a)) ≡ a
-answer_back answers.Entered = refl
-answer_back answers.Taken = refl
-answer_back answers.Removed = refl
-answer_back answers.Protected = refl
-answer_back answers.Was = refl
-answer_back answers.Words = refl
-answer_back answers.NotFound = refl
-answer_back answers.NoMatch = refl
-answer_back answers.Denied = refl
-answer_back answers.Masked = refl
-answer_back answers.At = refl
-answer_back answers.Worn = refl
+found_by_word : (a : Answer) → answer_found (answer_word a) ≡ Some a
+found_by_word answers.Entered = refl
+found_by_word answers.Taken = refl
+found_by_word answers.Removed = refl
+found_by_word answers.Protected = refl
+found_by_word answers.Was = refl
+found_by_word answers.Words = refl
+found_by_word answers.NotFound = refl
+found_by_word answers.NoMatch = refl
+found_by_word answers.Denied = refl
+found_by_word answers.Masked = refl
+found_by_word answers.At = refl
+found_by_word answers.Worn = refl
+
+pub not_found : (w : List ℕ) (r : Option Answer) → option_map (λ a. a) r ≡ answer_found w → IfNone r ((a : Answer) → answer_word a ≡ w → ⊥)
+not_found w (Some x) e = tt
+not_found w None e = λ a is. none-some a (e ∙ ap answer_found (sym is) ∙ found_by_word a)
 
 pub answer_same : (a b : Answer) → answer_word a ≡ answer_word b → a ≡ b
-answer_same a b e = sym (answer_back a) ∙ ap (λ w. answer_by (key_of w)) e ∙ answer_back b
+answer_same a b e = ap (λ o. unwrap_or o a) (sym (found_by_word a) ∙ ap answer_found e ∙ found_by_word b)
 
 answer_lacks : (a : Answer) → (lacks 10 (answer_word a) ≡ true) × (lacks 32 (answer_word a) ≡ true)
 answer_lacks answers.Entered = (refl, refl)

@@ -9,6 +9,7 @@ ghost use Rattle.receipt_text.specs.Marks.{AreSpelt, HasMarks, IsMark};
 use crate::cuts::{behind_bar, first_word, split_at};
 use crate::digits::number_of;
 use crate::mark::{Mark, Marks};
+use crate::receipts::word_of;
 use entry_model::Answer;
 
 /// The entry whose index a word writes.
@@ -32,25 +33,28 @@ fn bits_of(word: &[u8]) -> Option<u8>
 }
 
 /// The answer that a word names.
+#[tactic(auto, unfolding(crate::specs::Receipts::answer_word))]
 fn answer_of(word: &[u8]) -> Option<Answer>
     ensures some { IfSome result (λ a. answer_word a ≡ word.now) }
     ensures none { IfNone result ((a : Answer) → answer_word a ≡ word.now → ⊥) }
 {
-    match word {
-        b"entered" => Some(Answer::Entered),
-        b"taken" => Some(Answer::Taken),
-        b"removed" => Some(Answer::Removed),
-        b"protected" => Some(Answer::Protected),
-        b"was" => Some(Answer::Was),
-        b"read" => Some(Answer::Words),
-        b"notfound" => Some(Answer::NotFound),
-        b"nomatch" => Some(Answer::NoMatch),
-        b"denied" => Some(Answer::Denied),
-        b"masked" => Some(Answer::Masked),
-        b"at" => Some(Answer::At),
-        b"worn" => Some(Answer::Worn),
-        _ => None,
-    }
+    [
+        Answer::Entered,
+        Answer::Taken,
+        Answer::Removed,
+        Answer::Protected,
+        Answer::Was,
+        Answer::Words,
+        Answer::NotFound,
+        Answer::NoMatch,
+        Answer::Denied,
+        Answer::Masked,
+        Answer::At,
+        Answer::Worn,
+    ]
+    .iter()
+    .copied()
+    .find(|answer| word_of(*answer).as_bytes() == word)
 }
 
 /// The mark that a word is.

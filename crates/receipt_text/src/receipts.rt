@@ -13,7 +13,7 @@ use std::alloc::AllocError;
 const RECEIPT_ROOM: usize = 64;
 
 /// The word of an answer.
-fn word_of(answer: Answer) -> &'static str
+pub fn word_of(answer: Answer) -> &'static str
     ensures value { result.now ≡ answer_word answer }
     ensures short { length result.now ≤ 9 }
 {

@@ -1,4 +1,4 @@
-ghost use Rattle.std.specs.Prelude.{◌≡◌, ◌≤◌, ◌<◌, ◌^◌, length, IfOk, OnOk};
+ghost use Rattle.std.specs.Prelude.{◌≡◌, ◌≤◌, ◌<◌, ◌^◌, length, IfOk};
 ghost use Rattle.std.specs.List.{AllByRecursion};
 ghost use Rattle.trace_line.specs.declared.line.TraceLine.{TraceLine};
 ghost use Rattle.run_model.specs.RunState.{shown_of};
@@ -22,19 +22,24 @@ pub struct CountedRun {
     pub table: Shown,
 }
 
-/// Counts the replies to lines, each as soon as its line has run.
+/// Counts the replies to lines, each as soon as its line has run, and shows the table behind them.
 fn count_lines(
     alloc: Global,
     machine: &mut Machine,
     lines: &[TraceLine],
-) -> Result<Counts, AllocError>
+) -> Result<CountedRun, AllocError>
     requires few { length lines.now ≤ 2 ^ 17 }
     requires cpus { AllByRecursion
         (λ (l : TraceLine). l.cpu < length machine.old.table.processors)
         lines.now }
     requires number { machine.old.table.memory.table.number ≡ 0 }
-    ensures counts { IfOk result (λ c. IsCountOf c (store_replies_from machine.old lines.now)) }
-    ensures run_state { OnOk result (machine.new ≡ stores_after_lines machine.old lines.now) }
+    ensures counts { IfOk
+        result
+        (λ run. IsCountOf run.counts (store_replies_from machine.old lines.now)) }
+    ensures table { IfOk
+        result
+        (λ run.
+        run.table ≡ shown_of (stores_after_lines machine.old lines.now).table.memory) }
 {
     let mut counts = Counts::new();
     let mut place = ReplyPlace::new();
@@ -42,7 +47,8 @@ fn count_lines(
         machine.line(alloc, line, &mut place)?;
         counts.add_place(&place);
     }
-    Ok(counts)
+    let table = machine.shown(alloc)?;
+    Ok(CountedRun { counts, table })
 }
 
 /// The counts of the replies of the serial run of a trace, and the table at its end. The replies are
@@ -58,7 +64,5 @@ pub fn run_counted(alloc: Global, trace: &Trace) -> Result<CountedRun, AllocErro
     ensures assured { Assures trace.now (serial_replies trace.now) }
 {
     let mut machine = open_machine(alloc, trace)?;
-    let counts = count_lines(alloc, &mut machine, trace.lines.as_slice())?;
-    let table = machine.shown(alloc)?;
-    Ok(CountedRun { counts, table })
+    count_lines(alloc, &mut machine, trace.lines.as_slice())
 }

@@ -2,7 +2,7 @@ use Rattle.std.proofs.Common.{◌≡◌, ◌++◌, drop, string_bytes}
 use Rattle.lpar_set.specs.SetRun.{replies_from, set_replies}
 use Rattle.lpar_set.specs.SetText.{text_from, set_text}
 use Rattle.lpar_set.proofs.SetRuns.{IsReady}
-use Rattle.lpar_set.proofs.text.set_to_text.Given as goal
+use Rattle.lpar_set.proofs.text.turns_to_text.Given as goal
 
 -- The text so far and that of the turns that are left are that of all.
 abbrev pub invariant-loop-turn : goal.invariant-loop-turn

@@ -1,7 +1,7 @@
 use Rattle.std.proofs.Common.{◌≡◌, ◌+◌, ◌++◌, drop, length}
 use Rattle.lpar_set.specs.SetRun.{replies_from, set_replies}
 use Rattle.lpar_set.proofs.SetRuns.{IsReady}
-use Rattle.lpar_set.proofs.run.run_set.Given as goal
+use Rattle.lpar_set.proofs.run.run_turns.Given as goal
 
 -- The replies so far and those to the turns that are left are those to all.
 abbrev pub invariant-loop-turn : goal.invariant-loop-turn

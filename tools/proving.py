@@ -7,12 +7,13 @@ import signal
 import subprocess
 import tempfile
 import threading
+import time
 from concurrent.futures import FIRST_COMPLETED, Future, ThreadPoolExecutor, wait
 from contextlib import suppress
 from pathlib import Path
 from typing import Optional
 
-from crates import CRATES, TOP, files_of, uses_of
+from crates import CRATES, TOP, files_of, uses_of, with_those_below
 from progress import Progress
 from toolchain import Toolchain
 
@@ -21,6 +22,9 @@ from toolchain import Toolchain
 JOBS = {"trace_read": 2, "trace_runner": 3, "history_check": 2}
 JOBS_ALONE = 4  # of a proof that has nothing beside it
 MEMORY = 2_500_000_000  # bytes that the largest of the proofs takes
+# How long a proof takes goes by the length of its source. What each pays before the first thing of its own,
+# and compiling and linking the program, are as much as these bytes.
+STARTING, LINKING = 2_000, 14_000
 # A proof lays out its tables by the address space that it may have. In less of it they lie closer together
 # in memory, and a proof is faster by a tenth.
 ADDRESS_SPACE = 20_000_000_000  # bytes
@@ -53,6 +57,28 @@ class Plan:
 def length_of(name: str) -> int:
     """The bytes of a crate's source."""
     return sum(file.stat().st_size for file in (CRATES / name / "src").rglob("*.rt"))
+
+
+def is_program(name: str) -> bool:
+    """Whether a crate is a program."""
+    return (CRATES / name / "src" / "main.rt").is_file()
+
+
+def efforts_of(order: list[str], uses: dict[str, list[str]]) -> dict[str, int]:
+    """How much of a build each crate is. One that has nothing beside it keeps all processors from the others."""
+    below = {name: set(with_those_below([name], uses)) for name in order}
+    efforts = {}
+    for name in order:
+        above = {it for it in order if name in below[it]}
+        is_alone = below[name] | above == set(order)
+        effort = STARTING + length_of(name) + (LINKING if is_program(name) else 0)
+        efforts[name] = effort * (processors() if is_alone else 1)
+    return efforts
+
+
+def processors() -> int:
+    """How many proofs this machine makes side by side."""
+    return max(1, min(len(os.sched_getaffinity(0)), free_memory() // MEMORY))
 
 
 class Builder:
@@ -91,13 +117,12 @@ class Builder:
         if kept.is_file() and kept.read_text(encoding="utf-8") == stamp:
             return True
         kept.unlink(missing_ok=True)
-        is_program = (CRATES / name / "src" / "main.rt").is_file()
-        command = self.kit.compiling if is_program else self.kit.proving
+        command = self.kit.compiling if is_program(name) else self.kit.proving
         status = self.run(name, command(name, self.lines[name], self.built, jobs))
         if status == -signal.SIGKILL and jobs > 1:
             # Most likely for memory.
             status = self.run(name, command(name, self.lines[name], self.built, 1))
-        if is_program and status == 0:
+        if is_program(name) and status == 0:
             status = self.run(f"link {name}", self.kit.linking(name, self.built))
         if status == 0:
             kept.write_text(stamp, encoding="utf-8")
@@ -114,17 +139,19 @@ class Builder:
                 kept = {**KEEPING_FREED, **os.environ}
                 ran = subprocess.Popen(words, cwd=TOP, env=kept, start_new_session=True, **how)
                 self.running.add(ran)
+            began = time.monotonic()
             status = ran.wait()
+            took = round(time.monotonic() - began)
             with self.guard, open(self.log, "a", encoding="utf-8") as log:
                 self.running.remove(ran)
                 said.seek(0)
-                log.write(f"== {name}\n{said.read()}status {status}\n")
+                log.write(f"== {name}\n{said.read()}status {status}, {took} s\n")
         return status
 
 
 def prove_all(builder: Builder, order: list[str], progress: Progress) -> Optional[str]:
     """Proves the crates and links the program; gives the name of a crate that failed."""
-    most = max(1, min(len(os.sched_getaffinity(0)), free_memory() // MEMORY))
+    most = processors()
     limit_address_space()
     plan = Plan(order, builder.uses)
     running: dict[Future[bool], str] = {}
@@ -135,6 +162,7 @@ def prove_all(builder: Builder, order: list[str], progress: Progress) -> Optiona
             for name in ready:
                 jobs = min(most, JOBS_ALONE if is_alone else JOBS.get(name, 1))
                 plan.waiting.remove(name)
+                progress.began(name)
                 running[pool.submit(builder.prove, name, jobs)] = name
             for ended in wait(running, return_when=FIRST_COMPLETED).done:
                 name = running.pop(ended)

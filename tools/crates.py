@@ -54,3 +54,8 @@ def folders_of(name: str) -> list[Path]:
 def files_of(name: str) -> Iterator[Path]:
     """The files that a crate's proof and its library rest on."""
     return (f for part in folders_of(name) for f in part.rglob("*") if f.is_file())
+
+
+def is_program(name: str) -> bool:
+    """Whether a crate is a program."""
+    return (CRATES / name / "src" / "main.rt").is_file()

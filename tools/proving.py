@@ -13,7 +13,7 @@ from contextlib import suppress
 from pathlib import Path
 from typing import Optional
 
-from crates import CRATES, TOP, files_of, uses_of, with_those_below
+from crates import CRATES, TOP, files_of, is_program, uses_of, with_those_below
 from progress import Progress
 from toolchain import Toolchain
 
@@ -31,6 +31,9 @@ ADDRESS_SPACE = 20_000_000_000  # bytes
 # What is freed the compiler's allocator gives back to the system after a second, and soon asks for as much
 # again. Where it keeps it, proofs side by side are faster by a tenth, in 2 hundredths more memory.
 KEEPING_FREED = {"MIMALLOC_PURGE_DELAY": "-1"}
+# `rt ci` refuses the sources that a built library holds, wherever else they lie in a checkout.
+IN_GIT = (TOP / ".git").is_dir()
+BUILT = (TOP / ".git" if IN_GIT else TOP / "out") / "papr-build"
 
 
 class Plan:
@@ -57,11 +60,6 @@ class Plan:
 def length_of(name: str) -> int:
     """The bytes of a crate's source."""
     return sum(file.stat().st_size for file in (CRATES / name / "src").rglob("*.rt"))
-
-
-def is_program(name: str) -> bool:
-    """Whether a crate is a program."""
-    return (CRATES / name / "src" / "main.rt").is_file()
 
 
 def efforts_of(order: list[str], uses: dict[str, list[str]]) -> dict[str, int]:

@@ -6,7 +6,7 @@ from pathlib import Path
 from typing import Iterator
 
 from common import Bad
-from crates import CRATES, TOP
+from crates import CRATES, TOP, is_program
 
 LINKED = "x86_64-unknown-linux-gnu"  # what a program is linked for
 
@@ -37,6 +37,12 @@ class Toolchain:
         words = self.reading(name, root, line, built, jobs)
         tools = ["--toolchain", f"{self.kit}/toolchain", "--backend", "llvm"]
         return [*words, *tools, "-o", f"{built / name}.o"]
+
+    def checking(self, name: str, line: str, built: Path, written: Path) -> list[str]:
+        """The command that proves a crate by one job, writing each module that it checks below `written`."""
+        root = CRATES / name / "src" / ("main.rt" if is_program(name) else "lib.rt")
+        words = self.reading(name, root, line, built, 1)
+        return [words[0], "check", *words[2:], "--incremental", str(written)]
 
     def linking(self, name: str, built: Path) -> list[str]:
         """The command that links a program that was compiled."""

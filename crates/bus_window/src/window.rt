@@ -80,6 +80,20 @@ impl Window {
         self.liobn
     }
 
+    /// The bus address at which the window begins: a multiple of 4096, below 2^60.
+    pub fn base(&self) -> u64
+        ensures { result ≡ self.now.base }
+    {
+        self.base
+    }
+
+    /// How many pages of 4096 bytes the window has: 1 to 2^14.
+    pub fn pages(&self) -> u32
+        ensures { result ≡ self.now.pages }
+    {
+        self.pages
+    }
+
     /// Whether this is the window's number.
     pub fn has_number(&self, liobn: u64) -> bool
         ensures { result ≡ (self.now.liobn == liobn) }

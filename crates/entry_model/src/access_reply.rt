@@ -33,7 +33,9 @@ pub enum By {
 /// it is the access's reply.
 #[derive(Clone, Copy, PartialEq, Eq, Debug)]
 pub struct AccessEnd {
+    /// Whether it was allowed, and where it landed or why it was refused.
     pub outcome: Outcome,
+    /// By a cached translation or by a walk; `None` exactly where no segment was found.
     pub by: Option<By>,
 }
 
@@ -56,7 +58,10 @@ impl AccessEnd {
 /// the operations that it made, in their order.
 #[derive(Drop)]
 pub struct AccessReply {
+    /// Whether it was allowed, and where it landed or why it was refused.
     pub outcome: Outcome,
+    /// By a cached translation or by a walk; `None` exactly where no segment was found.
     pub by: Option<By>,
+    /// One of a hit, or one for each entry that a walk tried: at most sixteen.
     pub receipts: Receipts,
 }

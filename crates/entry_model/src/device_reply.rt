@@ -32,6 +32,8 @@ impl DeviceOutcome {
 /// The reply to a device's access: how it ended, and the receipt of the entry that it read.
 #[derive(Drop)]
 pub struct DeviceReply {
+    /// Whether it was allowed, and where it landed or why it was refused.
     pub outcome: DeviceOutcome,
+    /// One, or none where the address lies outside the window.
     pub receipts: Receipts,
 }

@@ -7,7 +7,9 @@ use papr_codes::Rc;
 /// register 4 and those behind it. With the receipts of its operations it is the call's reply.
 #[derive(Drop)]
 pub struct Registers {
+    /// Register 3.
     pub rc: Rc,
+    /// Register 4 and those after it.
     pub words: ReplyWords,
 }
 
@@ -41,8 +43,11 @@ impl Registers {
 /// the receipts of the operations that it made, in their order.
 #[derive(Drop)]
 pub struct HReply {
+    /// Register 3.
     pub rc: Rc,
+    /// Register 4 and those after it.
     pub words: ReplyWords,
+    /// One for each entry that was tried, in the order of the tries.
     pub receipts: Receipts,
 }
 

@@ -7,10 +7,13 @@ use power_addr::Page;
 /// doublewords that the entry had then.
 #[derive(Clone, Copy, PartialEq, Eq, Debug)]
 pub struct Line {
+    /// The virtual page that the entry translated.
     pub page: Page,
     /// The entry's index in its table.
     pub entry: u32,
+    /// The entry's stamp when it was cached.
     pub stamp: u32,
+    /// Doubleword 0 as it was then.
     pub dword0: u64,
     /// Doubleword 1, with R and C clear.
     pub dword1: u64,

@@ -8,10 +8,13 @@ use crate::state::EntryState;
 #[derive(Clone, Copy, Debug)]
 pub struct Receipt {
     // Fields lie in memory in this order: the wide ones first, so that no room is lost.
+    /// The state that the operation found.
     pub before: EntryState,
+    /// The operation.
     pub op: Op,
     /// The entry's index in its table.
     pub entry: u32,
+    /// What the entry answered.
     pub answer: Answer,
 
     // The answer is the entry's own to this operation on that state.

@@ -11,11 +11,13 @@ use std::marker::Model;
 #[derive(Clone, Copy, PartialEq, Eq, Debug)]
 pub struct EntryState {
     // Fields lie in memory in this order: the wide ones first, so that no room is lost.
+    /// Doubleword 0 of the page table entry; 0 where the entry is not valid.
     pub dword0: u64,
     /// Doubleword 1, with R and C clear.
     pub dword1: u64,
     /// How often the entry has changed, but for R and C that accesses set.
     pub stamp: u32,
+    /// V: the entry translates a page.
     pub valid: bool,
     /// R: the page was referenced.
     pub referenced: bool,

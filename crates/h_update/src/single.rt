@@ -20,7 +20,9 @@ pub enum ShownWords {
 /// A call on one entry: its operation, and the doublewords that its reply shows.
 #[derive(Clone, Copy)]
 pub struct SingleCall {
+    /// What is made on the entry.
     pub op: Op,
+    /// Which doublewords register 4 and those after it have.
     pub shown: ShownWords,
 }
 

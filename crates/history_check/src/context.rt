@@ -7,8 +7,11 @@ use std::marker::Model;
 /// entries of the page table are no window's.
 #[derive(Drop)]
 pub struct Context<'a> {
+    /// 18 to 22.
     pub order: u8,
+    /// The granted memory.
     pub grants: &'a Grants,
+    /// `None` for the page table.
     pub window: Option<Window>,
 }
 

@@ -14,6 +14,7 @@ use trace_line::Act;
 #[derive(Clone, Copy)]
 pub struct LineStep {
     // Fields lie in memory in this order, in 24 bytes: a section may have millions of steps.
+    /// The place of the receipt in its entry's history.
     pub place: u64,
     /// Which of the section's receipts it is.
     pub index: u32,
@@ -21,6 +22,7 @@ pub struct LineStep {
     pub line: u32,
     /// The entry's index.
     pub entry: u32,
+    /// What the entry answered.
     pub answer: Answer,
 }
 

@@ -12,7 +12,9 @@ use trace_line::{Act, TraceLine};
 /// Lines of a section, and their part of a text.
 #[derive(Drop)]
 pub struct Part {
+    /// In file order.
     pub lines: Vec<TraceLine>,
+    /// Bytes of whole lines.
     pub text: Vec<u8>,
 }
 

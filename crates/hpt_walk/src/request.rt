@@ -4,6 +4,7 @@ use storage_prot::Want;
 /// What an access asks.
 #[derive(Clone, Copy, PartialEq, Eq, Debug)]
 pub struct Request {
+    /// Load, store or instruction fetch.
     pub want: Want,
     /// The effective address.
     pub ea: u64,

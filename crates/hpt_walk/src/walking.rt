@@ -20,6 +20,7 @@ use storage_prot::Want;
 pub struct WalkAnswer {
     /// The receipt of the entry that translates the page: the last one, which says At, Masked or Denied.
     pub found: Option<Receipt>,
+    /// One for each entry that was tried, in walk order: at most sixteen.
     pub receipts: Receipts,
 }
 

@@ -5,6 +5,7 @@ pub struct Control {
     pub locked: bool,
     /// The actor that holds the entry changes it: its words aren't read.
     pub shut: bool,
+    /// V: the entry translates a page.
     pub valid: bool,
     /// R: the page was referenced.
     pub referenced: bool,

@@ -9,6 +9,7 @@ use entry_model::Op;
 pub struct Doing {
     /// The entry's index in its table.
     pub entry: u32,
+    /// The operation.
     pub op: Op,
     /// The control word that the actor found.
     pub noted: Control,

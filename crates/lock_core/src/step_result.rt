@@ -5,7 +5,10 @@ use entry_model::Receipt;
 /// What a step leaves of its entry and of its actor, and the receipt that it makes.
 #[derive(Clone, Copy, Debug)]
 pub struct StepResult {
+    /// The entry after the step.
     pub entry: Entry,
+    /// What the actor is at after the step.
     pub phase: Phase,
+    /// The receipt of an operation that ends with this step.
     pub made: Option<Receipt>,
 }

@@ -12,7 +12,9 @@ use pool_range::{PoolRange, RangeError};
 #[repr(C)]
 #[derive(Clone, Copy)]
 pub struct PaprMaking {
+    /// The index of the grant that is refused, or 0.
     pub index: usize,
+    /// 0, or the number of the refusal.
     pub refusal: u32,
 }
 

@@ -74,7 +74,9 @@ impl PaprGrant {
 #[repr(C)]
 #[derive(Clone, Copy)]
 pub struct PaprGrants {
+    /// In order of logical address; those from `count` on are empty.
     pub grants: [PaprGrant; 64],
+    /// How many there are: 0 to 64.
     pub count: u32,
 
     ghost few: { count ≤ length grants },

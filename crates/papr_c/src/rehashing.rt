@@ -11,6 +11,7 @@ use papr_codes::Rc;
 #[repr(C)]
 #[derive(Clone, Copy)]
 pub struct PaprRehash {
+    /// The return code, as register 3 has it.
     pub rc: i64,
     /// The lower index in the old table.
     pub first: u32,

@@ -11,8 +11,11 @@ use papr_codes::Rc;
 #[repr(C)]
 #[derive(Clone, Copy)]
 pub struct PaprReply {
+    /// The return code, as register 3 has it.
     pub rc: i64,
+    /// How many words were written.
     pub words: u32,
+    /// How many receipts were written.
     pub receipts: u32,
 }
 

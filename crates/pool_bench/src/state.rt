@@ -97,7 +97,9 @@ fn give_leaves(pool: &mut Pool, places: &[u64])
 /// The places that were taken, and their sum.
 #[derive(Clone, Copy)]
 pub struct Seen {
+    /// How many blocks were taken.
     pub places: u32,
+    /// The sum of their addresses, modulo 2^64.
     pub sum: u64,
 }
 

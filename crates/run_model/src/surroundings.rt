@@ -6,7 +6,9 @@ use std::marker::Model;
 /// the store has. The entries of the page table are no window's.
 #[derive(Drop)]
 pub struct Surroundings<'a> {
+    /// The granted memory.
     pub grants: &'a Grants,
+    /// `None` for the page table.
     pub window: Option<Window>,
 }
 

@@ -25,12 +25,17 @@ const BASE_PAGE: u64 = 0x130;
 pub struct Slot {
     /// The upper 36 bits of the effective addresses in the segment; of a 1 TB segment the upper 24 count.
     pub esid: u64,
+    /// B: whether the segment has 1 TB; else it has 256 MB.
     pub one_tb: bool,
+    /// The virtual segment identifier.
     pub vsid: u64,
     /// The binary logarithm of the base page size.
     pub shift: u8,
+    /// The storage key of accesses in privileged state.
     pub ks: bool,
+    /// The storage key of accesses in problem state.
     pub kp: bool,
+    /// N: instruction fetches from the segment are refused.
     pub no_execute: bool,
 }
 

@@ -8,6 +8,7 @@ use storage_prot::Want;
 /// The part of a table that a thread works on.
 #[derive(Clone, Copy)]
 pub struct Part {
+    /// The index of its first entry.
     pub first: u32,
     /// The number of its entries less one, where that number is a power of two.
     pub mask: u32,

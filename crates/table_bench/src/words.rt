@@ -14,10 +14,15 @@ pub enum Kind {
 /// One run.
 #[derive(Clone, Copy)]
 pub struct Run {
+    /// Which table is measured.
     pub kind: Kind,
+    /// How many threads there are.
     pub threads: u32,
+    /// Whether each thread has a part of the table to itself.
     pub apart: bool,
+    /// The binary logarithm of the size of the table in bytes.
     pub order: u8,
+    /// How many operations each thread tries.
     pub tries: u32,
 }
 

@@ -8,8 +8,11 @@ use std::marker::Model;
 /// asks for.
 #[derive(Clone, Copy, PartialEq, Eq, Debug)]
 pub struct TraceLine {
+    /// Counted from 1.
     pub number: u32,
+    /// 0 to 63.
     pub cpu: u32,
+    /// What the line asks for.
     pub act: Act,
 }
 

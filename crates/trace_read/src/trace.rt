@@ -5,7 +5,9 @@ use trace_line::TraceLines;
 /// An accepted trace: the configuration and the run lines.
 #[derive(Drop)]
 pub struct Trace {
+    /// What the lines before `begin` set.
     pub config: Config,
+    /// The lines after `begin`, without remarks.
     pub lines: TraceLines,
 }
 

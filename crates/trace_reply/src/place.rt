@@ -28,7 +28,9 @@ pub enum ReplyEnd {
 /// made once. Where the reply has none, what lies in `receipts` isn't part of it.
 #[derive(Drop)]
 pub struct ReplyPlace {
+    /// How the reply ended, without its receipts.
     pub end: ReplyEnd,
+    /// The receipts, where the reply has some.
     pub receipts: Receipts,
 }
 

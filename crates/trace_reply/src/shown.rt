@@ -50,9 +50,13 @@ impl ShownStates {
 /// place in machine memory, and its valid entries.
 #[derive(Drop)]
 pub struct Shown {
+    /// How many tables there were before.
     pub number: u32,
+    /// The binary logarithm of the size in bytes: 18 to 22.
     pub order: u8,
+    /// The machine address of the table.
     pub place: u64,
+    /// The valid entries.
     pub states: ShownStates,
 }
 

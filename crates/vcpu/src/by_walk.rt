@@ -16,7 +16,9 @@ use slb_model::Segment;
 
 /// How an access by a walk ended, and the line that the cache gets.
 pub struct Walked {
+    /// How the access ended.
     pub end: AccessEnd,
+    /// What the cache gets: only where the access landed.
     pub line: Option<Line>,
 }
 

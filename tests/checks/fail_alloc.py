@@ -54,7 +54,7 @@ class Case:
 
 
 def heads(text: bytes) -> list[list[bytes]]:
-    """Number, processor and name of each reply: of contended entries `par` may say something else each time."""
+    """Number, processor and name of each reply: `par` may say another thing of contended entries."""
     return [line.split()[:3] for line in text.split(b"\n")]
 
 

@@ -237,7 +237,8 @@ def under_valgrind(tests: Limits, case: Case) -> None:
 def add_options(parser: argparse.ArgumentParser) -> None:
     """The options of this check."""
     add_program(parser)
-    parser.add_argument("--long", action="store_true", help="more sizes, beside other work, and under valgrind")
+    told = "more sizes, beside other work, and under valgrind"
+    parser.add_argument("--long", action="store_true", help=told)
 
 
 def check(given: argparse.Namespace) -> str:

@@ -161,7 +161,7 @@ class FileReader:
             function.body += line + "\n"
 
     def read_contract(self, function: Function, line: str) -> None:
-        """A line of the signature or the clauses. A trait's function may end here, and so may an empty one."""
+        """A line of the signature or the clauses. A trait's function may end here, as may an empty one."""
         clause = CLAUSE.match(line)
         if clause:
             function.clauses.append(Clause(clause.group(1), clause.group(2) or "", line + "\n"))

@@ -63,7 +63,7 @@ def filled(one: Definition) -> int:
 
 
 def first_ones(root: Path, specs: Specs) -> list[Definition]:
-    """The definitions that the clause's arguments name, and those of the field of the record that it cites."""
+    """The definitions that the clause's arguments name, and those of the field `outcome` that it cites."""
     text = (root / "crates" / "papr_top" / "src" / "top.rt").read_text(encoding="utf-8")
     functions = FileReader("papr_top", "top.rt").read(text)
     clauses = [clause for one in functions if one.name == "papr" for clause in one.clauses]

@@ -48,7 +48,7 @@ def verb(line: str) -> str:
 
 
 def as_partition(lines: list[str], number: int) -> list[str]:
-    """The lines of a trace as those of one partition. Its first line has to be a remark where it has a pool."""
+    """The lines of a trace as those of a partition. Where it has a pool its first line has to be a remark."""
     pools = [line.split()[1:] for line in lines if verb(line) == "pool"]
     kept = ["#" if verb(line) == "pool" else line for line in lines]
     if pools:
@@ -137,7 +137,9 @@ def without_place(line: str) -> str:
     return " ".join(words)
 
 
-def short_ones(program: Program, draw: random.Random, pool_order: int, resizing: Collection[int]) -> list[int]:
+def short_ones(
+    program: Program, draw: random.Random, pool_order: int, resizing: Collection[int]
+) -> list[int]:
     """Runs eight partitions over one pool, of which some ask for tables; which were refused memory."""
     lines = drawn_set(draw, resizing)
     pool = f"{POOL:#x} {pool_order}"
@@ -176,4 +178,5 @@ def check(given: argparse.Namespace) -> str:
     for number in everyone:
         if short_ones(program, draw, 21, [number]) != [number]:
             raise Failed(f"partition {number} alone should be short")
-    return f"{count} examples as partition 0; pools of four sizes, and one that is short for each partition in turn"
+    pools = "pools of four sizes, and one that is short for each partition in turn"
+    return f"{count} examples as partition 0; {pools}"

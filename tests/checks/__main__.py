@@ -8,7 +8,21 @@ import time
 from concurrent.futures import ThreadPoolExecutor, as_completed
 from typing import Optional, Sequence
 
-from checks import calls, chains, fail_alloc, fuzz, judged, levels, limits, lint, reach, refusals, sets
+from checks import (
+    calls,
+    chains,
+    fail_alloc,
+    fuzz,
+    judged,
+    levels,
+    limits,
+    lint,
+    reach,
+    refusals,
+    sets,
+    tree,
+    words,
+)
 from checks.running import Check, Failed, Skipped
 
 # In the order in which they begin where all are run: those that take longest come first.
@@ -24,6 +38,8 @@ CHECKS: dict[str, Check] = {
     "calls": calls,
     "reach": reach,
     "levels": levels,
+    "tree": tree,
+    "words": words,
 }
 PASSED, FAILED, SKIPPED = "pass", "FAIL", "skip"
 

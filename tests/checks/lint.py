@@ -6,6 +6,7 @@ installed is left out with a word.
 """
 
 import argparse
+import os
 import shutil
 import subprocess
 import sys
@@ -22,6 +23,8 @@ PYTHON, SHELL = "python", "shell"
 MYPY = (["mypy"], [sys.executable, "-m", "mypy"], ["/usr/bin/python3", "-m", "mypy"])
 RUFF = (["ruff"], [sys.executable, "-m", "ruff"])
 SHELLCHECK = (["shellcheck"],)
+# The tools see no module of this repository among their own.
+ENVIRONMENT = {name: value for name, value in os.environ.items() if name != "PYTHONPATH"}
 
 
 def kind_of(path: Path) -> str:
@@ -50,19 +53,20 @@ def command_of(ways: Sequence[list[str]]) -> Optional[list[str]]:
     """How a tool is called here."""
     for way in ways:
         if shutil.which(way[0]):
-            ran = subprocess.run([*way, "--version"], capture_output=True, check=False)
-            if ran.returncode == 0:
+            told = subprocess.run([*way, "--version"], capture_output=True, env=ENVIRONMENT, check=False)
+            if told.returncode == 0:
                 return way
     return None
 
 
-def ran(ways: Sequence[list[str]], words: Sequence[str], scripts: Sequence[str]) -> Optional[bool]:
+def run(ways: Sequence[list[str]], words: Sequence[str], scripts: Sequence[str]) -> Optional[bool]:
     """Whether a tool finds nothing to say of these scripts; none where it isn't here."""
     command = command_of(ways)
     if command is None:
         print(f"{ways[0][0]} is not here")
         return None
-    is_clean = subprocess.run([*command, *words, *scripts], cwd=TOP, check=False).returncode == 0
+    told = subprocess.run([*command, *words, *scripts], cwd=TOP, env=ENVIRONMENT, check=False)
+    is_clean = told.returncode == 0
     print(f"{ways[0][0]}: {len(scripts)} files, {'clean' if is_clean else 'not clean'}", flush=True)
     return is_clean
 
@@ -77,9 +81,9 @@ def check(_given: argparse.Namespace) -> str:
     for path in files():
         scripts[kind_of(path)].append(str(path.relative_to(TOP)))
     ends = {
-        "mypy": ran(MYPY, [], scripts[PYTHON]),
-        "ruff": ran(RUFF, ["check", "--quiet"], scripts[PYTHON]),
-        "shellcheck": ran(SHELLCHECK, ["-x", "-S", "warning"], scripts[SHELL]),
+        "mypy": run(MYPY, [], scripts[PYTHON]),
+        "ruff": run(RUFF, ["check", "--quiet"], scripts[PYTHON]),
+        "shellcheck": run(SHELLCHECK, ["-x", "-S", "warning"], scripts[SHELL]),
     }
     unclean = [name for name, is_clean in ends.items() if is_clean is False]
     if unclean:

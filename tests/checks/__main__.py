@@ -41,6 +41,7 @@ CHECKS: dict[str, Check] = {
     "tree": tree,
     "words": words,
 }
+PROGRAM = "tests/check"
 PASSED, FAILED, SKIPPED = "pass", "FAIL", "skip"
 
 
@@ -88,8 +89,14 @@ def run_all() -> int:
 
 def arguments(words: Optional[Sequence[str]]) -> argparse.Namespace:
     """The name of a check, and its options."""
-    parser = argparse.ArgumentParser(prog="tests/check", description="Checks of what no proof covers.")
-    names = parser.add_subparsers(dest="name", metavar="NAME", help="without a name all are run")
+    parser = argparse.ArgumentParser(
+        prog=PROGRAM,
+        usage=f"{PROGRAM} [-h] [NAME [OPTION..]]",
+        description="Checks of what no proof covers.",
+    )
+    names = parser.add_subparsers(
+        dest="name", metavar="NAME", help="without a name all are run", prog=PROGRAM
+    )
     for name, module in sorted(CHECKS.items()):
         about = module.__doc__ or ""
         one = names.add_parser(

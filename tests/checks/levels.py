@@ -21,6 +21,7 @@ def levels_of(uses: Uses) -> dict[str, int]:
     known: dict[str, int] = {}
 
     def level(crate: str, path: tuple[str, ...]) -> int:
+        """The level of a crate that those on the path stand on."""
         if crate in path:
             raise Failed(f"{crate} stands on itself: {' -> '.join((*path, crate))}")
         if crate not in known:

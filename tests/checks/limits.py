@@ -180,6 +180,7 @@ def no_threads(count: int) -> Callable[[], None]:
     """Another user than root, who may have no more than so many processes."""
 
     def limits() -> None:
+        """Gives up all that root may."""
         resource.setrlimit(resource.RLIMIT_NPROC, (count, count))
         os.setgroups([])
         os.setgid(NOBODY)

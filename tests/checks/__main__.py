@@ -67,11 +67,11 @@ def run_apart(name: str) -> tuple[str, str]:
         text=True,
         check=False,
     )
-    seconds = f"({time.monotonic() - begun:.1f} s)"
+    seconds = f"{time.monotonic() - begun:.1f} s"
     *_, last = ["", *ran.stdout.splitlines()]
     if ran.returncode == 0 and last.startswith((PASSED, SKIPPED)):
-        return last.split()[0], f"{last} {seconds}"
-    return FAILED, f"== {name}\n{ran.stdout.rstrip()}\nFAIL {name} {seconds}"
+        return last.split()[0], f"{last} ({seconds})"
+    return FAILED, f"== {name} failed ({seconds})\n{ran.stdout.rstrip()}\n=="
 
 
 def run_all() -> int:

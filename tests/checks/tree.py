@@ -42,5 +42,5 @@ def check(_given: argparse.Namespace) -> str:
     names = tracked()
     found = [fault for name in names for fault in faults(name)]
     if found:
-        raise Failed("\n".join([f"{len(found)} places", *found]))
+        raise Failed("\n".join(["not as it may stand anywhere", *found]))
     return f"{len(names)} files, each as it may stand anywhere"

@@ -60,5 +60,5 @@ def check(_given: argparse.Namespace) -> str:
     looked_at = list(pages())
     found = [fault for path in looked_at for fault in faults(path)]
     if found:
-        raise Failed("\n".join([f"{len(found)} banned words", *found]))
+        raise Failed("\n".join(["banned words", *found]))
     return f"{len(looked_at)} pages and tools have none of {len(BANNED)} banned words"

@@ -29,11 +29,11 @@ from checks.running import Check, Failed, Skipped
 CHECKS: dict[str, Check] = {
     "fuzz": fuzz,
     "chains": chains,
+    "lint": lint,
     "sets": sets,
     "judged": judged,
     "limits": limits,
     "fail-alloc": fail_alloc,
-    "lint": lint,
     "refusals": refusals,
     "calls": calls,
     "reach": reach,

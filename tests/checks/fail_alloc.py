@@ -65,14 +65,19 @@ def dump_trace() -> bytes:
     return "\n".join([*lines, "dump", ""]).encode()
 
 
+def example(name: str, word: str, file: str, seen: Callable[[bytes], object] = bytes) -> Case:
+    """A command with one of examples/."""
+    return Case(f"{name}, `{file}`", [word], (EXAMPLES / file).read_bytes(), seen)
+
+
 def cases() -> list[Case]:
     """The rows of the table."""
     return [
-        Case("a refused trace", ["run"], (EXAMPLES / "refused.trace").read_bytes()),
-        Case("a resize", ["run"], (EXAMPLES / "resize.trace").read_bytes()),
-        Case("three processors", ["par"], (EXAMPLES / "sharing.trace").read_bytes(), heads),
+        example("a refused trace", "run", "refused.trace"),
+        example("a resize", "run", "resize.trace"),
+        example("three processors", "par", "sharing.trace", heads),
         Case("a dump", ["run"], dump_trace()),
-        Case("two partitions", ["set"], (EXAMPLES / "two-partitions.set").read_bytes()),
+        example("two partitions", "set", "two-partitions.set"),
         Case("a drill", ["drill", "1", "1000"], b""),
         Case("wrong words", ["ran", "x"], b""),
     ]
@@ -137,7 +142,7 @@ def try_by_rt(numbers: list[int]) -> str:
     with tempfile.TemporaryDirectory() as folder:
         for case in cases():
             if case.words == ["run"]:
-                Path(folder, case.name.replace(" ", "-")).write_bytes(case.given)
+                Path(folder, re.sub(r"\W+", "-", case.name)).write_bytes(case.given)
         for number in numbers:
             command = ["rt", "try", "--fail-alloc", str(number), "--cases", folder, "--", "run"]
             ran = subprocess.run(

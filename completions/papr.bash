@@ -1,3 +1,4 @@
+# shellcheck shell=bash
 # Completion of papr's words and of its tools' options in bash. Files behind `<` are completed by bash itself.
 
 # The options of a tool, as its help lists them.

@@ -1,0 +1,97 @@
+"""The scripts beside the proved program, by mypy, ruff and shellcheck.
+
+Looks at the scripts of Python and of the shell in .ci/, bench/, completions/, examples/, tests/, tools/ and
+at the top, by the settings in pyproject.toml; at a file that scripts source, with them. A tool that isn't
+installed is left out with a word.
+"""
+
+import argparse
+import os
+import shutil
+import subprocess
+import sys
+from pathlib import Path
+from typing import Iterator, Optional, Sequence
+
+from checks.running import Failed, Skipped
+from crates import TOP
+
+FOLDERS = (".ci", "bench", "completions", "examples", "tests", "tools")
+LEFT_OUT = {"__pycache__", "out"}
+PYTHON, SHELL = "python", "shell"
+# Debian's python3-mypy is a module of its own Python and has no command.
+MYPY = (["mypy"], [sys.executable, "-m", "mypy"], ["/usr/bin/python3", "-m", "mypy"])
+RUFF = (["ruff"], [sys.executable, "-m", "ruff"])
+SHELLCHECK = (["shellcheck"],)
+# The tools see no module of this repository among their own.
+ENVIRONMENT = {name: value for name, value in os.environ.items() if name != "PYTHONPATH"}
+
+
+def kind_of(path: Path) -> str:
+    """What a file is written in, as far as it is looked at here."""
+    if path.suffix == ".py":
+        return PYTHON
+    if path.suffix == ".bash":
+        return SHELL
+    with open(path, "rb") as text:
+        first = text.readline(80)
+    if not first.startswith(b"#!"):
+        return ""
+    return PYTHON if b"python3" in first else SHELL if first.endswith(b"sh\n") else ""
+
+
+def files() -> Iterator[Path]:
+    """All files that may be scripts."""
+    yield from (path for path in sorted(TOP.iterdir()) if path.is_file())
+    for folder in FOLDERS:
+        for path in sorted((TOP / folder).rglob("*")):
+            if path.is_file() and not LEFT_OUT & set(path.parts):
+                yield path
+
+
+def command_of(ways: Sequence[list[str]]) -> Optional[list[str]]:
+    """How a tool is called here."""
+    for way in ways:
+        if shutil.which(way[0]):
+            told = subprocess.run([*way, "--version"], capture_output=True, env=ENVIRONMENT, check=False)
+            if told.returncode == 0:
+                return way
+    return None
+
+
+def run(ways: Sequence[list[str]], words: Sequence[str], scripts: Sequence[str]) -> Optional[bool]:
+    """Whether a tool finds nothing to say of these scripts; none where it isn't here."""
+    command = command_of(ways)
+    if command is None:
+        print(f"{ways[0][0]} is not here")
+        return None
+    told = subprocess.run([*command, *words, *scripts], cwd=TOP, env=ENVIRONMENT, check=False)
+    is_clean = told.returncode == 0
+    print(f"{ways[0][0]}: {len(scripts)} files, {'clean' if is_clean else 'not clean'}", flush=True)
+    return is_clean
+
+
+def add_options(_parser: argparse.ArgumentParser) -> None:
+    """This check has no options."""
+
+
+def check(_given: argparse.Namespace) -> str:
+    """Each tool on the scripts that it is for."""
+    scripts: dict[str, list[str]] = {PYTHON: [], SHELL: [], "": []}
+    for path in files():
+        scripts[kind_of(path)].append(str(path.relative_to(TOP)))
+    ends = {
+        "mypy": run(MYPY, [], scripts[PYTHON]),
+        "ruff": run(RUFF, ["check", "--quiet"], scripts[PYTHON]),
+        "shellcheck": run(SHELLCHECK, ["-x", "-S", "warning"], scripts[SHELL]),
+    }
+    unclean = [name for name, is_clean in ends.items() if is_clean is False]
+    if unclean:
+        raise Failed(f"not clean by {' and '.join(unclean)}")
+    clean = [name for name, is_clean in ends.items() if is_clean]
+    if not clean:
+        raise Skipped("neither mypy nor ruff nor shellcheck is here")
+    missing = [name for name, is_clean in ends.items() if is_clean is None]
+    without = f"; without {' and '.join(missing)}" if missing else ""
+    counts = f"{len(scripts[PYTHON])} scripts of Python and {len(scripts[SHELL])} of the shell"
+    return f"{counts}, clean by {' and '.join(clean)}{without}"

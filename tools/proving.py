@@ -37,10 +37,14 @@ def processors() -> int:
 
 
 class Builder:
-    """Proves crates by the toolchain, and ends what it began when it is left."""
+    """Proves crates by the toolchain, and ends what it began when it is left.
 
-    def __init__(self, kit: Toolchain, lines: dict[str, str], built: Path, log: Path) -> None:
-        self.kit, self.lines, self.built, self.log = kit, lines, built, log
+    `lock` is the open file by which no two builds run at a time. Proofs hold it too: where a build
+    is killed, the next one waits for those that go on.
+    """
+
+    def __init__(self, kit: Toolchain, lines: dict[str, str], log: Path, lock: int) -> None:
+        self.kit, self.lines, self.built, self.log, self.lock = kit, lines, BUILT, log, lock
         self.uses = uses_of(lines)
         self.stamps: dict[str, str] = {}
         self.running: set[subprocess.Popen[bytes]] = set()
@@ -89,7 +93,7 @@ class Builder:
         if is_program(name) and status == 0:
             status = self.run(f"link {name}", self.kit.linking(name, self.built))
         if status == 0:
-            kept.write_text(stamp, encoding="utf-8")
+            write(kept, stamp, "w")
         return status == 0
 
     def command_of(self, name: str) -> Callable[[str, str, Path, int], list[str]]:
@@ -111,6 +115,7 @@ class Builder:
                     stdin=subprocess.DEVNULL,
                     stdout=said,
                     stderr=subprocess.STDOUT,
+                    pass_fds=[self.lock],
                     start_new_session=True,  # so that what it began can be ended with it
                 )
                 self.running.add(ran)
@@ -120,16 +125,17 @@ class Builder:
             said.seek(0)
             with self.guard:
                 self.running.remove(ran)
-                self.write(f"== {name}\n{said.read()}status {status}, {took} s\n")
+                write(self.log, f"== {name}\n{said.read()}status {status}, {took} s\n", "a")
         return status
 
-    def write(self, text: str) -> None:
-        """Puts a text at the end of the log."""
-        try:
-            with open(self.log, "a", encoding="utf-8") as log:
-                log.write(text)
-        except OSError as error:
-            raise Bad(f"{self.log}: {error.strerror}") from error
+
+def write(path: Path, text: str, mode: str) -> None:
+    """Writes a text, and names the file where that fails."""
+    try:
+        with open(path, mode, encoding="utf-8") as file:
+            file.write(text)
+    except OSError as error:
+        raise Bad(f"{path}: {error.strerror}") from error
 
 
 def prove_all(builder: Builder, plan: Plan, progress: Progress) -> Optional[str]:

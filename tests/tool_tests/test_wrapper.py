@@ -5,7 +5,6 @@ import pty
 import re
 import shlex
 import subprocess
-import time
 import unittest
 from pathlib import Path
 
@@ -248,7 +247,8 @@ class SameWords(ToolTest):
         """Words with a meaning, numbers at their bounds, and others, alone and together."""
         words = "run par image old drill 1 0x186a0 0x186a1 100000 100001 0000100000 18446744073709551615"
         words += " 18446744073709551616 000018446744073709551615 0x10000000000000000 -1 +1 x  08 0x"
-        tried = [[], ["run", "run"], ["image", "new"], ["image", "old", "new"], ["drill", "1"], ["drill", "1", "1", "1"]]
+        tried: list[list[str]] = [[], ["run", "run"], ["image", "new"], ["image", "old", "new"]]
+        tried += [["drill", "1"], ["drill", "1", "1", "1"]]
         for word in words.split(" "):
             tried += [[word], ["drill", word, "1"], ["drill", "0", word], ["image", word]]
         text = (TOP / "papr").read_text()

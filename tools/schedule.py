@@ -14,9 +14,9 @@ SHARES = {1: 1.0, 2: 0.64, 3: 0.52, 4: 0.45}
 BUSY = {1: 1.0, 2: 1.7, 3: 2.3, 4: 2.8}
 # How long a proof takes goes by the length of its source. What each pays before the first thing of its own,
 # and compiling and linking, are as much as these bytes, and by one processor.
-STARTING, COMPILING = 4_000, 14_000
+STARTING, COMPILING = 4_500, 14_000
 # The long proofs that take more or less than their length tells, by what they take of it.
-WEIGHTS = {"trace_runner": 2.0}
+WEIGHTS = {"trace_runner": 1.9, "reply_text": 1.5, "lpar_set": 1.3, "entry_lock": 0.7}
 ENDED = 1e-6  # of a second: what is left of a proof that has ended
 
 

@@ -182,6 +182,14 @@ class Ended(BuildTest):
         os.kill(begun.ran.pid, INT)
         self.assert_ended(begun.end(INT), INT)
 
+    def test_a_signal_that_is_ignored_does_not_end_it(self) -> None:
+        """As that of a terminal that is closed, under nohup."""
+        words = f"trap '' HUP && exec {self.checkout.top}/papr run"
+        begun = self.checkout.begin("sh", "-c", words, SLOW="1")
+        begun.wait_for_proofs()
+        os.killpg(begun.ran.pid, HUP)
+        self.assert_ran(begun.ended(), "ran run\n", status=7, err=None)
+
     def test_the_next_build_goes_on_from_there(self) -> None:
         self.checkout.source("mid").with_name("slow").touch()
         begun = self.checkout.begin(self.checkout.top / "papr", "run", SLOW="0", SLOWER="60")

@@ -3,7 +3,7 @@
 from dataclasses import dataclass
 from typing import Mapping
 
-from crates import CRATES, is_program, is_static
+from crates import CRATES, is_program
 
 # A proof's jobs where others wait for it longest.
 JOBS = {"trace_read": 2, "trace_runner": 3, "history_check": 2}
@@ -13,8 +13,8 @@ JOBS_ALONE = 4  # of a proof that has nothing beside it
 SHARES = {1: 1.0, 2: 0.64, 3: 0.52, 4: 0.45}
 BUSY = {1: 1.0, 2: 1.7, 3: 2.3, 4: 2.8}
 # How long a proof takes goes by the length of its source. What each pays before the first thing of its own,
-# and compiling and linking, are as much as these bytes, and by one processor.
-STARTING, COMPILING = 4_500, 14_000
+# and compiling and linking the program, are as much as these bytes, and by one processor.
+STARTING, LINKING = 4_500, 14_000
 # The long proofs that take more or less than their length tells, by what they take of it.
 WEIGHTS = {"trace_runner": 1.9, "reply_text": 1.5, "lpar_set": 1.3, "entry_lock": 0.7}
 ENDED = 1e-6  # of a second: what is left of a proof that has ended
@@ -40,17 +40,14 @@ class Effort:
 NONE = Effort(0, 0)  # of what was proved before
 
 
-def effort_of(name: str, length: int, is_compiled: bool) -> Effort:
+def effort_of(name: str, length: int, is_linked: bool) -> Effort:
     """What a crate's proof takes, by the bytes of its source."""
-    return Effort(STARTING + COMPILING * is_compiled, length * WEIGHTS.get(name, 1.0))
+    return Effort(STARTING + LINKING * is_linked, length * WEIGHTS.get(name, 1.0))
 
 
-def efforts_of(lines: Mapping[str, str], names: list[str]) -> dict[str, Effort]:
-    """What the proof of each crate takes. `lines` are those of crates.txt."""
-    return {
-        name: effort_of(name, length_of(name), is_program(name) or is_static(lines[name]))
-        for name in names
-    }
+def efforts_of(names: list[str]) -> dict[str, Effort]:
+    """What the proof of each crate takes."""
+    return {name: effort_of(name, length_of(name), is_program(name)) for name in names}
 
 
 def length_of(name: str) -> int:

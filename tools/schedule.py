@@ -8,15 +8,15 @@ from crates import CRATES, is_program
 # A proof's jobs where others wait for it longest.
 JOBS = {"trace_read": 2, "trace_runner": 3, "history_check": 2}
 JOBS_ALONE = 4  # of a proof that has nothing beside it
-# By the jobs of a long proof: how long it takes, of what it takes by one job, and how many processors it keeps at
-# work meanwhile. Four jobs more than halve it, and want a quarter more of processor.
-SHARES = {1: 1.0, 2: 0.64, 3: 0.52, 4: 0.45}
-BUSY = {1: 1.0, 2: 1.7, 3: 2.3, 4: 2.8}
+# By the jobs of a proof: how long it takes, of what it takes by one job, and how many processors it keeps at work
+# meanwhile. Four jobs halve it, and want three tenths more of processor.
+SHARES = {1: 1.0, 2: 0.68, 3: 0.56, 4: 0.5}
+BUSY = {1: 1.0, 2: 1.7, 3: 2.2, 4: 2.6}
 # How long a proof takes goes by the length of its source. What each pays before the first thing of its own,
 # and compiling and linking the program, are as much as these bytes, and by one processor.
 STARTING, LINKING = 4_500, 14_000
 # The long proofs that take more or less than their length tells, by what they take of it.
-WEIGHTS = {"trace_runner": 1.9, "reply_text": 1.5, "lpar_set": 1.3, "entry_lock": 0.7}
+WEIGHTS = {"trace_runner": 2.0, "history_check": 1.15, "lpar_set": 1.5, "reply_text": 1.5, "entry_lock": 0.7}
 ENDED = 1e-6  # of a second: what is left of a proof that has ended
 
 

@@ -53,7 +53,7 @@ class Estimate:
         """The seconds that are left, once enough is proved to tell."""
         with self.guard:
             self.pass_time()
-            if not self.efforts or self.efforts < ENOUGH * self.whole:
+            if not self.seconds or self.efforts <= ENOUGH * self.whole:
                 return None
             speed = self.efforts / self.seconds
             at_work = {}

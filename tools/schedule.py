@@ -16,8 +16,8 @@ BUSY = {1: 1.0, 2: 1.7, 3: 2.2, 4: 2.6}
 # and compiling and linking the program, are as much as these bytes, and by one processor.
 STARTING, LINKING = 4_500, 14_000
 # The long proofs that take more or less than their length tells, by what they take of it.
-WEIGHTS = {"trace_runner": 2.0, "history_check": 1.15, "lpar_set": 1.5, "reply_text": 1.5, "entry_lock": 0.7}
-ENDED = 1e-6  # of a second: what is left of a proof that has ended
+WEIGHTS = {"trace_runner": 1.9, "reply_text": 1.5, "lpar_set": 1.4, "entry_lock": 0.7}
+ENDED = 1e-6  # what is left at most of a proof that has ended, against rounding
 
 
 @dataclass(frozen=True)

@@ -65,7 +65,7 @@ class FirstBuild(WrapperTest):
         self.assertEqual(sorted(self.checkout.steps()[2:4]), ["begin mid", "begin trace_runner"])
 
     def test_long_proofs_have_more_processors(self) -> None:
-        """A proof that has nothing beside it has four jobs, one that the others wait for three, where there are as many."""
+        """One that has nothing beside it has four jobs, one that the others wait for three, if there are as many."""
         self.checkout.papr("run")
         logged = self.checkout.logged()
         for name, jobs in (("low", min(4, PROCESSORS)), ("trace_runner", min(3, PROCESSORS)), ("mid", 1)):

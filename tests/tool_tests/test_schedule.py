@@ -14,7 +14,7 @@ PROGRAM = "papr_main"
 PROCESSORS = 4
 EVERY = 5.0  # seconds between two questions of how much is left
 # Of a proof's seconds, those before the first thing of its own, and of the program's, those of compiling and linking.
-STARTING, LINKING = 10, 30
+STARTING, LINKING = 10, 65
 HALF_A_MINUTE = 30  # what is said are whole minutes
 
 

@@ -4,9 +4,10 @@ import os
 import shutil
 import signal
 import subprocess
+import tempfile
 import time
 from pathlib import Path
-from typing import Optional
+from typing import Callable, Optional
 
 from .support import TOOLS, TOP, Ran, Word, run, write_script
 
@@ -21,6 +22,8 @@ LINES = {
     "papr_main": ": mid trace_runner",
 }
 IN_PROGRAM, IN_LIBRARY = ["low", "mid", "trace_runner", "papr_main"], ["low", "beside", "papr_c"]
+
+PATIENCE = 120  # seconds that something is waited for
 
 # A compiler that takes SLOW seconds, and for a crate that has a file called `slow` SLOWER more. It fails where the
 # crate has a file called `fails` or a library that it names isn't there, kills itself where there is one called
@@ -143,21 +146,25 @@ class Begun:
 
     def __init__(self, checkout: Checkout, command: tuple[Word, ...], variables: dict[str, str]) -> None:
         self.checkout = checkout
+        said, self.said = tempfile.mkstemp(dir=checkout.kit)
         self.ran = subprocess.Popen(
             [str(word) for word in command],
             env={**os.environ, **variables},
             stdin=subprocess.DEVNULL,
             stdout=subprocess.PIPE,
-            stderr=subprocess.PIPE,
+            stderr=said,
             start_new_session=True,
             text=True,
         )
+        os.close(said)
 
     def wait_for_proofs(self, count: int = 1) -> None:
         """Waits until so many proofs have begun."""
-        until = time.monotonic() + 60
-        while len(self.checkout.compilers()) < count and time.monotonic() < until:
-            time.sleep(0.02)
+        wait_until(lambda: len(self.checkout.compilers()) >= count)
+
+    def wait_for(self, words: str) -> None:
+        """Waits until the command has said these words on standard error."""
+        wait_until(lambda: words in Path(self.said).read_text())
 
     def builder(self) -> int:
         """The process of tools/build that the wrapper began."""
@@ -174,8 +181,15 @@ class Begun:
 
     def ended(self) -> Ran:
         """How the command ended."""
-        out, err = self.ran.communicate(timeout=60)
-        return Ran(self.ran.returncode, out, err)
+        out, _ = self.ran.communicate(timeout=PATIENCE)
+        return Ran(self.ran.returncode, out, Path(self.said).read_text())
+
+
+def wait_until(is_so: Callable[[], bool]) -> None:
+    """Waits until something is so, or the patience has an end."""
+    until = time.monotonic() + PATIENCE
+    while not is_so() and time.monotonic() < until:
+        time.sleep(0.02)
 
 
 def is_running(process: int) -> bool:

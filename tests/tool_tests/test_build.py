@@ -3,7 +3,6 @@
 import os
 import shutil
 import signal
-import time
 
 from .stand_in import IN_LIBRARY, IN_PROGRAM, Begun, Checkout, is_running
 from .support import TOP, Ran, ToolTest, for_each, needs, run
@@ -193,8 +192,8 @@ class Ended(BuildTest):
     def test_the_next_build_goes_on_from_there(self) -> None:
         self.checkout.source("mid").with_name("slow").touch()
         begun = self.checkout.begin(self.checkout.top / "papr", "run", SLOW="0", SLOWER="60")
+        begun.wait_for("crate 2 of 4: trace_runner")
         begun.wait_for_proofs(3)
-        self.wait_for_stamp("trace_runner")
         self.assert_ended(begun.end(INT), INT, proved=2)
         ran = self.checkout.papr("run")
         self.assertIn("building the program: 2 of 4 crates to prove\n", ran.err)
@@ -205,8 +204,8 @@ class Ended(BuildTest):
         self.checkout.built = self.checkout.top / "out" / "papr-build"
         self.checkout.source("mid").with_name("slow").touch()
         begun = self.checkout.begin(self.checkout.top / "papr", "run", SLOW="0", SLOWER="60")
+        begun.wait_for("crate 2 of 4: trace_runner")
         begun.wait_for_proofs(3)
-        self.wait_for_stamp("trace_runner")
         self.assert_ended(begun.end(TERM), TERM, proved=2)
         ran = self.checkout.papr("run")
         self.assertIn("building the program: 2 of 4 crates to prove\n", ran.err)
@@ -220,18 +219,11 @@ class Ended(BuildTest):
     def test_a_build_that_waits_for_another_promises_nothing(self) -> None:
         first = self.begin()
         second = self.checkout.begin(self.checkout.top / "papr", "run")
-        time.sleep(0.5)
+        second.wait_for("waiting for another build")
         ran = second.end(TERM)
         self.assert_ran(ran, status=128 + TERM, err=None)
         self.assertNotIn("kept", ran.err)
         self.assert_ended(first.end(INT), INT)
-
-    def wait_for_stamp(self, name: str) -> None:
-        """Waits until a crate's proof is kept, and the build has counted it."""
-        until = time.monotonic() + 60
-        while not (self.checkout.built / f"{name}.stamp").is_file() and time.monotonic() < until:
-            time.sleep(0.02)
-        time.sleep(0.3)
 
 
 class GoneWrong(BuildTest):
@@ -269,7 +261,7 @@ class GoneWrong(BuildTest):
         (process,) = self.checkout.compilers()
         self.assertTrue(is_running(process))
         second = self.checkout.begin(self.checkout.top / "papr", "run", SLOW="0")
-        time.sleep(1)
+        second.wait_for("waiting for another build")
         self.assertEqual(self.checkout.compilers(), [process], "a proof began beside that of the build that was killed")
         os.killpg(process, TERM)
         ran = second.ended()

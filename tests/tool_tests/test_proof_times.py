@@ -16,8 +16,8 @@ write() { sleep "$1"; : >"$2"; }
 cd "$2" && mkdir kept && cd kept || exit 2
 write 0 Rattle-mid-specs.Words.oantt
 write 0.1 Rattle-mid-proofs.small.Proof.decls.oantt
-write 0.3 Rattle-mid-proofs.large.Table.find.Lts.oantt
-write 0.5 Rattle-mid-proofs.large.Table.find.Proof.decls.oantt
+write 0.5 Rattle-mid-proofs.large.Table.find.Lts.oantt
+write 1 Rattle-mid-proofs.large.Table.find.Proof.decls.oantt
 write 0.2 Rattle-mid-proofs.large.Table.find.Answers.decls.oantt
 write 0.1 Rattle-mid-proofs.Lemmas.decls.oantt
 """
@@ -60,11 +60,11 @@ class ProofTimes(ToolTest):
         for row in rows[1:]:
             self.assertEqual([it for it in row[:5] if not re.fullmatch(r"\d+\.\d", it)], [])
         seconds, steps, search, answers, rest = map(float, rows[1][:5])
-        self.assertGreaterEqual(min(seconds - 1, steps - 0.3, search - 0.5, answers - 0.2), 0, ran.out)
+        self.assertGreaterEqual(min(seconds - 1.7, steps - 0.5, search - 1, answers - 0.2), 0, ran.out)
         self.assertTrue(search > steps > answers, ran.out)
         self.assertEqual(rest, 0)
         seconds, rest = float(rows[3][0]), float(rows[3][4])
-        self.assertGreaterEqual(min(seconds - 1.2, rest - 0.1), 0, ran.out)
+        self.assertGreaterEqual(min(seconds - 1.9, rest - 0.1), 0, ran.out)
 
     def test_it_keeps_to_so_many_rows(self) -> None:
         self.assertEqual(self.times("mid", "--functions", "1").out.count("\n"), 3)

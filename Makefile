@@ -2,17 +2,19 @@
 #
 #   make                          build the program where it is missing or older than its sources
 #   make check                    run the examples and the tests of the tools
-#   make install PREFIX=/usr      install; DESTDIR is put in front of every path. install-program leaves out the
-#                                 library for C, install-library installs it alone
-#   make library                  prove and build the library for C, over what earlier checks kept
+#   make install PREFIX=/usr      build both and install; DESTDIR is put in front of every path. install-program leaves
+#                                 out the library for C, install-library installs it alone
+#   make library                  build the library for C where it is missing or older than its sources
 #   make uninstall PREFIX=/usr    take away what install put there
 #   make dist                     the committed sources as out/dist/papr-VERSION.tar.gz
 #   make deb                      a Debian package of the program, out/dist/papr_VERSION_ARCHITECTURE.deb
 
 PREFIX ?= /usr/local
 DESTDIR ?=
-PROGRAM ?= crates/papr_main/out/papr_main
-LIBRARY ?= crates/papr_c/out/libpapr_c.a
+own_program = crates/papr_main/out/papr_main
+own_library = crates/papr_c/out/libpapr_c.a
+PROGRAM ?= $(own_program)
+LIBRARY ?= $(own_library)
 INSTALL ?= install
 VERSION := $(shell cat VERSION)
 
@@ -45,24 +47,17 @@ sources_rust = $(wildcard examples/rust/*)
 texts = README.md CHANGELOG.md CONTRIBUTING.md LICENSE-APACHE LICENSE-MIT
 documents = $(wildcard docs/*.md docs/*.svg)
 
-.PHONY: all check install install-program install-library library uninstall dist deb
+.PHONY: all check install install-program install-library library uninstall dist deb $(own_program) $(own_library)
 
-all:
+all $(own_program):
 	./papr run <examples/first.trace >/dev/null
 
 check: all
 	examples/check
 	tests/tools
 
-$(PROGRAM):
-	./papr run <examples/first.trace >/dev/null
-
-# Proves the library and those below it, and builds it.
-library:
-	cd crates/papr_c && rt lib
-
-$(LIBRARY):
-	$(MAKE) library
+library $(own_library):
+	tools/build --library
 
 define pc_file
 prefix=$(PREFIX)

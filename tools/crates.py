@@ -59,3 +59,13 @@ def files_of(name: str) -> Iterator[Path]:
 def is_program(name: str) -> bool:
     """Whether a crate is a program."""
     return (CRATES / name / "src" / "main.rt").is_file()
+
+
+def is_static(line: str) -> bool:
+    """Whether the crate on a line of crates.txt is a static library."""
+    return "staticlib" in line.partition(":")[0].split()
+
+
+def archive_of(name: str) -> str:
+    """The file of a static library."""
+    return f"lib{name}.a"

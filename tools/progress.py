@@ -5,71 +5,77 @@ import sys
 import threading
 import time
 from contextlib import contextmanager
-from typing import Iterator
+from typing import Callable, Iterator, Optional
+
+from schedule import Plan
 
 A_MINUTE = 60  # seconds
 COLUMNS = 80  # of a terminal that doesn't tell
-AT_ONCE = 1  # second: what takes less was proved before
 ENOUGH = 0.05  # of the whole, from which on the rest is estimated
+NEARLY = 0.05  # of a proof: what is left at least of one that is at work
 
 
 class Estimate:
-    """How long a build may still take, by the proofs that ended.
+    """How long a build may still take, by the time of the proofs that ended and a plan of those to come."""
 
-    `efforts` says how much of the whole each crate is.
-    """
-
-    def __init__(self, efforts: dict[str, int]) -> None:
-        self.efforts = dict(efforts)
-        self.began: dict[str, float] = {}
-        self.ended, self.seconds = 0, 0.0  # the efforts of the proofs that ended, and their time
-        self.start = time.monotonic()
+    def __init__(self, plan: Plan, clock: Callable[[], float] = time.monotonic) -> None:
+        self.plan, self.clock = plan.copy(), clock
+        self.whole = sum(it.clock(1) for it in plan.efforts.values())
+        self.efforts = self.seconds = 0.0  # of the proofs that ended
+        # The seconds of each proof at work; fewer by the clock's where processors were short.
+        self.taken: dict[str, float] = {}
+        self.at = clock()
         self.guard = threading.Lock()
 
-    def begin(self, name: str) -> None:
+    def begin(self, name: str, jobs: int) -> None:
         """A proof begins."""
         with self.guard:
-            self.began[name] = time.monotonic()
+            self.pass_time()
+            self.plan.start(name, jobs)
+            self.taken[name] = 0
 
     def end(self, name: str) -> None:
-        """A proof ended. What was proved before is no part of the whole."""
+        """A proof ended."""
         with self.guard:
-            took = time.monotonic() - self.began.pop(name)
-            if took < AT_ONCE:
-                del self.efforts[name]
-            else:
-                self.ended += self.efforts[name]
-                self.seconds += took
+            self.pass_time()
+            self.efforts += self.plan.efforts[name].clock(self.plan.running[name])
+            self.seconds += self.taken.pop(name)
+            self.plan.end(name)
 
-    def left(self) -> str:
-        """Words on the minutes that are left, once enough is proved to tell."""
+    def pass_time(self) -> None:
+        """Counts the time since the last change to the proofs at work."""
+        now = self.clock()
+        passed = (now - self.at) * self.plan.pace()
+        self.taken = {name: taken + passed for name, taken in self.taken.items()}
+        self.at = now
+
+    def left(self) -> Optional[float]:
+        """The seconds that are left, once enough is proved to tell."""
         with self.guard:
-            whole, now = sum(self.efforts.values()), time.monotonic()
-            if not self.ended or self.ended < ENOUGH * whole:
-                return ""
-            # Those at work count for half of what they may have done: the long ones come to be slower.
-            speed = self.ended / self.seconds / 2
-            at_work = sum(
-                min(self.efforts[it], speed * (now - began)) for it, began in self.began.items()
-            )
-            share = min(1, (self.ended + at_work) / whole)
-            minutes = (now - self.start) * (1 - share) / share / A_MINUTE
-        return f", about {max(1, round(minutes))} min left"
+            self.pass_time()
+            if not self.seconds or self.efforts <= ENOUGH * self.whole:
+                return None
+            speed = self.efforts / self.seconds
+            at_work = {}
+            for name, taken in self.taken.items():
+                effort = self.plan.efforts[name].clock(self.plan.running[name])
+                at_work[name] = max(effort - taken * speed, NEARLY * effort)
+            return self.plan.left(at_work) / speed
 
 
 class Progress:
     """Lines on standard error: one that moves on a terminal, else one for each crate."""
 
-    def __init__(self, efforts: dict[str, int]) -> None:
-        self.count, self.last = len(efforts), ""
-        self.estimate = Estimate(efforts)
+    def __init__(self, plan: Plan) -> None:
+        self.count, self.last = len(plan.efforts), ""
+        self.estimate = Estimate(plan)
         self.done: set[str] = set()
         self.start = time.monotonic()
         self.moves = sys.stderr.isatty()
 
-    def began(self, name: str) -> None:
+    def began(self, name: str, jobs: int) -> None:
         """A crate's proof begins."""
-        self.estimate.begin(name)
+        self.estimate.begin(name, jobs)
 
     def proved(self, name: str) -> None:
         """A crate is proved, or was before."""
@@ -84,13 +90,18 @@ class Progress:
     def clock(self) -> str:
         """The time since the start, in minutes and seconds, and how long it may still take."""
         minutes, seconds = divmod(int(time.monotonic() - self.start), 60)
-        left = self.estimate.left() if len(self.done) < self.count else ""
-        return f"{minutes} min {seconds:02} s{left}"
+        left = self.estimate.left() if len(self.done) < self.count else None
+        told = "" if left is None else f", about {max(1, round(left / A_MINUTE))} min left"
+        return f"{minutes} min {seconds:02} s{told}"
+
+    def counts(self) -> str:
+        """How many crates of all are proved."""
+        return f"{len(self.done)} of {self.count} crates"
 
     def show(self) -> None:
         """Writes the moving line anew, or a line of how far it is."""
         last = f"; last {self.last}" if self.last else ""
-        line = f"{len(self.done)} of {self.count} crates proved, {self.clock()}{last}"
+        line = f"{self.counts()} proved, {self.clock()}{last}"
         if not self.moves:
             self.say(line)
             return

@@ -11,20 +11,15 @@ import time
 from concurrent.futures import FIRST_COMPLETED, Future, ThreadPoolExecutor, wait
 from contextlib import suppress
 from pathlib import Path
-from typing import Optional
+from typing import Callable, Optional
 
-from crates import CRATES, TOP, files_of, is_program, uses_of, with_those_below
+from common import Bad
+from crates import CRATES, TOP, files_of, is_program, is_static, uses_of
 from progress import Progress
+from schedule import Plan
 from toolchain import Toolchain
 
-# A proof's jobs where others wait for it longest; four jobs more than halve a long proof's time, and want a
-# quarter more of processor. Short ones want half more.
-JOBS = {"trace_read": 2, "trace_runner": 3, "history_check": 2}
-JOBS_ALONE = 4  # of a proof that has nothing beside it
 MEMORY = 2_500_000_000  # bytes that the largest of the proofs takes
-# How long a proof takes goes by the length of its source. What each pays before the first thing of its own,
-# and compiling and linking the program, are as much as these bytes.
-STARTING, LINKING = 2_000, 14_000
 # A proof lays out its tables by the address space that it may have. In less of it they lie closer together
 # in memory, and a proof is faster by a tenth.
 ADDRESS_SPACE = 20_000_000_000  # bytes
@@ -36,57 +31,23 @@ IN_GIT = (TOP / ".git").is_dir()
 BUILT = (TOP / ".git" if IN_GIT else TOP / "out") / "papr-build"
 
 
-class Plan:
-    """Which crate is proved next: of those that can be, the one with the longest chain behind it.
-
-    That is the longest chain of crates from it to the program, each of which waits for the one
-    before, by the length of their source.
-    """
-
-    def __init__(self, order: list[str], uses: dict[str, list[str]]) -> None:
-        self.waiting, self.uses = list(order), uses
-        self.proved: set[str] = set()
-        self.behind: dict[str, int] = {}
-        for name in reversed(order):
-            above = [self.behind[it] for it in self.behind if name in uses[it]]
-            self.behind[name] = length_of(name) + max(above, default=0)
-
-    def ready(self) -> list[str]:
-        """The crates that can be proved now, those with the longest chains first."""
-        found = [it for it in self.waiting if self.proved.issuperset(self.uses[it])]
-        return sorted(found, key=self.behind.__getitem__, reverse=True)
-
-
-def length_of(name: str) -> int:
-    """The bytes of a crate's source."""
-    return sum(file.stat().st_size for file in (CRATES / name / "src").rglob("*.rt"))
-
-
-def efforts_of(order: list[str], uses: dict[str, list[str]]) -> dict[str, int]:
-    """How much of a build each crate is. One that has nothing beside it keeps all processors from the others."""
-    below = {name: set(with_those_below([name], uses)) for name in order}
-    efforts = {}
-    for name in order:
-        above = {it for it in order if name in below[it]}
-        is_alone = below[name] | above == set(order)
-        effort = STARTING + length_of(name) + (LINKING if is_program(name) else 0)
-        efforts[name] = effort * (processors() if is_alone else 1)
-    return efforts
-
-
 def processors() -> int:
     """How many proofs this machine makes side by side."""
     return max(1, min(len(os.sched_getaffinity(0)), free_memory() // MEMORY))
 
 
 class Builder:
-    """Proves crates by the toolchain, and ends what it began when it is left."""
+    """Proves crates by the toolchain, and ends what it began when it is left.
 
-    def __init__(self, kit: Toolchain, lines: dict[str, str], built: Path, log: Path) -> None:
-        self.kit, self.lines, self.built, self.log = kit, lines, built, log
+    `lock` is the open file by which no two builds run at a time. Proofs hold it too: where a build
+    is killed, the next one waits for those that go on.
+    """
+
+    def __init__(self, kit: Toolchain, lines: dict[str, str], log: Path, lock: int) -> None:
+        self.kit, self.lines, self.built, self.log, self.lock = kit, lines, BUILT, log, lock
         self.uses = uses_of(lines)
         self.stamps: dict[str, str] = {}
-        self.running: set[subprocess.Popen] = set()
+        self.running: set[subprocess.Popen[bytes]] = set()
         self.is_ended = False
         self.guard = threading.Lock()
 
@@ -108,14 +69,23 @@ class Builder:
             told.update(repr((str(file.relative_to(CRATES)), file.read_bytes())).encode())
         return told.hexdigest()
 
+    def stamp_of(self, name: str) -> Path:
+        """Where the sum is of that which is kept of a crate."""
+        return self.built / f"{name}.stamp"
+
+    def is_kept(self, name: str) -> bool:
+        """Whether what is kept of a crate is of these sources; to be asked of those below it before."""
+        stamp, kept = self.stamp(name), self.stamp_of(name)
+        self.stamps[name] = stamp
+        return kept.is_file() and kept.read_text(encoding="utf-8") == stamp
+
     def prove(self, name: str, jobs: int) -> bool:
         """Proves a crate if what is kept of it is of other sources, and tells whether it is proved."""
-        stamp = self.stamps[name] = self.stamp(name)
-        kept = self.built / f"{name}.stamp"
-        if kept.is_file() and kept.read_text(encoding="utf-8") == stamp:
+        if self.is_kept(name):
             return True
+        stamp, kept = self.stamps[name], self.stamp_of(name)
         kept.unlink(missing_ok=True)
-        command = self.kit.compiling if is_program(name) else self.kit.proving
+        command = self.command_of(name)
         status = self.run(name, command(name, self.lines[name], self.built, jobs))
         if status == -signal.SIGKILL and jobs > 1:
             # Most likely for memory.
@@ -123,8 +93,14 @@ class Builder:
         if is_program(name) and status == 0:
             status = self.run(f"link {name}", self.kit.linking(name, self.built))
         if status == 0:
-            kept.write_text(stamp, encoding="utf-8")
+            write(kept, stamp, "w")
         return status == 0
+
+    def command_of(self, name: str) -> Callable[[str, str, Path, int], list[str]]:
+        """The toolchain's command for a crate of its kind."""
+        if is_program(name):
+            return self.kit.compiling
+        return self.kit.archiving if is_static(self.lines[name]) else self.kit.proving
 
     def run(self, name: str, words: list[str]) -> int:
         """Runs a command, puts its words into the log once it has ended, and gives its status."""
@@ -132,41 +108,50 @@ class Builder:
             with self.guard:
                 if self.is_ended:
                     return -signal.SIGTERM
-                # Of a session of its own, so that what it began can be ended with it.
-                how = {"stdin": subprocess.DEVNULL, "stdout": said, "stderr": subprocess.STDOUT}
-                kept = {**KEEPING_FREED, **os.environ}
-                ran = subprocess.Popen(words, cwd=TOP, env=kept, start_new_session=True, **how)
+                ran = subprocess.Popen(
+                    words,
+                    cwd=TOP,
+                    env={**KEEPING_FREED, **os.environ},
+                    stdin=subprocess.DEVNULL,
+                    stdout=said,
+                    stderr=subprocess.STDOUT,
+                    pass_fds=[self.lock],
+                    start_new_session=True,  # so that what it began can be ended with it
+                )
                 self.running.add(ran)
             began = time.monotonic()
             status = ran.wait()
             took = round(time.monotonic() - began)
-            with self.guard, open(self.log, "a", encoding="utf-8") as log:
+            said.seek(0)
+            with self.guard:
                 self.running.remove(ran)
-                said.seek(0)
-                log.write(f"== {name}\n{said.read()}status {status}, {took} s\n")
+                write(self.log, f"== {name}\n{said.read()}status {status}, {took} s\n", "a")
         return status
 
 
-def prove_all(builder: Builder, order: list[str], progress: Progress) -> Optional[str]:
-    """Proves the crates and links the program; gives the name of a crate that failed."""
-    most = processors()
+def write(path: Path, text: str, mode: str) -> None:
+    """Writes a text, and names the file where that fails."""
+    try:
+        with open(path, mode, encoding="utf-8") as file:
+            file.write(text)
+    except OSError as error:
+        raise Bad(f"{path}: {error.strerror}") from error
+
+
+def prove_all(builder: Builder, plan: Plan, progress: Progress) -> Optional[str]:
+    """Proves the crates of a plan and links a program; gives the name of a crate that failed."""
     limit_address_space()
-    plan = Plan(order, builder.uses)
     running: dict[Future[bool], str] = {}
-    with ThreadPoolExecutor(most) as pool, builder:
+    with ThreadPoolExecutor(plan.most) as pool, builder:
         while plan.waiting or running:
-            ready = plan.ready()[: most - len(running)]
-            is_alone = len(ready) + len(running) == 1
-            for name in ready:
-                jobs = min(most, JOBS_ALONE if is_alone else JOBS.get(name, 1))
-                plan.waiting.remove(name)
-                progress.began(name)
+            for name, jobs in plan.begin().items():
+                progress.began(name, jobs)
                 running[pool.submit(builder.prove, name, jobs)] = name
             for ended in wait(running, return_when=FIRST_COMPLETED).done:
                 name = running.pop(ended)
                 if not ended.result():
                     return name
-                plan.proved.add(name)
+                plan.end(name)
                 progress.proved(name)
     return None
 

@@ -6,7 +6,7 @@ from pathlib import Path
 from typing import Iterator
 
 from common import Bad
-from crates import CRATES, TOP, is_program
+from crates import CRATES, TOP, archive_of, is_program
 
 LINKED = "x86_64-unknown-linux-gnu"  # what a program is linked for
 
@@ -37,6 +37,13 @@ class Toolchain:
         words = self.reading(name, root, line, built, jobs)
         tools = ["--toolchain", f"{self.kit}/toolchain", "--backend", "llvm"]
         return [*words, *tools, "-o", f"{built / name}.o"]
+
+    def archiving(self, name: str, line: str, built: Path, jobs: int) -> list[str]:
+        """The command that proves a static library and compiles it, with all that it reaches."""
+        root = CRATES / name / "src" / "lib.rt"
+        words = self.reading(name, root, line, built, jobs)
+        tools = ["--crate-type", "staticlib", "--toolchain", f"{self.kit}/toolchain", "--backend", "llvm"]
+        return [*words, *tools, "-o", f"{built / archive_of(name)}"]
 
     def checking(self, name: str, line: str, built: Path, written: Path) -> list[str]:
         """The command that proves a crate by one job, writing each module that it checks below `written`."""
@@ -70,7 +77,11 @@ class Toolchain:
 
 def toolchain() -> Toolchain:
     """The toolchain whose `rt` is on the path: its first page lies at the top of its folder."""
-    told = subprocess.run(["rt", "doc"], capture_output=True, text=True, check=False).stdout.split()
+    try:
+        ran = subprocess.run(["rt", "doc"], capture_output=True, text=True, check=False)
+    except FileNotFoundError as error:
+        raise Bad("the Rattle toolchain (rt) isn't on the path; README.md says which kit of it") from error
+    told = ran.stdout.split()
     if len(told) != 1 or not Path(told[0]).is_file():
         raise Bad("`rt doc` names no page, so the toolchain can't be found")
     return Toolchain(Path(told[0]).resolve().parent)

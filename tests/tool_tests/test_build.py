@@ -1,0 +1,283 @@
+"""Tests of builds by a stand-in for the toolchain: the library for C, builds that are ended, and what goes wrong."""
+
+import os
+import shutil
+import signal
+
+from .stand_in import IN_LIBRARY, IN_PROGRAM, Begun, Checkout, is_running
+from .support import TOP, Ran, ToolTest, for_each, needs, run
+
+INT, TERM, HUP, KILL = signal.SIGINT, signal.SIGTERM, signal.SIGHUP, signal.SIGKILL
+
+
+class BuildTest(ToolTest):
+    """A test with a checkout of git, in which nothing is built."""
+
+    def setUp(self) -> None:
+        super().setUp()
+        self.checkout = Checkout(self.folder)
+        self.checkout.be_of_git()
+
+    def assert_failed(self, ran: Ran, message: str) -> None:
+        """The wrapper couldn't build, and its last line is the message."""
+        self.assert_ran(ran, status=126, err=None)
+        self.assertEqual(ran.err.splitlines()[-1:], [message])
+
+
+class Library(BuildTest):
+    """The library for C."""
+
+    def test_it_is_proved_with_all_that_it_stands_on_and_nothing_else(self) -> None:
+        ran = self.checkout.build("--library")
+        self.assert_ran(ran, err=None)
+        self.assertEqual(self.checkout.archive.read_text(), "an archive over papr_c\n")
+        self.assertEqual(self.checkout.proved(), IN_LIBRARY)
+        for words in (
+            "building the library for C: 3 crates to prove, the first time ",
+            f"log: {self.checkout.log}\n",
+            "crate 3 of 3: papr_c (0 min ",
+            "built in 0 min ",
+        ):
+            self.assertIn(f"papr: {words}", ran.err)
+        self.assertNotIn("rt try", ran.err)
+
+    def test_it_is_compiled_as_a_static_library(self) -> None:
+        self.checkout.build("--library")
+        (words,) = [it for it in self.checkout.logged().splitlines() if it.startswith("rattle ") and " papr_c " in it]
+        archive = self.checkout.built / "libpapr_c.a"
+        toolchain = f"--toolchain {self.checkout.kit}/toolchain --backend llvm"
+        self.assertTrue(words.endswith(f" --crate-type staticlib {toolchain} -o {archive}"), words)
+        self.assertNotIn("--statements", words)
+
+    def test_a_second_build_does_nothing_and_says_nothing(self) -> None:
+        self.checkout.build("--library")
+        made = self.checkout.archive.stat().st_mtime_ns
+        self.checkout.times.unlink()
+        self.assert_ran(self.checkout.build("--library"))
+        self.assertFalse(self.checkout.times.exists())
+        self.assertEqual(self.checkout.archive.stat().st_mtime_ns, made)
+
+    def test_it_takes_over_what_the_program_proved(self) -> None:
+        self.checkout.papr("run")
+        ran = self.checkout.build("--library")
+        self.assertIn("building the library for C: 2 of 3 crates to prove\n", ran.err)
+        self.assertEqual(self.checkout.proved(), ["beside", "papr_c"])
+
+    def test_the_program_takes_over_what_it_proved(self) -> None:
+        self.checkout.build("--library")
+        ran = self.checkout.papr("run")
+        self.assertIn("building the program: 3 of 4 crates to prove\n", ran.err)
+        self.assertEqual(sorted(self.checkout.proved()), sorted(set(IN_PROGRAM) - {"low"}))
+
+    def test_a_change_proves_its_crate_and_those_above(self) -> None:
+        self.checkout.build("--library")
+        self.checkout.change("beside")
+        self.checkout.build("--library")
+        self.assertEqual(self.checkout.proved(), ["beside", "papr_c"])
+        self.checkout.change("papr_c")
+        self.checkout.build("--library")
+        self.assertEqual(self.checkout.proved(), ["papr_c"])
+
+    def test_a_change_of_what_it_does_not_stand_on_is_no_cause_to_build(self) -> None:
+        self.checkout.build("--library")
+        self.checkout.change("trace_runner")
+        self.assert_ran(self.checkout.build("--library"))
+
+    def test_a_crate_that_fails_is_named(self) -> None:
+        self.checkout.source("papr_c").with_name("fails").touch()
+        ran = self.checkout.build("--library")
+        self.assert_ran(ran, status=2, err=None)
+        self.assertEqual(
+            ran.err.splitlines()[-1], f"build: papr_c could not be built; {self.checkout.log} says why"
+        )
+        self.assertFalse(self.checkout.archive.exists())
+
+    def test_no_toolchain_on_the_path(self) -> None:
+        self.checkout.tools = "/usr/bin:/bin"
+        message = "build: the Rattle toolchain (rt) isn't on the path; README.md says which kit of it"
+        self.assert_refused(self.checkout.build("--library"), message)
+
+
+@needs("make")
+class Installed(BuildTest):
+    """What `make install` puts in its places."""
+
+    def setUp(self) -> None:
+        super().setUp()
+        for name in ("Makefile", "VERSION"):
+            shutil.copy(TOP / name, self.checkout.top)
+        for name in ("README.md", "CHANGELOG.md", "CONTRIBUTING.md", "LICENSE-APACHE", "LICENSE-MIT"):
+            shutil.copy(TOP / name, self.checkout.top)
+        for name in ("completions", "docs", "examples", "include", "man"):
+            (self.checkout.top / name).symlink_to(TOP / name)
+        for tool in (TOP / "tools").iterdir():
+            if tool.is_file() and not (self.checkout.top / "tools" / tool.name).exists():
+                shutil.copy(tool, self.checkout.top / "tools")
+        self.tree = self.folder / "tree"
+
+    def make(self, *words: str) -> Ran:
+        """Runs make in the checkout, whose program ends with status 0."""
+        words = ("-s", "-C", str(self.checkout.top), f"DESTDIR={self.tree}", "PREFIX=/usr", *words)
+        return run("make", *words, environment=self.checkout.environment(ENDS="0"))
+
+    def test_program_and_library_are_built_where_they_are_missing_or_older(self) -> None:
+        self.assert_ran(self.make("install"), err=None)
+        self.assert_same_file(self.tree / "usr/bin/papr", self.checkout.program)
+        self.assert_same_file(self.tree / "usr/lib/libpapr_c.a", self.checkout.archive)
+        self.assertEqual(len(self.checkout.compilers()), len({*IN_PROGRAM, *IN_LIBRARY}))
+        self.assert_ran(self.make("install"))
+        self.checkout.times.unlink()
+        self.checkout.change("beside")
+        self.checkout.change("mid")
+        self.assert_ran(self.make("install"), err=None)
+        begun = {line.split()[1] for line in self.checkout.steps()}
+        self.assertEqual(begun, {"beside", "papr_c", "mid", "papr_main"})
+
+    def test_the_library_alone(self) -> None:
+        self.assert_ran(self.make("install-library"), err=None)
+        self.assert_same_file(self.tree / "usr/lib/libpapr_c.a", self.checkout.archive)
+        self.assertFalse(self.checkout.program.exists())
+
+    def test_make_library_builds_it_once(self) -> None:
+        self.assert_ran(self.make("library"), err=None)
+        self.assertTrue(self.checkout.archive.is_file())
+        self.assert_ran(self.make("library"))
+
+
+class Ended(BuildTest):
+    """A build that a signal ends says what it keeps, and leaves no proof behind."""
+
+    def begin(self) -> Begun:
+        """Begins to build the program, and waits until low is being proved."""
+        begun = self.checkout.begin(self.checkout.top / "papr", "run")
+        begun.wait_for_proofs()
+        return begun
+
+    def assert_ended(self, ran: Ran, number: int, proved: int = 0, command: str = "./papr", count: int = 4) -> None:
+        """The status is the signal's, the last line says what is kept, and no proof goes on."""
+        kept = f"what is proved so far ({proved} of {count} crates) is kept"
+        self.assert_ran(ran, status=128 + number, err=None)
+        self.assertEqual(ran.err.splitlines()[-1], f"papr: ended; {kept}, and the next {command} goes on from there")
+        self.assertNotEqual(self.checkout.compilers(), [])
+        self.assertEqual([it for it in self.checkout.compilers() if is_running(it)], [])
+
+    @for_each(INT, TERM, HUP)
+    def test_by_a_signal_to_the_wrapper(self, number: signal.Signals) -> None:
+        self.assert_ended(self.begin().end(number), number)
+
+    @for_each(INT, TERM, HUP)
+    def test_by_a_signal_to_the_build(self, number: signal.Signals) -> None:
+        """The wrapper hands the status on."""
+        begun = self.begin()
+        self.assert_ended(begun.end(number, begun.builder()), number)
+
+    def test_by_an_interrupt_to_all_that_a_terminal_runs(self) -> None:
+        begun = self.begin()
+        os.killpg(begun.ran.pid, INT)
+        self.assert_ended(begun.ended(), INT)
+
+    def test_by_two_interrupts(self) -> None:
+        begun = self.begin()
+        os.kill(begun.ran.pid, INT)
+        self.assert_ended(begun.end(INT), INT)
+
+    def test_a_signal_that_is_ignored_does_not_end_it(self) -> None:
+        """As that of a terminal that is closed, under nohup."""
+        words = f"trap '' HUP && exec {self.checkout.top}/papr run"
+        begun = self.checkout.begin("sh", "-c", words, SLOW="1")
+        begun.wait_for_proofs()
+        os.killpg(begun.ran.pid, HUP)
+        self.assert_ran(begun.ended(), "ran run\n", status=7, err=None)
+
+    def test_the_next_build_goes_on_from_there(self) -> None:
+        self.checkout.source("mid").with_name("slow").touch()
+        begun = self.checkout.begin(self.checkout.top / "papr", "run", SLOW="0", SLOWER="60")
+        begun.wait_for("crate 2 of 4: trace_runner")
+        begun.wait_for_proofs(3)
+        self.assert_ended(begun.end(INT), INT, proved=2)
+        ran = self.checkout.papr("run")
+        self.assertIn("building the program: 2 of 4 crates to prove\n", ran.err)
+        self.assertEqual(self.checkout.proved(), ["mid", "papr_main"])
+
+    def test_outside_a_checkout_of_git_the_next_build_goes_on_too(self) -> None:
+        (self.checkout.top / ".git").rmdir()
+        self.checkout.built = self.checkout.top / "out" / "papr-build"
+        self.checkout.source("mid").with_name("slow").touch()
+        begun = self.checkout.begin(self.checkout.top / "papr", "run", SLOW="0", SLOWER="60")
+        begun.wait_for("crate 2 of 4: trace_runner")
+        begun.wait_for_proofs(3)
+        self.assert_ended(begun.end(TERM), TERM, proved=2)
+        ran = self.checkout.papr("run")
+        self.assertIn("building the program: 2 of 4 crates to prove\n", ran.err)
+        self.assertFalse(self.checkout.built.exists())
+
+    def test_a_build_of_the_library(self) -> None:
+        begun = self.checkout.begin(self.checkout.top / "tools" / "build", "--library")
+        begun.wait_for_proofs()
+        self.assert_ended(begun.end(INT), INT, command="make library", count=3)
+
+    def test_a_build_that_waits_for_another_promises_nothing(self) -> None:
+        first = self.begin()
+        second = self.checkout.begin(self.checkout.top / "papr", "run")
+        second.wait_for("waiting for another build")
+        ran = second.end(TERM)
+        self.assert_ran(ran, status=128 + TERM, err=None)
+        self.assertNotIn("kept", ran.err)
+        self.assert_ended(first.end(INT), INT)
+
+
+class GoneWrong(BuildTest):
+    """What a build says where it can't go on."""
+
+    def test_a_toolchain_whose_first_page_is_missing(self) -> None:
+        (self.checkout.kit / "START-HERE.md").unlink()
+        message = "build: `rt doc` names no page, so the toolchain can't be found"
+        self.assert_failed(self.checkout.papr("run"), message)
+
+    def test_a_toolchain_of_another_shape(self) -> None:
+        kit = self.checkout.kit / "KIT-ID"
+        kit.unlink()
+        self.assert_failed(self.checkout.papr("run"), f"build: {kit}: No such file or directory")
+
+    def test_a_toolchain_without_its_compiler(self) -> None:
+        compiler = self.checkout.kit / "bin" / "rattle"
+        compiler.unlink()
+        self.assert_failed(self.checkout.papr("run"), f"build: {compiler}: No such file or directory")
+
+    def test_a_proof_that_is_killed_fails_with_its_status_in_the_log(self) -> None:
+        """As the system kills what takes too much memory. With several jobs it is tried by one again."""
+        self.checkout.source("low").with_name("killed").touch()
+        message = f"build: low could not be built; {self.checkout.log} says why"
+        self.assert_failed(self.checkout.papr("run"), message)
+        jobs = 1 if len(os.sched_getaffinity(0)) == 1 else 2
+        self.assertEqual(self.checkout.logged().count("\nstatus -9, 0 s\n"), jobs)
+        self.assertIn(" --jobs 1 ", self.checkout.logged())
+
+    def test_a_build_that_is_killed_is_begun_anew_by_the_next(self) -> None:
+        """It can say nothing, and its status is that of a build that failed."""
+        begun = self.checkout.begin(self.checkout.top / "papr", "run")
+        begun.wait_for_proofs()
+        self.assert_ran(begun.end(KILL, begun.builder()), status=126, err=None)
+        (process,) = self.checkout.compilers()
+        self.assertTrue(is_running(process))
+        second = self.checkout.begin(self.checkout.top / "papr", "run", SLOW="0")
+        second.wait_for("waiting for another build")
+        self.assertEqual(self.checkout.compilers(), [process], "a proof began beside that of the build that was killed")
+        os.killpg(process, TERM)
+        ran = second.ended()
+        self.assert_ran(ran, "ran run\n", status=7, err=None)
+        self.assertIn("waiting for another build", ran.err)
+
+    def test_a_full_disk_under_the_log(self) -> None:
+        self.checkout.log.parent.mkdir()
+        self.checkout.log.symlink_to("/dev/full")
+        self.assert_failed(self.checkout.papr("run"), f"build: {self.checkout.log}: No space left on device")
+
+    def test_a_full_disk_under_what_is_kept(self) -> None:
+        """The stamps of proofs, which the build itself writes; a crate without its stamp is proved again."""
+        full = self.checkout.source("low").with_name("full")
+        full.touch()
+        stamp = self.checkout.built / "low.stamp"
+        self.assert_failed(self.checkout.papr("run"), f"build: {stamp}: No space left on device")
+        full.unlink()
+        self.assertIn("building the program: 4 crates to prove", self.checkout.papr("run").err)

@@ -62,6 +62,11 @@ def run(
     return Ran(ended.returncode, decoded(ended.stdout), decoded(ended.stderr))
 
 
+def run_bytes(*command: Word) -> bytes:
+    """What a command that must end well writes, where that is no text."""
+    return subprocess.run([str(word) for word in command], stdout=subprocess.PIPE, timeout=PATIENCE, check=True).stdout
+
+
 def decoded(data: bytes) -> str:
     """The text of what a command wrote."""
     return data.decode("utf-8", "backslashreplace")

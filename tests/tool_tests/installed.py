@@ -1,0 +1,33 @@
+"""What the tests of tools as they are installed share: a tree into which `make` put them, with the program."""
+
+import os
+import tempfile
+from pathlib import Path
+from typing import ClassVar
+
+from .support import PROGRAM, TOP, Ran, Text, ToolTest, Word, needs, needs_program, run
+
+
+@needs("make")
+@needs_program
+class InstalledTest(ToolTest):
+    """A test that runs commands from a tree of their own, where the program is on the path."""
+
+    commands: ClassVar[Path]
+
+    @classmethod
+    def setUpClass(cls) -> None:
+        """Installs the program and the tools, once for the class."""
+        super().setUpClass()
+        work = tempfile.TemporaryDirectory(prefix="papr-tree-")
+        cls.addClassCleanup(work.cleanup)
+        words = (f"DESTDIR={work.name}", "PREFIX=/usr", f"PROGRAM={PROGRAM}")
+        ran = run("make", "-s", "-C", TOP, "install-program", *words)
+        if ran.status:
+            raise OSError(f"make install-program: {ran.err}")
+        cls.commands = Path(work.name) / "usr" / "bin"
+
+    def run_installed(self, *command: Word, given: Text = "") -> Ran:
+        """Runs an installed command."""
+        path = f"{self.commands}:{os.environ['PATH']}"
+        return run(self.commands / command[0], *command[1:], given=given, environment={"PATH": path})

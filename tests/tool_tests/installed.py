@@ -8,6 +8,13 @@ from typing import ClassVar
 from .support import PROGRAM, TOP, Ran, Text, ToolTest, Word, needs, needs_program, run
 
 
+def make(target: str, tree: Path, *words: str) -> None:
+    """Installs into a tree, or takes away; an error where make fails or says anything."""
+    ran = run("make", "-s", "-C", TOP, target, f"DESTDIR={tree}", "PREFIX=/usr", *words)
+    if (ran.status, ran.out, ran.err) != (0, "", ""):
+        raise OSError(f"make {target}: status {ran.status}: {ran.out}{ran.err}")
+
+
 @needs("make")
 @needs_program
 class InstalledTest(ToolTest):
@@ -21,10 +28,7 @@ class InstalledTest(ToolTest):
         super().setUpClass()
         work = tempfile.TemporaryDirectory(prefix="papr-tree-")
         cls.addClassCleanup(work.cleanup)
-        words = (f"DESTDIR={work.name}", "PREFIX=/usr", f"PROGRAM={PROGRAM}")
-        ran = run("make", "-s", "-C", TOP, "install-program", *words)
-        if ran.status:
-            raise OSError(f"make install-program: {ran.err}")
+        make("install-program", Path(work.name), f"PROGRAM={PROGRAM}")
         cls.commands = Path(work.name) / "usr" / "bin"
 
     def run_installed(self, *command: Word, given: Text = "") -> Ran:

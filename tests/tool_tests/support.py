@@ -132,7 +132,9 @@ class ToolTest(unittest.TestCase):
         for name, test in list(vars(cls).items()):
             values: Iterable[object] = getattr(test, "values_of_test", ())
             for value in values:
-                setattr(cls, f"{name}_{str(value).replace('-', '_')}", with_value(test, value))
+                words = value if isinstance(value, tuple) else (value,)
+                ending = "_".join(str(word).replace("-", "_").strip("_") for word in words)
+                setattr(cls, f"{name}_{ending}", with_value(test, value))
             if values:
                 delattr(cls, name)
 

@@ -41,7 +41,7 @@ class Outcome(unittest.TestResult):
 
 
 def main() -> None:
-    """Runs the module's tests. What a test prints goes to standard error, and the outcome to standard output."""
+    """Runs the module's tests. The outcome goes to standard output, and what a test prints to the other."""
     out, sys.stdout = sys.stdout, sys.stderr
     module = importlib.import_module(f"{__package__}.{sys.argv[1]}")
     outcome = Outcome()

@@ -1,4 +1,4 @@
-"""What the tests of tools as they are installed share: a tree into which `make` put them, with the program."""
+"""What the tests of installed tools share: a tree into which `make` put them, with the program."""
 
 import os
 import tempfile

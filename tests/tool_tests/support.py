@@ -1,4 +1,4 @@
-"""What the tests of the tools share: where things are, how a command is run, and what is asserted of how it ended."""
+"""What the tests of the tools share: where things are, how a command is run, and what is asserted of it."""
 
 import difflib
 import filecmp
@@ -44,9 +44,10 @@ def run(
     folder: Optional[Path] = None,
     environment: Optional[Mapping[str, str]] = None,
 ) -> Ran:
-    """Runs a command. Its standard input is a text, or a file's; bytes that aren't UTF-8 are escaped in what it wrote.
+    """Runs a command, whose standard input is a text, or a file's.
 
-    `environment` has the variables that differ from this process's.
+    `environment` has the variables that differ from this process's. In what the command wrote, bytes that
+    aren't UTF-8 are escaped.
     """
     data = given.read_bytes() if isinstance(given, Path) else given
     ended = subprocess.run(
@@ -64,7 +65,8 @@ def run(
 
 def run_bytes(*command: Word) -> bytes:
     """What a command that must end well writes, where that is no text."""
-    return subprocess.run([str(word) for word in command], stdout=subprocess.PIPE, timeout=PATIENCE, check=True).stdout
+    words = [str(word) for word in command]
+    return subprocess.run(words, stdout=subprocess.PIPE, timeout=PATIENCE, check=True).stdout
 
 
 def decoded(data: bytes) -> str:
@@ -126,9 +128,9 @@ class ToolTest(unittest.TestCase):
 
     folder: Path
 
-    def __init_subclass__(cls, **words: Any) -> None:
+    def __init_subclass__(cls) -> None:
         """Makes the tests that `for_each` asks for."""
-        super().__init_subclass__(**words)
+        super().__init_subclass__()
         for name, test in list(vars(cls).items()):
             values: Iterable[object] = getattr(test, "values_of_test", ())
             for value in values:

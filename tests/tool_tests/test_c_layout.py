@@ -1,7 +1,7 @@
 """Tests that include/papr.h says what the sources of the library for C say; nothing is built for them.
 
-Structs, constants and functions are parsed out of the header and out of the sources of crates/papr_c, and compared by
-name, order and type. A slice of the sources is a pointer and a count in C.
+Structs, constants and functions are parsed out of the header and out of the sources of crates/papr_c, and
+compared by name, order and type. A slice of the sources is a pointer and a count in C.
 """
 
 import re
@@ -13,7 +13,11 @@ from .support import TOP, ToolTest, for_each
 HEADER = TOP / "include" / "papr.h"
 SOURCES = sorted((TOP / "crates" / "papr_c" / "src").glob("*.rt"))
 # What the sources have from the crates below: an entry, return codes, and flags.
-BELOW = [TOP / "crates" / it for it in ("entry_model/src/state.rt", "papr_codes/src/codes.rt", "papr_codes/src/flag_bits.rt")]
+BELOW = [
+    TOP / "crates" / "entry_model" / "src" / "state.rt",
+    TOP / "crates" / "papr_codes" / "src" / "codes.rt",
+    TOP / "crates" / "papr_codes" / "src" / "flag_bits.rt",
+]
 
 # The structs of the header, by their names in the sources.
 STRUCTS = {
@@ -60,6 +64,10 @@ COUNTS = {
     "pairs": "pairs_count",
     "into": "into_count",
 }
+
+# A struct of the sources with its attributes, and a function for C.
+STRUCT = re.compile(r"((?:#\[[^\n]*\]\s*)*)pub struct (\w+) \{(.*?)\n\}", re.DOTALL)
+EXTERN = re.compile(r"(#\[unsafe\(no_mangle\)\]\s*)?pub extern \"C\" fn (\w+)\(([^()]*)\) -> (\w+)")
 
 Named = tuple[str, str]  # a name and its type in C
 
@@ -113,7 +121,8 @@ class Header:
         for name, body in re.findall(r"\benum (\w+) \{(.*?)\};", text, re.DOTALL):
             members = re.findall(r"(\w+) = (-?[0-9]+)", body)
             self.enums[name] = {member: int(value) for member, value in members}
-        self.sizes = {name: int(size) for name, size in re.findall(r"^PAPR_SIZE\((\w+), ([0-9]+)\);", text, re.MULTILINE)}
+        sizes = re.findall(r"^PAPR_SIZE\((\w+), ([0-9]+)\);", text, re.MULTILINE)
+        self.sizes = {name: int(size) for name, size in sizes}
         places = re.findall(r"^PAPR_AT\((\w+), (\w+), ([0-9]+)\);", text, re.MULTILINE)
         self.places = {(name, field): int(place) for name, field, place in places}
         defined = re.findall(r"^#define (PAPR_\w+)\s+UINT64_C\((0x[0-9A-F]+)\)", text, re.MULTILINE)
@@ -153,20 +162,17 @@ class Sources:
     def __init__(self, text: str) -> None:
         text = without_remarks(text)
         self.structs: dict[str, Struct] = {}
-        for before, name, body in re.findall(
-            r"((?:#\[[^\n]*\]\s*)*)pub struct (\w+) \{(.*?)\n\}", text, re.DOTALL
-        ):
+        for before, name, body in STRUCT.findall(text):
             if name in STRUCTS:
                 fields = [it.split(": ", 1) for it in split_outside(body) if not it.startswith("ghost ")]
                 named = [pair for it in fields for pair in in_c(it[0].removeprefix("pub "), it[1])]
                 self.structs[STRUCTS[name]] = Struct(named, "#[repr(C)]" in before)
         self.functions: dict[str, Function] = {}
-        for exported, name, given, result in re.findall(
-            r"(#\[unsafe\(no_mangle\)\]\s*)?pub extern \"C\" fn (\w+)\(([^()]*)\) -> (\w+)", text
-        ):
+        for exported, name, given, result in EXTERN.findall(text):
             parameters = [it.split(": ", 1) for it in split_outside(given)]
             named = [pair for it in parameters for pair in in_c(it[0].removeprefix("_"), it[1])]
-            self.functions[name if exported else f"{name}, not exported"] = Function(named, of_value(result))
+            symbol = name if exported else f"{name}, not exported"
+            self.functions[symbol] = Function(named, of_value(result))
         self.text = text
 
     def numbers(self, pattern: str) -> dict[str, int]:
@@ -175,7 +181,7 @@ class Sources:
 
 
 def laid_out(structs: dict[str, Struct], name: str) -> tuple[int, int, dict[str, int]]:
-    """A struct's size, its alignment, and the place of each field, as C lays it out on a machine of 64 bits."""
+    """A struct's size, its alignment, and each field's place, as C has them on a machine of 64 bits."""
     at, widest = 0, 1
     places: dict[str, int] = {}
     for field, type_ in structs[name].fields:
@@ -245,7 +251,8 @@ class Constants(ToolTest):
     def test_the_numbers_of_answers_are_those_of_the_sources(self) -> None:
         numbers = sources().numbers(r"\bAnswer::(\w+) => ([0-9]+),")
         numbers["Read"] = numbers.pop("Words")
-        self.assertEqual(header().enums["papr_answer"], {f"PAPR_{it.upper()}": n for it, n in numbers.items()})
+        expected = {f"PAPR_{it.upper()}": n for it, n in numbers.items()}
+        self.assertEqual(header().enums["papr_answer"], expected)
 
     def test_the_numbers_of_refusals_are_those_of_the_sources(self) -> None:
         of_grants = sources().numbers(r"\bGrantError::(\w+) => ([0-9]+),")
@@ -259,7 +266,8 @@ class Constants(ToolTest):
     def test_the_numbers_of_outcomes_are_those_of_the_sources(self) -> None:
         numbers = sources().numbers(r"\bconst (\w+): u32 = ([0-9]+);")
         numbers["AT"], numbers["PARAMETER"] = numbers.pop("ALLOWED"), numbers.pop("REFUSED")
-        self.assertEqual(header().enums["papr_outcome"], {f"PAPR_WALK_{it}": n for it, n in numbers.items()})
+        expected = {f"PAPR_WALK_{it}": n for it, n in numbers.items()}
+        self.assertEqual(header().enums["papr_outcome"], expected)
 
     def test_the_return_codes_are_those_of_the_sources(self) -> None:
         codes = sources().numbers(r"\bRc::(\w+) => (-?[0-9]+),")
@@ -288,8 +296,8 @@ class Functions(ToolTest):
         self.assertCountEqual(sources().functions, FUNCTIONS)
 
 
-# Swaps in the sources by which a caller in C would read another field, or pass another value: the struct or function,
-# and the two names that change places in it.
+# Swaps in the sources by which a caller in C would read another field, or pass another value: the struct or
+# function, and the two names that change places in it.
 SWAPPED = (
     ("papr_making", "index", "refusal"),
     ("papr_rehash", "first", "second"),
@@ -309,18 +317,16 @@ def swapped(text: str, name: str, one: str, other: str) -> str:
     own = {mine: theirs for theirs, mine in STRUCTS.items()}
     begin = text.index(f"pub struct {own[name]} {{" if name in own else f"fn {name}(")
     end = text.index("\n}" if name in own else "\n)", begin)
-    first, second = (
-        re.search(rf"\b{it}: [^,]*", text[begin:end]) or re.match("", "") for it in (one, other)
+    item, count = re.subn(
+        rf"\b({one}: [^,]*)(,.*?)\b({other}: [^,]*)", r"\3\2\1", text[begin:end], flags=re.DOTALL
     )
-    if not first or not second:
-        raise ValueError(f"{name} has no {one} or no {other}")
-    item = text[begin:end]
-    item = item[: first.start()] + second[0] + item[first.end() : second.start()] + first[0] + item[second.end() :]
+    if count != 1:
+        raise ValueError(f"{name} has no {one}, or no {other} behind it")
     return text[:begin] + item + text[end:]
 
 
 class Swaps(ToolTest):
-    """What these tests are for: edits of the sources that no proof refuses, and that would break a caller in C."""
+    """What these tests are for: edits that no proof refuses, and that would break a caller in C."""
 
     @for_each(*SWAPPED)
     def test_a_swap_is_refused_in(self, swap: tuple[str, str, str]) -> None:
@@ -333,6 +339,7 @@ class Swaps(ToolTest):
 
     @for_each(*STRUCTS)
     def test_a_lost_layout_is_refused_in(self, name: str) -> None:
-        lost, count = re.subn(rf"#\[repr\(C\)\]\n((?:#\[[^\n]*\n)*pub struct {name} )", r"\1", text_of_sources())
+        layout = rf"#\[repr\(C\)\]\n((?:#\[[^\n]*\n)*pub struct {name} )"
+        lost, count = re.subn(layout, r"\1", text_of_sources())
         self.assertEqual(count, 1)
         self.assertFalse(Sources(lost).structs[STRUCTS[name]].is_c)

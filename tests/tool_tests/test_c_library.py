@@ -10,7 +10,7 @@ import tempfile
 from pathlib import Path
 from typing import ClassVar
 
-from .support import EXAMPLES, LIBRARY, TOP, ToolTest, for_each, needs, needs_library, run, run_bytes
+from .support import DATA, EXAMPLES, LIBRARY, TOP, ToolTest, for_each, needs, needs_library, run, run_bytes
 
 INCLUDE = TOP / "include"
 STRICT = ("-Wall", "-Wextra", "-Werror", f"-I{INCLUDE}")
@@ -127,6 +127,17 @@ class Replayer(ToolTest):
         words = ("valgrind", "-q", "--error-exitcode=9", "--leak-check=full")
         trace = EXAMPLES / f"{name}.trace"
         self.assert_ran(run(*words, self.replayer, given=trace), run(self.replayer, given=trace).out)
+
+
+@needs("cc")
+@needs_library
+class Fields(ToolTest):
+    """A program that reads every field of every struct, where the fields of one struct differ."""
+
+    def test_each_field_has_the_value_that_its_call_gives_it(self) -> None:
+        program = self.folder / "fields"
+        self.assert_ran(run("cc", "-std=c11", *STRICT, "-o", program, DATA / "fields.c", LIBRARY))
+        self.assert_ran(run(program))
 
 
 @needs_library

@@ -46,7 +46,8 @@ class Logs(ToolTest):
             "lines of calls that could not be read: 1",
         )
         trace = (
-            f"{TITLE}order 20\nram 0x0 0x3000000000 0x10000000\nio 0x200080000000 0x2000000000 0x1000\nbegin\n"
+            f"{TITLE}order 20\nram 0x0 0x3000000000 0x10000000\n"
+            "io 0x200080000000 0x2000000000 0x1000\nbegin\n"
             "0 H_ENTER 0x0 0x6008 0x400ea1b217000015 0x31190\n"
             "0 H_ENTER 0x0 0x28 0x1001 0x2000800001ac\n"
         ) + "".join(f"# {note}\n" for note in notes)
@@ -64,7 +65,8 @@ class Logs(ToolTest):
         self.assert_ran(run(CONVERT, given=log), trace, err=said(NOTES[0], others, NOTES[2]))
 
     def test_no_call_is_added_with_as_recorded(self) -> None:
-        trace = TRACE.read_text(encoding="ascii").replace(A_PREPARE * 4, A_PREPARE).replace(f"# {NOTES[0]}\n", "")
+        trace = TRACE.read_text(encoding="ascii").replace(A_PREPARE * 4, A_PREPARE)
+        trace = trace.replace(f"# {NOTES[0]}\n", "")
         self.assert_ran(run(CONVERT, "--as-recorded", LOG), trace, err=said(*NOTES[1:]))
 
     def test_the_tool_has_help(self) -> None:

@@ -95,9 +95,11 @@ class Carried(ToolTest):
 
     def test_a_part_puts_again_the_tces_that_are_set_then(self) -> None:
         """Each as it was put last."""
-        ran = run(CUT, "--papr", self.papr, "--before", "17", "--before", "20", "--parts", self.folder, WINDOWS)
+        cuts = ("--before", "17", "--before", "20")
+        ran = run(CUT, "--papr", self.papr, *cuts, "--parts", self.folder, WINDOWS)
         ranges = ("lines 8 to 16", "lines 17 to 19", "lines 20 to 24")
-        told = [f"{self.folder}/part-{number}.trace: {lines}\n" for number, lines in enumerate(ranges, start=1)]
+        named = [f"{self.folder}/part-{number}.trace" for number in (1, 2, 3)]
+        told = [f"{name}: {lines}\n" for name, lines in zip(named, ranges)]
         self.assert_ran(ran, "".join(told))
         parts = [self.folder / f"part-{number}.trace" for number in (2, 3)]
         self.assert_same_file(parts[0], DATA / "windows.part-2.trace")
@@ -233,7 +235,7 @@ class Boot(CutTest):
 
 @needs_program
 class Refusals(ToolTest):
-    """Traces that papr refuses, by the numbers of lines in the whole. The parts before that line are written."""
+    """Traces that papr refuses, by the numbers of lines in the whole. The parts before are written."""
 
     A_READ = "3 0 H_READ 0 0x0 0x0 | 0x1.0.0.read\n"
 
@@ -259,7 +261,8 @@ class Refusals(ToolTest):
 
     def test_a_table_that_leaves_no_room(self) -> None:
         message = "no room for line 5: its part begins with 5 lines"
-        self.refuses(message, "--lines", "4", str(FIRST), out="4 0 H_ENTER 0 0x27 | 0x27.0.0.entered\n")
+        reply = "4 0 H_ENTER 0 0x27 | 0x27.0.0.entered\n"
+        self.refuses(message, "--lines", "4", str(FIRST), out=reply)
 
     def test_a_cut_past_the_end(self) -> None:
         whole = "4 0 H_ENTER 0 0x27 | 0x27.0.0.entered\n5 0 H_ENTER -6 | 0x27.1.0.taken\n"

@@ -3,7 +3,6 @@
 import os
 import re
 import shutil
-import subprocess
 import tempfile
 from pathlib import Path
 from typing import ClassVar
@@ -47,8 +46,9 @@ def page(command: str) -> Path:
 
 def scripts() -> list[Path]:
     """The scripts for a shell that are committed or made beside what is."""
-    folders = [TOP, TOP / ".ci", TOP / "tests", TOP / "tests" / "parts", TOP / "tools", EXAMPLES, TOP / "bench"]
-    files = [path for folder in folders if folder.is_dir() for path in sorted(folder.iterdir()) if path.is_file()]
+    names = ("", ".ci", "tests", "tests/parts", "tools", "examples", "bench")
+    found = [path for name in names for path in sorted((TOP / name).glob("*"))]
+    files = [path for path in found if path.is_file()]
     return [path for path in files if re.match(rb"#!.*\b(ba)?sh\n", path.read_bytes()[:64])]
 
 
@@ -85,7 +85,8 @@ class Completions(ToolTest):
         words = f"source {FISH}; complete -C 'papr '; echo; complete -C 'papr-receipts --'"
         ran = run("fish", "-N", "-c", words, environment={"HOME": str(self.folder)})
         self.assert_ran(ran, out=None, err=None)
-        completed = [[line.partition("\t")[0] for line in part.splitlines()] for part in ran.out.split("\n\n")]
+        parts = [part.splitlines() for part in ran.out.split("\n\n")]
+        completed = [[line.partition("\t")[0] for line in part] for part in parts]
         self.assertEqual(completed, [sorted(WORDS), ["--csv", "--help", "--json", "--replies"]])
 
 
@@ -190,7 +191,8 @@ class Packages(ToolTest):
 
     def make(self, target: str, *words: str) -> None:
         """Runs make, with this test's folder for what it packs."""
-        self.assert_ran(run("make", "-s", "-C", TOP, target, f"dist={self.folder}", *words), out=None, err=None)
+        ran = run("make", "-s", "-C", TOP, target, f"dist={self.folder}", *words)
+        self.assert_ran(ran, out=None, err=None)
 
     def package(self) -> Path:
         """The one Debian package that was made."""
@@ -214,10 +216,8 @@ class Packages(ToolTest):
     def test_make_deb_packs_the_commands_and_their_pages(self) -> None:
         program = write_script(self.folder / "program", STAND_IN)
         self.make("deb", f"PROGRAM={program}")
-        tree = subprocess.run(
-            ["tar", "-t"], input=run_bytes("dpkg-deb", "--fsys-tarfile", self.package()), capture_output=True, check=True
-        )
-        packed = {line.removeprefix(".") for line in tree.stdout.decode().splitlines()}
+        listed = run("tar", "-t", given=run_bytes("dpkg-deb", "--fsys-tarfile", self.package()))
+        packed = {line.removeprefix(".") for line in listed.out.splitlines()}
         wanted = {
             "/usr/share/zsh/vendor-completions/_papr",
             "/usr/share/doc/papr/copyright",

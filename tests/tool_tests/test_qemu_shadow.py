@@ -1,6 +1,6 @@
 """Tests of the script that puts the shadow into QEMU's sources.
 
-It runs on files that stand in for QEMU's: each has the places that the script looks for, and nothing else of QEMU.
+It runs on files that stand in for QEMU's: each has the places that the script looks for, and nothing else.
 """
 
 import re
@@ -60,8 +60,8 @@ class Applied(ShadowTest):
 
     def test_a_walk_begins_before_its_search(self) -> None:
         walk = self.text("target/ppc/mmu-hash64.c")
-        behind = walk[walk.index("papr_shadow_walk_begin") :]
-        order = re.findall(r"walk_begin|htab_lookup|pr\(mmu_idx\), [012]|deposit64", behind)
+        _, begin, behind = walk.partition("papr_shadow_walk_begin")
+        order = re.findall(r"walk_begin|htab_lookup|pr\(mmu_idx\), [012]|deposit64", begin + behind)
         pr = [f"pr(mmu_idx), {number}" for number in (2, 1, 0)]
         self.assertEqual(order, ["walk_begin", "htab_lookup", pr[0], pr[1], "deposit64", pr[2]])
 

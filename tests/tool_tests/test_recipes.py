@@ -1,6 +1,7 @@
 """Tests that the recipes of docs/RECIPES.md, and the README's transcript, write what the pages say.
 
-The page's commands run in its order, in a folder of their own that has the sources' tools and examples, and the program.
+The page's commands run in its order, in a folder of their own that has the sources' tools and examples, and
+the program.
 """
 
 import re
@@ -10,8 +11,8 @@ from dataclasses import dataclass
 from pathlib import Path
 from typing import ClassVar, Optional
 
-from .support import DOCS, EXAMPLES, PROGRAM, TOOLS, TOP, Ran, ToolTest, for_each, missing, needs, needs_program
-from .support import run, write_script
+from .support import DOCS, EXAMPLES, PROGRAM, TOOLS, TOP, Ran, ToolTest, for_each, missing, needs
+from .support import needs_program, run, write_script
 
 BLOCKS = re.compile(r"^```sh\n(.*?)^```\n(?:```text\n(.*?)^```\n)?", re.MULTILINE | re.DOTALL)
 TRANSCRIPT = re.compile(r"^```text\n(.*?)^```\n", re.MULTILINE | re.DOTALL)

@@ -161,5 +161,6 @@ class Memory(ToolTest):
         """Ten words of 100 KB: there is a limit at which the program starts and the words don't fit."""
         words = ["x" * 100_000] * 10
         self.assert_ran(run(PROGRAM, *words), USAGE, status=1)
-        limits = (run("prlimit", f"--as={KILOBYTE * it}", PROGRAM, *words) for it in range(1_000, 16_000, 200))
-        self.assertIn(Ran(status=5, out="", err=""), limits)
+        limits = (f"--as={KILOBYTE * kilobytes}" for kilobytes in range(1_000, 16_000, 200))
+        ends = (run("prlimit", limit, PROGRAM, *words) for limit in limits)
+        self.assertIn(Ran(status=5, out="", err=""), ends)

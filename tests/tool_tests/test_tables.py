@@ -9,6 +9,7 @@ ENTRIES = TOOLS / "htab-to-entries"
 DEBUGFS, STREAM, TRACE = DATA / "htab.debugfs", DATA / "htab.stream.hex", DATA / "htab.trace"
 LEFT_OUT = "entries left out, which H_ENTER would refuse"
 SAID = f"htab-to-entries: {LEFT_OUT}: 1\n"
+PAST = "reaches past papr's largest table, order 22"
 OF_STREAM = "# The page table of a guest under KVM, by KVM_PPC_GET_HTAB_FD\n"
 A_HEADER = re.compile(r"^(..)(..)(..)(..) (..)(..) (..)(..)$", re.MULTILINE)
 
@@ -110,12 +111,12 @@ class Streams(ToolTest):
 
     def test_headers_of_the_other_order(self) -> None:
         path = self.write(stored(STREAM))
-        message = "the chunk at byte 8 reaches past papr's largest table, order 22; was the host little-endian?"
-        self.assert_refused(run(ENTRIES, "--stream", "--big-endian", path), f"htab-to-entries: {message}")
+        message = f"htab-to-entries: the chunk at byte 8 {PAST}; was the host little-endian?"
+        self.assert_refused(run(ENTRIES, "--stream", "--big-endian", path), message)
 
     def test_a_text_is_no_stream(self) -> None:
-        message = "the chunk at byte 0 reaches past papr's largest table, order 22; was the host big-endian?"
-        self.assert_refused(run(ENTRIES, "--stream", DEBUGFS), f"htab-to-entries: {message}")
+        message = f"htab-to-entries: the chunk at byte 0 {PAST}; was the host big-endian?"
+        self.assert_refused(run(ENTRIES, "--stream", DEBUGFS), message)
 
 
 class Words(ToolTest):

@@ -6,9 +6,9 @@ from .support import EXAMPLES, TOOLS, ToolTest, run
 
 SETTINGS = "order, limit, cpus, pool, ram, io, entry, window, begin, dump"
 CALLS = (
-    "H_ENTER, H_REMOVE, H_PROTECT, H_READ, H_CLEAR_REF, H_CLEAR_MOD, H_BULK_REMOVE, H_RESIZE_HPT_PREPARE, "
-    "H_RESIZE_HPT_COMMIT, hcall, H_PUT_TCE, H_GET_TCE, load, store, fetch, dmaread, dmawrite, slbmte, slbclear, "
-    "amr, iamr"
+    "H_ENTER, H_REMOVE, H_PROTECT, H_READ, H_CLEAR_REF, H_CLEAR_MOD, H_BULK_REMOVE, "
+    "H_RESIZE_HPT_PREPARE, H_RESIZE_HPT_COMMIT, hcall, H_PUT_TCE, H_GET_TCE, load, store, fetch, dmaread, "
+    "dmawrite, slbmte, slbclear, amr, iamr"
 )
 WORDS = f"a line begins with {SETTINGS}, or with a processor's number and then {CALLS}"
 GRANT = "; accepted: see the reasons from `empty` to `tables`"
@@ -30,7 +30,7 @@ class Explanations(InstalledTest):
     """What the installed tool says, with the rule of FORMATS.md and the form of the line."""
 
     def assert_told(self, number: int, reason: str, form: str, *trace: str) -> None:
-        """The program refuses the trace at this line for this reason; the form is empty where there is no line."""
+        """The program refuses the trace at this line and for this reason; no form where no line is."""
         told = [f"line {number} is refused: {reason}"]
         if form:
             told.append(f"  line: {trace[number - 1]}")

@@ -20,15 +20,21 @@ static void is(int line, const char *what, uint64_t got, uint64_t wanted)
         IS((at).dword0, d0); IS((at).dword1, d1); IS((at).entry, e); \
         IS((at).stamp, s); IS((at).bits, b); IS((at).answer, a); \
     } while (0)
-#define REPLY(got, code, w, r) \
-    do { IS((got).rc, code); IS((got).words, w); IS((got).receipts, r); } while (0)
+#define REPLY(call, code, w, r) \
+    do { \
+        struct papr_reply reply = call; \
+        IS(reply.rc, code); IS(reply.words, w); IS(reply.receipts, r); \
+    } while (0)
 #define ENTRY(at, d0, d1, s, v, r, c) \
     do { \
         IS((at).dword0, d0); IS((at).dword1, d1); IS((at).stamp, s); \
         IS((at).valid, v); IS((at).referenced, r); IS((at).changed, c); \
     } while (0)
-#define WALK(got, l, e, o, r) \
-    do { IS((got).logical, l); IS((got).entry, e); IS((got).outcome, o); IS((got).receipts, r); } while (0)
+#define WALK(call, l, e, o, r) \
+    do { \
+        struct papr_walk walked = call; \
+        IS(walked.logical, l); IS(walked.entry, e); IS(walked.outcome, o); IS(walked.receipts, r); \
+    } while (0)
 
 enum { ORDER = 18, COUNT = 1 << 14, WORDS = 8, RECEIPTS = 16 };
 
@@ -44,11 +50,11 @@ static void grants(void)
     struct papr_grant given[] = {
         {.logical = 0x40000000, .machine = 0x5000000000, .length = 0x3000, .is_io = true},
         {.logical = 0, .machine = 0x2000000000, .length = 0x100000, .is_io = false},
-        {.logical = 0x80000000, .machine = 0x6000000800, .length = 0x1000, .is_io = false},
+        {.logical = 0x80000000, .machine = 0x6000000000, .length = 0, .is_io = false},
     };
     struct papr_making made = papr_make_grants(given, 3, 0x1000000000, 24, &list);
     IS(made.index, 2);
-    IS(made.refusal, PAPR_GRANT_UNALIGNED);
+    IS(made.refusal, PAPR_GRANT_EMPTY);
     IS(list.count, 0);
     made = papr_make_grants(given, 2, 0x1000000000, 24, &list);
     IS(made.index, 0);

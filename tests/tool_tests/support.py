@@ -155,7 +155,7 @@ class ToolTest(unittest.TestCase):
         self, ran: Ran, out: Optional[str] = "", status: int = 0, err: Optional[str] = ""
     ) -> None:
         """The command ended with the status and wrote just these texts; a text that is None may be any."""
-        told = f"status {ran.status}, standard error: {ran.err[-2000:]}"
+        told = f"it wrote {ran.out[:2000]!r}, and as a message {ran.err[-2000:]!r}"
         self.assertEqual(ran.status, status, told)
         if err is not None:
             self.assert_text(ran.err, err)

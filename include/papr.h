@@ -249,7 +249,8 @@ struct papr_rehash {
 struct papr_rehash papr_rehash(const struct papr_entry *entries, size_t count, uint8_t order,
                                struct papr_entry *into, size_t into_count, uint8_t into_order);
 
-/* ---- how the structs lie in memory, tested where the language can: from C11 and from C++11 on */
+/* ---- how the structs lie in memory, as the library for x86-64 has them: tested where the language
+ * can, from C11 and from C++11 on */
 
 #if defined(__cplusplus) && __cplusplus >= 201103L
 #define PAPR_TEST static_assert

@@ -249,6 +249,79 @@ struct papr_rehash {
 struct papr_rehash papr_rehash(const struct papr_entry *entries, size_t count, uint8_t order,
                                struct papr_entry *into, size_t into_count, uint8_t into_order);
 
+/* ---- how the structs lie in memory, as the library for x86-64 has them: tested where the language
+ * can, from C11 and from C++11 on */
+
+#if defined(__cplusplus) && __cplusplus >= 201103L
+#define PAPR_TEST static_assert
+#elif !defined(__cplusplus) && defined(__STDC_VERSION__) && __STDC_VERSION__ >= 201112L
+#define PAPR_TEST _Static_assert
+#endif
+
+#ifdef PAPR_TEST
+#define PAPR_SIZE(name, bytes) PAPR_TEST(sizeof(struct name) == (bytes), "the size of " #name)
+#define PAPR_AT(name, field, bytes) \
+    PAPR_TEST(offsetof(struct name, field) == (bytes), "the place of " #name "." #field)
+
+PAPR_SIZE(papr_entry, 24);
+PAPR_AT(papr_entry, dword0, 0);
+PAPR_AT(papr_entry, dword1, 8);
+PAPR_AT(papr_entry, stamp, 16);
+PAPR_AT(papr_entry, valid, 20);
+PAPR_AT(papr_entry, referenced, 21);
+PAPR_AT(papr_entry, changed, 22);
+PAPR_SIZE(papr_receipt, 32);
+PAPR_AT(papr_receipt, dword0, 0);
+PAPR_AT(papr_receipt, dword1, 8);
+PAPR_AT(papr_receipt, entry, 16);
+PAPR_AT(papr_receipt, stamp, 20);
+PAPR_AT(papr_receipt, bits, 24);
+PAPR_AT(papr_receipt, answer, 25);
+PAPR_SIZE(papr_reply, 16);
+PAPR_AT(papr_reply, rc, 0);
+PAPR_AT(papr_reply, words, 8);
+PAPR_AT(papr_reply, receipts, 12);
+PAPR_SIZE(papr_grant, 32);
+PAPR_AT(papr_grant, logical, 0);
+PAPR_AT(papr_grant, machine, 8);
+PAPR_AT(papr_grant, length, 16);
+PAPR_AT(papr_grant, is_io, 24);
+PAPR_SIZE(papr_grants, 2056);
+PAPR_AT(papr_grants, grants, 0);
+PAPR_AT(papr_grants, count, 2048);
+PAPR_SIZE(papr_making, 16);
+PAPR_AT(papr_making, index, 0);
+PAPR_AT(papr_making, refusal, 8);
+PAPR_SIZE(papr_range, 16);
+PAPR_AT(papr_range, machine, 0);
+PAPR_AT(papr_range, granted, 8);
+PAPR_AT(papr_range, is_io, 9);
+PAPR_SIZE(papr_access, 40);
+PAPR_AT(papr_access, ea, 0);
+PAPR_AT(papr_access, vsid, 8);
+PAPR_AT(papr_access, amr, 16);
+PAPR_AT(papr_access, iamr, 24);
+PAPR_AT(papr_access, shift, 32);
+PAPR_AT(papr_access, want, 33);
+PAPR_AT(papr_access, one_tb, 34);
+PAPR_AT(papr_access, key, 35);
+PAPR_AT(papr_access, no_execute, 36);
+PAPR_SIZE(papr_walk, 24);
+PAPR_AT(papr_walk, logical, 0);
+PAPR_AT(papr_walk, entry, 8);
+PAPR_AT(papr_walk, outcome, 12);
+PAPR_AT(papr_walk, receipts, 16);
+PAPR_SIZE(papr_rehash, 24);
+PAPR_AT(papr_rehash, rc, 0);
+PAPR_AT(papr_rehash, first, 8);
+PAPR_AT(papr_rehash, second, 12);
+PAPR_AT(papr_rehash, target, 16);
+
+#undef PAPR_AT
+#undef PAPR_SIZE
+#undef PAPR_TEST
+#endif
+
 #ifdef __cplusplus
 }
 #endif

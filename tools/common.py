@@ -30,7 +30,7 @@ def read_number(word: str) -> int:
 @contextmanager
 def text_of(path: Optional[str]) -> Iterator[TextIO]:
     """The file's text, or that of standard input where no file or `-` is named."""
-    if path in (None, "-"):
+    if path is None or path == "-":
         yield sys.stdin
     else:
         with open(path, encoding="ascii") as text:

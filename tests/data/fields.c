@@ -1,0 +1,220 @@
+/* Reads every field of every struct of papr.h behind calls that give the fields of one struct numbers that differ, and
+ * passes each parameter a value that no other parameter of its type has. Writes a line for each that is another. */
+#include <papr.h>
+#include <stdio.h>
+#include <stdlib.h>
+#include <string.h>
+
+static int failures;
+
+static void is(int line, const char *what, uint64_t got, uint64_t wanted)
+{
+    if (got != wanted) {
+        printf("line %d: %s is %#llx, not %#llx\n", line, what, (unsigned long long)got, (unsigned long long)wanted);
+        failures++;
+    }
+}
+#define IS(got, wanted) is(__LINE__, #got, (uint64_t)(got), (uint64_t)(wanted))
+#define RECEIPT(at, d0, d1, e, s, b, a) \
+    do { \
+        IS((at).dword0, d0); IS((at).dword1, d1); IS((at).entry, e); \
+        IS((at).stamp, s); IS((at).bits, b); IS((at).answer, a); \
+    } while (0)
+#define REPLY(call, code, w, r) \
+    do { \
+        struct papr_reply reply = call; \
+        IS(reply.rc, code); IS(reply.words, w); IS(reply.receipts, r); \
+    } while (0)
+#define ENTRY(at, d0, d1, s, v, r, c) \
+    do { \
+        IS((at).dword0, d0); IS((at).dword1, d1); IS((at).stamp, s); \
+        IS((at).valid, v); IS((at).referenced, r); IS((at).changed, c); \
+    } while (0)
+#define WALK(call, l, e, o, r) \
+    do { \
+        struct papr_walk walked = call; \
+        IS(walked.logical, l); IS(walked.entry, e); IS(walked.outcome, o); IS(walked.receipts, r); \
+    } while (0)
+
+enum { ORDER = 18, COUNT = 1 << 14, WORDS = 8, RECEIPTS = 16 };
+
+static struct papr_entry table[COUNT];
+static struct papr_grants list;
+static uint64_t words[WORDS];
+static struct papr_receipt receipts[RECEIPTS];
+#define ROOM words, WORDS, receipts, RECEIPTS
+
+/* Two grants out of order, of main storage and of a device. */
+static void grants(void)
+{
+    struct papr_grant given[] = {
+        {.logical = 0x40000000, .machine = 0x5000000000, .length = 0x3000, .is_io = true},
+        {.logical = 0, .machine = 0x2000000000, .length = 0x100000, .is_io = false},
+        {.logical = 0x80000000, .machine = 0x6000000000, .length = 0, .is_io = false},
+    };
+    struct papr_making made = papr_make_grants(given, 3, 0x1000000000, 24, &list);
+    IS(made.index, 2);
+    IS(made.refusal, PAPR_GRANT_EMPTY);
+    IS(list.count, 0);
+    made = papr_make_grants(given, 2, 0x1000000000, 24, &list);
+    IS(made.index, 0);
+    IS(made.refusal, PAPR_GRANTED);
+    IS(list.count, 2);
+    for (int at = 0; at < 2; at++) {
+        IS(list.grants[at].logical, given[1 - at].logical);
+        IS(list.grants[at].machine, given[1 - at].machine);
+        IS(list.grants[at].length, given[1 - at].length);
+        IS(list.grants[at].is_io, given[1 - at].is_io);
+    }
+    struct papr_range range = papr_machine_of(&list, 0x2345, 0x100);
+    IS(range.machine, 0x2000002345);
+    IS(range.granted, true);
+    IS(range.is_io, false);
+    range = papr_machine_of(&list, 0x40001000, 0x2000);
+    IS(range.machine, 0x5000001000);
+    IS(range.granted, true);
+    IS(range.is_io, true);
+    range = papr_machine_of(&list, 0x40001000, 0x2001);
+    IS(range.machine, 0);
+    IS(range.granted, false);
+    IS(range.is_io, false);
+    range = papr_machine_of(&list, 0x3000, 0x40000000);
+    IS(range.granted, false);
+}
+
+/* Enters the page at 0x5000 of segment 1 into the third place of its group, behind another page's. */
+static void enter(void)
+{
+    REPLY(papr_h_enter(table, COUNT, ORDER, &list, PAPR_EXACT, 0x21, 0x2001, 0x4012, ROOM), PAPR_H_SUCCESS, 1, 1);
+    IS(words[0], 0x21);
+    RECEIPT(receipts[0], 0, 0, 0x21, 0, 0, PAPR_ENTERED);
+    REPLY(papr_h_enter(table, COUNT, ORDER, &list, PAPR_EXACT, 0x22, 0x1001, 0x3012, ROOM), PAPR_H_SUCCESS, 1, 1);
+    IS(words[0], 0x22);
+    ENTRY(table[0x22], 0x1001, 0x3012, 1, true, false, false);
+    REPLY(papr_h_enter(table, COUNT, ORDER, &list, PAPR_EXACT, 0x22, 0x1001, 0x3012, ROOM), PAPR_H_PTEG_FULL, 0, 1);
+    RECEIPT(receipts[0], 0x1001, 0x3012, 0x22, 1, 0, PAPR_TAKEN);
+}
+
+/* Accesses to it that differ in one field each. */
+static void walk(void)
+{
+    const struct papr_access load = {.ea = 0x5678, .vsid = 1, .amr = 0x11, .iamr = 0x22, .shift = 12};
+    struct papr_access access = load;
+    WALK(papr_walk(table, COUNT, ORDER, &access, receipts, RECEIPTS), 0x3678, 0x22, PAPR_WALK_AT, 3);
+    RECEIPT(receipts[0], 0, 0, 0x20, 0, 0, PAPR_NOMATCH);
+    RECEIPT(receipts[1], 0x2001, 0x4012, 0x21, 1, 0, PAPR_NOMATCH);
+    RECEIPT(receipts[2], 0x1001, 0x3012, 0x22, 1, 0, PAPR_AT);
+    ENTRY(table[0x22], 0x1001, 0x3012, 1, true, true, false);
+    access.want = 1;
+    WALK(papr_walk(table, COUNT, ORDER, &access, receipts, RECEIPTS), 0x3678, 0x22, PAPR_WALK_AT, 3);
+    RECEIPT(receipts[2], 0x1001, 0x3112, 0x22, 1, 2, PAPR_AT);
+    ENTRY(table[0x22], 0x1001, 0x3012, 1, true, true, true);
+    access = load;
+    access.amr = UINT64_C(1) << 62;     /* no load by key 0 */
+    WALK(papr_walk(table, COUNT, ORDER, &access, receipts, RECEIPTS), 0, 0x22, PAPR_WALK_AMR, 3);
+    access = load;
+    access.iamr = UINT64_C(1) << 62;    /* no fetch by key 0 */
+    WALK(papr_walk(table, COUNT, ORDER, &access, receipts, RECEIPTS), 0x3678, 0x22, PAPR_WALK_AT, 3);
+    access.want = 2;
+    WALK(papr_walk(table, COUNT, ORDER, &access, receipts, RECEIPTS), 0, 0x22, PAPR_WALK_IAMR, 3);
+    access.iamr = 0;
+    WALK(papr_walk(table, COUNT, ORDER, &access, receipts, RECEIPTS), 0x3678, 0x22, PAPR_WALK_AT, 3);
+    access.no_execute = true;
+    WALK(papr_walk(table, COUNT, ORDER, &access, receipts, RECEIPTS), 0, 0x22, PAPR_WALK_DENIED, 3);
+    access = load;
+    access.key = true;                  /* this page's PP of 2 lets both keys in */
+    WALK(papr_walk(table, COUNT, ORDER, &access, receipts, RECEIPTS), 0x3678, 0x22, PAPR_WALK_AT, 3);
+    access.vsid = 2;
+    WALK(papr_walk(table, COUNT, ORDER, &access, receipts, RECEIPTS), 0, 0, PAPR_WALK_NO_PAGE, 16);
+    access = load;
+    access.one_tb = true;
+    WALK(papr_walk(table, COUNT, ORDER, &access, receipts, RECEIPTS), 0, 0, PAPR_WALK_NO_PAGE, 16);
+    access = load;
+    access.shift = 13;
+    WALK(papr_walk(table, COUNT, ORDER, &access, receipts, RECEIPTS), 0, 0, PAPR_WALK_PARAMETER, 0);
+}
+
+/* A page of a segment of 1 TB, whose PP of 0 lets the key 0 in alone. */
+static void other_pages(void)
+{
+    struct papr_access access = {.ea = 0x678, .vsid = 1, .shift = 12, .one_tb = true};
+    REPLY(papr_h_enter(table, COUNT, ORDER, &list, 0, 8, UINT64_C(0x4000000001000001), 0x6010, ROOM),
+          PAPR_H_SUCCESS, 1, 1);
+    WALK(papr_walk(table, COUNT, ORDER, &access, receipts, RECEIPTS), 0x6678, 8, PAPR_WALK_AT, 1);
+    access.key = true;
+    WALK(papr_walk(table, COUNT, ORDER, &access, receipts, RECEIPTS), 0, 8, PAPR_WALK_DENIED, 1);
+}
+
+/* The other calls, whose arguments all differ. */
+static void calls(void)
+{
+    REPLY(papr_h_read(table, COUNT, ORDER, PAPR_READ_4, 0x23, ROOM), PAPR_H_SUCCESS, 8, 4);
+    IS(words[2], 0x2001);
+    IS(words[3], 0x4012);
+    IS(words[4], 0x1001);
+    IS(words[5], 0x3192);
+    RECEIPT(receipts[2], 0x1001, 0x3192, 0x22, 1, 3, PAPR_READ);
+    REPLY(papr_h_clear_ref(table, COUNT, ORDER, 5, 0x22, ROOM), PAPR_H_SUCCESS, 1, 1);
+    IS(words[0], 0x3192);
+    ENTRY(table[0x22], 0x1001, 0x3012, 2, true, false, true);
+    REPLY(papr_h_clear_mod(table, COUNT, ORDER, 5, 0x22, ROOM), PAPR_H_SUCCESS, 1, 1);
+    IS(words[0], 0x3092);
+    RECEIPT(receipts[0], 0x1001, 0x3092, 0x22, 2, 1, PAPR_WAS);
+    ENTRY(table[0x22], 0x1001, 0x3012, 3, true, false, false);
+    REPLY(papr_h_protect(table, COUNT, ORDER, PAPR_AVPN | 3, 0x22, 0x2000, ROOM), PAPR_H_NOT_FOUND, 0, 1);
+    REPLY(papr_h_protect(table, COUNT, ORDER, PAPR_AVPN | 3, 0x22, 0x1000, ROOM), PAPR_H_SUCCESS, 0, 1);
+    ENTRY(table[0x22], 0x1001, 0x3013, 4, true, false, false);
+    REPLY(papr_h_remove(table, COUNT, ORDER, PAPR_AVPN, 0x22, 0x2000, ROOM), PAPR_H_NOT_FOUND, 0, 1);
+    RECEIPT(receipts[0], 0x1001, 0x3013, 0x22, 4, 0, PAPR_NOTFOUND);
+    REPLY(papr_h_remove(table, COUNT, ORDER, PAPR_AVPN, 0x22, 0x1000, ROOM), PAPR_H_SUCCESS, 2, 1);
+    IS(words[0], 0x1001);
+    IS(words[1], 0x3013);
+    RECEIPT(receipts[0], 0x1001, 0x3013, 0x22, 4, 0, PAPR_REMOVED);
+    ENTRY(table[0x22], 0, 0, 5, false, false, false);
+    const uint64_t pairs[8] = {UINT64_C(0x4200000000000021), 0x2000, UINT64_C(0xc000000000000000), 7};
+    REPLY(papr_h_bulk_remove(table, COUNT, ORDER, pairs, 8, ROOM), PAPR_H_SUCCESS, 8, 1);
+    IS(words[0], UINT64_C(0x8200000000000021));
+    IS(words[1], 0x2000);
+    IS(words[3], 7);
+    RECEIPT(receipts[0], 0x2001, 0x4012, 0x21, 1, 0, PAPR_REMOVED);
+    REPLY(papr_h_bulk_remove(table, COUNT, ORDER, pairs, 6, ROOM), PAPR_H_PARAMETER, 0, 0);
+}
+
+/* Two bolted entries of a larger table that meet in the smaller one, and one that is carried over. */
+static int rehash(void)
+{
+    enum { FROM_ORDER = 20, FROM_COUNT = 1 << 16 };
+    struct papr_entry *from = calloc(FROM_COUNT, sizeof *from);
+    if (!from)
+        return 1;
+    REPLY(papr_h_enter(from, FROM_COUNT, FROM_ORDER, &list, PAPR_EXACT, 0x4023, 0x1091, 0x3012, ROOM),
+          PAPR_H_SUCCESS, 1, 1);
+    struct papr_rehash made = papr_rehash(from, FROM_COUNT, FROM_ORDER, table, COUNT, ORDER);
+    IS(made.rc, PAPR_H_SUCCESS);
+    IS(made.first, 0);
+    IS(made.second, 0);
+    IS(made.target, 0);
+    ENTRY(table[0x23], 0x1091, 0x3012, 0, true, false, false);
+    IS(table[8].valid, false);
+    REPLY(papr_h_enter(from, FROM_COUNT, FROM_ORDER, &list, PAPR_EXACT, 0x8023, 0x1111, 0x4012, ROOM),
+          PAPR_H_SUCCESS, 1, 1);
+    made = papr_rehash(from, FROM_COUNT, FROM_ORDER, table, COUNT, ORDER);
+    IS(made.rc, PAPR_H_PTEG_FULL);
+    IS(made.first, 0x4023);
+    IS(made.second, 0x8023);
+    IS(made.target, 0x23);
+    made = papr_rehash(from, FROM_COUNT, FROM_ORDER, table, COUNT, FROM_ORDER);
+    IS(made.rc, PAPR_H_PARAMETER);
+    free(from);
+    return 0;
+}
+
+int main(void)
+{
+    grants();
+    enter();
+    walk();
+    other_pages();
+    calls();
+    return rehash() || failures;
+}

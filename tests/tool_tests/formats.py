@@ -1,0 +1,14 @@
+"""What the tests of refusals share: the rules as docs/FORMATS.md has them."""
+
+from .support import DOCS
+
+REFUSALS, SETS = "### Refusals", "## What `set` reads and writes"
+
+
+def rule(reason: str, heading: str = REFUSALS) -> str:
+    """The one rule of a reason, in the table below this heading."""
+    formats = (DOCS / "FORMATS.md").read_text(encoding="utf-8")
+    below = formats.split(f"\n{heading}\n")[1].split("\n#")[0]
+    begin = f"| `{reason}` | "
+    (found,) = (line for line in below.splitlines() if line.startswith(begin))
+    return found.removeprefix(begin).removesuffix(" |")

@@ -1,0 +1,48 @@
+"""Tests of the tool that finds the line at which replies go wrong."""
+
+from pathlib import Path
+
+from .installed import InstalledTest
+from .support import EXAMPLES, TOOLS, Ran, ToolTest
+
+JUDGED = "replies\n"  # the line between a trace and its replies
+
+
+class Words(ToolTest):
+    """The tool's words."""
+
+    def test_the_tool_has_help(self) -> None:
+        self.assert_help(TOOLS / "bad-line")
+
+
+class Verdicts(InstalledTest):
+    """What the installed tool says of a trace and of a text of replies."""
+
+    def write(self, name: str, text: str) -> Path:
+        """A file with this text."""
+        path = self.folder / name
+        path.write_text(text, encoding="ascii")
+        return path
+
+    def judge(self, name: str) -> Ran:
+        """What the tool says of an example that is judged."""
+        trace, _, replies = (EXAMPLES / f"{name}.judged").read_text(encoding="ascii").partition(f"\n{JUDGED}")
+        files = self.write("bad.trace", f"{trace}\n"), self.write("bad.replies", replies)
+        return self.run_installed("papr-bad-line", *files)
+
+    def test_a_change_that_was_lost(self) -> None:
+        text = "bad section 1\nline 10 of the trace\n  reply: 10 0 H_PROTECT 0 | 0x20.1.0.protected\n"
+        self.assert_ran(self.judge("bad-lost-change"), text, status=1)
+
+    def test_a_hit_on_an_entry_that_was_removed(self) -> None:
+        reply = "12 1 load at 0x2000003000 hit | 0x20.1.2.at"
+        text = f"bad section 2\nline 12 of the trace\n  reply: {reply}\n"
+        self.assert_ran(self.judge("bad-removed-hit"), text, status=1)
+
+    def test_a_good_text(self) -> None:
+        self.assert_ran(self.judge("good-schedule"), "good\n")
+
+    def test_a_trace_that_is_refused(self) -> None:
+        files = self.write("bad.trace", "begin\n0 H_READ\n"), self.write("bad.replies", "")
+        ran = self.run_installed("papr-bad-line", *files)
+        self.assert_refused(ran, "papr-bad-line: the trace is refused: line 2, count")

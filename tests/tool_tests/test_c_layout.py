@@ -1,0 +1,345 @@
+"""Tests that include/papr.h says what the sources of the library for C say; nothing is built for them.
+
+Structs, constants and functions are parsed out of the header and out of the sources of crates/papr_c, and
+compared by name, order and type. A slice of the sources is a pointer and a count in C.
+"""
+
+import re
+from dataclasses import dataclass
+from pathlib import Path
+
+from .support import TOP, ToolTest, for_each
+
+HEADER = TOP / "include" / "papr.h"
+SOURCES = sorted((TOP / "crates" / "papr_c" / "src").glob("*.rt"))
+# What the sources have from the crates below: an entry, return codes, and flags.
+BELOW = [
+    TOP / "crates" / "entry_model" / "src" / "state.rt",
+    TOP / "crates" / "papr_codes" / "src" / "codes.rt",
+    TOP / "crates" / "papr_codes" / "src" / "flag_bits.rt",
+]
+
+# The structs of the header, by their names in the sources.
+STRUCTS = {
+    "EntryState": "papr_entry",
+    "PaprReceipt": "papr_receipt",
+    "PaprReply": "papr_reply",
+    "PaprGrant": "papr_grant",
+    "PaprGrants": "papr_grants",
+    "PaprMaking": "papr_making",
+    "PaprRange": "papr_range",
+    "PaprAccess": "papr_access",
+    "PaprWalk": "papr_walk",
+    "PaprRehash": "papr_rehash",
+}
+FUNCTIONS = (
+    "papr_make_grants",
+    "papr_machine_of",
+    "papr_h_enter",
+    "papr_h_remove",
+    "papr_h_protect",
+    "papr_h_read",
+    "papr_h_clear_ref",
+    "papr_h_clear_mod",
+    "papr_h_bulk_remove",
+    "papr_walk",
+    "papr_rehash",
+)
+SCALARS = {
+    "u8": "uint8_t",
+    "u32": "uint32_t",
+    "u64": "uint64_t",
+    "i64": "int64_t",
+    "usize": "size_t",
+    "bool": "bool",
+}
+WIDTHS = {"uint8_t": 1, "uint32_t": 4, "uint64_t": 8, "int64_t": 8, "size_t": 8, "bool": 1}  # in bytes
+
+# How the header names the count behind a slice.
+COUNTS = {
+    "entries": "count",
+    "words": "words_room",
+    "receipts": "receipts_room",
+    "given": "given_count",
+    "pairs": "pairs_count",
+    "into": "into_count",
+}
+
+# A struct of the sources with its attributes, and a function for C.
+STRUCT = re.compile(r"((?:#\[[^\n]*\]\s*)*)pub struct (\w+) \{(.*?)\n\}", re.DOTALL)
+EXTERN = re.compile(r"(#\[unsafe\(no_mangle\)\]\s*)?pub extern \"C\" fn (\w+)\(([^()]*)\) -> (\w+)")
+
+Named = tuple[str, str]  # a name and its type in C
+
+
+@dataclass(frozen=True)
+class Function:
+    """A function of the library."""
+
+    parameters: list[Named]
+    result: str
+
+
+@dataclass(frozen=True)
+class Struct:
+    """A struct of the library; its alignment is C's where it says so."""
+
+    fields: list[Named]
+    is_c: bool = True
+
+
+def without_remarks(text: str) -> str:
+    """A text in C or in Rattle without its remarks."""
+    return re.sub(r"/\*.*?\*/|//[^\n]*", " ", text, flags=re.DOTALL)
+
+
+def c_type(words: str) -> str:
+    """A type in C, with single spaces, and none before a star."""
+    return " ".join(words.replace("*", " * ").split()).replace(" *", "*")
+
+
+def declared(words: str) -> Named:
+    """The name and the type that a field or a parameter in C declares."""
+    found = re.fullmatch(r"\s*(.*?)(\w+)\s*(\[\w+\])?\s*", words, re.DOTALL)
+    if found is None:
+        raise ValueError(f"this declares nothing: {words}")
+    return found[2], c_type(found[1]) + (found[3] or "")
+
+
+class Header:
+    """What the header declares."""
+
+    def __init__(self, text: str) -> None:
+        text = without_remarks(text)
+        self.structs: dict[str, Struct] = {}
+        for name, body in re.findall(r"\bstruct (\w+) \{(.*?)\};", text, re.DOTALL):
+            self.structs[name] = Struct([declared(field) for field in body.split(";") if field.strip()])
+        self.functions: dict[str, Function] = {}
+        for result, name, given in re.findall(r"^(struct \w+) (\w+)\(([^()]*)\);", text, re.MULTILINE):
+            self.functions[name] = Function([declared(it) for it in given.split(",")], result)
+        self.enums: dict[str, dict[str, int]] = {}
+        for name, body in re.findall(r"\benum (\w+) \{(.*?)\};", text, re.DOTALL):
+            members = re.findall(r"(\w+) = (-?[0-9]+)", body)
+            self.enums[name] = {member: int(value) for member, value in members}
+        sizes = re.findall(r"^PAPR_SIZE\((\w+), ([0-9]+)\);", text, re.MULTILINE)
+        self.sizes = {name: int(size) for name, size in sizes}
+        places = re.findall(r"^PAPR_AT\((\w+), (\w+), ([0-9]+)\);", text, re.MULTILINE)
+        self.places = {(name, field): int(place) for name, field, place in places}
+        defined = re.findall(r"^#define (PAPR_\w+)\s+UINT64_C\((0x[0-9A-F]+)\)", text, re.MULTILINE)
+        self.flags = {name: int(value, 16) for name, value in defined}
+
+
+def split_outside(text: str) -> list[str]:
+    """The parts of a list between commas that stand in no brackets."""
+    parts, depth = [""], 0
+    for letter in text:
+        depth += (letter in "[(<{") - (letter in "])>}")
+        if letter == "," and depth == 0:
+            parts.append("")
+        else:
+            parts[-1] += letter
+    return [part.strip() for part in parts if part.strip()]
+
+
+def in_c(name: str, type_: str) -> list[Named]:
+    """What a field or a parameter of this type is in C: of a slice a pointer, and its count."""
+    by = re.fullmatch(r"&(mut )?(\[)?(\w+)\]?", type_)
+    if by is not None:
+        pointer = ("" if by[1] else "const ") + of_value(by[3]) + "*"
+        return [(name, pointer), (COUNTS[name], "size_t")] if by[2] else [(name, pointer)]
+    array = re.fullmatch(r"\[(\w+); ([0-9]+)\]", type_)
+    return [(name, f"{of_value(array[1])}[{array[2]}]" if array else of_value(type_))]
+
+
+def of_value(type_: str) -> str:
+    """What a type of the sources is in C."""
+    return SCALARS[type_] if type_ in SCALARS else f"struct {STRUCTS[type_]}"
+
+
+class Sources:
+    """What the sources declare."""
+
+    def __init__(self, text: str) -> None:
+        text = without_remarks(text)
+        self.structs: dict[str, Struct] = {}
+        for before, name, body in STRUCT.findall(text):
+            if name in STRUCTS:
+                fields = [it.split(": ", 1) for it in split_outside(body) if not it.startswith("ghost ")]
+                named = [pair for it in fields for pair in in_c(it[0].removeprefix("pub "), it[1])]
+                self.structs[STRUCTS[name]] = Struct(named, "#[repr(C)]" in before)
+        self.functions: dict[str, Function] = {}
+        for exported, name, given, result in EXTERN.findall(text):
+            parameters = [it.split(": ", 1) for it in split_outside(given)]
+            named = [pair for it in parameters for pair in in_c(it[0].removeprefix("_"), it[1])]
+            symbol = name if exported else f"{name}, not exported"
+            self.functions[symbol] = Function(named, of_value(result))
+        self.text = text
+
+    def numbers(self, pattern: str) -> dict[str, int]:
+        """The names and numbers that a pattern finds."""
+        return {name: int(number) for name, number in re.findall(pattern, self.text)}
+
+
+def laid_out(structs: dict[str, Struct], name: str) -> tuple[int, int, dict[str, int]]:
+    """A struct's size, its alignment, and each field's place, as C has them on a machine of 64 bits."""
+    at, widest = 0, 1
+    places: dict[str, int] = {}
+    for field, type_ in structs[name].fields:
+        element, _, count = type_.removesuffix("]").partition("[")
+        if element in WIDTHS:
+            size = align = WIDTHS[element]
+        else:
+            size, align, _places = laid_out(structs, element.removeprefix("struct "))
+        at += -at % align
+        places[field] = at
+        at += size * int(count or 1)
+        widest = max(widest, align)
+    return at + -at % widest, widest, places
+
+
+def text_of(path: Path) -> str:
+    """A file's text."""
+    return path.read_text(encoding="utf-8")
+
+
+def in_capitals(name: str) -> str:
+    """A name as C's constants have it."""
+    return re.sub(r"(?<=[a-z])(?=[A-Z])", "_", name).upper()
+
+
+def header() -> Header:
+    """The header of this checkout."""
+    return Header(text_of(HEADER))
+
+
+def text_of_sources() -> str:
+    """The sources of this checkout, as one text."""
+    return "\n".join(text_of(path) for path in (*SOURCES, *BELOW))
+
+
+def sources() -> Sources:
+    """The sources of this checkout."""
+    return Sources(text_of_sources())
+
+
+class Structs(ToolTest):
+    """The structs."""
+
+    @for_each(*STRUCTS.values())
+    def test_the_fields_of_are_those_of_the_sources(self, name: str) -> None:
+        self.assertTrue(header().structs[name].fields)
+        self.assertEqual(header().structs[name].fields, sources().structs[name].fields)
+
+    @for_each(*STRUCTS.values())
+    def test_the_sources_give_the_layout_of_c_to(self, name: str) -> None:
+        self.assertTrue(sources().structs[name].is_c, f"{name} lacks #[repr(C)]")
+
+    @for_each(*STRUCTS.values())
+    def test_the_header_asserts_how_the_sources_lay_out(self, name: str) -> None:
+        size, _align, places = laid_out(sources().structs, name)
+        self.assertEqual(header().sizes[name], size)
+        asserted = {field: at for (struct, field), at in header().places.items() if struct == name}
+        self.assertEqual(asserted, places)
+
+    def test_the_header_has_no_other_struct(self) -> None:
+        self.assertEqual(list(header().structs), list(STRUCTS.values()))
+
+
+class Constants(ToolTest):
+    """The constants."""
+
+    def test_the_numbers_of_answers_are_those_of_the_sources(self) -> None:
+        numbers = sources().numbers(r"\bAnswer::(\w+) => ([0-9]+),")
+        numbers["Read"] = numbers.pop("Words")
+        expected = {f"PAPR_{it.upper()}": n for it, n in numbers.items()}
+        self.assertEqual(header().enums["papr_answer"], expected)
+
+    def test_the_numbers_of_refusals_are_those_of_the_sources(self) -> None:
+        of_grants = sources().numbers(r"\bGrantError::(\w+) => ([0-9]+),")
+        of_pools = sources().numbers(r"\bRangeError::(\w+) => ([0-9]+),")
+        of_grants["Pool"] = of_grants.pop("PoolOverlap")
+        expected = {"PAPR_GRANTED": 0}
+        expected.update({f"PAPR_GRANT_{in_capitals(it)}": n for it, n in of_grants.items()})
+        expected.update({f"PAPR_POOL_{in_capitals(it)}": n for it, n in of_pools.items()})
+        self.assertEqual(header().enums["papr_refusal"], expected)
+
+    def test_the_numbers_of_outcomes_are_those_of_the_sources(self) -> None:
+        numbers = sources().numbers(r"\bconst (\w+): u32 = ([0-9]+);")
+        numbers["AT"], numbers["PARAMETER"] = numbers.pop("ALLOWED"), numbers.pop("REFUSED")
+        expected = {f"PAPR_WALK_{it}": n for it, n in numbers.items()}
+        self.assertEqual(header().enums["papr_outcome"], expected)
+
+    def test_the_return_codes_are_those_of_the_sources(self) -> None:
+        codes = sources().numbers(r"\bRc::(\w+) => (-?[0-9]+),")
+        told = {f"PAPR_H_{in_capitals(it)}": n for it, n in codes.items()}
+        mine = ("Success", "Hardware", "Parameter", "PtegFull", "NotFound")
+        expected = {name: told[name] for name in (f"PAPR_H_{in_capitals(it)}" for it in mine)}
+        self.assertEqual(header().enums["papr_rc"], expected)
+
+    def test_the_flags_are_those_of_the_sources(self) -> None:
+        flags = re.findall(r"\bconst (\w+) = (0x[0-9A-F_]+);", sources().text)
+        expected = {f"PAPR_{name.replace('AND_', 'AND')}": int(value, 16) for name, value in flags}
+        self.assertEqual(len(expected), 4)
+        self.assertEqual(header().flags, expected)
+
+
+class Functions(ToolTest):
+    """The functions."""
+
+    @for_each(*FUNCTIONS)
+    def test_the_parameters_and_the_result_of_are_those_of_the_sources(self, name: str) -> None:
+        self.assertTrue(header().functions[name].parameters)
+        self.assertEqual(header().functions[name], sources().functions[name])
+
+    def test_neither_has_another_function(self) -> None:
+        self.assertCountEqual(header().functions, FUNCTIONS)
+        self.assertCountEqual(sources().functions, FUNCTIONS)
+
+
+# Swaps in the sources by which a caller in C would read another field, or pass another value: the struct or
+# function, and the two names that change places in it.
+SWAPPED = (
+    ("papr_making", "index", "refusal"),
+    ("papr_rehash", "first", "second"),
+    ("papr_receipt", "dword0", "dword1"),
+    ("papr_receipt", "entry", "stamp"),
+    ("papr_range", "granted", "is_io"),
+    ("papr_walk", "entry", "receipts"),
+    ("papr_access", "amr", "iamr"),
+    ("papr_reply", "words", "receipts"),
+    ("papr_h_remove", "ptex", "avpn"),
+    ("papr_h_clear_ref", "_flags", "ptex"),
+)
+
+
+def swapped(text: str, name: str, one: str, other: str) -> str:
+    """The sources with the two fields or parameters in each other's place, with their types."""
+    own = {mine: theirs for theirs, mine in STRUCTS.items()}
+    begin = text.index(f"pub struct {own[name]} {{" if name in own else f"fn {name}(")
+    end = text.index("\n}" if name in own else "\n)", begin)
+    item, count = re.subn(
+        rf"\b({one}: [^,]*)(,.*?)\b({other}: [^,]*)", r"\3\2\1", text[begin:end], flags=re.DOTALL
+    )
+    if count != 1:
+        raise ValueError(f"{name} has no {one}, or no {other} behind it")
+    return text[:begin] + item + text[end:]
+
+
+class Swaps(ToolTest):
+    """What these tests are for: edits that no proof refuses, and that would break a caller in C."""
+
+    @for_each(*SWAPPED)
+    def test_a_swap_is_refused_in(self, swap: tuple[str, str, str]) -> None:
+        name = swap[0]
+        edited, mine = Sources(swapped(text_of_sources(), *swap)), header()
+        if name in mine.structs:
+            self.assertNotEqual(edited.structs[name].fields, mine.structs[name].fields)
+        else:
+            self.assertNotEqual(edited.functions[name], mine.functions[name])
+
+    @for_each(*STRUCTS)
+    def test_a_lost_layout_is_refused_in(self, name: str) -> None:
+        layout = rf"#\[repr\(C\)\]\n((?:#\[[^\n]*\n)*pub struct {name} )"
+        lost, count = re.subn(layout, r"\1", text_of_sources())
+        self.assertEqual(count, 1)
+        self.assertFalse(Sources(lost).structs[STRUCTS[name]].is_c)

@@ -1,0 +1,153 @@
+"""Tests of the library for C: programs in C and in Rust are built against it and run.
+
+What the replayer of examples/c writes is compared with what papr writes.
+"""
+
+import hashlib
+import re
+import shutil
+import tempfile
+from pathlib import Path
+from typing import ClassVar
+
+from .support import DATA, EXAMPLES, LIBRARY, TOP, ToolTest, for_each, needs, needs_library, run, run_bytes
+
+INCLUDE = TOP / "include"
+STRICT = ("-Wall", "-Wextra", "-Werror", f"-I{INCLUDE}")
+TRACES = sorted(EXAMPLES.glob("*.trace"))
+WINDOW = re.compile(r"^window ", re.MULTILINE)
+REPLAYED = [path.stem for path in TRACES if not WINDOW.search(path.read_text(encoding="latin-1"))]
+REFUSED = [path.stem for path in TRACES if path.stem not in REPLAYED]
+
+# The sizes that the library was built with.
+SIZES = """\
+#include <papr.h>
+#ifndef __cplusplus
+#define static_assert _Static_assert
+#endif
+static_assert(sizeof(struct papr_entry) == 24, "entry");
+static_assert(sizeof(struct papr_receipt) == 32, "receipt");
+static_assert(sizeof(struct papr_grants) == 64 * 32 + 8, "grants");
+static_assert(sizeof(struct papr_access) == 40, "access");
+"""
+
+ENTERED = """\
+0 [27] [Receipt { dword0: 0, dword1: 0, entry: 39, stamp: 0, bits: 0, answer: 0 }]
+-6 [] [Receipt { dword0: 4097, dword1: 12306, entry: 39, stamp: 1, bits: 0, answer: 1 }]
+valid: 1
+"""
+
+
+def answer(reply: str) -> tuple[str, list[str]]:
+    """What a walk answers, and its last receipt; a hit is read as a walk."""
+    told, _, receipts = reply.replace(" hit", " walk").partition(" | ")
+    return told, receipts.split()[-1:]
+
+
+class Header(ToolTest):
+    """The header stands by itself, and its structs have the library's sizes."""
+
+    def assert_compiles(self, compiler: str, standard: str, name: str) -> None:
+        """A file that includes the header, and nothing else, compiles without a warning."""
+        source = self.folder / name
+        source.write_text(SIZES, encoding="ascii")
+        self.assert_ran(run(compiler, standard, *STRICT, "-Wpedantic", "-fsyntax-only", source))
+
+    @needs("cc")
+    def test_the_header_by_itself_in_c(self) -> None:
+        self.assert_compiles("cc", "-std=c11", "alone.c")
+
+    @needs("c++")
+    def test_the_header_by_itself_in_cpp(self) -> None:
+        self.assert_compiles("c++", "-std=c++11", "alone.cc")
+
+    @needs("cc")
+    def test_the_header_in_c99(self) -> None:
+        source = self.folder / "old.c"
+        source.write_text("#include <papr.h>\nint of_entry[sizeof(struct papr_entry)];\n", encoding="ascii")
+        self.assert_ran(run("cc", "-std=c99", *STRICT, "-Wpedantic", "-fsyntax-only", source))
+
+
+@needs("cc")
+@needs_library
+class Replayer(ToolTest):
+    """The replayer of the examples."""
+
+    replayer: ClassVar[Path]
+
+    @classmethod
+    def setUpClass(cls) -> None:
+        """Builds it, once for the class."""
+        super().setUpClass()
+        work = tempfile.TemporaryDirectory(prefix="papr-replayer-")
+        cls.addClassCleanup(work.cleanup)
+        cls.replayer = Path(work.name) / "replay"
+        sources = sorted((EXAMPLES / "c").glob("*.c"))
+        ran = run("cc", "-std=gnu11", "-O2", *STRICT, "-o", cls.replayer, *sources, LIBRARY)
+        if (ran.status, ran.err) != (0, ""):
+            raise OSError(f"the replayer doesn't build: {ran.err}")
+
+    def test_the_replayer_builds_without_a_warning(self) -> None:
+        self.assertTrue(shutil.which(str(self.replayer)))
+
+    @for_each(*REPLAYED)
+    def test_what_it_writes_is_what_papr_writes_of(self, name: str) -> None:
+        """Where papr hit a cached line the replayer walks, with the same answer and last receipt."""
+        ran = run(self.replayer, given=EXAMPLES / f"{name}.trace")
+        papr = (EXAMPLES / f"{name}.replies").read_text(encoding="ascii").splitlines()
+        self.assert_ran(ran, out=None, status=2 if papr[0].startswith("papr: ") else 0)
+        replayed = ran.out.splitlines()
+        self.assertEqual(len(papr), len(replayed))
+        for reply, mine in zip(papr, replayed):
+            if " hit" in reply:
+                self.assertEqual(answer(mine), answer(reply))
+            else:
+                self.assertEqual(mine, reply)
+
+    @for_each(*REFUSED)
+    def test_before_a_reply_it_refuses_the_windows_of(self, name: str) -> None:
+        """The library has no DMA windows."""
+        trace = (EXAMPLES / f"{name}.trace").read_text(encoding="ascii")
+        found = WINDOW.search(trace)
+        line = trace.count("\n", 0, found.start() if found else 0) + 1
+        message = f"replay: line {line}: the library has no DMA windows"
+        self.assert_refused(run(self.replayer, given=trace), message)
+
+    @needs("xz")
+    def test_it_replays_the_boot(self) -> None:
+        lines, digest = (EXAMPLES / "linux-boot.sum").read_text(encoding="ascii").split()
+        ran = run(self.replayer, given=run_bytes("xz", "-dc", EXAMPLES / "linux-boot.trace.xz"))
+        self.assert_ran(ran, out=None)
+        self.assertEqual(ran.out.count("\n"), int(lines))
+        self.assertEqual(hashlib.sha256(ran.out.encode()).hexdigest(), digest)
+
+    @needs("valgrind")
+    @for_each("enter", "accesses", "bulk-remove", "clear", "resize", "grants")
+    def test_nothing_is_leaked_nor_read_before_it_is_written_in(self, name: str) -> None:
+        words = ("valgrind", "-q", "--error-exitcode=9", "--leak-check=full")
+        trace = EXAMPLES / f"{name}.trace"
+        self.assert_ran(run(*words, self.replayer, given=trace), run(self.replayer, given=trace).out)
+
+
+@needs("cc")
+@needs_library
+class Fields(ToolTest):
+    """A program that reads every field of every struct, where the fields of one struct differ."""
+
+    def test_each_field_has_the_value_that_its_call_gives_it(self) -> None:
+        program = self.folder / "fields"
+        self.assert_ran(run("cc", "-std=c11", *STRICT, "-o", program, DATA / "fields.c", LIBRARY))
+        self.assert_ran(run(program))
+
+
+@needs_library
+class FromRust(ToolTest):
+    """The program of examples/rust."""
+
+    @needs("rustc")
+    def test_a_program_in_rust(self) -> None:
+        program = self.folder / "enter"
+        source = EXAMPLES / "rust" / "enter.rs"
+        built = run("rustc", "-O", "-L", f"native={LIBRARY.parent}", "-o", program, source)
+        self.assert_ran(built, out=None, err=None)
+        self.assert_ran(run(program), ENTERED)

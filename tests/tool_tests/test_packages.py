@@ -46,7 +46,7 @@ def page(command: str) -> Path:
 
 def scripts() -> list[Path]:
     """The scripts for a shell that are committed or made beside what is."""
-    names = ("", ".ci", "tests", "tests/parts", "tools", "examples", "bench")
+    names = ("", ".ci", "tests", "tools", "examples", "bench")
     found = [path for name in names for path in sorted((TOP / name).glob("*"))]
     files = [path for path in found if path.is_file()]
     return [path for path in files if re.match(rb"#!.*\b(ba)?sh\n", path.read_bytes()[:64])]

@@ -4,6 +4,9 @@
 //! machine that a list of its steps reaches: that is [`crate::LockRule`]. The first five laws say
 //! that this list begins empty, and by which step it grows at each operation.
 
+ghost use denote.Param.Send.{IsSend, IsSync};
+ghost use Rattle.entry_lock.specs.contracts.table.LockTable as lock_table;
+ghost use Rattle.entry_lock.specs.contracts.table.Pass as pass;
 ghost use Rattle.entry_lock.specs.Laws.{TablesOpenOnTheirStates, EachOperationIsAStep, LooksThatFindGoneAreNoSteps, SplitsAreSteps, JoinsAreSteps, RaisedBitsStand};
 
 /// A table that opens shows the machine that has taken no step.
@@ -35,4 +38,15 @@ pub fn joins_are_steps()
 /// later state before, up to and with that of the first receipt that clears it.
 pub fn raised_bits_stand()
     ensures { RaisedBitsStand }
+{}
+
+/// Threads may share a table by reference, and one may hand it to another.
+pub fn tables_are_shared()
+    ensures sync { IsSync lock_table.the_row }
+    ensures send { IsSend lock_table.the_row }
+{}
+
+/// A pass may go to another thread.
+pub fn passes_change_threads()
+    ensures { IsSend pass.the_row }
 {}

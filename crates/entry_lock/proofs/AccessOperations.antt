@@ -22,7 +22,7 @@ use Rattle.lock_core.specs.declared.step.Step.TheVariants.{Look, LoadData, Mark}
 use Rattle.lock_core.specs.declared.step_result.StepResult.{StepResult}
 use Rattle.lock_core.specs.Words.{next_state, is_read, changes, receipt, is_noted, is_still}
 use Rattle.lock_core.specs.Machine.{Machine, words_seen}
-use Rattle.lock_core.specs.Steps.{actor_after, fits, names_entry, result_without_receipt, result_with_receipt, new_doing, with_noted, with_loaded, marked_entry, after_step}
+use Rattle.lock_core.specs.Steps.{actor_after, fits, names_entry, result_without_receipt, result_with_receipt, new_doing, with_noted, with_loaded, marked_entry}
 use Rattle.lock_core.proofs.Moves.{Change, put_both}
 use Rattle.lock_core.proofs.Kept.{IsOn, LookedOk, IsFresh, PhaseOk}
 use Rattle.lock_core.proofs.Noted.{not_is, not_true, noted_same}
@@ -30,9 +30,9 @@ use Rattle.entry_lock.specs.declared.rule.View.{View}
 use Rattle.entry_lock.specs.declared.rule.Opening.{Opening}
 use Rattle.entry_lock.specs.Layout.{word_of, control_place, data_place}
 use Rattle.entry_lock.specs.Views.{states_of}
-use Rattle.entry_lock.specs.Rule.{HoldsEntry, WordsShow, Shows, ShowsSteps, machine_after}
+use Rattle.entry_lock.specs.Rule.{HoldsEntry, WordsShow, ShowsSteps, machine_after}
 use Rattle.entry_lock.specs.StepViews.{view_with_step, view_in_phase, view_with_receipt, view_with_count, doing_with_word}
-use Rattle.entry_lock.specs.AccessSteps.{LookTells, LookedLoadTells, AreAlike, SecondLookTells, MarkTells, LeavesAlike}
+use Rattle.entry_lock.specs.AccessSteps.{LookTells, LookedLoadTells, AreAlike, SecondLookTells, MarkTells}
 use Rattle.entry_lock.specs.CallSteps.{leaves_state}
 use Rattle.entry_lock.proofs.Bits.{same_word}
 use Rattle.entry_lock.proofs.ViewLists.{bool_is}

@@ -26,7 +26,7 @@ use Rattle.entry_lock.specs.declared.rule.View.{View}
 use Rattle.entry_lock.specs.declared.rule.Opening.{Opening}
 use Rattle.entry_lock.specs.Layout.{word_of, Means, control_place, data_place, doubleword}
 use Rattle.entry_lock.specs.Views.{states_of}
-use Rattle.entry_lock.specs.Rule.{HoldsEntry, AreStored, Shows, ShowsSteps, machine_after}
+use Rattle.entry_lock.specs.Rule.{HoldsEntry, AreStored, ShowsSteps, machine_after}
 use Rattle.entry_lock.specs.StepViews.{view_with_step, view_in_phase, view_with_receipt, view_with_store, view_with_count, doing_with_word}
 use Rattle.entry_lock.specs.HolderSteps.{LockTells, LoadTells, ShutTells, StoreTells, SettleTells, ReleaseTells}
 use Rattle.entry_lock.proofs.Bits.{lock_word, unlock_word, shut_word}

@@ -186,7 +186,7 @@ tables_open = opens
 -- ---- each operation is one step
 line_look_took : (line : Line) (op : Op) (v w : View) (found : ℕ) → LineLookTells line op v found w → Took [] v w ⊎ Took (Look line.entry op ∷ []) v w
 line_look_took line op v w found t = ⊎_elim {C = Took [] v w ⊎ Took (Look line.entry op ∷ []) v w}
-    (λ (left : is_gone_from t.0 line.stamp ≡ true). inl (ap (λ (z : View). z.taken) (t.2 left).0)) (λ (stay : is_gone_from t.0 line.stamp ≡ false). inr (ap (λ (z : View). z.taken) (t.3 stay).2.0)) (bool_is (is_gone_from t.0 line.stamp))
+    (λ (left : is_gone_from t.0 line.stamp ≡ true). inl (ap (λ (z : View). z.taken) (t.2 left).0)) (λ (stay : is_gone_from t.0 line.stamp ≡ false). inr (ap (λ (z : View). z.taken) (t.3 stay).2)) (bool_is (is_gone_from t.0 line.stamp))
 
 line_again_took : (line : Line) (d : Doing) (v w : View) (found : ℕ) → LineSecondLookTells line d v found w → Took (Look d.entry d.op ∷ []) v w
 line_again_took line d v w found t = dite {C = Took (Look d.entry d.op ∷ []) v w} (ℕ_discrete found (word_of d.noted)) (λ hit. ap (λ (z : View). z.taken) (t.2 hit).0)

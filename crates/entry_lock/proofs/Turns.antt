@@ -18,8 +18,8 @@ use Rattle.lock_core.specs.declared.phase.Phase.{Phase}
 use Rattle.lock_core.specs.declared.phase.Phase.TheVariants.{Idle, Held, HeldShut, Looked}
 use Rattle.lock_core.specs.declared.step.Step.{Step}
 use Rattle.lock_core.specs.declared.step_result.StepResult.{StepResult}
-use Rattle.lock_core.specs.Machine.{Actor, Machine, nobody, opening_machine, actor_at, entry_at, words_seen}
-use Rattle.lock_core.specs.Steps.{actor_after, entry_of, fits, step_result, names_entry, after_step}
+use Rattle.lock_core.specs.Machine.{Actor, Machine, nobody, words_seen}
+use Rattle.lock_core.specs.Steps.{actor_after, entry_of, fits, step_result, names_entry}
 use Rattle.lock_core.specs.Runs.{run}
 use Rattle.lock_core.proofs.Kept.{HasLock, IsOn, Kept}
 use Rattle.lock_core.proofs.Moves.{Tells, Change, put_both, lock_is_on, after_phase}
@@ -29,7 +29,6 @@ use Rattle.entry_lock.specs.declared.rule.View.{View}
 use Rattle.entry_lock.specs.declared.rule.Opening.{Opening}
 use Rattle.entry_lock.specs.Views.{states_of}
 use Rattle.entry_lock.specs.Rule.{ActsAs, HoldsEntry, WordsShow, AreStored, FrontFits, Shows, ShowsSteps, machine_after}
-use Rattle.entry_lock.specs.Layout.{word_of, control_place}
 use Rattle.entry_lock.specs.PassInvariants.{IsActing}
 use Rattle.entry_lock.specs.Laws.{IsOnEntry}
 use Rattle.entry_lock.proofs.MachineMoves.{Moves, may, moved_turn}

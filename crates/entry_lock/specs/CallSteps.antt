@@ -69,8 +69,8 @@ TookBusyAccess e op b v w =
     ((last : Step) × IsDeciding e op last
     × Took (Look e op ∷ loads_if (valid_bit b.looked) ++ last ∷ []) v w)
 
--- An access by a line that is gone. The first look that finds the entry gone is no step; or the step
--- that was to decide it found another word than the one that the first look noted.
+-- An access by a line that is gone. The first look that finds the entry gone is no step; or the
+-- step that was to decide it found another word than the one that the first look noted.
 abbrev pub TookGone : ℕ → Op → View → View → Type 0
 TookGone e op v w =
     MatchBool

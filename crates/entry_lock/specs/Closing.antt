@@ -2,7 +2,6 @@
 use Rattle.std.specs.Prelude.{◌≡◌, ℕ, ◌<◌, List, length}
 use Rattle.entry_model.specs.State.{State}
 use Rattle.entry_model.specs.declared.line.Line.{Line}
-use Rattle.entry_model.specs.declared.receipt.Receipt.{Receipt}
 use Rattle.entry_model.specs.CachedLines.{Holds}
 use Rattle.entry_model.specs.History.{IsLegal, history}
 use Rattle.entry_model.specs.Fronts.{IsGone}
@@ -16,9 +15,9 @@ use Rattle.entry_lock.specs.Views.{first_number}
 use Rattle.entry_lock.specs.OwnSteps.{steps_by, AreAllowed}
 use Rattle.entry_lock.specs.SeenLines.{IsSeen}
 
--- A run of the machine from the opening states, by as many actors as there are shares, makes just the
--- receipts of the pass and leaves the closing states. Each of its steps was allowed, and those of the
--- pass's actor are the ones that the pass took.
+-- A run of the machine from the opening states, by as many actors as there are shares, makes just
+-- the receipts of the pass and leaves the closing states. Each of its steps was allowed, and those
+-- of the pass's actor are the ones that the pass took.
 abbrev pub SomeRunMakes : List State → View → List State → Type 0
 SomeRunMakes opening v closing = (steps : List (ℕ × Step))
     × AreAllowed (opening_machine opening v.passes) steps

@@ -1,6 +1,7 @@
 -- The laws of the table. Between any two atomic operations the kit's table keeps the rule, that
--- words and views show the machine after some steps, of which each pass knows its own. These say how
--- the list of steps begins, and that each step that the machine allows can be taken by one operation.
+-- words and views show the machine after some steps, of which each pass knows its own. These say
+-- how the list of steps begins, and that each step that the machine allows can be taken by one
+-- operation; `SingleSteps` says that each operation is one step.
 use Rattle.std.specs.Prelude.{◌≡◌, ℕ, ◌<◌, Bool, true, List, [], ◌∷◌, ◌++◌, length, slice_index, slice_set, All}
 use mathlib.Core.Option.{some}
 use Rattle.entry_model.specs.State.{State}

@@ -2,9 +2,9 @@
 //!
 //! Between any two atomic operations the words and the passes' views show a state of `lock_core`'s
 //! machine that a list of its steps reaches, and each pass knows which of these it took: that is
-//! [`crate::LockRule`]. Which steps a call is, its own contract says. The first six laws say that the
-//! list begins empty, that each operation is one step of it, and that each step that the machine
-//! allows can be taken by one operation.
+//! [`crate::LockRule`]. Which steps a call is, its own contract says. The first six laws say that
+//! the list begins empty, that each operation is one step of it, and that each step that the
+//! machine allows can be taken by one operation.
 
 ghost use denote.Param.Send.{IsSend, IsSync};
 ghost use Rattle.entry_lock.specs.contracts.table.LockTable as lock_table;
@@ -17,8 +17,8 @@ pub fn tables_open_on_their_states()
     ensures { TablesOpenOnTheirStates }
 {}
 
-/// Each atomic operation on an entry is one step of the machine, and tells its pass which: but for a
-/// first look that finds a cached line gone, which is none.
+/// Each atomic operation on an entry is one step of the machine, and tells its pass which: but for
+/// a first look that finds a cached line gone, which is none.
 pub fn operations_are_single_steps()
     ensures { OperationsAreSingleSteps }
 {}

@@ -1,4 +1,4 @@
-use Rattle.std.proofs.Common.{◌≡◌, refl, inl, inr, sym, ap, ◌∙◌}
+use Rattle.std.proofs.Common.{refl, inl, inr, ap, ◌∙◌}
 use Rattle.lock_core.specs.declared.doing.Doing.{Doing}
 use Rattle.lock_core.specs.declared.step.Step.TheVariants.{Look, Mark}
 use Rattle.entry_lock.specs.Layout.{word_of}

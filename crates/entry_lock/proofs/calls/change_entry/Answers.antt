@@ -1,4 +1,4 @@
-use Rattle.std.proofs.Common.{◌≡◌, false, refl, sym, ap, ◌∙◌, subst}
+use Rattle.std.proofs.Common.{◌≡◌, refl, sym, ap, ◌∙◌}
 use Rattle.std.proofs.lemmas.Bool.{and_parts}
 use Rattle.entry_model.specs.State.{State}
 use Rattle.entry_model.specs.declared.receipt.Receipt.{Receipt}
@@ -9,7 +9,6 @@ use Rattle.lock_core.specs.declared.phase.Phase.TheVariants.{HeldShut}
 use Rattle.lock_core.specs.declared.step.Step.TheVariants.{Shut, Settle}
 use Rattle.lock_core.specs.Words.{receipt}
 use Rattle.lock_core.specs.Steps.{with_noted}
-use Rattle.entry_lock.specs.declared.rule.View.{View}
 use Rattle.entry_lock.specs.StepViews.{view_with_step, view_in_phase, view_with_receipt}
 use Rattle.entry_lock.proofs.CallStepFacts.{found_valid, found_changes, after_is, changed_stored, changed_bare}
 use Rattle.entry_lock.proofs.ViewChanges.{receipt_by}

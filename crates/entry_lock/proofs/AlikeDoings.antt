@@ -1,6 +1,6 @@
 -- Two operations that are told of the same words.
 use Rattle.std.specs.Prelude.{is_some, if◌then◌else◌, unwrap_or}
-use Rattle.std.proofs.Common.{◌≡◌, ◌==◌, ◌&&◌, not, Bool, true, false, refl, ap, ◌∙◌, eq-eqb}
+use Rattle.std.proofs.Common.{◌≡◌, ◌==◌, ◌&&◌, not, true, false, refl, ap, ◌∙◌, eq-eqb}
 use Rattle.entry_model.specs.Reply.{reply_of}
 use Rattle.entry_model.specs.Receipt.{receipt_of}
 use Rattle.entry_model.specs.History.{state_eq}

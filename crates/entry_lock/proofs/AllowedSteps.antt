@@ -27,7 +27,7 @@ use Rattle.entry_model.specs.declared.line.Line.{Line}
 use Rattle.entry_lock.proofs.LineOperations.{known_step, known_again_step, known_mark_step}
 use Rattle.entry_lock.proofs.Turns.{numbered}
 use Rattle.entry_lock.proofs.HolderOperations.{lock_step, load_step, shut_step, store_step, settle_may, settle_step, release_step}
-use Rattle.entry_lock.proofs.AccessOperations.{look_step, looked_load_step, look_again_step, again_may, mark_step}
+use Rattle.entry_lock.proofs.AccessOperations.{look_step, looked_load_step, look_again_step, mark_step}
 use prog.Atomic.{either}
 
 same_entry : (e e' : ℕ) → control_place e ≡ control_place e' → e ≡ e'
@@ -144,8 +144,7 @@ module _ (key : Opening) (slots id : ℕ) (m : Me ℕ View) (acts : IsActing m.0
   pub again_allowed : changes a ≡ false → Allows (ShowsRun key) slots id m (control_place a.entry) (λ k. k) (DecidingPlay SecondLookTells a (step slots (control_place a.entry) 0 0 none) m)
   again_allowed still = subst (λ e. Allows (ShowsRun key) slots id m (control_place e) (λ k. k) (DecidingPlay SecondLookTells a (step slots (control_place e) 0 0 none) m)) looks.2.entry (λ s h deep at fits.
       let n = numbered m.0 acts in
-      let may = again_may key s h.0 h.1 id n.0 n.1 m.0 at n.2 acts.live a looks.0 inside' looks.1 looks.2 read still in
-      let l = look_again_step key s h.0 h.1 id n.0 n.1 m.0 at n.2 acts.live a looks.0 inside' looks.1 looks.2 read looks.0.entry looks.0.op may.0 may.1 still in
+      let l = look_again_step key s h.0 h.1 id n.0 n.1 m.0 at n.2 acts.live a looks.0 inside' looks.1 looks.2 read still in
       (l.0, keeps, tt, ((n.0, Look looks.0.entry looks.0.op) ∷ h.0, l.1), (l.2, refl)))
 
   pub mark_allowed : (new : ℕ) → changes a ≡ true → new ≡ word_of (record a.noted { referenced = (next_state a).referenced; changed = (next_state a).changed })
@@ -162,7 +161,7 @@ shares_allowed key slots id m acts s h deep at fits = (
   keeps,
   tt,
   subst (λ (z : List ℕ × List View). ShowsRun key (record { words = z.0; homes = s.homes; views = z.1 })) (λ i. (sym (word_read s.words 0) i, sym (view_again s.views id m.0 at) i)) h,
-  (refl, (let t = total_one (λ (v : View). length v.numbers) s.views id m.0 at in let e = h.1.shares in let w = (h.1.whole id m.0 at acts.some_share).0 in omega arith)),
+  (refl, (let t = total_one (λ (v : View). length v.numbers) s.views id m.0 at in let e = h.1.shows.shares in let w = (h.1.shows.whole id m.0 at acts.some_share).0 in omega arith)),
 )
 
 -- ---- by a line that was seen

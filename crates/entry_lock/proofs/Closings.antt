@@ -25,8 +25,9 @@ use Rattle.lock_core.proofs.Opening.{legal_history, seen_line}
 use Rattle.entry_lock.specs.declared.rule.View.{View}
 use Rattle.entry_lock.specs.declared.rule.Opening.{Opening}
 use Rattle.entry_lock.specs.Layout.{control_of_word, control_place, entry_state, entry_states}
-use Rattle.entry_lock.specs.Views.{states_of}
-use Rattle.entry_lock.specs.Rule.{HoldsEntry, Shows, ShowsRun, machine_after}
+use Rattle.entry_lock.specs.Views.{states_of, first_number}
+use Rattle.entry_lock.specs.Rule.{IsHead, HoldsEntry, ShowsSteps, ShowsRun, machine_after}
+use Rattle.entry_lock.specs.OwnSteps.{steps_by, AreAllowed}
 use Rattle.entry_lock.specs.SeenLines.{IsSeen}
 use Rattle.entry_lock.specs.PassInvariants.{IsActing}
 use Rattle.entry_lock.specs.Closing.{Closes}
@@ -58,7 +59,7 @@ states_at words (suc n) e h = dite {C = state_at (entry_states words (suc n)) e 
     (λ same. at_end (entry_states words n) (entry_state words n) e (same ∙ sym (states_length words n)) ∙ ap (entry_state words) (sym same))
     (λ other. at_front (entry_states words n) (entry_state words n ∷ []) e (let l = states_length words n in omega arith) ∙ states_at words n e (omega arith))
 
-module _ (key : Opening) (s : TableState ℕ View) (steps : List (ℕ × Step)) (h : Shows key (machine_after key steps) s.words s.views) (id n : ℕ) (ns : List ℕ) (v : View) (at : get_elem? s.views id ≡ some v) (mine : v.numbers ≡ n ∷ ns) where
+module _ (key : Opening) (s : TableState ℕ View) (steps : List (ℕ × Step)) (h : ShowsSteps key steps s.words s.views) (id n : ℕ) (ns : List ℕ) (v : View) (at : get_elem? s.views id ≡ some v) (mine : v.numbers ≡ n ∷ ns) where
   abbrev C : Machine
   C = machine_after key steps
 
@@ -68,7 +69,7 @@ module _ (key : Opening) (s : TableState ℕ View) (steps : List (ℕ × Step)) 
       let k = kept key s steps h id n ns v at mine in
       let seen' : HasSeen C n line = ⊎_elim {C = HasSeen C n line} (λ (q : Contains v.actor.lines (sighting_by line)). inl (subst (λ (a : Actor). Contains a.lines (sighting_by line)) (sym (actor_is C n v.actor (me key s steps h id n ns v at mine))) q))
       (λ (q : Holds line (state_at (states_of key) line.entry)). inr (subst (λ l. Holds line (state_at l line.entry)) (sym k.1.opens) q)) seen in
-      subst (λ (e : Entry). Holds line e.published) (entry_is C line.entry x here) (seen_line (states_of key) h.fair key.passes steps n line inside seen')
+      subst (λ (e : Entry). Holds line e.published) (entry_is C line.entry x here) (seen_line (states_of key) h.shows.fair key.passes steps n line inside seen')
 
   module _ (all : length v.numbers ≡ key.passes) (idle : v.actor.phase ≡ Idle) where
     module _ (e : ℕ) (inside : e < length (states_of key)) where
@@ -85,29 +86,31 @@ module _ (key : Opening) (s : TableState ℕ View) (steps : List (ℕ × Step)) 
 
       published_is : entry_state s.words e ≡ X.published
       published_is =
-          let show = h.words e X here in
+          let show = h.shows.words e X here in
           let ok = (kept key s steps h id n ns v at mine).1.entries e X here in
           let control : control_of_word (get_or s.words (control_place e) 0) ≡ X.control = control_is (get_or s.words (control_place e) 0) X.control (show.control, ok.low) in
           (λ i. state_of (control i) (show.first i) (show.second i)) ∙ sym (ok.free unshut)
 
       legal_here : IsLegal (state_at (states_of key) e) (history e v.actor.receipts) X.published
       legal_here = subst (λ (z : Entry). IsLegal (state_at (states_of key) e) (history e v.actor.receipts) z.published) (entry_is C e X here)
-          (subst (λ r. IsLegal (state_at (states_of key) e) (history e r) (published_state C e)) (made_all key s steps h id n ns v at mine all) (legal_history (states_of key) h.fair key.passes steps e inside))
+          (subst (λ r. IsLegal (state_at (states_of key) e) (history e r) (published_state C e)) (made_all key s steps h id n ns v at mine all) (legal_history (states_of key) h.shows.fair key.passes steps e inside))
 
       gone_here : (line : Line) → line.entry ≡ e → IsGone v.fronts line → line.stamp < X.published.stamp
       gone_here line on gone =
           let front = ap (front_at v.fronts) on in let high = pair_high X.published in
           ⊎_elim {C = line.stamp < X.published.stamp} (λ (l : front_at v.fronts e ≤ pair_of X.published). omega arith)
-          (λ (t : (X.control.shut ≡ true) × (front_at v.fronts e ≤ (X.published.stamp + 1) * 4) × ¬ HoldsEntry e v.actor.phase). absurd (false≢true (sym unshut ∙ t.0))) (h.fronts id e v X at here)
+          (λ (t : (X.control.shut ≡ true) × (front_at v.fronts e ≤ (X.published.stamp + 1) * 4) × ¬ HoldsEntry e v.actor.phase). absurd (false≢true (sym unshut ∙ t.0))) (h.shows.fronts id e v X at here)
 
     pub closes_at : Closes (states_of key) v (entry_states s.words (length (states_of key)))
     closes_at =
         let count : ℕ = length (states_of key) in
-        let passes_are : v.passes ≡ key.passes = (h.whole id v at (has_number key s steps h id n ns v at mine)).0 in
+        let passes_are : v.passes ≡ key.passes = (h.shows.whole id v at (has_number key s steps h id n ns v at mine)).0 in
         let is : (e : ℕ) (inside : e < count) → state_at (entry_states s.words count) e ≡ (X e inside).published = λ e inside. states_at s.words count e inside ∙ published_is e inside in record {
           size = states_length s.words count;
           all = (
             steps,
+            subst (λ n. AreAllowed (opening_machine (states_of key) n) steps) (sym passes_are) h.allowed,
+            ap (λ l. steps_by (first_number l) steps) mine ∙ sym (h.own id n v at (subst (λ l. IsHead l n) (sym mine) refl)),
             (λ i. receipts_of (run (opening_machine (states_of key) (passes_are i)) steps).actors) ∙ made_all key s steps h id n ns v at mine all,
             λ e inside. (λ i. published_state (run (opening_machine (states_of key) (passes_are i)) steps) e) ∙ ap (λ (z : Entry). z.published) (entry_is C e (X e inside) (here e inside)) ∙ sym (is e inside),
           );

@@ -26,15 +26,15 @@ use Rattle.entry_lock.specs.declared.rule.View.{View}
 use Rattle.entry_lock.specs.declared.rule.Opening.{Opening}
 use Rattle.entry_lock.specs.Layout.{word_of, Means, control_place, data_place, doubleword}
 use Rattle.entry_lock.specs.Views.{states_of}
-use Rattle.entry_lock.specs.Rule.{HoldsEntry, AreStored, Shows, machine_after}
-use Rattle.entry_lock.specs.StepViews.{view_in_phase, view_with_receipt, view_with_store, view_with_count, doing_with_word}
+use Rattle.entry_lock.specs.Rule.{HoldsEntry, AreStored, ShowsSteps, machine_after}
+use Rattle.entry_lock.specs.StepViews.{view_with_step, view_in_phase, view_with_receipt, view_with_store, view_with_count, doing_with_word}
 use Rattle.entry_lock.specs.HolderSteps.{LockTells, LoadTells, ShutTells, StoreTells, SettleTells, ReleaseTells}
 use Rattle.entry_lock.proofs.Bits.{lock_word, unlock_word, shut_word}
 use Rattle.entry_lock.proofs.ViewLists.{bool_is}
 use Rattle.entry_lock.proofs.MachineMoves.{in_table_is, entry_is}
 use Rattle.entry_lock.proofs.Places.{control_set, control_else, data_of, data_set, data_else, read_shows, data_found, data_before}
 use Rattle.entry_lock.proofs.SolePass.{unlocked}
-use Rattle.entry_lock.proofs.Turns.{Takes, kept, me, entry_there, has_number, had, turn_shown, turn_ahead, change_of, moves_of}
+use Rattle.entry_lock.proofs.Turns.{Takes, kept, me, entry_there, has_number, turn_shown, turn_ahead, change_of, moves_of}
 use Rattle.entry_lock.proofs.StepKinds as kinds
 use lib.ListN.{get_elem?}
 
@@ -79,6 +79,10 @@ pub stored_numbers : (second : Bool) (v : View) → (view_with_store second v).n
 stored_numbers false v = refl
 stored_numbers true v = refl
 
+pub stored_taken : (second : Bool) (v : View) → (view_with_store second v).taken ≡ v.taken
+stored_taken false v = refl
+stored_taken true v = refl
+
 stored_passes : (second : Bool) (v : View) → (view_with_store second v).passes ≡ v.passes
 stored_passes false v = refl
 stored_passes true v = refl
@@ -91,36 +95,35 @@ stored_fronts : (second : Bool) (v : View) → (view_with_store second v).fronts
 stored_fronts false v = refl
 stored_fronts true v = refl
 
-module _ (key : Opening) (s : TableState ℕ View) (steps : List (ℕ × Step)) (h : Shows key (machine_after key steps) s.words s.views) (id n : ℕ) (ns : List ℕ) (v : View) (at : get_elem? s.views id ≡ some v) (mine : v.numbers ≡ n ∷ ns) (live : v.actor.live ≡ true) where
+module _ (key : Opening) (s : TableState ℕ View) (steps : List (ℕ × Step)) (h : ShowsSteps key steps s.words s.views) (id n : ℕ) (ns : List ℕ) (v : View) (at : get_elem? s.views id ≡ some v) (mine : v.numbers ≡ n ∷ ns) (live : v.actor.live ≡ true) where
   abbrev C : Machine
   C = machine_after key steps
 
   -- Words and views show the machine after this step, which changed one word and the pass's view.
   abbrev AfterStep : Step → ℕ → ℕ → View → Type 0
-  AfterStep step i m w = Shows key (machine_after key ((n, step) ∷ steps)) (set s.words i m) (set s.views id w)
+  AfterStep step i m w = ShowsSteps key ((n, step) ∷ steps) (set s.words i m) (set s.views id w)
 
   phase_ok : (e : ℕ) (p : Phase) (x : Entry) → v.actor.phase ≡ p → IsOn e p → slice_get C.entries e ≡ Some x → PhaseOk p x
   phase_ok e p x is on here = subst (λ (q : Phase). PhaseOk q x) is ((kept key s steps h id n ns v at mine).1.actors n e v.actor x (me key s steps h id n ns v at mine) (subst (IsOn e) (sym is) on) here)
 
   in_words : (e : ℕ) → e < length (states_of key) → 3 * e + 3 < length s.words
-  in_words e inside = let w = h.wide in omega arith
+  in_words e inside = let w = h.shows.wide in omega arith
 
   pub lock_step : (e : ℕ) (op : Op) → e < length (states_of key) → v.actor.phase ≡ Idle → is_access op ≡ false
       → (w : View) × AfterStep (Lock e op) (control_place e) (bit_or (get_or s.words (control_place e) 0) 9223372036854775808) w × LockTells op e v (get_or s.words (control_place e) 0) w
   lock_step e op inside idle other =
       let f = entry_there key s steps h id n ns v at mine e inside in
       let x : Entry = f.0 in
-      let show = h.words e x f.1 in
+      let show = h.shows.words e x f.1 in
       let ok = (kept key s steps h id n ns v at mine).1.entries e x f.1 in
       let found : ℕ = get_or s.words (control_place e) 0 in
       let means : Means found x.control = (show.control, ok.low) in
       let wide = in_words e inside in
-      let there = had key s steps h id n ns v at mine e x f.1 in
       let turned : bit_or found 9223372036854775808 ≡ word_of (record x.control { locked = true }) = ap (λ m. bit_or m 9223372036854775808) show.control ∙ lock_word x.control ok.low in
-      let never : length v.numbers ≡ v.passes → x.control.locked ≡ false = λ all. unlocked key s steps h id n ns v at mine (all ∙ (h.whole id v at (has_number key s steps h id n ns v at mine)).0) e x f.1 (λ q. subst (HoldsEntry e) idle q) in
+      let never : length v.numbers ≡ v.passes → x.control.locked ≡ false = λ all. unlocked key s steps h id n ns v at mine (all ∙ (h.shows.whole id v at (has_number key s steps h id n ns v at mine)).0) e x f.1 (λ q. subst (HoldsEntry e) idle q) in
       ⊎_elim {C = (w : View) × AfterStep (Lock e op) (control_place e) (bit_or found 9223372036854775808) w × LockTells op e v found w}
       (λ (locked : x.control.locked ≡ true).
-      let w : View = view_with_count v e found found in
+      let w : View = view_with_count (view_with_step v (Lock e op)) e found found in
       let t : StepResult = result_without_receipt x Idle in
       let z = change_of key s steps h id n ns v at mine Idle (Lock e op) x t live idle f.1 (kinds.fits_lock x e op other) (kinds.lock_taken _ x e op locked) in
       let same : bit_or found 9223372036854775808 ≡ word_of x.control = turned ∙ ap (λ b. word_of (record x.control { locked = b })) (sym locked) in
@@ -136,11 +139,11 @@ module _ (key : Opening) (s : TableState ℕ View) (steps : List (ℕ × Step)) 
         lifts = λ q. inl (q, refl);
       } in (
         w,
-        turn_shown key s steps h id n ns v at mine e w x t (set s.words (control_place e) (bit_or found 9223372036854775808)) z k (Lock e op) (moves_of key s steps h id n ns v at mine Idle (Lock e op) x t (kinds.lock_on e op) (kinds.names_lock C e op (in_table_is C e x f.1)) live idle f.1 (kinds.fits_lock x e op other) (kinds.lock_taken _ x e op locked)),
-        (x.control, means, never, (λ _. refl), (λ free. absurd (false≢true (sym free ∙ locked))), there),
+        turn_shown key s steps h id n ns v at mine e w x t (set s.words (control_place e) (bit_or found 9223372036854775808)) z k (Lock e op) refl (moves_of key s steps h id n ns v at mine Idle (Lock e op) x t (kinds.lock_on e op) (kinds.names_lock C e op (in_table_is C e x f.1)) live idle f.1 (kinds.fits_lock x e op other) (kinds.lock_taken _ x e op locked)),
+        (x.control, means, never, (λ _. refl), (λ free. absurd (false≢true (sym free ∙ locked)))),
       ))
       (λ (free : x.control.locked ≡ false).
-      let w : View = view_with_count (view_in_phase v (Held (new_doing e op x.control None))) e found found in
+      let w : View = view_with_count (view_in_phase (view_with_step v (Lock e op)) (Held (new_doing e op x.control None))) e found found in
       let t : StepResult = result_without_receipt (locked_entry x true) (Held (new_doing e op x.control None)) in
       let unshut : x.control.shut ≡ false = not_true x.control.shut (λ q. false≢true (sym free ∙ ok.shut q)) in
       let z = change_of key s steps h id n ns v at mine Idle (Lock e op) x t live idle f.1 (kinds.fits_lock x e op other) (kinds.lock_free _ x e op free) in
@@ -156,8 +159,8 @@ module _ (key : Opening) (s : TableState ℕ View) (steps : List (ℕ × Step)) 
         lifts = λ q. inl (q, refl);
       } in (
         w,
-        turn_shown key s steps h id n ns v at mine e w x t (set s.words (control_place e) (bit_or found 9223372036854775808)) z k (Lock e op) (moves_of key s steps h id n ns v at mine Idle (Lock e op) x t (kinds.lock_on e op) (kinds.names_lock C e op (in_table_is C e x f.1)) live idle f.1 (kinds.fits_lock x e op other) (kinds.lock_free _ x e op free)),
-        (x.control, means, never, (λ locked. absurd (false≢true (sym free ∙ locked))), (λ _. refl), there),
+        turn_shown key s steps h id n ns v at mine e w x t (set s.words (control_place e) (bit_or found 9223372036854775808)) z k (Lock e op) refl (moves_of key s steps h id n ns v at mine Idle (Lock e op) x t (kinds.lock_on e op) (kinds.names_lock C e op (in_table_is C e x f.1)) live idle f.1 (kinds.fits_lock x e op other) (kinds.lock_free _ x e op free)),
+        (x.control, means, never, (λ locked. absurd (false≢true (sym free ∙ locked))), (λ _. refl)),
       ))
       (bool_is x.control.locked)
 
@@ -166,10 +169,10 @@ module _ (key : Opening) (s : TableState ℕ View) (steps : List (ℕ × Step)) 
   load_step d second inside is valid =
       let f = entry_there key s steps h id n ns v at mine d.entry inside in
       let x : Entry = f.0 in
-      let show = h.words d.entry x f.1 in
+      let show = h.shows.words d.entry x f.1 in
       let i : ℕ = data_place d.entry second in
       let found : ℕ = get_or s.words i 0 in
-      let w : View = view_in_phase v (Held (doing_with_word second found d)) in
+      let w : View = view_in_phase (view_with_step v (LoadData second)) (Held (doing_with_word second found d)) in
       let t : StepResult = result_without_receipt x (Held (with_loaded second x d)) in
       let same : doing_with_word second found d ≡ with_loaded second x d = loaded_is second x d found (data_found second s.words d.entry x show) in
       let z = change_of key s steps h id n ns v at mine (Held d) (LoadData second) x t live is f.1 (kinds.fits_load x d second valid) (kinds.load_turn _ x d second) in
@@ -185,7 +188,7 @@ module _ (key : Opening) (s : TableState ℕ View) (steps : List (ℕ × Step)) 
         lifts = λ q. inl (q, refl);
       } in (
         w,
-        turn_shown key s steps h id n ns v at mine d.entry w x t (set s.words i found) z k (LoadData second) (moves_of key s steps h id n ns v at mine (Held d) (LoadData second) x t (kinds.load_on second) (kinds.names_load C second) live is f.1 (kinds.fits_load x d second valid) (kinds.load_turn _ x d second)),
+        turn_shown key s steps h id n ns v at mine d.entry w x t (set s.words i found) z k (LoadData second) refl (moves_of key s steps h id n ns v at mine (Held d) (LoadData second) x t (kinds.load_on second) (kinds.names_load C second) live is f.1 (kinds.fits_load x d second valid) (kinds.load_turn _ x d second)),
         refl,
       )
 
@@ -194,14 +197,14 @@ module _ (key : Opening) (s : TableState ℕ View) (steps : List (ℕ × Step)) 
   shut_step d inside is may =
       let f = entry_there key s steps h id n ns v at mine d.entry inside in
       let x : Entry = f.0 in
-      let show = h.words d.entry x f.1 in
+      let show = h.shows.words d.entry x f.1 in
       let low = ((kept key s steps h id n ns v at mine).1.entries d.entry x f.1).low in
       let wide = in_words d.entry inside in
       let ok : HeldOk d x = phase_ok d.entry (Held d) x is refl f.1 in
       let i : ℕ = control_place d.entry in
       let found : ℕ = get_or s.words i 0 in
       let m : ℕ = bit_or found 4611686018427387904 in
-      let w : View = view_in_phase v (HeldShut (with_noted d x.control)) in
+      let w : View = view_in_phase (view_with_step v Shut) (HeldShut (with_noted d x.control)) in
       let t : StepResult = result_without_receipt (shut_entry x) (HeldShut (with_noted d x.control)) in
       let turned : m ≡ word_of (shut_entry x).control = ap (λ k. bit_or k 4611686018427387904) show.control ∙ shut_word x.control low in
       let z = change_of key s steps h id n ns v at mine (Held d) Shut x t live is f.1 (kinds.fits_shut x d may) (kinds.shut_turn _ x d) in
@@ -217,7 +220,7 @@ module _ (key : Opening) (s : TableState ℕ View) (steps : List (ℕ × Step)) 
         lifts = λ q. inl (refl, refl);
       } in (
         w,
-        turn_shown key s steps h id n ns v at mine d.entry w x t (set s.words i m) z k Shut (moves_of key s steps h id n ns v at mine (Held d) Shut x t kinds.shut_on (kinds.names_shut C) live is f.1 (kinds.fits_shut x d may) (kinds.shut_turn _ x d)),
+        turn_shown key s steps h id n ns v at mine d.entry w x t (set s.words i m) z k Shut refl (moves_of key s steps h id n ns v at mine (Held d) Shut x t kinds.shut_on (kinds.names_shut C) live is f.1 (kinds.fits_shut x d may) (kinds.shut_turn _ x d)),
         (x.control, (show.control, low), sym ok.valid, sym ok.stamp, refl),
       )
 
@@ -226,27 +229,28 @@ module _ (key : Opening) (s : TableState ℕ View) (steps : List (ℕ × Step)) 
   store_step d second new inside is means =
       let f = entry_there key s steps h id n ns v at mine d.entry inside in
       let x : Entry = f.0 in
-      let show = h.words d.entry x f.1 in
+      let show = h.shows.words d.entry x f.1 in
       let wide = in_words d.entry inside in
       let before = data_before second d.entry in
       let i : ℕ = data_place d.entry second in
       let y : Entry = with_stored second (next_state d) x in
-      let w : View = view_with_store second v in
+      let u : View = view_with_step v (StoreData second) in
+      let w : View = view_with_store second u in
       let t : StepResult = result_without_receipt y (HeldShut d) in
       let z = change_of key s steps h id n ns v at mine (HeldShut d) (StoreData second) x t live is f.1 (kinds.fits_store x d second) (kinds.store_turn _ x d second) in
       let k : Takes key s.words (set s.words i new) d.entry v w x t = record {
-        after = record { actor = stored_actor second v ∙ (λ j. record v.actor { phase = is j }); numbers = stored_numbers second v; passes = stored_passes second v; opening = stored_opening second v; fronts = stored_fronts second v };
+        after = record { actor = stored_actor second u ∙ (λ j. record v.actor { phase = is j }); numbers = stored_numbers second u; passes = stored_passes second u; opening = stored_opening second u; fronts = stored_fronts second u };
         long = length-set s.words i new;
         show = data_set second s.words d.entry new x y (omega arith) (means ∙ stored_data second (next_state d) x) (stored_control second (next_state d) x) (stored_other second (next_state d) x) show;
         others = data_else second s.words d.entry new;
-        stores = λ d' is'. subst (λ (q : Doing). AreStored w q y) (shut_same d d' is') (stored_marks second v d x (h.stored id v d x at is f.1));
+        stores = λ d' is'. subst (λ (q : Doing). AreStored w q y) (shut_same d d' is') (stored_marks second u d x (let a = h.shows.stored id v d x at is f.1 in record { first = a.first; second = a.second }));
         keeps = inl (subst (HoldsEntry d.entry) (sym is) refl);
         alone = λ d' all is'. absurd cc;
         calm = inr (inr (subst (HoldsEntry d.entry) (sym is) refl));
         lifts = λ q. inl (ap (λ (c : Control). c.shut) (stored_control second (next_state d) x) ∙ q, stored_published second (next_state d) x);
       } in (
         w,
-        turn_shown key s steps h id n ns v at mine d.entry w x t (set s.words i new) z k (StoreData second) (moves_of key s steps h id n ns v at mine (HeldShut d) (StoreData second) x t (kinds.store_on second) (kinds.names_store C second) live is f.1 (kinds.fits_store x d second) (kinds.store_turn _ x d second)),
+        turn_shown key s steps h id n ns v at mine d.entry w x t (set s.words i new) z k (StoreData second) (stored_taken second u) (moves_of key s steps h id n ns v at mine (HeldShut d) (StoreData second) x t (kinds.store_on second) (kinds.names_store C second) live is f.1 (kinds.fits_store x d second) (kinds.store_turn _ x d second)),
         refl,
       )
 
@@ -260,14 +264,14 @@ module _ (key : Opening) (s : TableState ℕ View) (steps : List (ℕ × Step)) 
   pub settle_may : (d : Doing) → d.entry < length (states_of key) → v.actor.phase ≡ HeldShut d → ((next_state d).valid ≡ true → (v.first_stored ≡ true) × (v.second_stored ≡ true)) → is_stored (entry_at C d.entry) (next_state d) ≡ true
   settle_may d inside is done =
       let f = entry_there key s steps h id n ns v at mine d.entry inside in
-      ap (λ z. is_stored z (next_state d)) (entry_is C d.entry f.0 f.1) ∙ all_stored d f.0 (h.stored id v d f.0 at is f.1) done
+      ap (λ z. is_stored z (next_state d)) (entry_is C d.entry f.0 f.1) ∙ all_stored d f.0 (h.shows.stored id v d f.0 at is f.1) done
 
   pub settle_step : (d : Doing) (new : ℕ) → d.entry < length (states_of key) → v.actor.phase ≡ HeldShut d → is_stored (entry_at C d.entry) (next_state d) ≡ true → new ≡ word_of (settled_word (next_state d))
       → (w : View) × AfterStep (Settle) (control_place d.entry) new w × SettleTells d v new w
   settle_step d new inside is stored' means =
       let f = entry_there key s steps h id n ns v at mine d.entry inside in
       let x : Entry = f.0 in
-      let show = h.words d.entry x f.1 in
+      let show = h.shows.words d.entry x f.1 in
       let wide = in_words d.entry inside in
       let i : ℕ = control_place d.entry in
       let y : Entry = settled_entry x (next_state d) in
@@ -275,7 +279,7 @@ module _ (key : Opening) (s : TableState ℕ View) (steps : List (ℕ × Step)) 
       let up : (next_state d).stamp ≡ d.noted.stamp + 1 = raised d ok.op ok.changes in
       let was : x.published.stamp ≡ d.noted.stamp = ap (λ (z : State). z.stamp) ok.published ∙ noted_stamp d in
       let may : is_stored x (next_state d) ≡ true = ap (λ z. is_stored z (next_state d)) (sym (entry_is C d.entry x f.1)) ∙ stored' in
-      let w : View = view_with_receipt v (receipt d) in
+      let w : View = view_with_receipt (view_with_step v Settle) (receipt d) in
       let t : StepResult = result_with_receipt y (receipt d) in
       let z = change_of key s steps h id n ns v at mine (HeldShut d) Settle x t live is f.1 (kinds.fits_settle x d may) (kinds.settle_turn _ x d) in
       let k : Takes key s.words (set s.words i new) d.entry v w x t = record {
@@ -290,7 +294,7 @@ module _ (key : Opening) (s : TableState ℕ View) (steps : List (ℕ × Step)) 
         lifts = λ q. inr (omega arith);
       } in (
         w,
-        turn_shown key s steps h id n ns v at mine d.entry w x t (set s.words i new) z k Settle (moves_of key s steps h id n ns v at mine (HeldShut d) Settle x t kinds.settle_on (kinds.names_settle C) live is f.1 (kinds.fits_settle x d may) (kinds.settle_turn _ x d)),
+        turn_shown key s steps h id n ns v at mine d.entry w x t (set s.words i new) z k Settle refl (moves_of key s steps h id n ns v at mine (HeldShut d) Settle x t kinds.settle_on (kinds.names_settle C) live is f.1 (kinds.fits_settle x d may) (kinds.settle_turn _ x d)),
         (refl, turn_ahead key s steps h id n ns v at mine d.entry w x t (set s.words i new) z k (receipt d) refl),
       )
 
@@ -299,7 +303,7 @@ module _ (key : Opening) (s : TableState ℕ View) (steps : List (ℕ × Step)) 
   release_step d inside is may =
       let f = entry_there key s steps h id n ns v at mine d.entry inside in
       let x : Entry = f.0 in
-      let show = h.words d.entry x f.1 in
+      let show = h.shows.words d.entry x f.1 in
       let low = ((kept key s steps h id n ns v at mine).1.entries d.entry x f.1).low in
       let wide = in_words d.entry inside in
       let ok : HeldOk d x = phase_ok d.entry (Held d) x is refl f.1 in
@@ -307,7 +311,7 @@ module _ (key : Opening) (s : TableState ℕ View) (steps : List (ℕ × Step)) 
       let found : ℕ = get_or s.words i 0 in
       let m : ℕ = bit_and found 9223372036854775807 in
       let r : Receipt = receipt (with_noted d x.control) in
-      let w : View = view_with_receipt v r in
+      let w : View = view_with_receipt (view_with_step v Release) r in
       let t : StepResult = result_with_receipt (locked_entry x false) r in
       let turned : m ≡ word_of (locked_entry x false).control = ap (λ k. bit_and k 9223372036854775807) show.control ∙ unlock_word x.control low in
       let z = change_of key s steps h id n ns v at mine (Held d) Release x t live is f.1 (kinds.fits_release x d may) (kinds.release_turn _ x d) in
@@ -323,6 +327,6 @@ module _ (key : Opening) (s : TableState ℕ View) (steps : List (ℕ × Step)) 
         lifts = λ q. inl (q, refl);
       } in (
         w,
-        turn_shown key s steps h id n ns v at mine d.entry w x t (set s.words i m) z k Release (moves_of key s steps h id n ns v at mine (Held d) Release x t kinds.release_on (kinds.names_release C) live is f.1 (kinds.fits_release x d may) (kinds.release_turn _ x d)),
+        turn_shown key s steps h id n ns v at mine d.entry w x t (set s.words i m) z k Release refl (moves_of key s steps h id n ns v at mine (Held d) Release x t kinds.release_on (kinds.names_release C) live is f.1 (kinds.fits_release x d may) (kinds.release_turn _ x d)),
         (x.control, (show.control, low), sym ok.valid, sym ok.stamp, refl, turn_ahead key s steps h id n ns v at mine d.entry w x t (set s.words i m) z k r refl),
       )

@@ -1,6 +1,7 @@
 mod Bits
 mod ViewLists
 mod Frame
+mod TakenSteps
 mod MachineMoves
 mod Turns
 mod StepKinds
@@ -15,6 +16,7 @@ mod SplitsAndJoins
 mod Closings
 mod Openings
 mod LineOperations
+mod CallStepFacts
 mod LineFacts
 mod BitsAndFronts
 mod OperationLaws

@@ -34,8 +34,8 @@ use Rattle.entry_lock.specs.declared.rule.View.{View}
 use Rattle.entry_lock.specs.declared.rule.Opening.{Opening}
 use Rattle.entry_lock.specs.Layout.{word_of, Means, control_place}
 use Rattle.entry_lock.specs.Views.{states_of}
-use Rattle.entry_lock.specs.Rule.{HoldsEntry, FrontFits, Shows, ShowsRun, machine_after}
-use Rattle.entry_lock.specs.StepViews.{view_in_phase, view_with_count, raised_fronts, view_past}
+use Rattle.entry_lock.specs.Rule.{HoldsEntry, FrontFits, Shows, ShowsSteps, ShowsRun, machine_after}
+use Rattle.entry_lock.specs.StepViews.{view_with_step, view_in_phase, view_with_count, raised_fronts, view_past}
 use Rattle.entry_lock.specs.AccessSteps.{AreAlike}
 use Rattle.entry_lock.specs.SeenLines.{IsSeen}
 use Rattle.entry_lock.specs.LineSteps.{is_gone_from, doing_by_line, LineLookTells, LineSecondLookTells, LineMarkTells}
@@ -43,9 +43,10 @@ use Rattle.entry_lock.proofs.Bits.{same_word}
 use Rattle.entry_lock.proofs.ViewLists.{set_view, bool_is}
 use Rattle.entry_lock.proofs.Places.{word_read}
 use Rattle.entry_lock.proofs.Frame.{Fronts, other_phase, Frame, shows_put}
-use Rattle.entry_lock.proofs.Turns.{pair_low, pair_high, kept, me, entry_there, has_number, had}
+use Rattle.entry_lock.proofs.Turns.{pair_low, pair_high, kept, me, entry_there, has_number}
+use Rattle.entry_lock.proofs.TakenSteps.{own_still}
 use Rattle.lock_core.specs.declared.step.Step.TheVariants.{Look, Mark}
-use Rattle.entry_lock.proofs.AccessOperations.{look_open_step, look_again_step, again_may, mark_step}
+use Rattle.entry_lock.proofs.AccessOperations.{look_open_step, look_again_step, mark_step}
 use Rattle.entry_lock.proofs.Closings.{seen_holds}
 use lib.ListN.{get_elem?}
 use prog.Atomic.{either}
@@ -137,19 +138,19 @@ or_second : (o : Option Sighting) (w : ℕ × ℕ) → is_some (option_or (optio
 or_second None w = refl
 or_second (Some l) w = refl
 
-module _ (key : Opening) (s : TableState ℕ View) (steps : List (ℕ × Step)) (h : Shows key (machine_after key steps) s.words s.views) (id n : ℕ) (ns : List ℕ) (v : View) (at : get_elem? s.views id ≡ some v) (mine : v.numbers ≡ n ∷ ns) where
+module _ (key : Opening) (s : TableState ℕ View) (steps : List (ℕ × Step)) (h : ShowsSteps key steps s.words s.views) (id n : ℕ) (ns : List ℕ) (v : View) (at : get_elem? s.views id ≡ some v) (mine : v.numbers ≡ n ∷ ns) where
   abbrev C : Machine
   C = machine_after key steps
 
   -- ---- the front rises, and nothing else changes
   pub raise_shown : (line : Line) (k : Control) (w : View) → line.entry < length (states_of key) → IsSeen v.actor.lines (states_of key) line → v.actor.phase ≡ Idle → Means (get_or s.words (control_place line.entry) 0) k → is_gone_from k line.stamp ≡ true
-      → w.actor ≡ v.actor → w.numbers ≡ v.numbers → w.passes ≡ v.passes → w.opening ≡ v.opening → w.fronts ≡ raised_fronts v.fronts line.entry ((line.stamp + 1) * 4)
-      → Shows key C s.words (set s.views id w) × IsGone w.fronts line
-  raise_shown line k w inside seen idle means left acts same full opens fronts =
+      → w.actor ≡ v.actor → w.numbers ≡ v.numbers → w.passes ≡ v.passes → w.opening ≡ v.opening → w.fronts ≡ raised_fronts v.fronts line.entry ((line.stamp + 1) * 4) → w.taken ≡ v.taken
+      → ShowsSteps key steps s.words (set s.views id w) × IsGone w.fronts line
+  raise_shown line k w inside seen idle means left acts same full opens fronts taken =
       let e : ℕ = line.entry in
       let f = entry_there key s steps h id n ns v at mine e inside in
       let x : Entry = f.0 in
-      let show = h.words e x f.1 in
+      let show = h.shows.words e x f.1 in
       let ok = (kept key s steps h id n ns v at mine).1.entries e x f.1 in
       let is : x.control ≡ k = same_word (get_or s.words (control_place e) 0) x.control k (show.control, ok.low) means in
       let holds : Holds line x.published = seen_holds key s steps h id n ns v at mine line x inside f.1 seen in
@@ -158,7 +159,7 @@ module _ (key : Opening) (s : TableState ℕ View) (steps : List (ℕ × Step)) 
       let phase : w.actor.phase ≡ Idle = ap (λ (a : Actor). a.phase) acts ∙ idle in
       let fr : Fronts e x x v w = record {
         mine = subst (λ (z : Phase × List ℕ). FrontFits z.0 e x (front_at z.1 e)) (λ i. (sym phase i, sym fronts i))
-            (both_ok e x (front_at v.fronts e) q (front_at (raised_fronts v.fronts e q) e) (other_phase v.actor.phase Idle e x (front_at v.fronts e) (λ z. z) (h.fronts id e v x at f.1)) gone (λ m a b. raised_low v.fronts e q m a b));
+            (both_ok e x (front_at v.fronts e) q (front_at (raised_fronts v.fronts e q) e) (other_phase v.actor.phase Idle e x (front_at v.fronts e) (λ z. z) (h.shows.fronts id e v x at f.1)) gone (λ m a b. raised_low v.fronts e q m a b));
         level = λ e' other. ap (λ l. front_at l e') fronts ∙ raised_else v.fronts e q e' other;
         free = λ e' other holds'. subst (HoldsEntry e') phase holds';
         others = λ p front ok'. ok';
@@ -177,9 +178,14 @@ module _ (key : Opening) (s : TableState ℕ View) (steps : List (ℕ × Step)) 
         fronts = fr;
       } in
       let my = me key s steps h id n ns v at mine in
-      let whole = h.whole id v at (has_number key s steps h id n ns v at mine) in (
-        subst (λ (m : Machine). Shows key m s.words (set s.views id w)) (λ i. record { opening = C.opening; entries = set_again C.entries e x f.1 i; actors = ((ap (set C.actors n) acts) ∙ set_again C.actors n v.actor my) i })
-            (shows_put key C s h id e n ns v w x x s.words at mine f.1 frame),
+      let whole = h.shows.whole id v at (has_number key s steps h id n ns v at mine) in (
+        record {
+          shows =
+              subst (λ (m : Machine). Shows key m s.words (set s.views id w)) (λ i. record { opening = C.opening; entries = set_again C.entries e x f.1 i; actors = ((ap (set C.actors n) acts) ∙ set_again C.actors n v.actor my) i })
+              (shows_put key C s h.shows id e n ns v w x x s.words at mine f.1 frame);
+          allowed = h.allowed;
+          own = own_still key s steps h id n ns v w at mine same taken;
+        },
         subst (λ l. IsGone l line) (sym fronts) (raised_high v.fronts e q (let u = whole.1 in omega arith)),
       )
 
@@ -208,7 +214,7 @@ module _ (key : Opening) (s : TableState ℕ View) (steps : List (ℕ × Step)) 
       let is : words_at start x.control.stamp ≡ Some (start.dword0, start.dword1) = ap (λ b. if b then Some (start.dword0, start.dword1) else None) test in
       ap (λ o. is_some (option_or (option_map words_in first) o)) is ∙ or_second first (start.dword0, start.dword1)) holds) seen
 
-module _ (key : Opening) (s : TableState ℕ View) (steps : List (ℕ × Step)) (h : Shows key (machine_after key steps) s.words s.views) (id n : ℕ) (ns : List ℕ) (v : View) (at : get_elem? s.views id ≡ some v) (mine : v.numbers ≡ n ∷ ns) (live : v.actor.live ≡ true) where
+module _ (key : Opening) (s : TableState ℕ View) (steps : List (ℕ × Step)) (h : ShowsSteps key steps s.words s.views) (id n : ℕ) (ns : List ℕ) (v : View) (at : get_elem? s.views id ≡ some v) (mine : v.numbers ≡ n ∷ ns) (live : v.actor.live ≡ true) where
   abbrev D : Machine
   D = machine_after key steps
 
@@ -221,15 +227,14 @@ module _ (key : Opening) (s : TableState ℕ View) (steps : List (ℕ × Step)) 
       let e : ℕ = line.entry in
       let f = entry_there key s steps h id n ns v at mine e inside in
       let x : Entry = f.0 in
-      let show = h.words e x f.1 in
+      let show = h.shows.words e x f.1 in
       let ok = (kept key s steps h id n ns v at mine).1.entries e x f.1 in
       let found : ℕ = get_or s.words (control_place e) 0 in
-      let there = had key s steps h id n ns v at mine e x f.1 in
       ⊎_elim {C = (w : View) × ShowsRun key (Next (control_place e) found w) × LineLookTells line op v found w}
       (λ (left : is_gone_from x.control line.stamp ≡ true).
       let w : View = view_with_count (view_past v line) e found found in
-      let r = raise_shown key s steps h id n ns v at mine line x.control w inside seen idle (show.control, ok.low) left refl refl refl refl refl in
-      (w, (steps, subst (λ l. Shows key D l (set s.views id w)) (sym (word_read s.words (control_place e))) r.0), (x.control, (show.control, ok.low), (λ _. (refl, r.1)), (λ stay. absurd (false≢true (sym stay ∙ left))), there)))
+      let r = raise_shown key s steps h id n ns v at mine line x.control w inside seen idle (show.control, ok.low) left refl refl refl refl refl refl in
+      (w, (steps, subst (λ l. ShowsSteps key steps l (set s.views id w)) (sym (word_read s.words (control_place e))) r.0), (x.control, (show.control, ok.low), (λ _. (refl, r.1)), (λ stay. absurd (false≢true (sym stay ∙ left))))))
       (λ (stay : is_gone_from x.control line.stamp ≡ false).
       let p = stays x.control line.stamp stay in
       let d : Doing = new_doing e op x.control (words_seen D v.actor e x.control) in
@@ -251,7 +256,7 @@ module _ (key : Opening) (s : TableState ℕ View) (steps : List (ℕ × Step)) 
         read = λ _. (λ i. not x.control.valid || is_some (got.1 i)) ∙ or_right (not x.control.valid);
         words = λ _. (ap (λ (o : Option (ℕ × ℕ)). (unwrap_or o (0, 0)).0) got.1 ∙ sym same.0 ∙ words.0, ap (λ (o : Option (ℕ × ℕ)). without_bits (unwrap_or o (0, 0)).1) got.1 ∙ sym same.1 ∙ words.1 ∙ sym clear);
       } in
-      (view_with_count (view_in_phase v (Looked d)) e found found, ((n, Look e op) ∷ steps, l.0), (x.control, (show.control, ok.low), (λ left. absurd (false≢true (sym stay ∙ left))), (λ _. (d, alike, refl, clear)), there)))
+      (view_with_count (view_in_phase (view_with_step v (Look e op)) (Looked d)) e found found, ((n, Look e op) ∷ steps, l.0), (x.control, (show.control, ok.low), (λ left. absurd (false≢true (sym stay ∙ left))), (λ _. (d, alike, refl, clear)))))
       (bool_is (is_gone_from x.control line.stamp))
     where
       or_right : (b : Bool) → (b || true) ≡ true
@@ -260,17 +265,17 @@ module _ (key : Opening) (s : TableState ℕ View) (steps : List (ℕ × Step)) 
 
   -- ---- the step that finds a line gone
   -- After a miss the front rises too.
-  raise_after : (line : Line) (k : Control) (e ae wanted : ℕ) (w : View) → line.entry < length (states_of key) → IsSeen v.actor.lines (states_of key) line → e ≡ line.entry → ShowsRun key (Next (control_place e) (get_or s.words (control_place e) 0) w) → w ≡ view_with_count (view_in_phase v Idle) ae wanted (get_or s.words (control_place e) 0)
+  raise_after : (line : Line) (k : Control) (step : Step) (e ae wanted : ℕ) (w : View) → line.entry < length (states_of key) → IsSeen v.actor.lines (states_of key) line → e ≡ line.entry → ShowsRun key (Next (control_place e) (get_or s.words (control_place e) 0) w) → w ≡ view_with_count (view_in_phase (view_with_step v step) Idle) ae wanted (get_or s.words (control_place e) 0)
       → Means (get_or s.words (control_place e) 0) k → is_gone_from k line.stamp ≡ true
-      → (let w' : View = view_with_count (view_past (view_in_phase v Idle) line) ae wanted (get_or s.words (control_place e) 0) in ShowsRun key (Next (control_place e) (get_or s.words (control_place e) 0) w') × IsGone w'.fronts line)
-  raise_after line k e ae wanted w inside seen on shown is means left =
+      → (let w' : View = view_with_count (view_past (view_in_phase (view_with_step v step) Idle) line) ae wanted (get_or s.words (control_place e) 0) in ShowsRun key (Next (control_place e) (get_or s.words (control_place e) 0) w') × IsGone w'.fronts line)
+  raise_after line k step e ae wanted w inside seen on shown is means left =
       let found : ℕ = get_or s.words (control_place e) 0 in
-      let w' : View = view_with_count (view_past (view_in_phase v Idle) line) ae wanted found in
+      let w' : View = view_with_count (view_past (view_in_phase (view_with_step v step) Idle) line) ae wanted found in
       let still : get_or (set s.words (control_place e) found) (control_place line.entry) 0 ≡ found = (λ i. get_or (word_read s.words (control_place e) i) (control_place (sym on i)) 0) in
       let r = raise_shown key (Next (control_place e) found w) shown.0 shown.1 id n ns w (set_view s.views id v w at) (ap (λ (z : View). z.numbers) is ∙ mine) line k w' inside
       (subst (λ (z : View). IsSeen z.actor.lines (states_of key) line) (sym is) seen) (ap (λ (z : View). z.actor.phase) is) (still ∙ means.0, means.1) left
-      (ap (λ (z : View). z.actor) (sym is)) (ap (λ (z : View). z.numbers) (sym is)) (ap (λ (z : View). z.passes) (sym is)) (ap (λ (z : View). z.opening) (sym is)) (ap (λ (z : View). raised_fronts z.fronts line.entry ((line.stamp + 1) * 4)) (sym is)) in
-      ((shown.0, subst (λ l. Shows key (machine_after key shown.0) (set s.words (control_place e) found) l) (set_twice s.views id w w') r.0), r.1)
+      (ap (λ (z : View). z.actor) (sym is)) (ap (λ (z : View). z.numbers) (sym is)) (ap (λ (z : View). z.passes) (sym is)) (ap (λ (z : View). z.opening) (sym is)) (ap (λ (z : View). raised_fronts z.fronts line.entry ((line.stamp + 1) * 4)) (sym is)) (ap (λ (z : View). z.taken) (sym is)) in
+      ((shown.0, subst (λ l. ShowsSteps key shown.0 (set s.words (control_place e) found) l) (set_twice s.views id w w') r.0), r.1)
 
   module _ (line : Line) (a d : Doing) (inside : d.entry < length (states_of key)) (is : v.actor.phase ≡ Looked d) (al : AreAlike a d) (read : is_read a ≡ true) (on : a.entry ≡ line.entry) (stamp : a.noted.stamp ≡ line.stamp) (seen : IsSeen v.actor.lines (states_of key) line) where
     abbrev found : ℕ
@@ -284,8 +289,7 @@ module _ (key : Opening) (s : TableState ℕ View) (steps : List (ℕ × Step)) 
 
     pub known_again_step : a.first ≡ None → a.second ≡ None → changes a ≡ false → (w : View) × ShowsRun key (Next (control_place d.entry) found w) × LineSecondLookTells line a v found w
     known_again_step first second still =
-        let may = again_may key s steps h id n ns v at mine live a d inside is al read still in
-        let l = look_again_step key s steps h id n ns v at mine live a d inside is al read d.entry d.op may.0 may.1 still in
+        let l = look_again_step key s steps h id n ns v at mine live a d inside is al read still in
         let shown : ShowsRun key (Next (control_place d.entry) found l.0) = ((n, Look d.entry d.op) ∷ steps, l.1) in
         let t = l.2 in
         dite {C = (w : View) × ShowsRun key (Next (control_place d.entry) found w) × LineSecondLookTells line a v found w} (ℕ_discrete found wanted)
@@ -294,8 +298,8 @@ module _ (key : Opening) (s : TableState ℕ View) (steps : List (ℕ × Step)) 
         (λ (there : is_still t.0 a ≡ true). (l.0, shown, (t.0, t.1, (λ hit. absurd (miss hit)), t.4, λ _ gone. absurd (false≢true (sym gone ∙ there)))))
         (λ (gone : is_still t.0 a ≡ false).
         let left : is_gone_from t.0 line.stamp ≡ true = gone_still a t.0 line.stamp first second stamp gone in
-        let r = raise_after line t.0 d.entry a.entry wanted l.0 inside_line seen (al.entry ∙ on) shown (t.5 miss gone) t.1 left in
-        (view_with_count (view_past (view_in_phase v Idle) line) a.entry wanted found, r.0, (t.0, t.1, (λ hit. absurd (miss hit)), (λ _ there. absurd (false≢true (sym gone ∙ there))), λ _ _. ((refl, r.1), left))))
+        let r = raise_after line t.0 (Look a.entry a.op) d.entry a.entry wanted l.0 inside_line seen (al.entry ∙ on) shown (t.5 miss gone) t.1 left in
+        (view_with_count (view_past (view_in_phase (view_with_step v (Look a.entry a.op)) Idle) line) a.entry wanted found, r.0, (t.0, t.1, (λ hit. absurd (miss hit)), (λ _ there. absurd (false≢true (sym gone ∙ there))), λ _ _. ((refl, r.1), left))))
         (bool_is (is_still t.0 a)))
 
     pub known_mark_step : (new : ℕ) → changes a ≡ true → new ≡ word_of (record a.noted { referenced = (next_state a).referenced; changed = (next_state a).changed })
@@ -305,14 +309,14 @@ module _ (key : Opening) (s : TableState ℕ View) (steps : List (ℕ × Step)) 
         let shown : ShowsRun key (Next (control_place d.entry) (either (eqb found wanted) new found) l.0) = ((n, Mark) ∷ steps, l.1) in
         let t = l.2 in
         dite {C = (w : View) × ShowsRun key (Next (control_place d.entry) (either (eqb found wanted) new found) w) × LineMarkTells line a v found w} (ℕ_discrete found wanted)
-        (λ hit. (l.0, shown, (t.0, t.1, t.2, t.3, (λ miss. absurd (miss hit)), (λ miss. absurd (miss hit)), t.5)))
+        (λ hit. (l.0, shown, (t.0, t.1, t.2, t.3, (λ miss. absurd (miss hit)), (λ miss. absurd (miss hit)))))
         (λ miss. ⊎_elim {C = (w : View) × ShowsRun key (Next (control_place d.entry) (either (eqb found wanted) new found) w) × LineMarkTells line a v found w}
         (λ (left : is_gone_from t.0 line.stamp ≡ true).
         let same : either (eqb found wanted) new found ≡ found = ap (λ b. either b new found) (ne_eqb found wanted miss) in
-        let r = raise_after line t.0 d.entry a.entry wanted l.0 inside_line seen (al.entry ∙ on) (subst (λ m. ShowsRun key (Next (control_place d.entry) m l.0)) same shown) (t.4 miss) t.1 left in (
-          view_with_count (view_past (view_in_phase v Idle) line) a.entry wanted found,
-          subst (λ m. ShowsRun key (Next (control_place d.entry) m (view_with_count (view_past (view_in_phase v Idle) line) a.entry wanted found))) (sym same) r.0,
-          (t.0, t.1, t.2, (λ hit. absurd (miss hit)), (λ _ _. (refl, r.1)), (λ _ stay. absurd (false≢true (sym stay ∙ left))), t.5),
+        let r = raise_after line t.0 Mark d.entry a.entry wanted l.0 inside_line seen (al.entry ∙ on) (subst (λ m. ShowsRun key (Next (control_place d.entry) m l.0)) same shown) (t.4 miss) t.1 left in (
+          view_with_count (view_past (view_in_phase (view_with_step v Mark) Idle) line) a.entry wanted found,
+          subst (λ m. ShowsRun key (Next (control_place d.entry) m (view_with_count (view_past (view_in_phase (view_with_step v Mark) Idle) line) a.entry wanted found))) (sym same) r.0,
+          (t.0, t.1, t.2, (λ hit. absurd (miss hit)), (λ _ _. (refl, r.1)), (λ _ stay. absurd (false≢true (sym stay ∙ left)))),
         ))
-        (λ (stay : is_gone_from t.0 line.stamp ≡ false). (l.0, shown, (t.0, t.1, t.2, (λ hit. absurd (miss hit)), (λ _ left. absurd (false≢true (sym stay ∙ left))), (λ m _. t.4 m), t.5)))
+        (λ (stay : is_gone_from t.0 line.stamp ≡ false). (l.0, shown, (t.0, t.1, t.2, (λ hit. absurd (miss hit)), (λ _ left. absurd (false≢true (sym stay ∙ left))), (λ m _. t.4 m))))
         (bool_is (is_gone_from t.0 line.stamp)))

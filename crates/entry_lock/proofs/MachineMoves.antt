@@ -46,13 +46,19 @@ actor_is m i a me = get_or_from_slice_get m.actors i a nobody me
 pub entry_is : (m : Machine) (e : ℕ) (x : Entry) → slice_get m.entries e ≡ Some x → entry_at m e ≡ x
 entry_is m e x at = get_or_from_slice_get m.entries e x (unheld_entry (empty_state 0)) at
 
+-- The machine takes the step, which is on an entry, and this is what it leaves.
+pub record Moves (m : Machine) (i : ℕ) (s : Step) (after : Machine) : Type 0 where
+  pub on : IsOnEntry s
+  pub allowed : is_allowed m i s ≡ true
+  pub is : after_step m i s ≡ after
+
 module _ (m : Machine) (i : ℕ) (a : Actor) (s : Step) (p : Phase) (x : Entry) (on : IsOnEntry s) (names : names_entry m s ≡ true) (me : slice_get m.actors i ≡ Some a) (live : a.live ≡ true) (is : a.phase ≡ p) (at : slice_get m.entries (entry_of p s) ≡ Some x) (fit : fits x p s ≡ true) where
   fits_is : fits_entry m i s ≡ true
   fits_is = ap (λ (b : Actor). in_table m (entry_of b.phase s) && fits (entry_at m (entry_of b.phase s)) b.phase s) (actor_is m i a me)
       ∙ ap (λ (q : Phase). in_table m (entry_of q s) && fits (entry_at m (entry_of q s)) q s) is
       ∙ (λ j. in_table_is m (entry_of p s) x at j && fits (entry_is m (entry_of p s) x at j) p s) ∙ fit
 
-  may : is_allowed m i s ≡ true
+  pub may : is_allowed m i s ≡ true
   may = allowed_by m i s (may_is m i s on ∙ ap (λ (b : Actor). b.live) (actor_is m i a me) ∙ live) names (phase_is m i s on ∙ fits_is)
 
   abbrev by_parts : Actor → Phase → Entry → Machine

@@ -18,7 +18,7 @@ use Rattle.entry_lock.specs.declared.rule.View.{View}
 use Rattle.entry_lock.specs.declared.rule.Opening.{Opening}
 use Rattle.entry_lock.specs.Layout.{word_of, entry_words}
 use Rattle.entry_lock.specs.Views.{occurrences, states_of, numbers_from, first_view}
-use Rattle.entry_lock.specs.Rule.{Shows, machine_after, ActsAs, IsHead}
+use Rattle.entry_lock.specs.Rule.{Shows, ShowsSteps, machine_after, ActsAs, IsHead}
 use Rattle.entry_lock.proofs.ViewLists.{one, times_cons, bool_is}
 use Rattle.entry_lock.proofs.Turns.{there}
 use lib.ListN.{length-replicate}
@@ -117,9 +117,9 @@ fronts_length : (states : List State) → length (opening_fronts states) ≡ len
 fronts_length [] = refl
 fronts_length (s ∷ rest) = ap suc (fronts_length rest)
 
-pub opens : (key : Opening) → All IsFair (states_of key) → 0 < key.passes → Shows key (machine_after key []) (0 ∷ entry_words (states_of key)) (first_view key ∷ [])
+machine_opens : (key : Opening) → All IsFair (states_of key) → 0 < key.passes → Shows key (machine_after key []) (0 ∷ entry_words (states_of key)) (first_view key ∷ [])
 unfolding run opening_machine
-opens key fair some_pass =
+machine_opens key fair some_pass =
     let states = states_of key in
     let m : Machine = opening_machine states key.passes in
     let v : View = first_view key in
@@ -143,3 +143,10 @@ opens key fair some_pass =
       apart = λ k. (let t = few_times k 0 key.passes in omega arith);
       shares = (let l = length_numbers 0 key.passes in omega arith);
     }
+
+pub opens : (key : Opening) → All IsFair (states_of key) → 0 < key.passes → ShowsSteps key [] (0 ∷ entry_words (states_of key)) (first_view key ∷ [])
+opens key fair some_pass = record {
+  shows = machine_opens key fair some_pass;
+  allowed = tt;
+  own = λ j n u is head. ap (λ (z : View). z.taken) (sym (only_view (first_view key) u j is));
+}

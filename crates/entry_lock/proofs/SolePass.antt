@@ -14,7 +14,7 @@ use Rattle.lock_core.proofs.Lists.{some_same, none_some, same_at}
 use Rattle.lock_core.proofs.Noted.{not_true}
 use Rattle.entry_lock.specs.declared.rule.View.{View}
 use Rattle.entry_lock.specs.declared.rule.Opening.{Opening}
-use Rattle.entry_lock.specs.Rule.{IsHead, HoldsEntry, Shows, machine_after}
+use Rattle.entry_lock.specs.Rule.{IsHead, HoldsEntry, ShowsSteps, machine_after}
 use Rattle.entry_lock.proofs.ViewLists.{same_view, total_two, head_at, head_length}
 use Rattle.entry_lock.proofs.Turns.{kept, me, from_lock}
 use lib.ListN.{get_elem?}
@@ -29,16 +29,16 @@ lone_receipts [] n a at none = absurd (none_some a at)
 lone_receipts (x ∷ xs) zero a at none = ap (λ r. x.receipts ++ r) (no_receipts xs (λ i b e. none (suc i) b (λ q. omega arith) e)) ∙ append-nil x.receipts ∙ ap (λ (z : Actor). z.receipts) (some_same x a at)
 lone_receipts (x ∷ xs) (suc n) a at none = ap (λ r. r ++ receipts_of xs) (none 0 x (λ q. omega arith) refl) ∙ lone_receipts xs n a at (λ i b o e. none (suc i) b (λ q. o (omega arith)) e)
 
-module _ (key : Opening) (s : TableState ℕ View) (steps : List (ℕ × Step)) (h : Shows key (machine_after key steps) s.words s.views) (id n : ℕ) (ns : List ℕ) (v : View) (at : get_elem? s.views id ≡ some v) (mine : v.numbers ≡ n ∷ ns) (all : length v.numbers ≡ key.passes) where
+module _ (key : Opening) (s : TableState ℕ View) (steps : List (ℕ × Step)) (h : ShowsSteps key steps s.words s.views) (id n : ℕ) (ns : List ℕ) (v : View) (at : get_elem? s.views id ≡ some v) (mine : v.numbers ≡ n ∷ ns) (all : length v.numbers ≡ key.passes) where
   abbrev C : Machine
   C = machine_after key steps
 
   -- Every live actor is this pass's.
   sole : (i : ℕ) (b : Actor) → slice_get C.actors i ≡ Some b → b.live ≡ true → i ≡ n
   sole i b is live =
-      let o = h.owned i b is live in
+      let o = h.shows.owned i b is live in
       dite {C = i ≡ n} (ℕ_discrete o.0 id) (λ e. sym (head_at v.numbers ns n i mine (subst (λ (z : View). IsHead z.numbers i) (same_view s.views id o.1 v (subst (λ q. get_elem? s.views q ≡ some o.1) e o.2) at) o.3)))
-      (λ other. let t = total_two (λ (z : View). length z.numbers) s.views o.0 id o.1 v other o.2 at in let l = head_length o.1.numbers i o.3 in let e = h.shares in absurd (omega arith))
+      (λ other. let t = total_two (λ (z : View). length z.numbers) s.views o.0 id o.1 v other o.2 at in let l = head_length o.1.numbers i o.3 in let e = h.shows.shares in absurd (omega arith))
 
   others_none : (i : ℕ) (b : Actor) → i ≢ n → slice_get C.actors i ≡ Some b → b ≡ nobody
   others_none i b other is = (kept key s steps h id n ns v at mine).1.quiet i b is (not_true b.live (λ live. other (sole i b is live)))

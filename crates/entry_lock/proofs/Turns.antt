@@ -18,8 +18,8 @@ use Rattle.lock_core.specs.declared.phase.Phase.{Phase}
 use Rattle.lock_core.specs.declared.phase.Phase.TheVariants.{Idle, Held, HeldShut, Looked}
 use Rattle.lock_core.specs.declared.step.Step.{Step}
 use Rattle.lock_core.specs.declared.step_result.StepResult.{StepResult}
-use Rattle.lock_core.specs.Machine.{Actor, Machine, nobody, opening_machine, actor_at, entry_at, words_seen}
-use Rattle.lock_core.specs.Steps.{actor_after, entry_of, fits, step_result, names_entry, after_step}
+use Rattle.lock_core.specs.Machine.{Actor, Machine, nobody, words_seen}
+use Rattle.lock_core.specs.Steps.{actor_after, entry_of, fits, step_result, names_entry}
 use Rattle.lock_core.specs.Runs.{run}
 use Rattle.lock_core.proofs.Kept.{HasLock, IsOn, Kept}
 use Rattle.lock_core.proofs.Moves.{Tells, Change, put_both, lock_is_on, after_phase}
@@ -28,12 +28,11 @@ use Rattle.lock_core.proofs.Whole.{result_change}
 use Rattle.entry_lock.specs.declared.rule.View.{View}
 use Rattle.entry_lock.specs.declared.rule.Opening.{Opening}
 use Rattle.entry_lock.specs.Views.{states_of}
-use Rattle.entry_lock.specs.Rule.{ActsAs, HoldsEntry, WordsShow, AreStored, FrontFits, Shows, machine_after}
-use Rattle.entry_lock.specs.Layout.{word_of, control_place}
-use Rattle.entry_lock.specs.Found.{first_number, machine_of, EntryHad}
+use Rattle.entry_lock.specs.Rule.{ActsAs, HoldsEntry, WordsShow, AreStored, FrontFits, Shows, ShowsSteps, machine_after}
 use Rattle.entry_lock.specs.PassInvariants.{IsActing}
 use Rattle.entry_lock.specs.Laws.{IsOnEntry}
-use Rattle.entry_lock.proofs.MachineMoves.{moved_turn, actor_is, entry_is}
+use Rattle.entry_lock.proofs.MachineMoves.{Moves, may, moved_turn}
+use Rattle.entry_lock.proofs.TakenSteps.{own_after}
 use Rattle.entry_lock.proofs.Frame.{Fronts, other_phase, Frame, apart_from, shows_put}
 use lib.ListN.{get_elem?}
 
@@ -136,15 +135,15 @@ there [] i h = absurd (omega arith)
 there (x ∷ xs) Rattle.std.proofs.Common.zero h = (x, refl)
 there (x ∷ xs) (Rattle.std.proofs.Common.suc i) h = there xs i (omega arith)
 
-module _ (key : Opening) (s : TableState ℕ View) (steps : List (ℕ × Step)) (h : Shows key (machine_after key steps) s.words s.views) (id n : ℕ) (ns : List ℕ) (v : View) (at : get_elem? s.views id ≡ some v) (mine : v.numbers ≡ n ∷ ns) where
+module _ (key : Opening) (s : TableState ℕ View) (steps : List (ℕ × Step)) (h : ShowsSteps key steps s.words s.views) (id n : ℕ) (ns : List ℕ) (v : View) (at : get_elem? s.views id ≡ some v) (mine : v.numbers ≡ n ∷ ns) where
   abbrev pub C : Machine
   C = machine_after key steps
 
   pub kept : (log : List Receipt) × Kept (states_of key) C log
-  kept = run_kept (states_of key) h.fair key.passes steps
+  kept = run_kept (states_of key) h.shows.fair key.passes steps
 
   pub me : slice_get C.actors n ≡ Some v.actor
-  me = subst (λ l. ActsAs C l v.actor) mine (h.views id v at)
+  me = subst (λ l. ActsAs C l v.actor) mine (h.shows.views id v at)
 
   pub entry_there : (e : ℕ) → e < length (states_of key) → (x : Entry) × (slice_get C.entries e ≡ Some x)
   entry_there e inside = there C.entries e (let k = kept.1.size in omega arith)
@@ -155,26 +154,14 @@ module _ (key : Opening) (s : TableState ℕ View) (steps : List (ℕ × Step)) 
   pub has_number : 0 < length v.numbers
   has_number = let l = ap length mine in omega arith
 
-  -- The machine on what the pass knows of the opening.
-  same_machine : machine_of v steps ≡ C
-  same_machine = let whole = h.whole id v at has_number in λ i. run (opening_machine (whole.2 i) (whole.0 i)) steps
-
-  -- The word that stands at an entry's place is its control word at this moment.
-  pub had : (e : ℕ) (x : Entry) → slice_get C.entries e ≡ Some x → EntryHad v e (get_or s.words (control_place e) 0)
-  had e x here = record {
-    steps = steps;
-    made = (λ i. (actor_at (same_machine i) (first_number v.numbers)).receipts) ∙ ap (λ l. (actor_at C (first_number l)).receipts) mine ∙ ap (λ (a : Actor). a.receipts) (actor_is C n v.actor me);
-    found = (h.words e x here).control ∙ ap (λ (z : Entry). word_of z.control) (sym (entry_is C e x here)) ∙ sym (λ i. word_of (entry_at (same_machine i) e).control);
-  }
-
   -- Nobody else has shut what this pass holds.
   lone : (e : ℕ) → HoldsEntry e v.actor.phase → (j : ℕ) (u : View) (d : Doing) (numbers : List ℕ) → u.numbers ≡ numbers → ◌≢◌ j id → get_elem? s.views j ≡ some u → u.actor.phase ≡ HeldShut d → d.entry ≢ e
   lone e holds j u d [] is other at' shut on =
-      let a : u.actor ≡ nobody = subst (λ l. ActsAs C l u.actor) is (h.views j u at') in
+      let a : u.actor ≡ nobody = subst (λ l. ActsAs C l u.actor) is (h.shows.views j u at') in
       let q : nobody.phase ≡ HeldShut d = ap (λ (z : Actor). z.phase) (sym a) ∙ shut in absurd cc
   lone e holds j u d (k ∷ ks) is other at' shut on =
-      let theirs : slice_get C.actors k ≡ Some u.actor = subst (λ l. ActsAs C l u.actor) is (h.views j u at') in
-      apart_from key C s h j id n k u v ns ks other at at' mine is (kept.1.one e k n u.actor v.actor theirs me (subst (HasLock e) (sym shut) on) (to_lock e v.actor.phase holds))
+      let theirs : slice_get C.actors k ≡ Some u.actor = subst (λ l. ActsAs C l u.actor) is (h.shows.views j u at') in
+      apart_from key C s h.shows j id n k u v ns ks other at at' mine is (kept.1.one e k n u.actor v.actor theirs me (subst (HasLock e) (sym shut) on) (to_lock e v.actor.phase holds))
 
   module _ (e : ℕ) (w : View) (x : Entry) (t : StepResult) (words : List ℕ) (z : Change C e n x v.actor t) (k : Takes key s.words words e v w x t) where
     same_phase : w.actor.phase ≡ t.phase
@@ -185,7 +172,7 @@ module _ (key : Opening) (s : TableState ℕ View) (steps : List (ℕ × Step)) 
 
     fronts : Fronts e x t.entry v w
     fronts = record {
-      mine = subst (λ (q : Phase × List ℕ). FrontFits q.0 e t.entry (front_at q.1 e)) (λ i. (sym same_phase i, sym k.after.fronts i)) (mine_by e x t.entry v.actor.phase t.phase v.fronts t.made z.tells k.lifts (h.fronts id e v x at z.here) k.calm);
+      mine = subst (λ (q : Phase × List ℕ). FrontFits q.0 e t.entry (front_at q.1 e)) (λ i. (sym same_phase i, sym k.after.fronts i)) (mine_by e x t.entry v.actor.phase t.phase v.fronts t.made z.tells k.lifts (h.shows.fronts id e v x at z.here) k.calm);
       level = λ e' other. ap (λ f. front_at f e') k.after.fronts ∙ level_by e x.published t.entry.published v.fronts t.made z.tells e' other;
       free = λ e' other holds. other (on_this e' (lock_is_on e' w.actor.phase (to_lock e' w.actor.phase holds)));
       others = lifted e x t.entry t.made z.tells k.lifts;
@@ -206,19 +193,23 @@ module _ (key : Opening) (s : TableState ℕ View) (steps : List (ℕ × Step)) 
       fronts = fronts;
     }
 
-    -- The machine takes the step, and the rule holds.
-    pub turn_shown : (step : Step) → after_step C n step ≡ put_both C e t.entry n (actor_after v.actor t.phase t.made) → Shows key (machine_after key ((n, step) ∷ steps)) words (set s.views id w)
+    -- The machine takes the step, the pass knows it, and the rule holds.
+    pub turn_shown : (step : Step) → w.taken ≡ step ∷ v.taken → Moves C n step (put_both C e t.entry n (actor_after v.actor t.phase t.made)) → ShowsSteps key ((n, step) ∷ steps) words (set s.views id w)
     unfolding run
-    turn_shown step moves =
-        subst (λ (m : Machine). Shows key m words (set s.views id w)) (sym (moves ∙ ap (put_both C e t.entry n) (sym k.after.actor)))
-        (shows_put key C s h id e n ns v w x t.entry words at mine z.here frame)
+    turn_shown step taken moves = record {
+      shows =
+          subst (λ (m : Machine). Shows key m words (set s.views id w)) (sym (moves.is ∙ ap (put_both C e t.entry n) (sym k.after.actor)))
+          (shows_put key C s h.shows id e n ns v w x t.entry words at mine z.here frame);
+      allowed = (moves.allowed, h.allowed);
+      own = own_after key s steps h id n ns v w at mine k.after.numbers step moves.on taken;
+    }
 
     -- A receipt that the step makes isn't before the pass's front.
     pub turn_ahead : (r : Receipt) → t.made ≡ Some r → IsAhead v.fronts r
     turn_ahead r made =
         let tells : Tells e x.published (Some r) t.entry.published = subst (λ o. Tells e x.published o t.entry.published) made z.tells in
         let calm : (x.control.shut ≡ false) ⊎ HoldsEntry e v.actor.phase = ⊎_elim {C = (x.control.shut ≡ false) ⊎ HoldsEntry e v.actor.phase} (λ (q : (t.made ≡ None) × ¬ HoldsEntry e t.phase). absurd (none_some r (sym made ∙ q.0))) (λ c. c) k.calm in
-        let low = left_of e v.actor.phase x (front_at v.fronts e) calm (h.fronts id e v x at z.here) in
+        let low = left_of e v.actor.phase x (front_at v.fronts e) calm (h.shows.fronts id e v x at z.here) in
         let before = ap pair_of tells.1 in
         let here = ap (front_at v.fronts) tells.0 in omega arith
 
@@ -228,8 +219,12 @@ module _ (key : Opening) (s : TableState ℕ View) (steps : List (ℕ × Step)) 
   change_of p step x t live is here fit turn_is = subst (Change C (entry_of p step) n x v.actor) turn_is (result_change (states_of key) C kept.0 kept.1 n v.actor me live p step x is here fit)
 
   pub moves_of : (p : Phase) (step : Step) (x : Entry) (t : StepResult) → IsOnEntry step → names_entry C step ≡ true → v.actor.live ≡ true → v.actor.phase ≡ p → slice_get C.entries (entry_of p step) ≡ Some x → fits x p step ≡ true → step_result (words_seen C v.actor (entry_of p step) x.control) x p step ≡ t
-      → after_step C n step ≡ put_both C (entry_of p step) t.entry n (actor_after v.actor t.phase t.made)
-  moves_of p step x t on names live is here fit turn_is = moved_turn C n v.actor step p x on names me live is here fit t turn_is
+      → Moves C n step (put_both C (entry_of p step) t.entry n (actor_after v.actor t.phase t.made))
+  moves_of p step x t on names live is here fit turn_is = record {
+    on = on;
+    allowed = may C n v.actor step p x on names me live is here fit;
+    is = moved_turn C n v.actor step p x on names me live is here fit t turn_is;
+  }
 
 nonempty : (l : List ℕ) → 0 < length l → (n : ℕ) × (ns : List ℕ) × (l ≡ n ∷ ns)
 nonempty [] h = absurd (omega arith)

@@ -1,16 +1,19 @@
 -- What each step of an access tells its pass: the view v before, the word found, the view w after.
+-- Each is one step of the machine.
 use Rattle.std.specs.Prelude.{◌≡◌, ◌≢◌, ℕ, Bool, true, false, length, Option, unwrap_or}
 use Rattle.entry_model.specs.declared.operation.Op.{Op}
 use Rattle.entry_model.specs.Fronts.{IsAhead}
 use Rattle.lock_core.specs.declared.control.Control.{Control}
 use Rattle.lock_core.specs.declared.doing.Doing.{Doing}
 use Rattle.lock_core.specs.declared.phase.Phase.TheVariants.{Idle, Looked}
+use Rattle.lock_core.specs.declared.step.Step.{Step}
+use Rattle.lock_core.specs.declared.step.Step.TheVariants.{Look, LoadData, Mark}
 use Rattle.lock_core.specs.Words.{without_bits, known_words, is_read, receipt, is_still}
 use Rattle.lock_core.specs.Steps.{new_doing, with_noted}
 use Rattle.entry_lock.specs.declared.rule.View.{View}
 use Rattle.entry_lock.specs.Layout.{word_of, Means}
-use Rattle.entry_lock.specs.StepViews.{view_in_phase, view_with_receipt, view_with_count, doing_with_word}
-use Rattle.entry_lock.specs.Found.{EntryHad}
+use Rattle.entry_lock.specs.CallSteps.{leaves_state}
+use Rattle.entry_lock.specs.StepViews.{view_with_step, view_in_phase, view_with_receipt, view_with_count, doing_with_word}
 
 -- ---- the first look
 -- The look found the entry shut, and changed nothing; or the word is noted now. A pass with all
@@ -19,16 +22,17 @@ use Rattle.entry_lock.specs.Found.{EntryHad}
 abbrev pub LookTells : Op → ℕ → View → ℕ → View → Type 0
 LookTells op e v found w = (noted : Control) × Means found noted
     × (length v.numbers ≡ v.passes → noted.shut ≡ false)
-    × (noted.shut ≡ true → w ≡ view_with_count v e found found)
+    × (noted.shut ≡ true → w ≡ view_with_count (view_with_step v (Look e op)) e found found)
     × (noted.shut ≡ false
     → (seen : Option (ℕ × ℕ))
-    × (w ≡ view_with_count (view_in_phase v (Looked (new_doing e op noted seen))) e found found))
-    × EntryHad v e found
+    × (let looked : View = view_in_phase (view_with_step v (Look e op))
+    (Looked (new_doing e op noted seen)) in
+    w ≡ view_with_count looked e found found))
 
 -- The access has loaded a data word.
 abbrev pub LookedLoadTells : Bool → Doing → View → ℕ → View → Type 0
 LookedLoadTells second d v found w =
-    w ≡ view_in_phase v (Looked (doing_with_word second found d))
+    w ≡ view_in_phase (view_with_step v (LoadData second)) (Looked (doing_with_word second found d))
 
 -- ---- what an access knows
 -- The operation d of an actor, as the code has it in a: what was seen may differ, but the words
@@ -51,12 +55,23 @@ abbrev pub IsLooking : View → Doing → Type 0
 IsLooking v a = (d : Doing) × (v.actor.phase ≡ Looked d) × AreAlike a d
 
 -- ---- the step that decides
--- The view with the receipt of an operation at its deciding step, and the receipt isn't before the
--- pass's front.
-abbrev pub Decides : Doing → Doing → View → ℕ → View → Type 0
-Decides d by v found w =
-    (w ≡ view_with_count (view_with_receipt v (receipt by)) d.entry (word_of d.noted) found)
+-- The view with the receipt of an operation at this step, which decides it, and the receipt isn't
+-- before the pass's front.
+abbrev pub Decides : Step → Doing → Doing → View → ℕ → View → Type 0
+Decides step d by v found w =
+    (let made : View = view_with_receipt (view_with_step v step) (receipt by) in
+    w ≡ view_with_count made d.entry (word_of d.noted) found)
     × IsAhead v.fronts (receipt by)
+
+-- The step found another word, and there is no receipt.
+abbrev pub Misses : Step → Doing → View → ℕ → View → Type 0
+Misses step d v found w =
+    w ≡ view_with_count (view_in_phase (view_with_step v step) Idle) d.entry (word_of d.noted) found
+
+-- By another word at the stamp that was noted, the operation leaves the entry as well.
+pub record LeavesAlike (d : Doing) (noted : Control) : Type 0 where
+  pub valid : noted.valid ≡ d.noted.valid
+  pub leaves : leaves_state (receipt (with_noted d noted)) ≡ true
 
 -- The second look, of an access that raises no bit. It finds the word noted, and the receipt is
 -- made. Or the data words were seen, and the word found is at their stamp, and the receipt has its
@@ -64,18 +79,15 @@ Decides d by v found w =
 abbrev pub SecondLookTells : Doing → View → ℕ → View → Type 0
 SecondLookTells d v found w = (noted : Control) × Means found noted
     × (length v.numbers ≡ v.passes → found ≡ word_of d.noted)
-    × (found ≡ word_of d.noted → Decides d d v found w)
-    × (found ≢ word_of d.noted → is_still noted d ≡ true → Decides d (with_noted d noted) v found w)
-    × (found ≢ word_of d.noted → is_still noted d ≡ false
-    → w ≡ view_with_count (view_in_phase v Idle) d.entry (word_of d.noted) found)
-    × EntryHad v d.entry found
+    × (found ≡ word_of d.noted → Decides (Look d.entry d.op) d d v found w)
+    × (found ≢ word_of d.noted → is_still noted d ≡ true
+    → Decides (Look d.entry d.op) d (with_noted d noted) v found w × LeavesAlike d noted)
+    × (found ≢ word_of d.noted → is_still noted d ≡ false → Misses (Look d.entry d.op) d v found w)
 
 -- The mark, of an access that raises a bit. It finds the word noted, and the receipt is made; or it
 -- finds another word, changes nothing, and there is none.
 abbrev pub MarkTells : Doing → View → ℕ → View → Type 0
 MarkTells d v found w = (noted : Control) × Means found noted
     × (length v.numbers ≡ v.passes → found ≡ word_of d.noted)
-    × (found ≡ word_of d.noted → Decides d d v found w)
-    × (found ≢ word_of d.noted
-    → w ≡ view_with_count (view_in_phase v Idle) d.entry (word_of d.noted) found)
-    × EntryHad v d.entry found
+    × (found ≡ word_of d.noted → Decides Mark d d v found w)
+    × (found ≢ word_of d.noted → Misses Mark d v found w)

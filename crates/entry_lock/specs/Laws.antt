@@ -1,5 +1,7 @@
 -- The laws of the table. Between any two atomic operations the kit's table keeps the rule, that
--- words and views show the machine after some steps; these say which steps.
+-- words and views show the machine after some steps, of which each pass knows its own. These say
+-- how the list of steps begins, and that each step that the machine allows can be taken by one
+-- operation; `SingleSteps` says that each operation is one step.
 use Rattle.std.specs.Prelude.{◌≡◌, ℕ, ◌<◌, Bool, true, List, [], ◌∷◌, ◌++◌, length, slice_index, slice_set, All}
 use mathlib.Core.Option.{some}
 use Rattle.entry_model.specs.State.{State}
@@ -18,7 +20,7 @@ use Rattle.entry_lock.specs.declared.rule.View.{View}
 use Rattle.entry_lock.specs.declared.rule.Opening.{Opening}
 use Rattle.entry_lock.specs.Layout.{Means, control_place, entry_words}
 use Rattle.entry_lock.specs.Views.{states_of, first_view, parent_view, child_view, joined_view, spent_view}
-use Rattle.entry_lock.specs.Rule.{Shows, machine_after}
+use Rattle.entry_lock.specs.Rule.{ShowsSteps, machine_after}
 use Rattle.entry_lock.specs.StepViews.{view_with_count, view_past}
 use Rattle.entry_lock.specs.SeenLines.{IsSeen}
 use Rattle.entry_lock.specs.LineSteps.{is_gone_from}
@@ -36,7 +38,7 @@ pub record ShowsPass
     (j n : ℕ)
     (v : View)
     : Type 0 where
-  pub shows : Shows key (machine_after key steps) words views
+  pub shows : ShowsSteps key steps words views
   pub pass : get_elem? views j ≡ some v
   pub others : List ℕ
   pub numbers : v.numbers ≡ n ∷ others
@@ -49,18 +51,18 @@ pub record IsOnEntry (step : Step) : Type 0 where
 -- A table opens on the machine that has taken no step.
 abbrev pub TablesOpenOnTheirStates : Type 0
 TablesOpenOnTheirStates = (key : Opening) → All IsFair (states_of key) → 0 < key.passes
-    → Shows key (machine_after key []) (0 ∷ entry_words (states_of key)) (first_view key ∷ [])
+    → ShowsSteps key [] (0 ∷ entry_words (states_of key)) (first_view key ∷ [])
 
 -- Where the machine allows an actor a step on an entry, the pass that acts as it takes the step by
--- one atomic operation of that kind: words and views then show the machine after it, and no other
--- pass's view has changed.
+-- one atomic operation of that kind: words and views then show the machine after it, the pass knows
+-- that it took this one step more, and no other pass's view has changed.
 abbrev pub EachOperationIsAStep : Type 0
 EachOperationIsAStep =
     (key : Opening) (steps : List (ℕ × Step)) (words : List ℕ) (views : List View) (j n : ℕ)
     (v : View) (step : Step) → ShowsPass key steps words views j n v → IsOnEntry step
     → is_allowed (machine_after key steps) n step ≡ true
-    → (w : View) × (w.numbers ≡ v.numbers)
-    × Shows key (machine_after key ((n, step) ∷ steps))
+    → (w : View) × (w.numbers ≡ v.numbers) × (w.taken ≡ step ∷ v.taken)
+    × ShowsSteps key ((n, step) ∷ steps)
     (words_after words (operation_of v.actor.phase step)) (slice_set views j w)
 
 -- The one exception: a first look by a cached line that finds the entry gone from the line's stamp
@@ -75,16 +77,16 @@ LooksThatFindGoneAreNoSteps =
     → is_gone_from noted cached.stamp ≡ true
     → (let found : ℕ = slice_index words (control_place cached.entry) in
     let w : View = view_with_count (view_past v cached) cached.entry found found in
-    Shows key (machine_after key steps) words (slice_set views j w) × IsGone w.fronts cached)
+    ShowsSteps key steps words (slice_set views j w) × IsGone w.fronts cached)
 
 -- A split of a pass is the machine's split: the new pass acts as an actor that wasn't live.
 abbrev pub SplitsAreSteps : Type 0
 SplitsAreSteps =
     (key : Opening) (steps : List (ℕ × Step)) (words : List ℕ) (views : List View) (j n m : ℕ)
-    (v : View) (ms : List ℕ) → Shows key (machine_after key steps) words views
+    (v : View) (ms : List ℕ) → ShowsSteps key steps words views
     → get_elem? views j ≡ some v → v.numbers ≡ n ∷ m ∷ ms → v.actor.phase ≡ Idle
     → v.actor.live ≡ true
-    → Shows key (machine_after key ((n, Split m) ∷ steps)) words
+    → ShowsSteps key ((n, Split m) ∷ steps) words
     (slice_set views j (parent_view v) ++ child_view v ∷ [])
 
 -- A join of two passes is the machine's join: the other actor isn't live afterwards.
@@ -94,7 +96,7 @@ JoinsAreSteps =
     (v w : View) → ShowsPass key steps words views j n v → v.actor.phase ≡ Idle
     → v.actor.live ≡ true → ShowsPass key steps words views k m w → w.actor.phase ≡ Idle
     → w.actor.live ≡ true → ¬ (k ≡ j)
-    → Shows key (machine_after key ((n, Join m) ∷ steps)) words
+    → ShowsSteps key ((n, Join m) ∷ steps) words
     (slice_set (slice_set views j (joined_view v w)) k spent_view)
 
 -- ---- histories

@@ -1,7 +1,7 @@
 pub mod Layout
 pub mod Views
+pub mod OwnSteps
 pub mod Rule
-pub mod Found
 pub mod StepViews
 pub mod HolderSteps
 pub mod AccessSteps
@@ -11,9 +11,11 @@ pub mod Plays
 pub mod PassInvariants
 pub mod BusyCauses
 pub mod PassChanges
+pub mod CallSteps
 pub mod Progress
 pub mod PassOfTable
 pub mod Closing
 pub mod WaitingStore
 pub mod Operations
+pub mod SingleSteps
 pub mod Laws

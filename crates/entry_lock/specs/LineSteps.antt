@@ -1,5 +1,5 @@
 -- What each step of an access by a cached line tells its pass: the view v before, the word found,
--- the view w after.
+-- the view w after. Each is one step of the machine, but for a first look that finds the line gone.
 use Rattle.std.specs.Prelude.{◌≡◌, ◌≢◌, ℕ, ◌==◌, ◌||◌, not, Bool, true, false, length, Some}
 use Rattle.entry_model.specs.declared.line.Line.{Line}
 use Rattle.entry_model.specs.declared.operation.Op.{Op}
@@ -7,13 +7,13 @@ use Rattle.entry_model.specs.Fronts.{IsGone}
 use Rattle.lock_core.specs.declared.control.Control.{Control}
 use Rattle.lock_core.specs.declared.doing.Doing.{Doing}
 use Rattle.lock_core.specs.declared.phase.Phase.TheVariants.{Idle, Looked}
+use Rattle.lock_core.specs.declared.step.Step.TheVariants.{Look, Mark}
 use Rattle.lock_core.specs.Words.{without_bits, is_still}
 use Rattle.lock_core.specs.Steps.{new_doing, with_noted}
 use Rattle.entry_lock.specs.declared.rule.View.{View}
 use Rattle.entry_lock.specs.Layout.{word_of, Means}
-use Rattle.entry_lock.specs.StepViews.{view_in_phase, view_with_count, view_past}
-use Rattle.entry_lock.specs.AccessSteps.{AreAlike, Decides}
-use Rattle.entry_lock.specs.Found.{EntryHad}
+use Rattle.entry_lock.specs.StepViews.{view_with_step, view_in_phase, view_with_count, view_past}
+use Rattle.entry_lock.specs.AccessSteps.{AreAlike, Decides, Misses, LeavesAlike}
 
 -- The entry is gone from the stamp: its word is shut, isn't valid, or has another stamp.
 abbrev pub is_gone_from : Control → ℕ → Bool
@@ -36,17 +36,19 @@ LineLookTells cached op v found w = (noted : Control) × Means found noted
     × (is_gone_from noted cached.stamp ≡ true → GoesPast cached v cached.entry found found w)
     × (is_gone_from noted cached.stamp ≡ false
     → (d : Doing) × AreAlike (doing_by_line cached op noted) d
-    × (w ≡ view_with_count (view_in_phase v (Looked d)) cached.entry found found)
+    × (let looked : View = view_in_phase (view_with_step v (Look cached.entry op)) (Looked d) in
+    w ≡ view_with_count looked cached.entry found found)
     × (without_bits cached.dword1 ≡ cached.dword1))
-    × EntryHad v cached.entry found
 
 -- The second look by a line: where there is no receipt the line is gone.
 abbrev pub LineSecondLookTells : Line → Doing → View → ℕ → View → Type 0
 LineSecondLookTells cached d v found w = (noted : Control) × Means found noted
-    × (found ≡ word_of d.noted → Decides d d v found w)
-    × (found ≢ word_of d.noted → is_still noted d ≡ true → Decides d (with_noted d noted) v found w)
+    × (found ≡ word_of d.noted → Decides (Look d.entry d.op) d d v found w)
+    × (found ≢ word_of d.noted → is_still noted d ≡ true
+    → Decides (Look d.entry d.op) d (with_noted d noted) v found w × LeavesAlike d noted)
     × (found ≢ word_of d.noted → is_still noted d ≡ false
-    → GoesPast cached (view_in_phase v Idle) d.entry (word_of d.noted) found w
+    → (let idle : View = view_in_phase (view_with_step v (Look d.entry d.op)) Idle in
+    GoesPast cached idle d.entry (word_of d.noted) found w)
     × (is_gone_from noted cached.stamp ≡ true))
 
 -- The mark by a line: where there is no receipt the line is gone, or the entry is at its stamp with
@@ -54,9 +56,8 @@ LineSecondLookTells cached d v found w = (noted : Control) × Means found noted
 abbrev pub LineMarkTells : Line → Doing → View → ℕ → View → Type 0
 LineMarkTells cached d v found w = (noted : Control) × Means found noted
     × (length v.numbers ≡ v.passes → found ≡ word_of d.noted)
-    × (found ≡ word_of d.noted → Decides d d v found w)
+    × (found ≡ word_of d.noted → Decides Mark d d v found w)
     × (found ≢ word_of d.noted → is_gone_from noted cached.stamp ≡ true
-    → GoesPast cached (view_in_phase v Idle) d.entry (word_of d.noted) found w)
-    × (found ≢ word_of d.noted → is_gone_from noted cached.stamp ≡ false
-    → w ≡ view_with_count (view_in_phase v Idle) d.entry (word_of d.noted) found)
-    × EntryHad v d.entry found
+    → (let idle : View = view_in_phase (view_with_step v Mark) Idle in
+    GoesPast cached idle d.entry (word_of d.noted) found w))
+    × (found ≢ word_of d.noted → is_gone_from noted cached.stamp ≡ false → Misses Mark d v found w)

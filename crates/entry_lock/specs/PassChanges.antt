@@ -9,7 +9,6 @@ use Rattle.entry_lock.specs.declared.rule.View.{View}
 use Rattle.entry_lock.specs.Layout.{control_of_word}
 use Rattle.entry_lock.specs.StepViews.{raised_fronts}
 use Rattle.entry_lock.specs.LineSteps.{is_gone_from}
-use Rattle.entry_lock.specs.Found.{EntryHad}
 
 -- The pass made no receipt.
 pub record MadeNothing (v w : View) : Type 0 where
@@ -35,15 +34,13 @@ pub record MadeReceipt (v w : View) (r : Receipt) : Type 0 where
   pub count : v.count ≤ w.count
 
 -- The Busy is of the entry e. The call took a lock step, look or mark; the last was on this entry
--- and had these two words; and at a step of the pass each of them was the entry's control word.
+-- and had these two words.
 pub record TellsLastStep (v w : View) (e : ℕ) (b : Busy) : Type 0 where
   pub entry : b.entry ≡ e
   pub count : v.count < w.count
   pub last : w.last ≡ b.entry
   pub looked : w.looked ≡ b.looked
   pub found : w.found ≡ b.found
-  pub looked_there : EntryHad w e b.looked
-  pub found_there : EntryHad w e b.found
 
 -- The call took no more than so many lock steps, looks and marks.
 abbrev pub TookAtMost : ℕ → View → View → Type 0

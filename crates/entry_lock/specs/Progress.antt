@@ -1,5 +1,5 @@
 -- How far an operation has come within a call: the pass's view v before, and w now.
-use Rattle.std.specs.Prelude.{◌≡◌, ℕ, true, Option, None}
+use Rattle.std.specs.Prelude.{◌≡◌, ℕ, ◌<◌, ◌^◌, true, Option, None}
 use Rattle.entry_model.specs.declared.line.Line.{Line}
 use Rattle.entry_model.specs.declared.operation.Op.{Op}
 use Rattle.lock_core.specs.declared.doing.Doing.{Doing}
@@ -7,8 +7,6 @@ use Rattle.lock_core.specs.declared.phase.Phase.TheVariants.{Held, Looked}
 use Rattle.lock_core.specs.Words.{without_bits, is_read}
 use Rattle.lock_core.specs.Steps.{new_doing}
 use Rattle.entry_lock.specs.declared.rule.View.{View}
-use Rattle.entry_lock.specs.Layout.{word_of}
-use Rattle.entry_lock.specs.Found.{EntryHad}
 use Rattle.entry_lock.specs.AccessSteps.{IsLooking}
 use Rattle.entry_lock.specs.LineSteps.{doing_by_line}
 use Rattle.entry_lock.specs.PassChanges.{MadeNothing}
@@ -24,7 +22,7 @@ pub record LookedAtEntry (v w : View) (e : ℕ) (op : Op) (d : Doing) : Type 0 w
   pub begun_at : d ≡ new_doing e op d.noted None
   pub phase : (seen : Option (ℕ × ℕ)) × (w.actor.phase ≡ Looked (new_doing e op d.noted seen))
   pub same : MadeNothing v w
-  pub noted_there : EntryHad w e (word_of d.noted)
+  pub low : d.noted.stamp < 2 ^ 32
 
 -- The same operation on the same entry, by the same control word.
 pub record IsSameDoing (a b : Doing) : Type 0 where
@@ -40,4 +38,3 @@ pub record IsByLine (v : View) (cached : Line) (op : Op) (d : Doing) : Type 0 wh
   pub valid : d.noted.valid ≡ true
   pub stamp : d.noted.stamp ≡ cached.stamp
   pub clear : without_bits cached.dword1 ≡ cached.dword1
-  pub noted_there : EntryHad v cached.entry (word_of d.noted)

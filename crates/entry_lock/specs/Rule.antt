@@ -1,5 +1,5 @@
 -- The rule of the table: its words and the views of its passes show a state of the machine that a
--- list of the machine's steps reaches.
+-- list of the machine's steps reaches, and each pass knows which of these it took.
 use Rattle.std.specs.Prelude.{◌≡◌, ◌⊎◌, ℕ, ◌+◌, ◌*◌, ◌<◌, ◌≤◌, true, false, List, [], ◌∷◌, length, slice_index, slice_get, Some, All}
 use mathlib.Core.Option.{some}
 use Rattle.atomic_table.specs.Table.{State as TableState}
@@ -17,6 +17,7 @@ use Rattle.lock_core.specs.Laws.{IsFair}
 use Rattle.entry_lock.specs.declared.rule.View.{View}
 use Rattle.entry_lock.specs.declared.rule.Opening.{Opening}
 use Rattle.entry_lock.specs.Layout.{word_of, control_place, data_place}
+use Rattle.entry_lock.specs.OwnSteps.{steps_by, AreAllowed}
 use Rattle.entry_lock.specs.Views.{occurrences, total, states_of}
 use lib.ListN.{get_elem?}
 
@@ -100,6 +101,20 @@ pub record Shows (key : Opening) (m : Machine) (shared : List ℕ) (known : List
 abbrev pub machine_after : Opening → List (ℕ × Step) → Machine
 machine_after key steps = run (opening_machine (states_of key) key.passes) steps
 
+-- The machine allows each of the steps, and the words and the views show it after them. A view with
+-- numbers knows which of the steps are its actor's.
+pub record ShowsSteps
+    (key : Opening)
+    (steps : List (ℕ × Step))
+    (shared : List ℕ)
+    (known : List View)
+    : Type 0 where
+  pub shows : Shows key (machine_after key steps) shared known
+  pub allowed : AreAllowed (opening_machine (states_of key) key.passes) steps
+  pub own :
+      (j n : ℕ) (v : View) → get_elem? known j ≡ some v → IsHead v.numbers n
+      → v.taken ≡ steps_by n steps
+
 -- The words and the views show the machine after some steps.
 abbrev pub ShowsRun : Opening → TableState ℕ View → Type 0
-ShowsRun key s = (steps : List (ℕ × Step)) × Shows key (machine_after key steps) s.words s.views
+ShowsRun key s = (steps : List (ℕ × Step)) × ShowsSteps key steps s.words s.views

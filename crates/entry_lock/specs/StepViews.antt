@@ -6,8 +6,13 @@ use Rattle.entry_model.specs.Fronts.{fronts_after}
 use Rattle.lock_core.specs.declared.doing.Doing.{Doing}
 use Rattle.lock_core.specs.declared.phase.Phase.{Phase}
 use Rattle.lock_core.specs.declared.phase.Phase.TheVariants.{Idle}
+use Rattle.lock_core.specs.declared.step.Step.{Step}
 use Rattle.lock_core.specs.Steps.{actor_after}
 use Rattle.entry_lock.specs.declared.rule.View.{View}
+
+-- The pass took one more step of the machine.
+abbrev pub view_with_step : View → Step → View
+view_with_step v step = record v { taken = step ∷ v.taken }
 
 -- The pass is in this phase, and made no receipt. Marks of stored words are of one operation.
 abbrev pub view_in_phase : View → Phase → View

@@ -2,6 +2,7 @@
 use Rattle.std.specs.Prelude.{ℕ, zero, suc, ◌+◌, ◌==◌, if◌then◌else◌, false, List, [], ◌∷◌, ◌++◌}
 use Rattle.entry_model.specs.State.{State}
 use Rattle.entry_model.specs.Fronts.{opening_fronts, larger}
+use Rattle.lock_core.specs.declared.step.Step.TheVariants.{Split, Join}
 use Rattle.lock_core.specs.Machine.{Actor, nobody, newcomer}
 use Rattle.lock_core.specs.Steps.{joined_actor}
 use Rattle.entry_lock.specs.declared.rule.View.{View}
@@ -33,6 +34,7 @@ abbrev pub fresh_view : List ℕ → Actor → List ℕ → ℕ → List State �
 fresh_view numbers actor fronts passes opening = record {
   numbers = numbers;
   actor = actor;
+  taken = [];
   fronts = fronts;
   first_stored = false;
   second_stored = false;
@@ -52,6 +54,16 @@ first_view key =
     key.passes (states_of key)
 
 -- ---- splits
+-- The actor that a pass with these numbers acts as.
+abbrev pub first_number : List ℕ → ℕ
+first_number [] = 0
+first_number (n ∷ ns) = n
+
+-- The actor that a split of it makes live.
+abbrev pub second_number : List ℕ → ℕ
+second_number [] = 0
+second_number (n ∷ ns) = first_number ns
+
 -- A split gives the second actor number away, since a pass acts as the first of its own.
 abbrev pub all_but_second : List ℕ → List ℕ
 all_but_second [] = []
@@ -66,9 +78,13 @@ second_alone (n ∷ m ∷ ms) = m ∷ []
 
 -- The view of the pass that is split, afterwards.
 abbrev pub parent_view : View → View
-parent_view v = record v { numbers = all_but_second v.numbers }
+parent_view v = record v {
+  numbers = all_but_second v.numbers;
+  taken = Split (second_number v.numbers) ∷ v.taken;
+}
 
--- The view of the new pass: it has seen what the other has, and has its fronts, but no receipts.
+-- The view of the new pass: it has seen what the other has, and has its fronts. It has
+-- made no receipt and taken no step.
 abbrev pub child_view : View → View
 child_view v =
     fresh_view (second_alone v.numbers) (newcomer v.actor.lines) v.fronts v.passes v.opening
@@ -80,6 +96,7 @@ abbrev pub joined_view : View → View → View
 joined_view v w = record v {
   numbers = v.numbers ++ w.numbers;
   actor = joined_actor v.actor w.actor;
+  taken = Join (first_number w.numbers) ∷ v.taken;
   fronts = larger v.fronts w.fronts;
 }
 

@@ -1,17 +1,18 @@
 //! One try of an access. It locks nothing: it looks at the control word, and is decided by a second
 //! look, or by a mark where it raises a bit.
-ghost use Rattle.std.specs.Prelude.{◌≡◌, ℕ, ◌<◌, length, true, false, None, IfOk, IfErr, IsOk, Option};
+ghost use Rattle.std.specs.Prelude.{◌≡◌, ◌≢◌, ℕ, ◌<◌, [], ◌∷◌, length, true, false, None, IfOk, IfErr, IsOk, Option};
 ghost use Rattle.entry_model.specs.Receipt.{is_access, IsReceiptOf};
 ghost use Rattle.lock_core.specs.declared.phase.Phase.TheVariants.{Idle, Looked};
+ghost use Rattle.lock_core.specs.declared.step.Step.TheVariants.{Look, Mark};
 ghost use Rattle.lock_core.specs.Words.{is_read as is_read_of, changes as changes_of, next_state as next_of, receipt as receipt_of};
 ghost use Rattle.lock_core.specs.Steps.{new_doing as begun_of};
 ghost use Rattle.entry_lock.specs.Layout.{word_of};
 ghost use Rattle.entry_lock.specs.Views.{states_of};
-ghost use Rattle.entry_lock.specs.Found.{EntryHad};
 ghost use Rattle.entry_lock.specs.PassInvariants.{IsActing, IsAt};
 ghost use Rattle.entry_lock.specs.AccessSteps.{IsLooking};
 ghost use Rattle.entry_lock.specs.BusyCauses.{IsChanging};
 ghost use Rattle.entry_lock.specs.PassChanges.{MadeNothing, MadeReceipt, TellsLastStep, TookAtMost};
+ghost use Rattle.entry_lock.specs.CallSteps.{Took, TookBusyAccess, loads_if, access_steps, leaves_state};
 ghost use Rattle.entry_lock.specs.Progress.{LookedAtEntry, IsSameDoing};
 
 use crate::access_steps::{load_looked, look, look_again, mark};
@@ -50,8 +51,10 @@ fn look_first(table: &Words, seat: &mut PassSeat, entry: u32, op: Op) -> Result<
     ensures idle { IfErr result (λ b. seat.new.me.0.actor.phase ≡ Idle) }
     ensures last { IfErr result (λ b. TellsLastStep seat.old.me.0 seat.new.me.0 entry b) }
     ensures cause { IfErr result (λ b. IsChanging b) }
+    ensures one_word { IfErr result (λ b. b.looked ≡ b.found) }
     ensures alone { length seat.old.me.0.numbers ≡ seat.old.me.0.passes → IsOk result }
     ensures once { TookAtMost 1 seat.old.me.0 seat.new.me.0 }
+    ensures steps { Took (Look entry op ∷ []) seat.old.me.0 seat.new.me.0 }
 {
     let found = look::<Brand>(table, seat, entry, &op);
     let control = control_of(found);
@@ -80,6 +83,7 @@ fn load_words(table: &Words, seat: &mut PassSeat, doing: &Doing) -> Doing
     ensures looking { IsLooking seat.new.me.0 result }
     ensures same { MadeNothing seat.old.me.0 seat.new.me.0 }
     ensures once { TookAtMost 0 seat.old.me.0 seat.new.me.0 }
+    ensures steps { Took (loads_if doing.now.noted.valid) seat.old.me.0 seat.new.me.0 }
 {
     if !doing.noted.valid {
         return *doing;
@@ -102,7 +106,6 @@ fn decide(
     requires acting { IsActing seat.old.me.0 }
     requires looking { IsLooking seat.old.me.0 doing.now }
     requires read { is_read_of doing.now ≡ true }
-    requires noted { EntryHad seat.old.me.0 doing.now.entry (word_of doing.now.noted) }
     requires may { changes_of doing.now ≡ false }
     requires known { known.receipt ≡ receipt_of doing.now }
     ensures table { IsAt table.now.table_id seat.new.table_id table.now.key seat.new.me }
@@ -115,6 +118,11 @@ fn decide(
     ensures cause { IfErr result (λ b. IsChanging b) }
     ensures alone { length seat.old.me.0.numbers ≡ seat.old.me.0.passes → IsOk result }
     ensures once { TookAtMost 1 seat.old.me.0 seat.new.me.0 }
+    ensures two_words { IfErr result
+        (λ b. (b.looked ≡ word_of doing.now.noted) × (b.found ≢ b.looked)) }
+    ensures valid { IfOk result (λ r. r.before.valid ≡ doing.now.noted.valid) }
+    ensures leaves { IfOk result (λ r. leaves_state r ≡ true) }
+    ensures steps { Took (Look doing.now.entry doing.now.op ∷ []) seat.old.me.0 seat.new.me.0 }
 {
     let found = look_again::<Brand>(table, seat, doing);
     let looked = word_from(&doing.noted);
@@ -144,7 +152,6 @@ fn raise_bits(
     requires acting { IsActing seat.old.me.0 }
     requires looking { IsLooking seat.old.me.0 doing.now }
     requires read { is_read_of doing.now ≡ true }
-    requires noted { EntryHad seat.old.me.0 doing.now.entry (word_of doing.now.noted) }
     requires may { changes_of doing.now ≡ true }
     requires known { known.receipt ≡ receipt_of doing.now }
     requires after { known.after ≡ next_of doing.now }
@@ -158,6 +165,11 @@ fn raise_bits(
     ensures cause { IfErr result (λ b. IsChanging b) }
     ensures alone { length seat.old.me.0.numbers ≡ seat.old.me.0.passes → IsOk result }
     ensures once { TookAtMost 1 seat.old.me.0 seat.new.me.0 }
+    ensures two_words { IfErr result
+        (λ b. (b.looked ≡ word_of doing.now.noted) × (b.found ≢ b.looked)) }
+    ensures valid { IfOk result (λ r. r.before.valid ≡ doing.now.noted.valid) }
+    ensures changes { IfOk result (λ r. leaves_state r ≡ false) }
+    ensures steps { Took (Mark ∷ []) seat.old.me.0 seat.new.me.0 }
 {
     let found = mark::<Brand>(
         table,
@@ -193,6 +205,9 @@ pub fn try_access(table: &Words, seat: &mut PassSeat, entry: u32, op: Op) -> Res
     ensures cause { IfErr result (λ b. IsChanging b) }
     ensures alone { length seat.old.me.0.numbers ≡ seat.old.me.0.passes → IsOk result }
     ensures once { TookAtMost 2 seat.old.me.0 seat.new.me.0 }
+    ensures steps { IfOk result
+        (λ r. Took (access_steps entry op r) seat.old.me.0 seat.new.me.0) }
+    ensures busy { IfErr result (λ b. TookBusyAccess entry op b seat.old.me.0 seat.new.me.0) }
 {
     let looked = look_first(table, seat, entry, op)?;
     let doing = load_words(table, seat, &looked);

@@ -1,14 +1,16 @@
 //! One try of a hypervisor call's operation: it takes the entry's lock, or is busy.
-ghost use Rattle.std.specs.Prelude.{◌≡◌, ◌<◌, ◌&&◌, not, length, true, false, IfOk, IfErr, IsOk};
+ghost use Rattle.std.specs.Prelude.{◌≡◌, ◌<◌, [], ◌∷◌, ◌&&◌, not, length, true, false, IfOk, IfErr, IsOk};
 ghost use Rattle.entry_model.specs.Receipt.{is_access, IsReceiptOf};
 ghost use Rattle.entry_model.specs.Fronts.{IsAhead};
 ghost use Rattle.lock_core.specs.declared.phase.Phase.TheVariants.{Idle, Held};
+ghost use Rattle.lock_core.specs.declared.step.Step.TheVariants.{Lock, Release};
 ghost use Rattle.lock_core.specs.Words.{is_read as is_read_of, changes as changes_of, next_state as next_of, receipt as receipt_of};
 ghost use Rattle.entry_lock.specs.Views.{states_of};
-ghost use Rattle.entry_lock.specs.StepViews.{view_with_receipt};
+ghost use Rattle.entry_lock.specs.StepViews.{view_with_step, view_with_receipt};
 ghost use Rattle.entry_lock.specs.PassInvariants.{IsActing, IsAt};
 ghost use Rattle.entry_lock.specs.BusyCauses.{IsHeldElsewhere};
 ghost use Rattle.entry_lock.specs.PassChanges.{MadeNothing, MadeReceipt, TellsLastStep, TookAtMost};
+ghost use Rattle.entry_lock.specs.CallSteps.{Took, after_steps, loads_if, call_steps, changing_steps, leaves_state};
 ghost use Rattle.entry_lock.specs.Progress.{TookEntry, IsSameDoing};
 
 use crate::busy::Busy;
@@ -36,6 +38,7 @@ fn take_entry(table: &Words, seat: &mut PassSeat, entry: u32, op: Op) -> Result<
     ensures cause { IfErr result (λ b. IsHeldElsewhere b) }
     ensures alone { length seat.old.me.0.numbers ≡ seat.old.me.0.passes → IsOk result }
     ensures once { TookAtMost 1 seat.old.me.0 seat.new.me.0 }
+    ensures steps { Took (Lock entry op ∷ []) seat.old.me.0 seat.new.me.0 }
 {
     let found = lock::<Brand>(table, seat, entry, &op);
     let control = control_of(found);
@@ -61,6 +64,7 @@ fn load_held(table: &Words, seat: &mut PassSeat, doing: &Doing) -> Doing
     ensures held { seat.new.me.0.actor.phase ≡ Held result }
     ensures same { MadeNothing seat.old.me.0 seat.new.me.0 }
     ensures once { TookAtMost 0 seat.old.me.0 seat.new.me.0 }
+    ensures steps { Took (loads_if doing.now.noted.valid) seat.old.me.0 seat.new.me.0 }
 {
     if !doing.noted.valid {
         return *doing;
@@ -79,13 +83,16 @@ fn release_unchanged(table: &Words, seat: &mut PassSeat, doing: &Doing, known: O
     requires entry { doing.now.entry < length (states_of table.now.key) }
     requires acting { IsActing seat.old.me.0 }
     requires held { seat.old.me.0.actor.phase ≡ Held doing.now }
+    requires op { is_access doing.now.op ≡ false }
     requires may { (is_read_of doing.now && not (changes_of doing.now)) ≡ true }
     requires known { known.receipt ≡ receipt_of doing.now }
     requires after { known.after ≡ next_of doing.now }
     ensures table { IsAt table.now.table_id seat.new.table_id table.now.key seat.new.me }
     ensures receipt { IsReceiptOf doing.now.entry doing.now.op result }
-    ensures made { seat.new.me.0 ≡ view_with_receipt seat.old.me.0 result }
+    ensures made { seat.new.me.0 ≡ view_with_receipt (view_with_step seat.old.me.0 Release) result }
     ensures ahead { IsAhead seat.old.me.0.fronts result }
+    ensures valid { result.before.valid ≡ doing.now.noted.valid }
+    ensures leaves { leaves_state result ≡ true }
 {
     let found = release(table, seat, doing);
     outcome_by(doing, known, control_of(found)).receipt
@@ -97,13 +104,19 @@ fn change_entry(table: &Words, seat: &mut PassSeat, doing: &Doing, known: Outcom
     requires entry { doing.now.entry < length (states_of table.now.key) }
     requires acting { IsActing seat.old.me.0 }
     requires held { seat.old.me.0.actor.phase ≡ Held doing.now }
+    requires op { is_access doing.now.op ≡ false }
     requires may { (is_read_of doing.now && changes_of doing.now) ≡ true }
     requires known { known.receipt ≡ receipt_of doing.now }
     requires after { known.after ≡ next_of doing.now }
     ensures table { IsAt table.now.table_id seat.new.table_id table.now.key seat.new.me }
     ensures receipt { IsReceiptOf doing.now.entry doing.now.op result }
-    ensures made { seat.new.me.0 ≡ view_with_receipt seat.old.me.0 result }
+    ensures made { seat.new.me.0
+        ≡ record (view_with_receipt seat.old.me.0 result) {
+          taken = after_steps seat.old.me.0.taken (changing_steps result);
+        } }
     ensures ahead { IsAhead seat.old.me.0.fronts result }
+    ensures valid { result.before.valid ≡ doing.now.noted.valid }
+    ensures changes { leaves_state result ≡ false }
 {
     // Shut before the first store: from here on no access reads the words or raises a bit, so none
     // sees one old and one new, and the R and C found here are those of the receipt.
@@ -148,6 +161,9 @@ pub fn try_call<P: Pause>(
     ensures cause { IfErr result (λ b. IsHeldElsewhere b) }
     ensures alone { length seat.old.me.0.numbers ≡ seat.old.me.0.passes → IsOk result }
     ensures once { TookAtMost 1 seat.old.me.0 seat.new.me.0 }
+    ensures steps { IfOk result
+        (λ r. Took (call_steps entry op r) seat.old.me.0 seat.new.me.0) }
+    ensures busy { IfErr result (λ b. Took (Lock entry op ∷ []) seat.old.me.0 seat.new.me.0) }
 {
     let taken = take_entry(table, seat, entry, op)?;
     pause.held();

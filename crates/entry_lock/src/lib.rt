@@ -36,7 +36,8 @@ pub use busy::Busy;
 pub use closing::Closed;
 pub use laws::{
     each_operation_is_a_step, joins_are_steps, looks_that_find_gone_are_no_steps,
-    raised_bits_stand, splits_are_steps, tables_open_on_their_states,
+    operations_are_single_steps, passes_change_threads, raised_bits_stand, splits_are_steps,
+    tables_are_shared, tables_open_on_their_states,
 };
 pub use opening::OpenRefused;
 pub use pause::{NoPause, Pause};

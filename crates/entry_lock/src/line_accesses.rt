@@ -1,9 +1,10 @@
 //! One try of an access by a cached line. The line has the entry's words, so no data word is
 //! loaded.
-ghost use Rattle.std.specs.Prelude.{◌≡◌, ◌<◌, length, true, false, IfOk, IfErr, IfSome, IfNone, IsOk};
+ghost use Rattle.std.specs.Prelude.{◌≡◌, ◌≢◌, ◌<◌, [], ◌∷◌, length, true, false, IfOk, IfErr, IfSome, IfNone, IsOk};
 ghost use Rattle.entry_model.specs.Receipt.{is_access, IsReceiptOf};
 ghost use Rattle.entry_model.specs.CachedLines.{IsCurrent};
 ghost use Rattle.lock_core.specs.declared.phase.Phase.TheVariants.{Idle};
+ghost use Rattle.lock_core.specs.declared.step.Step.TheVariants.{Look, Mark};
 ghost use Rattle.lock_core.specs.Words.{changes as changes_of, next_state as next_of, receipt as receipt_of};
 ghost use Rattle.entry_lock.specs.Views.{states_of};
 ghost use Rattle.entry_lock.specs.SeenLines.{IsSeen};
@@ -11,6 +12,7 @@ ghost use Rattle.entry_lock.specs.LineSteps.{doing_by_line, is_gone_from as is_g
 ghost use Rattle.entry_lock.specs.PassInvariants.{IsActing, IsAt};
 ghost use Rattle.entry_lock.specs.BusyCauses.{IsMissedMark};
 ghost use Rattle.entry_lock.specs.PassChanges.{MadeNothing, MadeReceipt, TellsLastStep, FindsGone, TookAtMost};
+ghost use Rattle.entry_lock.specs.CallSteps.{Took, TookGone, line_steps, leaves_state};
 ghost use Rattle.entry_lock.specs.Progress.{IsByLine};
 
 use crate::accesses::marked_control;
@@ -51,6 +53,10 @@ fn look_first(table: &Words, seat: &mut PassSeat, known: &Line, op: Op) -> Optio
     ensures gone { IfNone result (FindsGone seat.old.me.0 seat.new.me.0 known.now) }
     ensures idle { IfNone result (seat.new.me.0.actor.phase ≡ Idle) }
     ensures once { TookAtMost 1 seat.old.me.0 seat.new.me.0 }
+    ensures steps { IfSome result
+        (λ d. Took (Look known.now.entry op ∷ []) seat.old.me.0 seat.new.me.0) }
+    ensures no_step { IfNone result (Took [] seat.old.me.0 seat.new.me.0) }
+    ensures one_word { IfNone result (seat.new.me.0.looked ≡ seat.new.me.0.found) }
 {
     let found = look_line::<Brand>(table, seat, known, &op);
     let control = control_of(found);
@@ -84,6 +90,9 @@ fn decide(
     ensures made { IfSome result (λ r. MadeReceipt seat.old.me.0 seat.new.me.0 r) }
     ensures gone { IfNone result (FindsGone seat.old.me.0 seat.new.me.0 known.now) }
     ensures once { TookAtMost 1 seat.old.me.0 seat.new.me.0 }
+    ensures two_words { IfNone result (seat.new.me.0.looked ≢ seat.new.me.0.found) }
+    ensures leaves { IfSome result (λ r. leaves_state r ≡ true) }
+    ensures steps { Took (Look known.now.entry op ∷ []) seat.old.me.0 seat.new.me.0 }
 {
     let _ = op;
     let found = look_line_again::<Brand>(table, seat, known, doing);
@@ -127,6 +136,10 @@ fn raise_bits(
     ensures cause { IfErr result (λ b. IsMissedMark b known.now) }
     ensures alone { length seat.old.me.0.numbers ≡ seat.old.me.0.passes → IsOk result }
     ensures once { TookAtMost 1 seat.old.me.0 seat.new.me.0 }
+    ensures two_words { IfOk result
+        (λ o. IfNone o (seat.new.me.0.looked ≢ seat.new.me.0.found)) }
+    ensures changes { IfOk result (λ o. IfSome o (λ r. leaves_state r ≡ false)) }
+    ensures steps { Took (Mark ∷ []) seat.old.me.0 seat.new.me.0 }
 {
     let _ = op;
     let new = word_from(&marked_control(doing, &told.after));
@@ -170,6 +183,13 @@ pub fn try_line(
     ensures cause { IfErr result (λ b. IsMissedMark b known.now) }
     ensures alone { length seat.old.me.0.numbers ≡ seat.old.me.0.passes → IsOk result }
     ensures once { TookAtMost 2 seat.old.me.0 seat.new.me.0 }
+    ensures steps { IfOk result
+        (λ o. IfSome o
+        (λ r. Took (line_steps known.now.entry op r) seat.old.me.0 seat.new.me.0)) }
+    ensures gone_steps { IfOk result
+        (λ o. IfNone o (TookGone known.now.entry op seat.old.me.0 seat.new.me.0)) }
+    ensures busy { IfErr result
+        (λ b. Took (Look known.now.entry op ∷ Mark ∷ []) seat.old.me.0 seat.new.me.0) }
 {
     let Some(doing) = look_first(table, seat, known, op) else {
         return Ok(None);

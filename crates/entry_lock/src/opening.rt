@@ -104,6 +104,7 @@ impl LockTable {
         ensures shares { IfOk result (λ r. r.1.shares ≡ passes) }
         ensures receipts { IfOk result (λ r. (view_of r.1).actor.receipts ≡ []) }
         ensures lines { IfOk result (λ r. (view_of r.1).actor.lines ≡ []) }
+        ensures no_step { IfOk result (λ r. (view_of r.1).taken ≡ []) }
         ensures fronts { IfOk result (λ r. (view_of r.1).fronts ≡ opening_fronts states.items) }
         ensures refused { IfErr result (λ e. e.states.items ≡ states.items) }
     {

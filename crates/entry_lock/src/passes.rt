@@ -1,13 +1,16 @@
 //! What a pass does: tries of operations, splits and joins.
-ghost use Rattle.std.specs.Prelude.{◌≡◌, ◌⊎◌, ℕ, ◌+◌, ◌-◌, ◌<◌, ◌≤◌, ◌^◌, [], ◌++◌, length, IfOk, IfErr, IfSome, IfNone, IsOk, MatchBool, if◌then◌else◌};
+ghost use Rattle.std.specs.Prelude.{◌≡◌, ◌⊎◌, ℕ, ◌+◌, ◌-◌, ◌<◌, ◌≤◌, ◌^◌, [], ◌∷◌, ◌++◌, length, IfOk, IfErr, IfSome, IfNone, IsOk, MatchBool, if◌then◌else◌};
 ghost use Rattle.hpte_fields.specs.TableSize.{entry_count};
 ghost use Rattle.entry_model.specs.declared.line.Line.{Line as LineOf};
 ghost use Rattle.entry_model.specs.Receipt.{is_access as is_access_of, IsReceiptOf};
 ghost use Rattle.entry_model.specs.CachedLines.{IsAccessOf, IsCurrent};
 ghost use Rattle.entry_model.specs.Fronts.{larger, IsGone};
+ghost use Rattle.lock_core.specs.declared.step.Step.TheVariants.{Look, Mark, Split as SplitStep, Join as JoinStep};
 ghost use Rattle.entry_lock.specs.SeenLines.{IsSeen};
 ghost use Rattle.entry_lock.specs.PassOfTable.{IsOf, view_of};
 ghost use Rattle.entry_lock.specs.BusyCauses.{IsHeldElsewhere, IsChanging, IsMissedMark};
+ghost use Rattle.entry_lock.specs.Views.{first_number, second_number};
+ghost use Rattle.entry_lock.specs.CallSteps.{Took, TookBusy, TookGone, line_steps, made_steps};
 ghost use Rattle.entry_lock.specs.PassChanges.{MadeNothing, MadeReceipt, TellsLastStep, FindsGone, TookAtMost};
 
 use crate::access_steps::bound_shares;
@@ -57,6 +60,10 @@ impl Pass {
         ensures alone { self.old.shares ≡ table.now.passes → IsOk result }
         ensures once { TookAtMost
             (if is_access_of op then 2 else 1) (view_of self.old) (view_of self.new) }
+        ensures steps { IfOk result
+            (λ r. Took (made_steps entry op r) (view_of self.old) (view_of self.new)) }
+        ensures busy { IfErr result
+            (λ b. TookBusy entry op b (view_of self.old) (view_of self.new)) }
     {
         if is_access(&op) {
             try_access(&table.table.shared, &mut self.seat, entry, op)
@@ -85,6 +92,10 @@ impl Pass {
         ensures alone { self.old.shares ≡ table.now.passes → IsOk result }
         ensures once { TookAtMost
             (if is_access_of op then 2 else 1) (view_of self.old) (view_of self.new) }
+        ensures steps { IfOk result
+            (λ r. Took (made_steps entry op r) (view_of self.old) (view_of self.new)) }
+        ensures busy { IfErr result
+            (λ b. TookBusy entry op b (view_of self.old) (view_of self.new)) }
     {
         self.try_with(table, entry, op, &NoPause)
     }
@@ -119,6 +130,16 @@ impl Pass {
         ensures cause { IfErr result (λ b. IsMissedMark b known.now) }
         ensures alone { self.old.shares ≡ table.now.passes → IsOk result }
         ensures once { TookAtMost 2 (view_of self.old) (view_of self.new) }
+        ensures steps { IfOk result
+            (λ o. IfSome o
+            (λ r. Took
+            (line_steps known.now.entry op r) (view_of self.old) (view_of self.new))) }
+        ensures gone_steps { IfOk result
+            (λ o. IfNone o
+            (TookGone known.now.entry op (view_of self.old) (view_of self.new))) }
+        ensures busy { IfErr result
+            (λ b. Took
+            (Look known.now.entry op ∷ Mark ∷ []) (view_of self.old) (view_of self.new)) }
     {
         try_line(&table.table.shared, &mut self.seat, known, op)
     }
@@ -134,7 +155,12 @@ impl Pass {
         ensures one { result.shares ≡ 1 }
         ensures actor { (view_of self.new).actor ≡ (view_of self.old).actor }
         ensures fronts { (view_of self.new).fronts ≡ (view_of self.old).fronts }
+        ensures step { Took
+            (SplitStep (second_number (view_of self.old).numbers) ∷ [])
+            (view_of self.old)
+            (view_of self.new) }
         ensures fresh { (view_of result).actor.receipts ≡ [] }
+        ensures no_step { (view_of result).taken ≡ [] }
         ensures seen { (view_of result).actor.lines ≡ (view_of self.old).actor.lines }
         ensures same_fronts { (view_of result).fronts ≡ (view_of self.old).fronts }
     {
@@ -159,6 +185,10 @@ impl Pass {
         ensures gone { (cached : LineOf)
             → IsGone (view_of self.old).fronts cached ⊎ IsGone (view_of other).fronts cached
             → IsGone (view_of self.new).fronts cached }
+        ensures step { Took
+            (JoinStep (first_number (view_of other).numbers) ∷ [])
+            (view_of self.old)
+            (view_of self.new) }
         ensures count { (view_of self.new).count ≡ (view_of self.old).count }
         ensures last { (view_of self.new).last ≡ (view_of self.old).last }
         ensures looked { (view_of self.new).looked ≡ (view_of self.old).looked }

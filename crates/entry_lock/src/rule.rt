@@ -1,7 +1,7 @@
 //! What the table's words and the passes' views show.
 use atomic_table::{Seat, Shared, TableRule};
 use entry_model::EntryState;
-use lock_core::Actor;
+use lock_core::{Actor, Step};
 use std::collections::LinkedList;
 use std::snapshot::Snapshot;
 
@@ -11,6 +11,8 @@ pub struct View {
     pub numbers: LinkedList<u32>,
     /// The machine's actor: its phase, its receipts and the lines that it has seen.
     pub actor: Actor,
+    /// The machine's steps that it took as this actor, of which the newest stands first.
+    pub taken: LinkedList<Step>,
     /// For each entry the stamp and the number of bits that it has come to, as one number.
     pub fronts: LinkedList<u64>,
     /// The first data word of the entry that it has shut is that of the state after.

@@ -57,3 +57,4 @@ mod OpeningAgainRows
 pub mod ProcessorLists
 pub mod MaskedAccesses
 pub mod GoodAssured
+mod StoreLaws

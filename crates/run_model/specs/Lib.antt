@@ -18,6 +18,7 @@ pub mod DeviceLandings
 pub mod BusyCalls
 pub mod MaskedAccesses
 pub mod RefusedCalls
+pub mod StoreLaws
 pub mod CachedAccesses
 pub mod Assurances
 pub mod EnteredEntries

@@ -2,6 +2,8 @@ use Rattle.std.proofs.Common.{sym, ap, ◌∙◌}
 use Rattle.lock_core.specs.declared.doing.Doing.{Doing}
 use Rattle.lock_core.specs.Words.{receipt}
 use Rattle.lock_core.specs.Steps.{with_noted}
+use Rattle.entry_lock.specs.CallSteps.{leaves_state}
+use Rattle.entry_lock.proofs.CallStepFacts.{leaves_if}
 use Rattle.entry_lock.proofs.ViewChanges.{receipt_by}
 use Rattle.entry_lock.proofs.LineFacts.{current_receipt, later_receipt_current}
 use Rattle.entry_lock.proofs.line_accesses.decide.Goals as goal
@@ -22,3 +24,6 @@ returns-then-is_still-clause-receipt c = let l = c.requires.looked in
 pub returns-then-is_still-clause-current : goal.returns-then-is_still-clause-current
 returns-then-is_still-clause-current c = let l = c.requires.looked in
     later_receipt_current c.args.known.now c.args.op c.args.doing.now c.control_of-control.result c.receipt.result l.begun_at l.stamp l.clear (sym c.is_still.ensures ∙ c.if-is_still.true) (c.receipt.ensures ∙ ap (λ (d : Doing). receipt d) c.with_noted.ensures)
+
+pub returns-then-found-word_from-clause-leaves : goal.returns-then-found-word_from-clause-leaves
+returns-then-found-word_from-clause-leaves c = ap leaves_state c.requires.told ∙ leaves_if c.args.doing.now c.requires.may

@@ -1,11 +1,9 @@
 -- The line of an entry in an image opens the entry again.
-use Rattle.std.specs.Prelude.{◌≢◌, if◌then◌else◌, slice_index_or, codes}
-use Rattle.std.proofs.Common.{◌≡◌, ℕ, zero, suc, ◌+◌, ◌^◌, ◌<◌, ◌≤◌, List, [], ◌∷◌, ◌++◌, length, Bool, true, false, Contains, Some, Result, Ok, Err, refl, sym, ap, subst, ◌∙◌, append_assoc, arith}
+use Rattle.std.specs.Prelude.{if◌then◌else◌, slice_index_or, codes}
+use Rattle.std.proofs.Common.{◌≡◌, ℕ, zero, suc, ◌+◌, ◌^◌, ◌<◌, ◌≤◌, List, [], ◌∷◌, ◌++◌, length, Bool, true, false, Result, Ok, Err, refl, sym, ap, ◌∙◌, append_assoc, arith}
 use Rattle.std.specs.List.{AllByRecursion}
 use Rattle.std.proofs.lemmas.Bool.{lt-ltb, le-leb, le-ltb}
-use Rattle.std.proofs.lemmas.List.{length-append}
 use Rattle.number_text.specs.Numbers.{hex}
-use Rattle.table_image.specs.declared.entry.ImageEntry.{ImageEntry}
 use Rattle.table_image.specs.declared.layout.Layout.{Layout}
 use Rattle.table_image.specs.Image.{layout_word, digits_line}
 use Rattle.trace_read.specs.declared.forms.Form.TheVariants as forms
@@ -17,7 +15,7 @@ use Rattle.trace_read.specs.Forms.{form_of, form_named}
 use Rattle.trace_read.specs.Grammar.{Reading, opening_reading, after_form, after_words, after_text, after_line, after_lines, most_bytes, trace_of}
 use Rattle.trace_read.specs.Places.{comes_at}
 use Rattle.trace_read.specs.Settings.{with_begin}
-use Rattle.trace_read.specs.TextLines.{is_lf, raw_lines}
+use Rattle.trace_read.specs.TextLines.{raw_lines}
 use Rattle.trace_read.specs.Trace.{AcceptedTrace}
 use Rattle.trace_read.specs.Whys.{◌>>=◌}
 use Rattle.trace_read.proofs.TakenLines.{line_taken}
@@ -27,8 +25,8 @@ use Rattle.run_model.specs.OpeningAgain.{image_entry, entry_line_words, memory_a
 use Rattle.run_model.specs.RunState.{shown_of}
 use Rattle.run_model.specs.Laws.{ImagesOpenAgain}
 use Rattle.run_model.proofs.TableSizes.{small_index, serial_sized}
-use Rattle.papr_top.specs.ImageLines.{with_lfs, bytes_again, reading_after, MayHaveEntry, IsTraceWithEntry, ImageLinesOpenAgain}
-use Rattle.papr_top.proofs.LineBytes.{IsLine, IsWord, AreDigits, four_words, words_back, four_text, text_line, text_printable, text_whole, lines_again, lines_joined, digits_spelt, layout_spelt, entry_spelt, hex_spelt}
+use Rattle.papr_top.specs.ImageLines.{with_lfs, bytes_again, reading_after, ImageLinesOpenAgain}
+use Rattle.papr_top.proofs.LineBytes.{IsLine, AreDigits, four_words, words_back, four_text, text_line, text_printable, text_whole, lines_again, lines_joined, digits_spelt, layout_spelt, entry_spelt, hex_spelt}
 
 -- ---- the index
 -- What is shown has its index in the table.

@@ -256,3 +256,85 @@ begin
     assert_eq!(rt; gate.calls.count(), 9);
     Ok(())
 }
+
+/// Holds processor 2 before line 9 until processor 1 holds its entry in line 8, and there until line 9 was
+/// answered.
+#[derive(Drop)]
+struct HoldRemoval {
+    calls: Calls,
+    reached: Flag,
+    answered: Flag,
+    late: Flag,
+}
+
+impl Gate for HoldRemoval {
+    fn before(&self, cpu: u32, line: u32) {
+        self.calls.before(cpu, line);
+        if line == 9 {
+            self.reached.wait(&self.late);
+        }
+    }
+
+    fn step(&self, cpu: u32, line: u32) {
+        self.calls.step(cpu, line);
+    }
+
+    fn held(&self, cpu: u32, line: u32) {
+        self.calls.held(cpu, line);
+        if line == 8 {
+            self.reached.raise();
+            self.answered.wait(&self.late);
+        }
+    }
+
+    fn after(&self, cpu: u32, line: u32) {
+        self.calls.after(cpu, line);
+        if line == 9 {
+            self.answered.raise();
+        }
+    }
+}
+
+/// A held entry isn't shut yet: an access needs no lock, and the removal then shows the R that it set.
+#[test]
+fn a_load_is_answered_by_an_entry_that_is_held(rt: HostRuntime) -> Result<(), Fail> {
+    let alloc = rt.alloc();
+    let gate = HoldRemoval {
+        calls: Calls::new(alloc)?,
+        reached: Flag::new(),
+        answered: Flag::new(),
+        late: Flag::new(),
+    };
+    let input = "order 18
+cpus 3
+ram 0x0 0x2000000000 0x40000000
+begin
+2 slbmte 0x8000000 0x1000
+0 H_ENTER 0x8000000000 0x20 0x1001 0x3012
+dump
+1 H_REMOVE 0x0 0x20 0x0
+2 load 0x5000 priv
+";
+    let (status, text) = answered(&rt, alloc, &["par"], input, &gate)?;
+    assert_eq!(rt; status, Status::Done);
+    assert_eq!(rt;
+        text.as_str(),
+        "5 2 slbmte ok
+6 0 H_ENTER 0 0x20 | 0x20.0.0.entered
+7 dump table 0 order 18 place 0x1000000000 entries 1
+ 0x20 0x1001 0x3012 1
+8 1 H_REMOVE 0 0x1001 0x3112 | 0x20.1.2.removed
+9 2 load at 0x2000003000 walk | 0x20.1.0.at
+"
+    );
+    assert!(rt; !gate.late.is_up());
+    assert_eq!(rt;
+        gate.calls.of(alloc, 1)?.as_str(),
+        "before 1 8\nheld 1 8\nafter 1 8\n"
+    );
+    assert_eq!(rt;
+        gate.calls.of(alloc, 2)?.as_str(),
+        "before 2 5\nafter 2 5\nbefore 2 9\nafter 2 9\n"
+    );
+    Ok(())
+}

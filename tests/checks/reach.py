@@ -5,7 +5,7 @@ field `outcome` of `EndsCommand`, which its clause `ends` cites), and their line
 and sentences. Each signature, equation and field counts as many lines as it fills when it is wrapped at 100
 columns, so where a line is broken doesn't count. Names are followed by each file's `use` lines. Types that
 are declared in Rust and the standard library count nothing. Prints the numbers, for each crate too, and
-fails above 2,680 lines.
+fails above 2,780 lines.
 """
 
 import argparse
@@ -19,7 +19,7 @@ from checks.rattle import FileReader
 from checks.running import Failed
 from crates import TOP
 
-MOST = 2680
+MOST = 2780
 COLUMNS = 100
 CITED = "EndsCommand"
 Width = Callable[[Definition], int]

@@ -1,8 +1,11 @@
-//! The program `papr`: hands its words, standard input and standard output to [`papr_top::papr`], and
-//! ends with the status. It prints nothing itself.
+//! The program `papr`: hands its words, standard input and standard output to [`papr_top::papr`] where
+//! the word is `par`, and else to [`papr_top::papr_serial`], which always returns. It ends with the status,
+//! and prints nothing itself.
 #![tactic(auto)]
 
-use papr_top::{OpenGate, Status, papr};
+ghost use Rattle.std.specs.Prelude.{◌≡◌, ◌∷◌, [], ◌↔◌, IsTrue, codes, map, string_bytes};
+
+use papr_top::{OpenGate, Status, papr, papr_serial};
 use std::alloc::Global;
 use std::env;
 use std::io::{self, ErrorKind};
@@ -15,6 +18,16 @@ fn words(rt: &(impl Env + Alloc<A = Global>)) -> io::Result<Vec<String>> {
     Ok(env::args(rt)?.skip(1).collect(rt.alloc())?)
 }
 
+/// Whether the words ask for threads: the one word `par` does.
+fn is_par(words: &[String]) -> bool
+    ensures { IsTrue result ↔ (map string_bytes words.now ≡ codes "par" ∷ []) }
+{
+    match words {
+        [word] => word.as_str() == "par",
+        _ => false,
+    }
+}
+
 fn main(rt: HostRuntime) -> ExitCode {
     let words = match words(&rt) {
         Ok(words) => words,
@@ -24,6 +37,10 @@ fn main(rt: HostRuntime) -> ExitCode {
     };
     let mut source = StdSource::new(rt.stdin());
     let mut sink = StdSink::new(rt.stdout());
-    let status = papr(&rt, rt.alloc(), &words, &mut source, &mut sink, &OpenGate);
+    let status = if is_par(&words) {
+        papr(&rt, rt.alloc(), &words, &mut source, &mut sink, &OpenGate)
+    } else {
+        papr_serial(rt.alloc(), &words, &mut source, &mut sink)
+    };
     ExitCode::from(status.number())
 }

@@ -1,6 +1,5 @@
 -- How each command ends, from what it read and wrote, and from its faults.
-use Rattle.std.proofs.Common.{◌≡◌, ◌≢◌, ◌⊎◌, ℕ, List, Option, Some, None, Result, IsSomeAnd, IsOk, IsErr, refl, inl, inr}
-use Rattle.trace_read.specs.Trace.{AcceptedTrace}
+use Rattle.std.proofs.Common.{◌≡◌, ◌≢◌, ◌⊎◌, ℕ, List, Some, None, Result, IsSomeAnd, IsOk, IsErr, refl, inl, inr}
 use Rattle.table_image.specs.declared.layout.Layout.{Layout}
 use Rattle.papr_edge.specs.declared.command.Command.{Command}
 use Rattle.papr_edge.specs.declared.command.Command.TheVariants as commands

@@ -1,5 +1,5 @@
 -- How `image` ends, from what was read and written.
-use Rattle.std.proofs.Common.{◌≡◌, ◌≢◌, ◌⊎◌, ℕ, false, true, Some, Result, Ok, Err, IsSomeAnd, IsOkAnd, IsOk, IsErr, IfOk, sym, refl, subst, inl, inr}
+use Rattle.std.proofs.Common.{◌≡◌, ◌≢◌, ◌⊎◌, ℕ, false, true, Some, Result, IsSomeAnd, IsOkAnd, IsOk, IsErr, IfOk, refl, subst, inl, inr}
 use Rattle.trace_read.specs.Trace.{AcceptedTrace}
 use Rattle.table_image.specs.declared.layout.Layout.{Layout}
 use Rattle.papr_edge.specs.declared.command.Command.TheVariants.{Image}

@@ -4,7 +4,6 @@ use Rattle.number_text.specs.Numbers.{hex}
 use Rattle.entry_model.specs.State.{State}
 use Rattle.entry_model.specs.Reply.{words_of}
 use Rattle.trace_read.specs.Trace.{AcceptedTrace}
-use Rattle.run_model.specs.SerialRun.{serial_replies}
 use Rattle.table_image.specs.declared.entry.ImageEntry.{ImageEntry}
 use Rattle.table_image.specs.declared.layout.Layout.{Layout}
 use Rattle.table_image.specs.Image.{image_of}
@@ -12,7 +11,7 @@ use Rattle.papr_edge.specs.Inputs.{trace_input}
 use Rattle.papr_edge.specs.Ends.{Run, Answers, Refuses, EndsReading}
 use Rattle.papr_edge.specs.declared.status.Status.{Status}
 use Rattle.papr_edge.specs.declared.status.Status.TheVariants.{Done, Refused}
-use Rattle.papr_top.specs.Texts.{IsAssured, table_at_end}
+use Rattle.papr_top.specs.Texts.{IsSerialAssured, table_at_end}
 
 -- An entry with its index, R and C put back into doubleword 1.
 abbrev pub image_entry : ℕ × State → ImageEntry
@@ -37,7 +36,7 @@ layout_refusal_text index = codes "papr: entry " ++ hex index ++ codes ": layout
 
 -- An image comes with Done, and the serial run is assured; the line of the first entry that can't be held comes with Refused.
 abbrev pub IsImage : Layout → AcceptedTrace → Status → List ℕ → Type 0
-IsImage layout t Done text = (image_output layout t ≡ Ok text) × IsAssured t (serial_replies t)
+IsImage layout t Done text = (image_output layout t ≡ Ok text) × IsSerialAssured t
 IsImage layout t Refused text =
     (index : ℕ) × (image_output layout t ≡ Err index) × (text ≡ layout_refusal_text index)
 IsImage layout t other text = ⊥

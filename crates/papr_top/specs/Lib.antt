@@ -5,4 +5,5 @@ pub mod Sets
 pub mod Top
 pub mod Ends
 pub mod InputLaws
+pub mod ImageLines
 pub mod Laws

@@ -2,14 +2,13 @@
 use Rattle.std.specs.Prelude.{ℕ, List, [], Option, Some, None, IsSomeAnd, IsOk, IsErr, codes}
 use Rattle.trace_read.specs.Trace.{AcceptedTrace}
 use Rattle.trace_gen.specs.Generated.{generated_trace}
-use Rattle.run_model.specs.SerialRun.{serial_replies}
 use Rattle.papr_edge.specs.Inputs.{trace_input, judged_input}
 use Rattle.papr_edge.specs.Ends.{Run, ReadsNothing, Writes, WritesPrefix, WithDone, EndsReading}
 use Rattle.papr_edge.specs.declared.status.Status.{Status}
 use Rattle.papr_edge.specs.declared.status.Status.TheVariants.{Done, Usage, WriteFault, Memory}
 use Rattle.papr_edge.specs.declared.command.Command.{Command}
 use Rattle.papr_edge.specs.declared.command.Command.TheVariants as commands
-use Rattle.papr_top.specs.Texts.{IsAssured, IsSerialText, IsParallelText, drill_text}
+use Rattle.papr_top.specs.Texts.{IsSerialAssured, IsSerialText, IsParallelText, drill_text}
 use Rattle.papr_top.specs.Judging.{IsVerdictText}
 use Rattle.papr_top.specs.Images.{EndsImage, HasImage, HasNoImage}
 use Rattle.papr_top.specs.Sets.{set_input, IsSetText}
@@ -22,7 +21,7 @@ usage_text = codes "papr: usage\n"
 -- Of a drill's trace, from which no byte is read: the summary was written whole, or a prefix of it, or nothing for want of memory.
 abbrev pub EndsDrill : AcceptedTrace → Run → Status → Type 0
 EndsDrill t run Done =
-    ReadsNothing run × IsAssured t (serial_replies t) × Writes run (drill_text t)
+    ReadsNothing run × IsSerialAssured t × Writes run (drill_text t)
 EndsDrill t run WriteFault = ReadsNothing run × WritesPrefix run (drill_text t)
 EndsDrill t run Memory = ReadsNothing run × Writes run []
 EndsDrill t run other = ⊥

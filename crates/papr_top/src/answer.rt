@@ -1,12 +1,12 @@
 ghost use Rattle.std.specs.Prelude.{◌≡◌, ◌≤◌, IfOk, string_bytes};
 ghost use Rattle.trace_gen.specs.Generated.{generated_trace};
-ghost use Rattle.run_model.specs.SerialRun.{serial_replies};
 ghost use Rattle.papr_edge.specs.Answer.{IsAnswer};
 ghost use Rattle.papr_edge.specs.Ends.{WithDone};
-ghost use Rattle.papr_top.specs.Texts.{drill_text, IsAssured, IsSerialText, IsParallelText};
+ghost use Rattle.papr_top.specs.Texts.{drill_text, IsSerialAssured, IsSerialText, IsParallelText};
 
 use papr_edge::Answer;
 use reply_text::summary_of_counts;
+use run_model::serial_puts_are_not_busy;
 use std::alloc::{AllocError, Global};
 use std::sync::Wait;
 use std::thread::Threads;
@@ -18,6 +18,8 @@ use trace_runner::{Gate, parallel_to_text, run_counted, run_to_text};
 pub fn run_answer(alloc: Global, trace: &Trace) -> Result<Answer, AllocError>
     ensures { IfOk result (λ answer. IsAnswer (WithDone IsSerialText) trace.now answer) }
 {
+    trace.keeps_limits();
+    serial_puts_are_not_busy();
     let text = run_to_text(alloc, trace)?;
     Ok(Answer::Done(text))
 }
@@ -31,6 +33,7 @@ pub fn par_answer<R: Threads + Wait + Sync, G: Gate + Sync>(
 ) -> Result<Answer, AllocError>
     ensures { IfOk result (λ answer. IsAnswer (WithDone IsParallelText) trace.now answer) }
 {
+    trace.keeps_limits();
     let text = parallel_to_text(rt, alloc, trace, gate)?;
     Ok(Answer::Done(text))
 }
@@ -40,12 +43,10 @@ pub fn par_answer<R: Threads + Wait + Sync, G: Gate + Sync>(
 pub fn summary(alloc: Global, seed: u64, lines: u32) -> Result<String, AllocError>
     requires { lines ≤ 100000 }
     ensures text { IfOk result (λ s. string_bytes s ≡ drill_text (generated_trace seed lines)) }
-    ensures assured { IfOk
-        result
-        (λ _.
-        IsAssured (generated_trace seed lines) (serial_replies (generated_trace seed lines))) }
+    ensures assured { IfOk result (λ _. IsSerialAssured (generated_trace seed lines)) }
 {
     let trace = generate(alloc, seed, lines)?;
+    serial_puts_are_not_busy();
     let lines = trace.lines.as_slice().len();
     let run = run_counted(alloc, &trace)?;
     summary_of_counts(alloc, lines, &run.counts, &run.table)

@@ -1,13 +1,13 @@
 ghost use Rattle.std.specs.Prelude.{◌≡◌, IfErr, IfOk, string_bytes};
-ghost use Rattle.run_model.specs.SerialRun.{serial_replies};
 ghost use Rattle.table_image.specs.Image.{TellsOf};
 ghost use Rattle.papr_edge.specs.Answer.{IsAnswer};
-ghost use Rattle.papr_top.specs.Texts.{IsAssured};
+ghost use Rattle.papr_top.specs.Texts.{IsSerialAssured};
 ghost use Rattle.papr_top.specs.Images.{image_entries, image_entry, image_output, layout_refusal_text, IsImage};
 
 use entry_model::EntryState;
 use number_text::put_hexadecimal;
 use papr_edge::Answer;
+use run_model::serial_puts_are_not_busy;
 use std::alloc::{AllocError, Global};
 use table_image::{ImageEntry, ImageError, ImageText, Layout, image_text};
 use trace_read::Trace;
@@ -39,8 +39,10 @@ fn listed_entries(
 fn image_at_end(alloc: Global, layout: Layout, trace: &Trace) -> Result<ImageText, ImageError>
     ensures text { IfOk result (λ text. image_output layout trace.now ≡ Ok text) }
     ensures refused { IfErr result (λ error. TellsOf error (image_output layout trace.now)) }
-    ensures assured { IfOk result (λ _. IsAssured trace.now (serial_replies trace.now)) }
+    ensures assured { IfOk result (λ _. IsSerialAssured trace.now) }
 {
+    trace.keeps_limits();
+    serial_puts_are_not_busy();
     let run = run_counted(alloc, trace)?;
     let entries = listed_entries(alloc, run.table.states.as_slice())?;
     image_text(alloc, layout, entries.as_slice(), run.table.order)

@@ -69,6 +69,7 @@ fn verdict_line(alloc: Global, verdict: Verdict) -> Result<String, AllocError>
 pub fn verdict_answer(alloc: Global, input: &Judged) -> Result<Answer, AllocError>
     ensures { IfOk result (λ answer. IsAnswer IsVerdictText input.now answer) }
 {
+    input.trace.keeps_limits();
     let verdict = check_replies(alloc, &input.trace, &input.text)?;
     let line = verdict_line(alloc, verdict)?;
     match verdict {

@@ -11,7 +11,7 @@ mod laws;
 mod sets;
 mod top;
 
-pub use laws::written_texts_are_good;
+pub use laws::{image_lines_open_again, written_texts_are_good};
 pub use papr_edge::Status;
 pub use top::{papr, papr_serial};
 pub use trace_runner::{Gate, OpenGate};

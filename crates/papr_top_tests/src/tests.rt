@@ -4,6 +4,7 @@ mod entering;
 mod entries;
 mod faults;
 mod full_group;
+mod gates;
 mod images;
 mod judging;
 mod long_trace;

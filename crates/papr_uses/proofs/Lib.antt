@@ -6,3 +6,4 @@ pub mod Granted
 pub mod Entered
 pub mod NoSegment
 pub mod WholeRuns
+pub mod Promised

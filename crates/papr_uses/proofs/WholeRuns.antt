@@ -1,9 +1,9 @@
--- The program under `run`, over an input that is told whole.
+-- The program under `run` and `par`, over an input that is told whole.
 use Rattle.std.proofs.Common.{◌≡◌, ℕ, ◌^◌, ◌<◌, List, [], ◌∷◌, ◌++◌, length, Some, Ok, Err, Result, IsOk, IsErr, String, string_bytes, codes, sym, refl, subst, ap, ◌∙◌, inl, inr, arith, lt-ltb}
 use Rattle.std.proofs.lemmas.Bool.{cases_lt}
 use Rattle.std.proofs.lemmas.List.{append-nil}
 use Rattle.std.specs.declared.alloc.Global.{Global}
-use Rattle.trace_io.specs.Outside.{Rose}
+use Rattle.trace_io.specs.Outside.{Put, Rose}
 use Rattle.trace_read.specs.declared.why.Why.TheVariants.{Long}
 use Rattle.trace_read.specs.Trace.{AcceptedTrace}
 use Rattle.trace_read.specs.Grammar.{trace_of}
@@ -15,8 +15,10 @@ use Rattle.papr_edge.specs.declared.status.Status.TheVariants.{Done}
 use Rattle.papr_edge.specs.Inputs.{trace_input, with_reason}
 use Rattle.papr_edge.specs.Reading.{Reads}
 use Rattle.papr_edge.specs.Ends.{Run, Answers, WithDone, IsAnswered}
-use Rattle.papr_top.specs.Texts.{IsSerialText}
+use Rattle.run_model.specs.SerialRun.{serial_replies}
+use Rattle.papr_top.specs.Texts.{IsSerialText, IsParallelText}
 use Rattle.papr_uses.specs.RunText.{PutsTextOfBytes}
+use Rattle.papr_uses.specs.Promises.{PutsReplies, IsOfOneThread, IsOfThreads}
 
 -- A count that stays at 0 didn't rise.
 pub never_rose : Rose 0 0 → ⊥
@@ -27,6 +29,11 @@ never_rose (inr last) = absurd (omega (arith, last))
 pub run_word : (word : String Global) → string_bytes word ≡ codes "run" → command_of (word ∷ []) ≡ Some commands.Run
 unfolding command_of reading_of
 run_word word is = rw is refl
+
+-- The one word `par` is.
+pub par_word : (word : String Global) → string_bytes word ≡ codes "par" → command_of (word ∷ []) ≡ Some commands.Par
+unfolding command_of reading_of
+par_word word is = rw is refl
 
 -- An input past the limit is refused.
 refused_long : (bytes : List ℕ) → 2 ^ 24 < length bytes → trace_of bytes ≡ Err (0, Long)
@@ -66,17 +73,57 @@ whole input bytes rest t read accepted =
       | inr within ↦ sym (read.took ∙ ap (λ z. bytes ++ z) (read.end within) ∙ append-nil bytes)
     ]
 
--- The text of its serial run was written.
-pub answered : (input rest : List ℕ) (run : Run) → run.left ≡ Some input → run.left_after ≡ Some rest → Answers trace_input (λ t. WithDone IsSerialText t Done) run → PutsTextOfBytes input run.taken run.taken_after
-answered input rest run left left_after a =
+-- A text that was written of the input, with the trace that this is.
+pub record Wrote (says : AcceptedTrace → List ℕ → Type 0) (input : List ℕ) (run : Run) : Type 0 where
+  pub trace : AcceptedTrace
+  pub text : List ℕ
+  pub accepted : trace_of input ≡ Ok trace
+  pub said : says trace text
+  pub put : Put run.taken text run.taken_after
+
+pub wrote : (says : AcceptedTrace → List ℕ → Type 0) (input rest : List ℕ) (run : Run) → run.left ≡ Some input → run.left_after ≡ Some rest → Answers trace_input says run → Wrote says input run
+wrote says input rest run left left_after a =
     let read : Reads (Some input) a.bytes (Some rest) = subst (λ after. Reads (Some input) a.bytes after) left_after (subst (λ before. Reads before a.bytes run.left_after) left a.read) in
     let accepted : trace_of a.bytes ≡ Ok a.input = was_trace (trace_of a.bytes) a.input a.accepted in
     record {
+      trace = a.input;
       text = a.text;
-      told = record {
-        trace = a.input;
-        accepted = subst (λ bytes. trace_of bytes ≡ Ok a.input) (whole input a.bytes rest a.input read accepted) accepted;
-        told = record { replies = _; good = a.said.assured.good; told = a.said.is };
-      };
+      accepted = subst (λ bytes. trace_of bytes ≡ Ok a.input) (whole input a.bytes rest a.input read accepted) accepted;
+      said = a.said;
       put = a.written;
+    }
+
+-- The text of its serial run was written.
+pub answered : (input : List ℕ) (run : Run) → Wrote IsSerialText input run → PutsTextOfBytes input run.taken run.taken_after
+answered input run w =
+    record {
+      text = w.text;
+      told = record {
+        trace = w.trace;
+        accepted = w.accepted;
+        told = record { replies = _; good = w.said.assured.run.good; told = w.said.is };
+      };
+      put = w.put;
+    }
+
+-- The replies of its serial run were.
+pub serially : (input : List ℕ) (run : Run) → Wrote IsSerialText input run → PutsReplies IsOfOneThread input run.taken run.taken_after
+serially input run w =
+    record {
+      trace = w.trace;
+      replies = serial_replies w.trace;
+      accepted = w.accepted;
+      put = subst (λ text. Put run.taken text run.taken_after) w.said.is w.put;
+      kept = record { serial = refl; assured = w.said.assured };
+    }
+
+-- Those of a run by threads were.
+pub by_threads : (input : List ℕ) (run : Run) → Wrote IsParallelText input run → PutsReplies IsOfThreads input run.taken run.taken_after
+by_threads input run w =
+    record {
+      trace = w.trace;
+      replies = w.said.replies;
+      accepted = w.accepted;
+      put = subst (λ text. Put run.taken text run.taken_after) w.said.is w.put;
+      kept = record { assured = w.said.assured; one = w.said.one };
     }

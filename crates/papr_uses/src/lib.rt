@@ -9,6 +9,7 @@ mod machines;
 mod pages;
 mod pools;
 mod programs;
+mod promises;
 mod resizing;
 mod segments;
 mod tables;
@@ -22,6 +23,11 @@ pub use machines::machine_after;
 pub use pages::group_of_entry;
 pub use pools::{take_and_give, take_pair};
 pub use programs::run_program;
+pub use promises::{
+    accesses_land, caches_are_right, devices_land, masks_are_right, no_put_is_busy,
+    none_is_hardware, one_processor_has_one_run, refusals_leave, resizes_keep, stores_show,
+    text_tells_run, zero_masks_are_silent,
+};
 pub use resizing::resize;
 pub use segments::only_segment;
 pub use tables::{enter_and_read, enter_and_remove, entry_of_page};

@@ -205,7 +205,6 @@ unfolding granted read_tce is_ram machine_range
 device_lands = record {
   permitted = refl;
   in_ram = refl;
-  kind = Ram;
   in_grant = refl;
   off_pool = λ inside. absurd (omega (arith, inside.to_end));
 }

@@ -38,6 +38,7 @@ mod OpeningAgain
 pub mod AllSafe
 pub mod CallLines
 pub mod WindowStates
+pub mod RamBytes
 pub mod WindowsSafe
 pub mod BusyLines
 pub mod ClearedBits

@@ -1,5 +1,5 @@
 -- In a good run no entry is worn, of the page table or of a window, and each access of a device lands by its TCE.
-use Rattle.std.proofs.Common.{◌≡◌, ℕ, ◌+◌, ◌*◌, ◌^◌, ◌<◌, ◌≤◌, List, [], ◌∷◌, Bool, true, false, sym, ◌∙◌, refl, subst, ◌⊎◌, inl, inr, length, Option, Some, None, arith}
+use Rattle.std.proofs.Common.{◌≡◌, ℕ, ◌+◌, ◌*◌, ◌^◌, ◌<◌, ◌≤◌, List, [], ◌∷◌, Bool, true, false, sym, ap, ◌∙◌, refl, subst, ◌⊎◌, inl, inr, length, Option, Some, None, arith}
 use Rattle.std.specs.List.{AllByRecursion}
 use Rattle.std.proofs.lemmas.Bool.{cases_Bool, false≢true, true≢false}
 use Rattle.std.proofs.lemmas.List.{length-replicate}
@@ -49,6 +49,7 @@ use Rattle.run_model.proofs.SectionGood.{each_regrouped}
 use Rattle.run_model.proofs.LowStamps.{top, fine_below, closing_size, states_kept}
 use Rattle.run_model.proofs.AllSafe.{IsLine, InSections, line_count, cut_in, cut_out, cut_count, replied_lines_count, replied_lines_lines, table_unworn}
 use Rattle.run_model.proofs.CallLines.{on_window_act, cut_quiet, each_of_section, table_calls, HoldsOn, window_joined, each_on_stores}
+use Rattle.run_model.proofs.RamBytes.{byte_is_ram}
 use Rattle.run_model.proofs.WindowStates.{HasTce, IsTceState, empty_tce, TceOp, tce_kept, IsTceLine, tce_line}
 
 -- ---- an access of a device
@@ -68,7 +69,7 @@ ram_lands : (granted : GrantedMemory) (write : Bool) (ioba : ℕ) (r : Receipt) 
 ram_lands granted write ioba r apart on ram = at (machine_range granted.grants (logical_of ioba (tce_of r.before)) 1) refl where
   at : (place : Option (ℕ × Kind)) → machine_range granted.grants (logical_of ioba (tce_of r.before)) 1 ≡ place → DeviceLandsBy granted write ioba (outcome_by granted.grants ioba write (tce_of r.before)) (r ∷ [])
   at None none = absurd (true≢false (sym ram ∙ (ungranted_where granted.grants ioba (tce_of r.before) write on).0 (rw (on, ram, none) refl)))
-  at (Some x) found = rw (on, ram, found) (record { permitted = on; in_ram = ram; kind = x.1; in_grant = found; off_pool = λ inside. lands_off_pool granted (logical_of ioba (tce_of r.before)) x apart found inside.from_base inside.to_end })
+  at (Some x) found = rw (on, ram, found) (record { permitted = on; in_ram = ram; in_grant = found ∙ ap (λ kind. Some (x.0, kind)) (byte_is_ram granted ioba (tce_of r.before) x apart ram found); off_pool = λ inside. lands_off_pool granted (logical_of ioba (tce_of r.before)) x apart found inside.from_base inside.to_end })
 
 read_lands : (granted : GrantedMemory) (write : Bool) (ioba : ℕ) (r : Receipt) → AreApart granted → HasTce granted.grants r.before → DeviceLandsBy granted write ioba (outcome_by granted.grants ioba write (tce_of r.before)) (r ∷ [])
 read_lands granted write ioba r apart tce = at (cases_Bool (permits (tce_of r.before) write)) where

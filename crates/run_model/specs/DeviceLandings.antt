@@ -3,7 +3,7 @@ use Rattle.std.specs.Prelude.{◌≡◌, ℕ, Bool, true, IsTrue, List, [], ◌�
 use Rattle.dma_window.specs.Devices.{logical_of}
 use Rattle.dma_window.specs.Entries.{address_of, permits, tce_of}
 use Rattle.dma_window.specs.Pages.{is_ram}
-use Rattle.frame_grants.specs.declared.grant.Kind.{Kind}
+use Rattle.frame_grants.specs.declared.grant.Kind.TheVariants.{Ram}
 use Rattle.frame_grants.specs.Grants.{GrantedMemory, machine_range}
 use Rattle.entry_model.specs.declared.device_reply.DeviceOutcome.{DeviceOutcome}
 use Rattle.entry_model.specs.declared.device_reply.DeviceOutcome.TheVariants.{At, Ungranted}
@@ -14,7 +14,7 @@ use Rattle.run_model.specs.Landings.{IsInPool}
 use Rattle.trace_line.specs.declared.act.Act.TheVariants as acts
 use Rattle.trace_reply.specs.declared.reply.Reply.TheVariants as replies
 
--- The TCE that the receipt found permits the access, and a single grant of main storage holds its page. The address is the one that the grant gives that page, with the bus address's offset in it; it is none of the pool's, in which all tables lie.
+-- The TCE that the receipt found permits the access, and a single grant of main storage holds its page. The address is the one that a grant of main storage gives that page, with the bus address's offset in it; it is none of the pool's, in which all tables lie.
 pub record IsDeviceLanding
     (granted : GrantedMemory)
     (write : Bool)
@@ -25,10 +25,9 @@ pub record IsDeviceLanding
   where
     pub permitted : IsTrue (permits (tce_of r.before) write)
     pub in_ram : is_ram granted.grants (address_of (tce_of r.before)) ≡ true
-    pub kind : Kind
     pub in_grant :
         machine_range granted.grants (logical_of ioba (tce_of r.before)) 1
-        ≡ Some (address, kind)
+        ≡ Some (address, Ram)
     pub off_pool : IsInPool granted address → ⊥
 
 -- An access that is allowed has one receipt, and lands so by it; and none ends outside the grants.

@@ -1,9 +1,10 @@
 //! More calls of more processors than a group has entries. Which of them get one is the schedule's choice,
 //! and each reply is known but for that.
 
+use super::gates::{answered, judged_input};
 use super::par::together;
 use super::push_lines;
-use papr_top::Status;
+use papr_top::{OpenGate, Status};
 use std::alloc::Global;
 use std::fmt::Write;
 use std::test::Fail;
@@ -75,7 +76,8 @@ fn count(alloc: Global, text: &str, answer: &str) -> Result<u32, Fail> {
 #[test]
 fn a_group_is_filled_and_all_others_find_it_full(rt: HostRuntime) -> Result<(), Fail> {
     let alloc = rt.alloc();
-    let (status, text) = together(&rt, alloc, input(alloc)?.as_str())?;
+    let trace = input(alloc)?;
+    let (status, text) = together(&rt, alloc, trace.as_str())?;
     assert_eq!(rt; status, Status::Done);
     for taken in 0..=GROUP {
         let found = count(alloc, text.as_str(), answer(alloc, taken)?.as_str())?;
@@ -86,5 +88,8 @@ fn a_group_is_filled_and_all_others_find_it_full(rt: HostRuntime) -> Result<(), 
     push_lines(&mut dump, DUMP)?;
     assert!(rt; text.as_str().ends_with(dump.as_str()));
     assert_eq!(rt; text.as_str().split('\n').count(), 138);
+    let judged = judged_input(alloc, trace.as_str(), text.as_str())?;
+    let (status, verdict) = answered(&rt, alloc, &["check"], judged.as_str(), &OpenGate)?;
+    assert_eq!(rt; (status, verdict.as_str()), (Status::Done, "good\n"));
     Ok(())
 }

@@ -73,24 +73,48 @@ impl Gate for HoldFirst {
     }
 }
 
-#[test]
-fn processors_run_beside_each_other(rt: HostRuntime) -> Result<(), Fail> {
-    let gate = HoldFirst {
-        answered: Flag::new(),
-        late: Flag::new(),
-    };
-    let input = "order 18
+impl HoldFirst {
+    fn new() -> Self {
+        HoldFirst {
+            answered: Flag::new(),
+            late: Flag::new(),
+        }
+    }
+}
+
+/// Two processors that enter the same entry.
+const ONE_ENTRY: &str = "order 18
 cpus 2
 ram 0x0 0x2000000000 0x40000000
 begin
 0 H_ENTER 0x8000000000 0x20 0x1001 0x3012
-1 H_ENTER 0x8000000000 0x28 0x1001 0x4012
+1 H_ENTER 0x8000000000 0x20 0x1001 0x4012
 ";
+
+/// The text where the second of them comes first.
+const SECOND_FIRST: &str = "5 0 H_ENTER -6 | 0x20.1.0.taken
+6 1 H_ENTER 0 0x20 | 0x20.0.0.entered
+";
+
+#[test]
+fn processors_run_beside_each_other(rt: HostRuntime) -> Result<(), Fail> {
+    let gate = HoldFirst::new();
     assert_eq!(rt;
-        together(&rt, rt.alloc(), input, &gate)?.as_str(),
-        "5 0 H_ENTER 0 0x20 | 0x20.0.0.entered
-6 1 H_ENTER 0 0x28 | 0x28.0.0.entered
-"
+        together(&rt, rt.alloc(), ONE_ENTRY, &gate)?.as_str(),
+        SECOND_FIRST
+    );
+    assert!(rt; !gate.late.is_up());
+    Ok(())
+}
+
+#[test]
+fn processors_write_their_texts_beside_each_other(rt: HostRuntime) -> Result<(), Fail> {
+    let alloc = rt.alloc();
+    let gate = HoldFirst::new();
+    let trace = accepted(alloc, ONE_ENTRY)?;
+    assert_eq!(rt;
+        parallel_to_text(&rt, alloc, &trace, &gate)?.as_str(),
+        SECOND_FIRST
     );
     assert!(rt; !gate.late.is_up());
     Ok(())

@@ -5,7 +5,6 @@ use Rattle.papr_edge.specs.Ends.{WithDone}
 use Rattle.papr_edge.specs.Inputs.{trace_input}
 use Rattle.papr_edge.proofs.Outcomes.{ends_said}
 use Rattle.papr_top.specs.Texts.{IsParallelText}
-use Rattle.papr_top.specs.Ends.{Sides}
 use Rattle.papr_top.proofs.CommandEnds.{par_ends}
 use Rattle.papr_top.proofs.top.papr.Goals as goal
 

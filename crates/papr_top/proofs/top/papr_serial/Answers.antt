@@ -8,7 +8,6 @@ use Rattle.papr_top.specs.Texts.{IsSerialText}
 use Rattle.papr_top.specs.Judging.{IsVerdictText}
 use Rattle.papr_top.specs.Images.{IsImage}
 use Rattle.papr_top.specs.Sets.{set_input, IsSetText}
-use Rattle.papr_top.specs.Ends.{Sides}
 use Rattle.papr_top.proofs.CommandEnds.{run_ends, check_ends, set_ends, image_ends}
 use Rattle.papr_top.proofs.top.papr_serial.Goals as goal
 

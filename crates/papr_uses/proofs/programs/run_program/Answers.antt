@@ -7,7 +7,7 @@ use Rattle.papr_edge.specs.declared.status.Status.TheVariants.{Done, Memory}
 use Rattle.papr_edge.specs.Inputs.{trace_input}
 use Rattle.papr_edge.specs.Ends.{Run, EndsReading, WithDone, IsAnswered}
 use Rattle.papr_top.specs.Texts.{IsSerialText}
-use Rattle.papr_uses.proofs.WholeRuns.{run_word, never_rose, answered, run_done, trace_accepted, trace_refused}
+use Rattle.papr_uses.proofs.WholeRuns.{run_word, never_rose, answered, wrote, run_done, trace_accepted, trace_refused}
 use Rattle.papr_uses.proofs.programs.run_program.Goals as goal
 
 pub returns-clause-complete : goal.returns-clause-complete
@@ -27,4 +27,4 @@ returns-clause-text c = λ done.
     let word : command_of (c.in-Ok.word ∷ []) ≡ Some commands.Run = run_word c.in-Ok.word c.in-Ok.ensures.ok in
     let ran : Run = record { left = Some c.new-source.result.left; left_after = Some c.papr_serial.new.source.left; taken = told c.args.sink.now; taken_after = told c.papr_serial.new.sink } in
     let ends : EndsReading trace_input (WithDone IsSerialText) ran c.papr_serial.result = rw word at c.papr_serial.ensures.ends.outcome in
-    answered c.args.input.items c.papr_serial.new.source.left ran (ap (λ (s : SourceState). Some s.left) c.new-source.ensures) refl (subst (EndsReading trace_input (WithDone IsSerialText) ran) done ends)
+    answered c.args.input.items ran (wrote IsSerialText c.args.input.items c.papr_serial.new.source.left ran (ap (λ (s : SourceState). Some s.left) c.new-source.ensures) refl (subst (EndsReading trace_input (WithDone IsSerialText) ran) done ends))

@@ -1,7 +1,6 @@
-use Rattle.std.proofs.Common.{◌≡◌, ℕ, ◌+◌, ◌≤◌, ◌^◌, ◌∙◌, ap, List, length, Ok, Err, sym, arith}
+use Rattle.std.proofs.Common.{ℕ, ◌+◌, ◌≤◌, ◌^◌, ◌∙◌, ap, List, length, Ok, Err, sym, arith}
 use Rattle.std.proofs.lemmas.Result.{err_from_is_err_and}
 use Rattle.papr_edge.specs.declared.reason.Reason.TheVariants.{NoReplies}
-use Rattle.papr_edge.specs.Inputs.{JudgedInput}
 use Rattle.papr_edge.specs.InputLaws.{long_judged}
 use Rattle.papr_edge.proofs.JudgedInputs.{without_replies, with_trace}
 use Rattle.papr_top.proofs.Verdicts.{trace_refused}

@@ -34,12 +34,7 @@ fn calls_of(case: Option<&Edge>, row: Option<&Edge>) -> Calls {
 }
 
 /// The status and the text that must come: an output, or the line that refuses an input.
-fn wanted(
-    alloc: Global,
-    row: &Row,
-    case: &Case,
-    front: &[u8],
-) -> Result<(u8, Vec<u8>), RowError> {
+fn wanted(alloc: Global, row: &Row, case: &Case, front: &[u8]) -> Result<(u8, Vec<u8>), RowError> {
     let mut said = (&case.output, case.line, &case.reason);
     if let (None, None, None) = said {
         said = (&row.output, row.line, &row.reason);
@@ -66,7 +61,11 @@ impl<'a> Said<'a> {
         (file, row, case): (&'a RowFile, &'a Row, &'a Case),
         front: &[u8],
     ) -> Result<Self, RowError> {
-        let words = case.words.as_ref().or(row.words.as_ref()).or(file.words.as_ref());
+        let words = case
+            .words
+            .as_ref()
+            .or(row.words.as_ref())
+            .or(file.words.as_ref());
         let also = row.also.as_ref().or(file.also.as_ref());
         let (status, output) = wanted(alloc, row, case, front)?;
         Ok(Said {
@@ -166,7 +165,11 @@ pub fn check_case<R: AllocGlobal + Threads + Wait + Sync>(
         return front.check_ends(rt, said, text.as_str());
     }
     let mut input = front.input.clone()?;
-    let text = case.input.as_ref().or(row.input.as_ref()).ok_or(RowError::Input)?;
+    let text = case
+        .input
+        .as_ref()
+        .or(row.input.as_ref())
+        .ok_or(RowError::Input)?;
     push_text(alloc, &mut input, text)?;
     said.check(rt, &input)
 }

@@ -6,6 +6,8 @@ use thiserror::Error;
 pub enum RowError {
     #[error("an earlier row has this name")]
     Name,
+    #[error("no cases")]
+    Cases,
     #[error("no words")]
     Words,
     #[error("no input")]

@@ -40,7 +40,7 @@ fn check_reads<R: AllocGlobal + Threads + Wait + Sync>(
     requires { 1 ≤ run.now.source.piece }
 {
     // The last read finds the end.
-    let reads = run.input.len().div_ceil(run.source.piece) as u64 + 1;
+    let reads = (run.input.len().div_ceil(run.source.piece) as u64).saturating_add(1);
     for call in 1..=reads {
         Run {
             source: fault_at(run.source, call),

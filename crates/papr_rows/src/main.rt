@@ -11,18 +11,19 @@ mod form;
 mod pieces;
 mod row;
 mod running;
+mod tally;
 
 use anyhow::Result;
-use checking::{Tally, check_file};
+use checking::check_file;
 use std::env;
 use std::process::ExitCode;
+use tally::Tally;
 
 fn main(rt: HostRuntime) -> Result<ExitCode> {
     let mut tally = Tally::new(rt.alloc());
     for path in env::args(&rt)?.skip(1) {
         if let Err(error) = check_file(&rt, path.as_str(), &mut tally) {
-            tally.fail();
-            println!(&rt; "FAILED {path}: {error}")?;
+            tally.fail(&rt, path.as_str(), &error)?;
         }
     }
     println!(&rt; "{} passed, {} failed", tally.passed, tally.failed)?;

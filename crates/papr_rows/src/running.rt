@@ -84,18 +84,19 @@ impl<'a> Run<'a> {
         let mut told = text.split(|byte| *byte == b'\n');
         let mut wanted = self.output.split(|byte| *byte == b'\n');
         let mut line = 1u32;
-        let (told, wanted) = loop {
-            let pair = (told.next(), wanted.next());
+        let mut pair = (told.next(), wanted.next());
+        for number in 2..=u32::MAX {
             if pair.0 != pair.1 || pair.0.is_none() {
-                break pair;
+                break;
             }
-            line = line.saturating_add(1);
-        };
+            line = number;
+            pair = (told.next(), wanted.next());
+        }
         Ok(RowError::Text {
             words: self.told(alloc)?,
             line,
-            told: String::from_utf8_lossy(alloc, told.unwrap_or(b"nothing"))?,
-            wanted: String::from_utf8_lossy(alloc, wanted.unwrap_or(b"nothing"))?,
+            told: String::from_utf8_lossy(alloc, pair.0.unwrap_or(b"nothing"))?,
+            wanted: String::from_utf8_lossy(alloc, pair.1.unwrap_or(b"nothing"))?,
         })
     }
 

@@ -1,4 +1,5 @@
 //! Runs in which each call of the source and of the sink fails in turn.
+ghost use Rattle.std.specs.Prelude.{◌≤◌};
 
 use crate::error::RowError;
 use crate::running::{Calls, Run};

@@ -3,7 +3,6 @@
 
 use super::gates::{answered, judged_input};
 use super::par::together;
-use super::push_lines;
 use papr_top::{OpenGate, Status};
 use std::alloc::Global;
 use std::fmt::Write;
@@ -20,17 +19,16 @@ const PROCESSORS: u32 = 64;
 const GROUP: u32 = 8;
 
 /// The dump at the end, whose line is the 132nd.
-const DUMP: &[&str] = &[
-    "132 dump table 0 order 18 place 0x1000000000 entries 8",
-    " 0x20 0x1001 0x3012 1",
-    " 0x21 0x1001 0x3012 1",
-    " 0x22 0x1001 0x3012 1",
-    " 0x23 0x1001 0x3012 1",
-    " 0x24 0x1001 0x3012 1",
-    " 0x25 0x1001 0x3012 1",
-    " 0x26 0x1001 0x3012 1",
-    " 0x27 0x1001 0x3012 1",
-];
+const DUMP: &str = "132 dump table 0 order 18 place 0x1000000000 entries 8
+ 0x20 0x1001 0x3012 1
+ 0x21 0x1001 0x3012 1
+ 0x22 0x1001 0x3012 1
+ 0x23 0x1001 0x3012 1
+ 0x24 0x1001 0x3012 1
+ 0x25 0x1001 0x3012 1
+ 0x26 0x1001 0x3012 1
+ 0x27 0x1001 0x3012 1
+";
 
 fn input(alloc: Global) -> Result<String, Fail> {
     let mut text = String::from_str(alloc, "cpus 64\nram 0x0 0x2000000000 0x40000000\nbegin\n")?;
@@ -84,9 +82,7 @@ fn a_group_is_filled_and_all_others_find_it_full(rt: HostRuntime) -> Result<(), 
         let wanted = if taken < GROUP { 1 } else { 120 };
         assert_eq!(rt; found, wanted, "behind {taken}");
     }
-    let mut dump = String::new(alloc);
-    push_lines(&mut dump, DUMP)?;
-    assert!(rt; text.as_str().ends_with(dump.as_str()));
+    assert!(rt; text.as_str().ends_with(DUMP));
     assert_eq!(rt; text.as_str().split('\n').count(), 138);
     let judged = judged_input(alloc, trace.as_str(), text.as_str())?;
     let (status, verdict) = answered(&rt, alloc, &["check"], judged.as_str(), &OpenGate)?;

@@ -3,6 +3,8 @@ use papr_codes::Rc;
 use reply_text::{put_reply, summary_of, text_of};
 use std::alloc::Global;
 use std::fmt::Write;
+use std::ops::Range;
+use std::process::Abort;
 use std::test::Fail;
 use trace_line::{Act, TraceLine};
 use trace_read::{Trace, TraceError, parse};
@@ -51,20 +53,40 @@ fn shown(alloc: Global) -> Result<Shown, Fail> {
     })
 }
 
+/// The text of replies to as many lines.
+fn told(alloc: Global, trace: &Trace, replies: &Replies) -> Result<String, Fail> {
+    if trace.lines.as_slice().len() != replies.as_slice().len() {
+        return Err("not a reply for each line".into());
+    }
+    Ok(text_of(alloc, trace, replies)?)
+}
+
+/// The text of the replies to a trace is this one.
+fn check_told(
+    rt: &impl Abort,
+    alloc: Global,
+    input: &str,
+    replies: &Replies,
+    wanted: &str,
+) -> Result<(), Fail> {
+    let trace = accepted(alloc, input)?;
+    let text = told(alloc, &trace, replies)?;
+    assert!(rt; text.as_str() == wanted);
+    Ok(())
+}
+
 #[test]
 fn replies_stand_in_the_order_of_their_lines(rt: HostRuntime) -> Result<(), Fail> {
     let alloc = rt.alloc();
     let replies = replies(alloc)?;
     assert_eq!(rt; replies.as_slice().len(), 2);
-    let trace = accepted(alloc, LINES)?;
-    if trace.lines.as_slice().len() != 2 {
-        return Err("not two lines".into());
-    }
-    assert_eq!(rt;
-        text_of(alloc, &trace, &replies)?.as_str(),
-        "2 0 slbclear ok\n3 0 hcall -2\n"
-    );
-    Ok(())
+    check_told(
+        &rt,
+        alloc,
+        LINES,
+        &replies,
+        "2 0 slbclear ok\n3 0 hcall -2\n",
+    )
 }
 
 #[test]
@@ -84,13 +106,8 @@ fn a_dump_has_a_line_for_each_entry(rt: HostRuntime) -> Result<(), Fail> {
     Ok(())
 }
 
-#[test]
-fn a_summary_counts_replies_and_entries(rt: HostRuntime) -> Result<(), Fail> {
-    let alloc = rt.alloc();
-    let trace = accepted(alloc, LINES)?;
-    assert_eq!(rt;
-        summary_of(alloc, &trace, &replies(alloc)?, &shown(alloc)?)?.as_str(),
-        "lines 2
+/// What is counted of the two lines, their replies and a table with one entry.
+const SUMMARY: &str = "lines 2
 hcalls 1
 success 0
 full 0
@@ -102,8 +119,49 @@ nopage 0
 hits 0
 entries 1
 changed 1
-"
-    );
+";
+
+/// The summary of the replies to a trace, with this table at its end, is [`SUMMARY`].
+fn check_summary(
+    rt: &impl Abort,
+    alloc: Global,
+    trace: &Trace,
+    replies: &Replies,
+    table: &Shown,
+) -> Result<(), Fail> {
+    let summary = summary_of(alloc, trace, replies, table)?;
+    assert_eq!(rt; summary.as_str(), SUMMARY);
+    Ok(())
+}
+
+/// The same of the two lines and their replies.
+fn check_summary_of_lines(rt: &impl Abort, alloc: Global, table: &Shown) -> Result<(), Fail> {
+    let replies = replies(alloc)?;
+    let trace = accepted(alloc, LINES)?;
+    check_summary(rt, alloc, &trace, &replies, table)
+}
+
+#[test]
+fn a_summary_counts_replies_and_entries(rt: HostRuntime) -> Result<(), Fail> {
+    let alloc = rt.alloc();
+    let table = shown(alloc)?;
+    check_summary_of_lines(&rt, alloc, &table)
+}
+
+/// As many lines and replies as `numbers` has, and the text of these.
+fn push_all(
+    numbers: Range<u32>,
+    input: &mut String,
+    replies: &mut Replies,
+    text: &mut String,
+) -> Result<(), Fail> {
+    for number in numbers {
+        let accepted = number % 3 == 0;
+        let verdict = if accepted { "ok" } else { "refused" };
+        input.push_str("0 slbmte 0 0\n")?;
+        write!(text, "{number} 0 slbmte {verdict}\n")?;
+        replies.push(Reply::Segment(accepted))?;
+    }
     Ok(())
 }
 
@@ -111,20 +169,9 @@ changed 1
 fn replies_are_kept_without_room_made_for_them(rt: HostRuntime) -> Result<(), Fail> {
     let alloc = rt.alloc();
     let mut input = String::from_str(alloc, "begin\n")?;
-    let mut told = String::new(alloc);
+    let mut text = String::new(alloc);
     let mut replies = Replies::new(alloc);
-    for number in 2..5_002 {
-        let accepted = number % 3 == 0;
-        let verdict = if accepted { "ok" } else { "refused" };
-        input.push_str("0 slbmte 0 0\n")?;
-        write!(told, "{number} 0 slbmte {verdict}\n")?;
-        replies.push(Reply::Segment(accepted))?;
-    }
-    let trace = accepted(alloc, input.as_str())?;
-    if trace.lines.as_slice().len() != replies.as_slice().len() {
-        return Err("not a reply for each line".into());
-    }
+    push_all(2..5_002, &mut input, &mut replies, &mut text)?;
     assert_eq!(rt; replies.as_slice().len(), 5_000);
-    assert!(rt; text_of(alloc, &trace, &replies)? == told);
-    Ok(())
+    check_told(&rt, alloc, input.as_str(), &replies, text.as_str())
 }

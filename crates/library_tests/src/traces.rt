@@ -85,10 +85,8 @@ fn the_configuration_is_read(rt: HostRuntime) -> Result<(), Fail> {
     Ok(())
 }
 
-#[test]
-fn each_kind_of_line_is_read(rt: HostRuntime) -> Result<(), Fail> {
-    let trace = parse(rt.alloc(), WHOLE.as_bytes())?;
-    let lines = trace.lines.as_slice();
+/// The run lines of [`WHOLE`].
+fn check_lines(rt: &impl Abort, lines: &[TraceLine]) {
     let segment = Act::SlbMte {
         rb: 0x800_0000,
         rs: 0x1000,
@@ -106,23 +104,30 @@ fn each_kind_of_line_is_read(rt: HostRuntime) -> Result<(), Fail> {
         (23, 0, segment),
         (24, 0, Act::SlbClear),
         (25, 0, Act::Dump),
-    ];
-    assert_eq!(rt; lines.len(), expected.len());
-    for (line, (number, cpu, act)) in lines.iter().zip(expected) {
-        assert_eq!(rt; *line, TraceLine { number, cpu, act });
-    }
+    ]
+    .map(|(number, cpu, act)| TraceLine { number, cpu, act });
+    assert_eq!(rt; lines, expected.as_slice());
+}
+
+#[test]
+fn each_kind_of_line_is_read(rt: HostRuntime) -> Result<(), Fail> {
+    let trace = parse(rt.alloc(), WHOLE.as_bytes())?;
+    check_lines(&rt, trace.lines.as_slice());
     Ok(())
+}
+
+/// The numbers of windows, in their order.
+fn check_numbers(rt: &impl Abort, windows: &[Window], expected: &[u32]) {
+    assert_eq!(rt; windows.len(), expected.len());
+    for (window, liobn) in windows.iter().zip(expected) {
+        assert_eq!(rt; window.liobn(), *liobn);
+    }
 }
 
 #[test]
 fn four_windows_stand_in_the_order_of_their_lines(rt: HostRuntime) -> Result<(), Fail> {
     let input = "window 9 0 1\n#\nwindow 3 0 1\nwindow 7 0x1000 1\nwindow 4 0 2\nbegin\n";
     let trace = parse(rt.alloc(), input.as_bytes())?;
-    let windows = trace.config.windows.as_slice();
-    let expected = [9, 3, 7, 4];
-    assert_eq!(rt; windows.len(), expected.len());
-    for (window, liobn) in windows.iter().zip(expected) {
-        assert_eq!(rt; window.liobn(), liobn);
-    }
+    check_numbers(&rt, trace.config.windows.as_slice(), &[9, 3, 7, 4]);
     Ok(())
 }

@@ -80,6 +80,20 @@ impl Window {
         self.liobn
     }
 
+    /// The bus address at which the window begins.
+    pub fn base(&self) -> u64
+        ensures { result ≡ self.now.base }
+    {
+        self.base
+    }
+
+    /// How many pages it has.
+    pub fn pages(&self) -> u32
+        ensures { result ≡ self.now.pages }
+    {
+        self.pages
+    }
+
     /// Whether this is the window's number.
     pub fn has_number(&self, liobn: u64) -> bool
         ensures { result ≡ (self.now.liobn == liobn) }

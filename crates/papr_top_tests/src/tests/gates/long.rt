@@ -8,11 +8,11 @@ use std::test::Fail;
 /// Lines of each processor.
 const EACH: u32 = 20_000;
 
-const PROCESSORS: u32 = 3;
+const PROCESSORS: u32 = 2;
 
-/// Each processor makes its entry and removes it again, over and over. All three entries are of one group.
+/// Each processor makes its entry and removes it again, over and over. Both entries are of one group.
 fn trace(alloc: Global) -> Result<String, Fail> {
-    let mut text = String::from_str(alloc, "cpus 3\nram 0x0 0x2000000000 0x40000000\nbegin\n")?;
+    let mut text = String::from_str(alloc, "cpus 2\nram 0x0 0x2000000000 0x40000000\nbegin\n")?;
     for _ in 0..EACH / 2 {
         for cpu in 0..PROCESSORS {
             write!(text, "{cpu} H_ENTER 0x8000000000 0x2{cpu} 0x1001 0x3012\n")?;
@@ -22,16 +22,11 @@ fn trace(alloc: Global) -> Result<String, Fail> {
     Ok(text)
 }
 
-/// How many lines of the text begin with a number and this processor.
-fn count(text: &str, cpu: u32) -> u32 {
-    let mut found = 0u32;
-    for line in text.split('\n') {
-        let mut words = line.split(' ').skip(1);
-        if words.next() == Some(["0", "1", "2"][cpu as usize % 3]) {
-            found = found.saturating_add(1);
-        }
-    }
-    found
+/// How many lines of the text have a number and then this word, a processor's.
+fn count(text: &str, cpu: &str) -> usize {
+    text.split('\n')
+        .filter(|line| line.split(' ').skip(1).next() == Some(cpu))
+        .count()
 }
 
 #[test]
@@ -40,8 +35,8 @@ fn each_of_many_lines_is_answered(rt: HostRuntime) -> Result<(), Fail> {
     let trace = trace(alloc)?;
     let (status, text) = answered_within(&rt, alloc, &["par"], trace.as_str(), &OpenGate, 1 << 23)?;
     assert_eq!(rt; status, Status::Done);
-    for cpu in 0..PROCESSORS {
-        assert_eq!(rt; count(text.as_str(), cpu), EACH);
+    for cpu in ["0", "1"] {
+        assert_eq!(rt; count(text.as_str(), cpu), EACH as usize);
     }
     let input = judged_input(alloc, trace.as_str(), text.as_str())?;
     let (status, verdict) = answered_within(&rt, alloc, &["check"], input.as_str(), &OpenGate, 64)?;

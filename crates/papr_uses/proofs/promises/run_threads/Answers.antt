@@ -9,7 +9,7 @@ use Rattle.papr_uses.proofs.WholeRuns.{par_word, wrote, by_threads}
 use Rattle.papr_uses.proofs.promises.run_threads.Goals as goal
 
 pub returns : goal.returns
-returns c = λ done.
+returns g c = λ done.
     let word : command_of (c.in-Ok.word ∷ []) ≡ Some commands.Par = par_word c.in-Ok.word c.in-Ok.ensures.ok in
     let ran : Run = record { left = Some c.new-source.result.left; left_after = Some c.papr.new.source.left; taken = told c.args.sink.now; taken_after = told c.papr.new.sink } in
     let ends : EndsReading trace_input (WithDone IsParallelText) ran c.papr.result = rw word at c.papr.ensures.ends.outcome in

@@ -19,10 +19,10 @@ use Rattle.lpar_set.proofs.SetPlaces.{beside_later}
 abbrev pub still_empty : ℕ → ℕ → ℕ → Bool → SetReading
 still_empty base order taken untouched = record (set_beside base order) { taken = taken; untouched = untouched }
 
-abbrev no_readings : List (Option Reading)
+abbrev pub no_readings : List (Option Reading)
 no_readings = replicate 8 None
 
-none_there : (m : ℕ) → get_or no_readings m None ≡ None
+pub none_there : (m : ℕ) → get_or no_readings m None ≡ None
 none_there m = by (cases_lt m 8) where
   by : (m < 8) ⊎ (8 ≤ m) → get_or no_readings m None ≡ None
   by (inl inside) = get_or-replicate 8 m None None inside

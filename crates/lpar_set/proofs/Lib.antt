@@ -48,3 +48,18 @@ pub mod ReaderFields
 pub mod ReadyLines
 pub mod ReadEnds
 mod GrammarRows
+pub mod OwnText
+pub mod OwnReadings
+pub mod LinesTaken
+pub mod PlainLines
+pub mod AddedReadings
+pub mod TurnOrder
+pub mod Followed
+pub mod Walked
+pub mod Partitions
+pub mod LinesBefore
+pub mod LinesRefused
+pub mod Refusals
+pub mod LinesStopped
+pub mod LowestLines
+pub mod OneSet

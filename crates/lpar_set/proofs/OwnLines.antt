@@ -55,10 +55,11 @@ pub record HasOpened (opening : ℕ) (old new : Reading) : Type 0 where
   pub before : is_running old.stage ≡ false
   pub after : is_running new.stage ≡ true
 
--- A run line is one more line of a partition that runs.
+-- A run line is one more line of a partition that runs, with its number.
 pub record HasRun (old new : Reading) : Type 0 where
   pub config : new.config ≡ old.config
   pub line : TraceLine
+  pub number : line.number ≡ old.taken
   pub lines : new.lines ≡ old.lines ++ line ∷ []
   pub before : is_running old.stage ≡ true
   pub after : is_running new.stage ≡ true
@@ -217,7 +218,7 @@ act_moves r said s running e =
       order = refl;
       entries = refl;
       windows = refl;
-      moves = record { config = refl; line = record { number = r.taken; cpu = x.value.0; act = x.value.1 }; lines = refl; before = running; after = running };
+      moves = record { config = refl; line = record { number = r.taken; cpu = x.value.0; act = x.value.1 }; number = refl; lines = refl; before = running; after = running };
     })
 
 form_moves : (form : Form) (r : Reading) (ws : List (List ℕ)) (s : Reading) → is_own form ≡ true → comes_at form r.stage ≡ true → after_form form r ws ≡ Ok s → HasMoved (given_by form r.config ws) r s

@@ -18,12 +18,12 @@ range_below a (suc n) =
     let same : a + 1 + n ≡ a + suc n = omega arith in
     (omega arith, subst (λ m. AllByRecursion (λ k. k < m) (range_with_len (a + 1) n)) same (range_below (a + 1) n))
 
-below : (n : ℕ) → AllByRecursion (λ k. k < n) (range_with_len 0 n)
-below n =
+pub all_below : (n : ℕ) → AllByRecursion (λ k. k < n) (range_with_len 0 n)
+all_below n =
     let same : 0 + n ≡ n = omega arith in
     subst (λ m. AllByRecursion (λ k. k < m) (range_with_len 0 n)) same (range_below 0 n)
 
-abbrev lines_named : List Turn → List ℕ
+abbrev pub lines_named : List Turn → List ℕ
 lines_named turns = map (λ (t : Turn). t.line) turns
 
 first_named : (P : ℕ → Type 0) (b : Bool) (u : Turn) (us : List Turn) → b ≡ true → AllByRecursion P (lines_named (if b then u ∷ us else us)) → P u.line
@@ -34,18 +34,18 @@ others_named : (P : ℕ → Type 0) (b : Bool) (u : Turn) (us : List Turn) → A
 others_named P true u us all = all.1
 others_named P false u us all = all
 
-own_line : (P : ℕ → Type 0) (k : ℕ) (turns : List Turn) (t : Turn) (i : ℕ) → i < length turns → get_or turns i t ≡ t → t.partition ≡ k → AllByRecursion P (lines_named (turns_of k turns)) → P t.line
-own_line P k [] t i inside is own all = absurd (omega (arith, inside))
-own_line P k (u ∷ us) t zero inside is own all =
+pub line_named : (P : ℕ → Type 0) (k : ℕ) (turns : List Turn) (t : Turn) (i : ℕ) → i < length turns → get_or turns i t ≡ t → t.partition ≡ k → AllByRecursion P (lines_named (turns_of k turns)) → P t.line
+line_named P k [] t i inside is own all = absurd (omega (arith, inside))
+line_named P k (u ∷ us) t zero inside is own all =
     subst (λ (v : Turn). P v.line) is
     (first_named P (u.partition == k) u (turns_of k us) (eq-eqb u.partition k (ap (λ (v : Turn). v.partition) is ∙ own)) all)
-own_line P k (u ∷ us) t (suc i) inside is own all = own_line P k us t i (omega (arith, inside)) is own (others_named P (u.partition == k) u (turns_of k us) all)
+line_named P k (u ∷ us) t (suc i) inside is own all = line_named P k us t i (omega (arith, inside)) is own (others_named P (u.partition == k) u (turns_of k us) all)
 
 pub line_inside : (s : AcceptedSet) (t : Turn) → IsAcceptedSet s → Contains s.turns t → t.line < length (partition_at s t.partition).trace.lines
 line_inside s t is here =
     let n = length (partition_at s t.partition).trace.lines in
-    own_line (λ k. k < n) t.partition s.turns t here.0 here.1 here.2 refl
-    (subst (AllByRecursion (λ k. k < n)) (sym (is.lines t.partition (turn_inside s t is here))) (below n))
+    line_named (λ k. k < n) t.partition s.turns t here.0 here.1 here.2 refl
+    (subst (AllByRecursion (λ k. k < n)) (sym (is.lines t.partition (turn_inside s t is here))) (all_below n))
 
 -- ---- its processor
 pub line_cpu : (s : AcceptedSet) (t : Turn) → IsAcceptedSet s → Contains s.turns t → (line_of s t).cpu < (partition_at s t.partition).trace.config.cpus

@@ -8,3 +8,5 @@ pub mod SetLaws
 pub mod SetGrammar
 pub mod SetReadings
 pub mod SetRead
+pub mod PartitionLines
+pub mod PartitionLaws

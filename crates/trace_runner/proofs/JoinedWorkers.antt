@@ -22,6 +22,9 @@ use Rattle.trace_runner.specs.SectionRun.{HasNoOtherPass, IsGoneFor, IsSeenFor, 
 pub popped_first : {A : Type 0} (old new : List A) (o : Option A) (x : A) → old ≡ new ++ option_to_list o → o ≡ Some x → reverse old ≡ x ∷ reverse new
 popped_first old new o x e is = ap reverse (e ∙ ap (λ z. new ++ option_to_list z) is) ∙ reverse-append new (x ∷ [])
 
+pub popped_last : {A : Type 0} (old new : List A) (o : Option A) (x : A) → old ≡ new ++ option_to_list o → o ≡ Some x → old ≡ new ++ x ∷ []
+popped_last old new o x e is = e ∙ ap (λ z. new ++ option_to_list z) is
+
 pub popped_count : {A : Type 0} (old new : List A) (o : Option A) (x : A) → old ≡ new ++ option_to_list o → o ≡ Some x → length old ≡ length new + 1
 popped_count old new o x e is = ap length (e ∙ ap (λ z. new ++ option_to_list z) is) ∙ length-append new (x ∷ [])
 

@@ -1,6 +1,8 @@
 -- A processor that gets a pass is ready.
-use Rattle.std.specs.Prelude.{IsSomeAnd}
-use Rattle.std.proofs.Common.{◌≡◌, ℕ, zero, suc, ◌+◌, ◌-◌, ◌^◌, ◌<◌, ◌≤◌, List, [], ◌∷◌, ◌++◌, length, map, true, false, ap, sym, ◌∙◌, refl, subst, ◌⊎◌, inl, inr, arith, Option, Some, None}
+use Rattle.std.specs.Prelude.{IsSomeAnd, Vec, min}
+use Rattle.std.specs.List.{AllByRecursion}
+use Rattle.trace_runner.specs.DealtLines.{count_with_own}
+use Rattle.std.proofs.Common.{◌≡◌, ℕ, zero, suc, ◌+◌, ◌-◌, ◌^◌, ◌<◌, ◌≤◌, List, [], ◌∷◌, ◌++◌, length, true, false, ap, sym, ◌∙◌, refl, subst, ◌⊎◌, inl, inr, arith, Option, Some, None}
 use Rattle.std.proofs.lemmas.List.{length-map, get_or_past}
 use Rattle.entry_model.specs.State.{State, empty_state}
 use Rattle.entry_model.specs.declared.line.Line.{Line}
@@ -73,6 +75,12 @@ pub size_push : {A : Type 0} (xs : List A) (x : A) → length (xs ++ x ∷ []) �
 size_push [] x = omega arith
 size_push (y ∷ ys) x = let e = size_push ys x in omega (arith, e)
 
-pub map_push : {A B : Type 0} (f : A → B) (xs : List A) (x : A) (y : B) (rest : List B) → f x ≡ y → map f (xs ++ x ∷ []) ++ rest ≡ map f xs ++ y ∷ rest
-map_push f [] x y rest e = ap (λ z. z ∷ rest) e
-map_push f (z ∷ zs) x y rest e = ap (λ l. f z ∷ l) (map_push f zs x y rest e)
+-- What holds of all holds of the last one.
+pub hold_last : {A : Type 0} (P : A → Type 0) (xs : List A) (x : A) → AllByRecursion P (xs ++ x ∷ []) → AllByRecursion P xs × P x
+hold_last P [] x h = (tt, h.0)
+hold_last P (y ∷ ys) x h = let r = hold_last P ys x h.1 in ((h.0, r.0), r.1)
+
+-- The last list counts as the first does.
+pub count_last : {Z : Type 0} (lists : List (Vec ℕ Z)) (own : Vec ℕ Z) → count_with_own (lists ++ own ∷ []) ≡ min 1 (length own.items) + count_with_own lists
+count_last [] own = omega arith
+count_last (x ∷ xs) own = let e = count_last xs own in omega (arith, e)

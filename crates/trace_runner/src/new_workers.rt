@@ -21,7 +21,7 @@ use std::snapshot::Snapshot;
 use trace_line::TraceLine;
 use vcpu::Cpu;
 
-/// A pass with one share of what is left.
+/// A pass with one share of what is left: one that is split off, or in the end the one that is left.
 fn take_share(table: &LockTable, rest: &mut Option<Pass>) -> Pass
     requires some { IsSomeAnd
         rest.old
@@ -144,14 +144,14 @@ fn make_workers<L: RunLog>(
     let mut left = dealt;
     let mut rest = Some(pass);
     let mut workers = Vec::with_capacity(alloc, count)?;
-    // The last ones are taken without moving the others.
-    cpus.reverse();
-    left.reverse();
+    // The last one is taken without moving the others. So the first processor that has lines comes
+    // last, and gets the pass that the others were split from.
     for _ in 0..count {
         let cpu = cpus.pop().unwrap();
         let own = left.pop().unwrap();
         let worker = next_worker(alloc, table, cpu, own, &mut rest)?;
         workers.push(worker)?;
     }
+    workers.reverse();
     Ok(workers)
 }

@@ -1,0 +1,118 @@
+// The trace and its replies side by side, line against line: two lists that scroll together, and a field for each in which
+// it can be changed.
+
+import { Lines } from "./lines.js";
+import { List } from "./list.js";
+import { looseRows } from "./rows.js";
+
+const ROW_HEIGHT = 20;
+const MOST_SHOWN = 2_000; // characters of a line
+const MOST_EDITED = 2_000_000; // bytes of a text that a field holds
+const NO_LINES = new Lines(new Uint8Array(0));
+
+const by = (id) => document.getElementById(id);
+const span = (kind, text) => {
+  const element = document.createElement("span");
+  element.className = kind;
+  element.textContent = text;
+  return element;
+};
+
+export class Panes {
+  // `chosen(row)` hears of a row that was chosen.
+  constructor(chosen) {
+    const list = (id, fill) =>
+      new List(by(id), ROW_HEIGHT, { fill: fill.bind(this), chosen: (row) => this.choose(row, by(id)) });
+    this.left = list("trace", this.fillLeft);
+    this.right = list("replies", this.fillRight);
+    Object.assign(this, { chosen, trace: NO_LINES, text: NO_LINES, rows: looseRows(0, 0), marks: {}, entry: null });
+    const follow = (from, to) => from.element.addEventListener("scroll", () => {
+      if (Math.abs(to.element.scrollTop - from.element.scrollTop) > 1) to.element.scrollTop = from.element.scrollTop;
+    });
+    follow(this.left, this.right);
+    follow(this.right, this.left);
+  }
+
+  // Shows texts by rows. Marks are `refused`, a line, and `section`, a first and a last line.
+  show(trace, text, rows, marks = {}) {
+    Object.assign(this, { trace, text: text ?? NO_LINES, rows, marks, entry: null });
+    for (const list of [this.left, this.right]) list.show(rows.count);
+  }
+
+  choose(row) {
+    this.select(row);
+    this.chosen(this.rows.head(row), row);
+  }
+
+  select(row) {
+    for (const list of [this.left, this.right]) list.select(row);
+  }
+
+  // Marks the lines with receipts of an entry.
+  mark(entry) {
+    this.entry = entry === null ? null : `0x${entry.toString(16)}.`;
+    for (const list of [this.left, this.right]) list.draw();
+  }
+
+  fillLeft(element, row) {
+    const line = this.rows.left[row];
+    this.classes(element, row);
+    if (line === 0) return;
+    const words = this.trace.text(line - 1).slice(0, MOST_SHOWN);
+    element.append(span("number", String(line)), span(/^[ \t]*#/.test(words) ? "words remark" : "words", words));
+  }
+
+  fillRight(element, row) {
+    const place = this.rows.right[row];
+    this.classes(element, row);
+    if (place === 0) return;
+    const words = this.text.text(place - 1).slice(0, MOST_SHOWN);
+    const bar = words.indexOf(" |");
+    const [head, receipts] = bar < 0 ? [words, ""] : [words.slice(0, bar), words.slice(bar)];
+    element.append(span("words", head), span("receipts", receipts));
+    const touches = this.entry !== null && receipts.split(" ").some((word) => word.startsWith(this.entry));
+    element.classList.toggle("touches", touches);
+  }
+
+  classes(element, row) {
+    const line = this.rows.left[this.rows.head(row)];
+    const { refused, section } = this.marks;
+    element.classList.toggle("refused", refused !== undefined && line === refused);
+    element.classList.toggle("section", section !== undefined && line >= section[0] && line <= section[1]);
+  }
+}
+
+// A field in which a text can be changed, in place of its list.
+export class Field {
+  constructor(name, list) {
+    Object.assign(this, { list, field: by(`${name}-field`), toggle: by(`${name}-edit`), changed: () => {} });
+    this.toggle.addEventListener("click", () => this.open(!this.isOpen));
+    this.field.addEventListener("input", () => this.changed(new TextEncoder().encode(this.field.value)));
+  }
+
+  get isOpen() {
+    return this.toggle.getAttribute("aria-pressed") === "true";
+  }
+
+  // Takes a text; one that is too long, or isn't text, is shown alone.
+  take(bytes) {
+    this.bytes = bytes;
+    let text = null;
+    try {
+      text = bytes.length <= MOST_EDITED ? new TextDecoder("utf-8", { fatal: true, ignoreBOM: true }).decode(bytes) : null;
+    } catch {
+      text = null;
+    }
+    this.toggle.disabled = text === null || text.includes("\r");
+    this.toggle.title = this.toggle.disabled ? "too long to be changed here, or no plain text" : "";
+    this.field.value = text ?? "";
+    if (this.toggle.disabled) this.open(false);
+  }
+
+  open(isOpen) {
+    this.toggle.setAttribute("aria-pressed", String(isOpen));
+    this.field.hidden = !isOpen;
+    this.list.hidden = isOpen;
+    if (isOpen) this.field.focus();
+  }
+}

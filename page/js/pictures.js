@@ -1,0 +1,195 @@
+// The pictures of a run: the map of the table's groups with its slider, the history of an entry, and an entry in words.
+
+import { entryOf, rowsOf } from "./entry.js";
+import { Groups } from "./groups.js";
+import { MOST_COLUMNS, drawHistory } from "./history.js";
+import { historyOf } from "./replies.js";
+import { readNumber, wordsOfLine } from "./traces.js";
+
+const NAMED_ENTRIES = 60;
+const by = (id) => document.getElementById(id);
+const hex = (value) => `0x${value.toString(16)}`;
+const counted = (count, word) => `${count.toLocaleString("en")} ${word}${count === 1 ? "" : "s"}`;
+
+export class Pictures {
+  // `goTo(line)` shows a line of the trace, and `marked(entry)` hears which entry is looked at.
+  constructor(goTo, marked) {
+    Object.assign(this, { goTo, marked, replies: null, groups: null, part: 0, entry: null, line: null, ringed: [] });
+    by("time").addEventListener("input", () => this.drawMap());
+    by("part").addEventListener("change", () => this.take(this.replies, this.lines, Number(by("part").value)));
+    by("changes").addEventListener("change", () => this.drawHistory());
+    by("entry").addEventListener("change", () => this.chooseWord(by("entry").value));
+    by("map").addEventListener("click", (event) => this.chooseCell(event));
+    by("history").addEventListener("click", ({ target }) => {
+      const line = target.closest("[data-line]")?.dataset.line;
+      if (line) this.goTo(Number(line));
+    });
+  }
+
+  // Takes the replies of a run of so many lines; of a set one partition's.
+  take(replies, lines, part = 0) {
+    Object.assign(this, { replies, lines, part, line: null, ringed: [], entry: null });
+    const hasReceipts = replies !== null && replies.entry.length > 0;
+    by("pictures").hidden = !hasReceipts;
+    this.marked(null);
+    if (!hasReceipts) return;
+    this.groups = new Groups(replies, part);
+    this.offerParts();
+    by("time").max = lines;
+    by("time").value = lines;
+    const named = this.groups.busiestEntries(NAMED_ENTRIES);
+    by("entries").replaceChildren(...named.map(([entry, count]) => new Option(counted(count, "receipt"), hex(entry))));
+    this.drawScale();
+    this.drawMap();
+    this.chooseEntry(named.length > 0 ? named[0][0] : null, false);
+  }
+
+  // Of a set, which partition is looked at.
+  offerParts() {
+    const parts = [...new Set(this.replies.part)].sort((a, b) => a - b);
+    by("part-label").hidden = parts.length < 2;
+    by("part").replaceChildren(...parts.map((part) => new Option(`partition ${part}`, part, false, part === this.part)));
+  }
+
+  // A line was chosen: the cells of its entries are ringed, and its column in the history is marked.
+  chooseLine(line, receipts) {
+    if (this.replies === null || this.groups === null) return;
+    const own = receipts.filter((receipt) => !receipt.isWindow);
+    this.line = line;
+    this.ringed = [...new Set(own.map(({ entry }) => entry))];
+    this.drawMap();
+    if (own.length > 0 && !this.ringed.includes(this.entry)) this.chooseEntry(own[own.length - 1].entry);
+    else this.drawHistory();
+  }
+
+  chooseWord(word) {
+    const entry = readNumber(word.trim());
+    if (entry !== null) this.chooseEntry(Number(entry));
+  }
+
+  chooseEntry(entry, isMarked = true) {
+    this.entry = entry;
+    by("entry").value = entry === null ? "" : hex(entry);
+    if (isMarked) this.marked(entry);
+    this.drawHistory();
+  }
+
+  // A click on the map chooses the cell's entry with the most receipts.
+  chooseCell(event) {
+    const picture = by("map").querySelector("svg");
+    const place = new DOMPoint(event.clientX, event.clientY).matrixTransform(picture.getScreenCTM().inverse());
+    const cell = this.groups.at(place.x, place.y);
+    if (cell === null) return;
+    const counts = new Map();
+    this.replies.entry.forEach((entry, at) => {
+      const isIn = entry >= cell.first && entry < cell.first + cell.count && !this.replies.isWindow[at];
+      if (isIn && this.replies.part[this.replies.reply[at]] === this.part) counts.set(entry, (counts.get(entry) ?? 0) + 1);
+    });
+    const [busiest] = [...counts].sort((a, b) => b[1] - a[1]);
+    by("cell").textContent = `entries ${hex(cell.first)} to ${hex(cell.first + cell.count - 1)}: ${counted(cell.receipts, "receipt")}`;
+    if (busiest) this.chooseEntry(busiest[0]);
+  }
+
+  drawMap() {
+    const line = Number(by("time").value);
+    const isAll = line >= Number(by("time").max);
+    by("map").innerHTML = this.groups.draw(isAll ? Infinity : line, this.ringed);
+    by("time-label").textContent = isAll ? `to the last line, ${line.toLocaleString("en")}` : `up to line ${line.toLocaleString("en")}`;
+    const counts = isAll ? this.groups.all : this.groups.countsUpTo(line);
+    const busiest = this.groups.busiest(counts).map(([group, count]) => `${hex(8 * group)} (${count.toLocaleString("en")})`);
+    by("busiest").textContent = busiest.length > 0 ? `Busiest groups, by their first entry: ${busiest.join(", ")}` : "No receipts yet.";
+  }
+
+  drawScale() {
+    const cells = this.groups.scale().map(({ level, low, high }) => {
+      const words = low === high ? String(low) : `${low.toLocaleString("en")} to ${high.toLocaleString("en")}`;
+      return `<span><svg class="swatch" viewBox="0 0 13 13"><rect class="heat-${level}" width="13" height="13"/></svg>${words}</span>`;
+    });
+    const each = this.groups.aCell === 1 ? "a group" : `${this.groups.aCell} groups`;
+    by("scale").innerHTML = `${cells.join(" ")} <span>receipts; a cell is ${each} of 8 entries</span>`;
+    by("cell").textContent = "";
+  }
+
+  drawHistory() {
+    if (this.entry === null) {
+      by("history").replaceChildren();
+      by("history-label").textContent = "";
+      return;
+    }
+    const all = historyOf(this.replies, this.part, this.entry);
+    const chosen = by("changes").checked ? all.filter(({ isChange }) => isChange) : all;
+    const here = chosen.findIndex(({ line }) => line === this.line);
+    const first = Math.max(0, Math.min(here - MOST_COLUMNS / 2, chosen.length - MOST_COLUMNS));
+    const shown = chosen.slice(first, first + MOST_COLUMNS);
+    const words = shown.length < chosen.length ? `, of which ${counted(shown.length, "receipt")} are drawn` : "";
+    by("history-label").textContent = `${counted(chosen.length, by("changes").checked ? "change" : "receipt")}${words}`;
+    by("history").innerHTML = shown.length > 0 ? drawHistory(shown, this.line) : "<p>No receipt of this entry.</p>";
+    by("history").querySelector(".here")?.scrollIntoView?.({ block: "nearest", inline: "nearest" });
+  }
+}
+
+// The field of two doublewords, and what they mean.
+export class EntryReader {
+  constructor() {
+    for (const id of ["dword0", "dword1", "layout", "index"]) by(id).addEventListener("input", () => this.draw());
+  }
+
+  // Puts in the doublewords that a line or a reply has, if it has some.
+  offer(line, reply) {
+    const found = fromText(reply) ?? fromReply(reply) ?? fromLine(line, reply);
+    if (found) this.put(found);
+  }
+
+  put({ dword0, dword1, layout = "old", index = null, from = "" }) {
+    by("dword0").value = hex(dword0);
+    by("dword1").value = hex(dword1);
+    by("layout").value = layout;
+    by("index").value = index === null ? "" : hex(index);
+    this.draw(from);
+  }
+
+  draw(from = "") {
+    const [dword0, dword1, index] = ["dword0", "dword1", "index"].map((id) => readNumber(by(id).value.trim()));
+    by("entry-from").textContent = typeof from === "string" ? from : "";
+    if (dword0 === null || dword1 === null) {
+      by("fields").replaceChildren();
+      return;
+    }
+    const rows = rowsOf(entryOf(dword0, dword1, by("layout").value, index));
+    by("fields").replaceChildren(...rows.map(([name, words]) => {
+      const row = document.createElement("tr");
+      row.append(Object.assign(document.createElement("th"), { textContent: name, scope: "row" }));
+      row.append(Object.assign(document.createElement("td"), { textContent: words }));
+      return row;
+    }));
+  }
+}
+
+// A line of an image or of a dump: an index and an entry's doublewords.
+function fromText(text) {
+  const image = /^(0x[0-9a-f]+) ([0-9a-f]{16})([0-9a-f]{16})$/.exec(text ?? "");
+  if (image) return { index: BigInt(image[1]), dword0: BigInt(`0x${image[2]}`), dword1: BigInt(`0x${image[3]}`), from: "of the image", isImage: true };
+  const dump = /^(?:[0-7] )? (0x[0-9a-f]+) (0x[0-9a-f]+) (0x[0-9a-f]+) [0-9]+$/.exec(text ?? "");
+  return dump ? { index: BigInt(dump[1]), dword0: BigInt(dump[2]), dword1: BigInt(dump[3]), from: "of the dump" } : null;
+}
+
+// The words that a call gave.
+function fromReply(reply) {
+  const found = /(?:^| )(H_READ|H_REMOVE) 0 (0x[0-9a-f]+) (0x[0-9a-f]+).* \| (0x[0-9a-f]+)\./.exec(reply ?? "");
+  if (!found) return null;
+  return { index: BigInt(found[4]), dword0: BigInt(found[2]), dword1: BigInt(found[3]), from: `as ${found[1]} told them` };
+}
+
+// The words that a line of the trace gives.
+function fromLine(line, reply) {
+  const words = wordsOfLine(line ?? "");
+  if (words[0] === "entry" && /^[0-9a-fA-F]{32}$/.test(words[3] ?? "")) {
+    const [dword0, dword1] = [words[3].slice(0, 16), words[3].slice(16)].map((digits) => BigInt(`0x${digits}`));
+    return { dword0, dword1, layout: words[1], index: readNumber(words[2]), from: "of the opening table" };
+  }
+  const at = words.indexOf("H_ENTER");
+  const [dword0, dword1] = at < 0 ? [null, null] : [readNumber(words[at + 3]), readNumber(words[at + 4])];
+  if (dword0 === null || dword1 === null) return null;
+  const entered = /H_ENTER 0 (0x[0-9a-f]+)/.exec(reply ?? "");
+  return { dword0, dword1, index: entered ? BigInt(entered[1]) : null, from: "as H_ENTER was given them; it sets V" };
+}

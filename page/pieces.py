@@ -119,3 +119,16 @@ def module_in(page: str) -> bytes:
     if found is None:
         raise Bad("the page has no module")
     return gzip.decompress(base64.b64decode(found[1]))
+
+
+def unpacked(page: str) -> tuple[str, bytes, dict[str, bytes]]:
+    """A page with what is packed in it unpacked: how it is packed goes by the machine's zlib."""
+    module = module_in(page)
+    found = re.search(r'<script type="application/json" id="data">(.*)</script>', page)
+    if found is None:
+        raise Bad("the page has no examples")
+    data = json.loads(found[1])
+    texts = {name: base64.b64decode(packed) for name, packed in data["examples"].items()}
+    texts = {name: gzip.decompress(it) if it[:2] == b"\x1f\x8b" else it for name, it in texts.items()}
+    rest = page.replace(found[1], json.dumps(data["formats"]))
+    return re.sub(r'(id="module">)[^<]*', r"\1", rest), module, texts

@@ -2,14 +2,16 @@
 
 import os
 import re
+import shutil
 import subprocess
 from dataclasses import dataclass
 from pathlib import Path
+from typing import Optional
 
 import retarget
 from common import Bad
 from crates import CRATES, TOP, lines_of
-from toolchain import Toolchain
+from toolchain import Toolchain, toolchain
 
 CRATE, EXPORT, ROOM = "papr_bytes", "papr_bytes_call", "page_room"
 STACK = 2**23  # bytes
@@ -33,15 +35,31 @@ exec '{clang}' "$@"
 """
 
 
-def run(words: list[str]) -> str:
+def run(words: list[str], given: str = "") -> str:
     """Runs a command, and gives what it says; where it fails, that is told."""
     try:
-        ran = subprocess.run(words, cwd=TOP, stdin=subprocess.DEVNULL, capture_output=True, text=True, check=False)
+        ran = subprocess.run(words, cwd=TOP, input=given, capture_output=True, text=True, check=False)
     except FileNotFoundError as error:
         raise Bad(f"{words[0]} isn't here") from error
     if ran.returncode:
         raise Bad(f"{Path(words[0]).name} ended with {ran.returncode}:\n{(ran.stdout + ran.stderr)[-2_000:]}")
     return ran.stdout + ran.stderr
+
+
+def made_with(kit: Path) -> str:
+    """The tools that a module is made with."""
+    name = (kit / "KIT-ID").read_text(encoding="utf-8").split("\n")[0].strip()
+    binaryen = re.search(r"version (\d+)", run(["wasm-opt", "--version"]))
+    return f"Made with {name} and binaryen {binaryen[1] if binaryen else 'of no known version'}."
+
+
+def missing(page: str) -> Optional[str]:
+    """Why a page can't be built here with the bytes that it has, or nothing."""
+    for tool in ("rt", "wasm-opt"):
+        if shutil.which(tool) is None:
+            return f"{tool} is not here"
+    made = made_with(toolchain().kit)
+    return None if f"<p>{made}</p>" in page else f"the page was made with other tools; here: {made}"
 
 
 @dataclass(frozen=True)
@@ -85,6 +103,15 @@ class Workshop:
         text = kept.with_suffix(".ll")
         run([self.clang, "-S", "-emit-llvm", "-x", "ir", str(kept), "-o", str(text), "-O3", "-Xclang", "-disable-llvm-passes"])
         return text
+
+    def library(self, out: Path) -> None:
+        """The library for C: the crate, and the toolchain's heap over the C library's."""
+        self.proved(CRATE)
+        made, archiver = self.work / f"{CRATE}-native.a", f"{self.kit.kit}/toolchain/bin/llvm-ar"
+        heap = self.kit.kit / "c" / "liblibc_c.a"
+        out.parent.mkdir(parents=True, exist_ok=True)
+        script = f"create {out.resolve()}\naddlib {made}\naddlib {heap}\nsave\nend\n"
+        run([archiver, "-M"], script)
 
     def compared(self) -> retarget.Compared:
         """The retargeting of the library for C, which has no heap, against the toolchain's own lowering of it."""

@@ -37,14 +37,15 @@ export function sectionOf(lines, number) {
   return section === number ? [begin, lines.count] : null;
 }
 
-// A text for `check`: a trace, a line `replies`, and the text behind it.
+// A text for `check`: a trace, a line `replies`, and the text behind it; null where there is no such line.
 export function judgedParts(bytes) {
   const text = new TextDecoder("latin1").decode(bytes);
-  const found = /^replies\r?(\n|$)/m.exec(text);
+  const found = /(^|\n)replies\r?(\n|$)/.exec(text);
   if (found === null) return null;
-  return [bytes.subarray(0, found.index), bytes.subarray(found.index + found[0].length)];
+  return [bytes.subarray(0, found.index + found[1].length), bytes.subarray(found.index + found[0].length)];
 }
 
+// The two as one input of the program.
 export function judgedText(trace, replies) {
   const isEnded = trace.length === 0 || trace[trace.length - 1] === 10;
   const between = new TextEncoder().encode(`${isEnded ? "" : "\n"}replies\n`);

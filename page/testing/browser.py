@@ -141,7 +141,10 @@ class Browser:
 
     def click(self, script: str) -> None:
         """Clicks with the mouse on the middle of the element that an expression gives."""
-        box = self.value(f"(({script}).scrollIntoView({{block: 'center'}}), ({script}).getBoundingClientRect().toJSON())")
+        self.value(f"({script}).scrollIntoView({{block: 'center'}})")
+        # What is scrolled is drawn in the next frame.
+        self.value("new Promise((done) => requestAnimationFrame(() => requestAnimationFrame(done)))")
+        box = self.value(f"({script}).getBoundingClientRect().toJSON()")
         x, y = box["x"] + box["width"] / 2, box["y"] + box["height"] / 2
         for kind in ("mousePressed", "mouseReleased"):
             self.call("Input.dispatchMouseEvent", type=kind, x=x, y=y, button="left", clickCount=1)

@@ -1,0 +1,194 @@
+"""The page in a browser, by what a user does there and sees."""
+
+import json
+import random
+import tempfile
+from collections.abc import Iterator
+from pathlib import Path
+from typing import Any
+
+from browser import Browser
+from common import Bad
+from crates import TOP
+
+EXAMPLES = TOP / "examples"
+IS_DONE = "document.body.dataset.state === 'done'"
+
+
+def quoted(words: str) -> str:
+    """Words as JavaScript writes them."""
+    return json.dumps(words)
+
+
+class Opened:
+    """The page, opened."""
+
+    def __init__(self, browser: Browser, page: Path) -> None:
+        self.browser, self.page = browser, page
+        browser.size(1_400, 1_000)
+        self.open()
+
+    def open(self, place: str = "") -> None:
+        """Opens the page anew, and waits for its first run."""
+        self.browser.open(self.page, place)
+        self.browser.wait("['done', 'failed'].includes(document.body?.dataset.state)")
+        # What is saved is taken here, in place of the user's folder.
+        self.browser.value(
+            "URL.createObjectURL = (blob) => { window.saved = blob; return 'data:,'; }; HTMLAnchorElement.prototype.click = () => {}"
+        )
+
+    def value(self, script: str) -> Any:
+        """What an expression of JavaScript gives."""
+        return self.browser.value(script)
+
+    def text(self, ident: str) -> str:
+        """The text of an element."""
+        words: str = self.value(f"document.getElementById({quoted(ident)}).textContent")
+        return words
+
+    def await_run(self) -> None:
+        """Waits until the program has ended and the page shows it."""
+        self.browser.wait(IS_DONE)
+
+    def begin(self) -> None:
+        """What was done is forgotten, so that the next end is seen."""
+        self.value("document.body.dataset.state = 'waiting'")
+
+    def example(self, name: str) -> None:
+        """Chooses an example in the list."""
+        self.begin()
+        self.value(
+            f"(() => {{ const it = document.getElementById('example'); it.value = {quoted(name)};"
+            "it.dispatchEvent(new Event('change')); })()"
+        )
+        self.await_run()
+
+    def command(self, name: str) -> None:
+        """Chooses a command and runs it."""
+        self.begin()
+        self.value(f"document.querySelector('input[value={quoted(name)}]').click()")
+        self.value("document.getElementById('go').click()")
+        self.await_run()
+
+    def drill(self, seed: int, lines: int) -> None:
+        """Runs a drill by its fields."""
+        self.value(f"document.getElementById('seed').value = '{seed}'; document.getElementById('lines').value = '{lines}'")
+        self.command("drill")
+
+    def file(self, path: Path) -> None:
+        """Opens a file by the page's button."""
+        self.begin()
+        root = self.browser.call("DOM.getDocument")["root"]["nodeId"]
+        field = self.browser.call("DOM.querySelector", nodeId=root, selector="#file")["nodeId"]
+        self.browser.call("DOM.setFileInputFiles", files=[str(path)], nodeId=field)
+        self.value("document.getElementById('file').dispatchEvent(new Event('change'))")
+        self.await_run()
+
+    def trace(self, text: str, kind: str = "trace") -> None:
+        """Opens a text as a file."""
+        with tempfile.NamedTemporaryFile("w", suffix=f".{kind}", encoding="latin-1", newline="") as file:
+            file.write(text)
+            file.flush()
+            self.file(Path(file.name))
+
+    def status(self) -> int:
+        """The program's status."""
+        return int(self.value("document.body.dataset.status"))
+
+    def written(self) -> str:
+        """What the program wrote: a verdict or a refusal stands in the status, all else is saved."""
+        said = self.text("status")
+        if self.value("document.body.dataset.command") == "check" and self.status() in (0, 6):
+            return said.partition(": ")[2] + "\n"
+        if self.status() == 2 and " is refused: " in said:
+            line, reason = said.removeprefix("2: line ").split(" is refused: ")
+            return f"papr: line {line}: {reason}\n"
+        self.value("document.getElementById('save').click()")
+        text: str = self.value("window.saved.text()")
+        return text
+
+    def called(self, words: list[str], given: bytes) -> tuple[int, bytes]:
+        """The status and the text of a command on an input."""
+        kind = {"check": "judged", "set": "set"}.get(words[0], "trace")
+        with tempfile.NamedTemporaryFile(suffix=f".{kind}") as file:
+            file.write(given)
+            file.flush()
+            self.file(Path(file.name))
+        if words[0] == "image":
+            self.command(" ".join(words))
+        return self.status(), self.written().encode()
+
+    def shown(self, side: str) -> list[str]:
+        """The lines that a list has drawn and that hold something."""
+        script = f"[...document.querySelectorAll('#{side} .row')].map((it) => [...it.children].map((x) => x.textContent))"
+        parts: list[list[str]] = self.value(script)
+        between = " " if side == "trace" else ""
+        return [between.join(it) for it in parts if it]
+
+    def row(self, side: str, line: int) -> str:
+        """JavaScript for the row that has a line of the trace, where it is drawn."""
+        number = f"[...document.querySelectorAll('#trace .row')].find((it) => it.firstChild?.textContent === '{line}')"
+        return f"document.getElementById('{side}-' + {number}?.dataset.row)"
+
+    def click_line(self, line: int) -> None:
+        """Clicks a line of the trace."""
+        self.browser.click(self.row("trace", line))
+
+    def classes(self, side: str, line: int) -> set[str]:
+        """The marks of a row."""
+        return set(str(self.value(f"{self.row(side, line)}.className")).split())
+
+
+# ---- changed inputs
+
+WORDS = ("0x0", "1", "0x20", "18", "19", "load", "0x8000000000", "0xffffffffffffffff", "", "dump", "begin")
+COMMANDS = {
+    "trace": (["run"], ["run"], ["image", "old"], ["image", "new"]),
+    "judged": (["check"],),
+    "set": (["set"],),
+}
+
+
+def changed(text: str, draw: random.Random) -> str:
+    """The text with a few of its lines changed, moved, doubled or left out."""
+    lines = text.split("\n")
+    for _ in range(draw.randint(1, 4)):
+        at, how = draw.randrange(len(lines)), draw.randrange(5)
+        if how == 0 and len(lines) > 1:
+            del lines[at]
+        elif how == 1:
+            lines.insert(at, draw.choice(lines))
+        elif how == 2:
+            words = lines[at].split(" ")
+            words[draw.randrange(len(words))] = draw.choice(WORDS)
+            lines[at] = " ".join(words)
+        elif how == 3:
+            other = draw.randrange(len(lines))
+            lines[at], lines[other] = lines[other], lines[at]
+        else:
+            place = draw.randint(0, len(lines[at]))
+            lines[at] = lines[at][:place] + chr(draw.randint(32, 251)) + lines[at][place + draw.randrange(2) :]
+    return "\n".join(lines)
+
+
+def joined(text: str) -> str:
+    """A text for `check` as the page has it, in two fields: what it has no line `replies` for is a trace."""
+    lines = text.split("\n")
+    plain = [line.removesuffix("\r") for line in lines]
+    at = plain.index("replies") if "replies" in plain else len(lines)
+    trace, replies = lines[:at], lines[at + 1 :]
+    head = "\n".join(trace)
+    return head + ("\n" if head and not head.endswith("\n") else "") + "replies\n" + "\n".join(replies)
+
+
+def changed_inputs(count: int, seed: int) -> Iterator[tuple[list[str], bytes]]:
+    """Changed examples, each with the words of a command."""
+    draw = random.Random(seed)
+    files = sorted(path for kind in COMMANDS for path in EXAMPLES.glob(f"*.{kind}"))
+    if not files:
+        raise Bad("there are no examples")
+    for _ in range(count):
+        path = draw.choice(files)
+        text = changed(path.read_text(encoding="utf-8"), draw)
+        words = draw.choice(COMMANDS[path.suffix[1:]])
+        yield words, (joined(text) if words == ["check"] else text).encode("latin-1")

@@ -51,21 +51,26 @@ export class Groups {
     this.most = this.cells(this.all).reduce((most, count) => Math.max(most, count), 0);
   }
 
-  // How many receipts each group has in the replies of the trace's lines up to this one.
-  countsUpTo(line) {
-    const { reply, entry, isWindow, part, of } = this.replies;
-    let counts = new Uint32Array(LEAST_GROUPS);
-    for (let at = 0; at < entry.length; at += 1) {
-      if (isWindow[at] || part[reply[at]] !== this.part) continue;
-      if (of[reply[at]] > line) break;
-      const group = Math.floor(entry[at] / A_GROUP);
-      if (group >= counts.length) {
-        const more = new Uint32Array(2 ** Math.ceil(Math.log2(group + 1)));
-        more.set(counts);
-        counts = more;
-      }
-      counts[group] += 1;
+  // How many receipts each entry has in the replies of the trace's lines up to this one.
+  entriesUpTo(line) {
+    const { reply, entry, isWindow, part, of, first } = this.replies;
+    let end = entry.length;
+    if (line !== Infinity) {
+      const beyond = of.findIndex((it) => it > line);
+      end = beyond < 0 ? end : first[beyond];
     }
+    const counts = new Uint32Array(highestOf(entry) + 1);
+    for (let at = 0; at < end; at += 1) {
+      if (isWindow[reply[at]] === 0 && part[reply[at]] === this.part) counts[entry[at]] += 1;
+    }
+    return counts;
+  }
+
+  // The same by groups.
+  countsUpTo(line) {
+    const entries = this.entriesUpTo(line);
+    const counts = new Uint32Array(Math.max(LEAST_GROUPS, Math.ceil(entries.length / A_GROUP)));
+    for (let entry = 0; entry < entries.length; entry += 1) counts[Math.floor(entry / A_GROUP)] += entries[entry];
     return counts;
   }
 
@@ -132,11 +137,16 @@ export class Groups {
 
   // The page table's entries with the most receipts, up to a number.
   busiestEntries(number) {
-    const { reply, entry, isWindow, part } = this.replies;
-    const counts = new Map();
-    for (let at = 0; at < entry.length; at += 1) {
-      if (!isWindow[at] && part[reply[at]] === this.part) counts.set(entry[at], (counts.get(entry[at]) ?? 0) + 1);
-    }
-    return [...counts].sort((a, b) => b[1] - a[1] || a[0] - b[0]).slice(0, number);
+    const found = [];
+    this.entriesUpTo(Infinity).forEach((count, entry) => {
+      if (count > 0) found.push([entry, count]);
+    });
+    return found.sort((a, b) => b[1] - a[1] || a[0] - b[0]).slice(0, number);
   }
+}
+
+function highestOf(entries) {
+  let highest = 0;
+  for (let at = 0; at < entries.length; at += 1) if (entries[at] > highest) highest = entries[at];
+  return highest;
 }

@@ -46,7 +46,7 @@ export class Pictures {
 
   // Of a set, which partition is looked at.
   offerParts() {
-    const parts = [...new Set(this.replies.part)].sort((a, b) => a - b);
+    const parts = [...new Set(this.replies.part.subarray(0, this.replies.of.length))].sort((a, b) => a - b);
     by("part-label").hidden = parts.length < 2;
     by("part").replaceChildren(...parts.map((part) => new Option(`partition ${part}`, part, false, part === this.part)));
   }
@@ -80,14 +80,10 @@ export class Pictures {
     const place = new DOMPoint(event.clientX, event.clientY).matrixTransform(picture.getScreenCTM().inverse());
     const cell = this.groups.at(place.x, place.y);
     if (cell === null) return;
-    const counts = new Map();
-    this.replies.entry.forEach((entry, at) => {
-      const isIn = entry >= cell.first && entry < cell.first + cell.count && !this.replies.isWindow[at];
-      if (isIn && this.replies.part[this.replies.reply[at]] === this.part) counts.set(entry, (counts.get(entry) ?? 0) + 1);
-    });
-    const [busiest] = [...counts].sort((a, b) => b[1] - a[1]);
+    const own = this.groups.entriesUpTo(Infinity).subarray(cell.first, cell.first + cell.count);
+    const busiest = own.reduce((best, count, at) => (count > own[best] ? at : best), 0);
     by("cell").textContent = `entries ${hex(cell.first)} to ${hex(cell.first + cell.count - 1)}: ${counted(cell.receipts, "receipt")}`;
-    if (busiest) this.chooseEntry(busiest[0]);
+    if (own[busiest] > 0) this.chooseEntry(cell.first + busiest);
   }
 
   drawMap() {

@@ -12,64 +12,66 @@ const decoder = new TextDecoder();
 const REFERENCED = 2;
 const CHANGED = 1;
 
-// A list of numbers that grows, of one type.
-class Column {
-  constructor(Type) {
-    this.Type = Type;
-    this.values = new Type(1024);
+// Columns of numbers that are as long as each other, and grow together.
+class Columns {
+  constructor(types, room) {
+    this.room = room;
     this.length = 0;
+    this.names = Object.keys(types);
+    for (const [name, Type] of Object.entries(types)) this[name] = new Type(room);
   }
 
-  push(value) {
-    if (this.length === this.values.length) {
-      const longer = new this.Type(2 * this.length);
-      longer.set(this.values);
-      this.values = longer;
-    }
-    this.values[this.length] = value;
+  // The place of a new row, which has zeros.
+  add() {
+    if (this.length === this.room) this.grow();
     this.length += 1;
+    return this.length - 1;
+  }
+
+  grow() {
+    this.room *= 2;
+    for (const name of this.names) {
+      const longer = new this[name].constructor(this.room);
+      longer.set(this[name]);
+      this[name] = longer;
+    }
   }
 
   done() {
-    return this.values.slice(0, this.length);
+    return Object.fromEntries(this.names.map((name) => [name, this[name].slice(0, this.length)]));
   }
 }
 
-// The columns of a text: of its lines `of` (the line of the trace, 0 where the text's line belongs to the reply above it),
-// `part` and `first` (its first receipt); of its receipts the others. `shown` are the entries that a dump shows.
-const OF_LINES = { of: Uint32Array, part: Uint8Array, first: Uint32Array };
-const OF_RECEIPTS = {
-  reply: Uint32Array,
-  entry: Uint32Array,
-  stamp: Uint32Array,
-  bits: Uint8Array,
-  answer: Uint8Array,
+// Of each line of the text: `of` is the line of the trace, 0 where the text's line belongs to the reply above it, and `first`
+// its first receipt. All receipts of a reply are of one processor, one call, one table, and of a DMA window all or none.
+const OF_LINES = {
+  of: Uint32Array,
+  part: Uint8Array,
+  first: Uint32Array,
   cpu: Uint8Array,
   call: Uint16Array,
   table: Uint16Array,
   isWindow: Uint8Array,
 };
+// Of each receipt: `reply` is the text's line.
+const OF_RECEIPTS = { reply: Uint32Array, entry: Uint32Array, stamp: Uint32Array, bits: Uint8Array, answer: Uint8Array };
 
 // Reads a text of replies; of a set each line has its partition's number in front. `told` hears of the progress, 0 to 1.
 export function readReplies(lines, isSet, told = () => {}) {
-  const columns = {};
-  for (const [name, Type] of Object.entries({ ...OF_LINES, ...OF_RECEIPTS })) columns[name] = new Column(Type);
-  const reader = new Reader(lines, isSet, columns);
+  const reader = new Reader(lines, isSet);
   for (let at = 0; at < lines.count; at += 1) {
     if (at % 16_384 === 0) told(at / lines.count);
     reader.line(at);
   }
-  columns.first.push(columns.entry.length);
-  const done = {};
-  for (const [name, column] of Object.entries(columns)) done[name] = column.done();
-  return { ...done, calls: reader.calls };
+  return reader.done();
 }
 
 class Reader {
-  constructor(lines, isSet, columns) {
-    Object.assign(this, { lines, isSet, columns, calls: [], numbers: new Map(), tables: new Map() });
+  constructor(lines, isSet) {
+    Object.assign(this, { lines, isSet, calls: [], numbers: new Map(), tables: new Map(), part: 0 });
+    this.replies = new Columns(OF_LINES, lines.count + 1);
+    this.receipts = new Columns(OF_RECEIPTS, 4096);
     this.answers = new Map(ANSWERS.map((answer, at) => [keyOf(answer.length, answer.charCodeAt(0)), at]));
-    this.part = 0;
   }
 
   numberOf(call) {
@@ -83,28 +85,32 @@ class Reader {
   line(at) {
     const { bytes, starts } = this.lines;
     const [start, end] = [starts[at], starts[at + 1]];
-    const bar = bytes.subarray(start, end).indexOf(BAR);
-    const head = decoder.decode(bytes.subarray(start, bar < 0 ? end : start + bar));
-    const words = head.split(" ").filter((word) => word !== "" && word !== "\n").map((word) => word.trimEnd());
+    let bar = start;
+    while (bar < end && bytes[bar] !== BAR) bar += 1;
+    const head = decoder.decode(bytes.subarray(start, bar)).trimEnd();
+    const words = head.split(" ").filter((word) => word !== "");
     if (this.isSet) this.part = Number(words.shift()) || 0;
-    const { of, part, first } = this.columns;
-    part.push(this.part);
-    first.push(this.columns.entry.length);
-    const isReply = /^[0-9]+$/.test(words[0] ?? "") && !head.startsWith(" ") && words.length > 2;
-    of.push(isReply ? Number(words[0]) : 0);
-    if (!isReply || words[1] === "dump") return;
-    const call = words[2];
+    const { replies, receipts } = this;
+    replies.add();
+    replies.part[at] = this.part;
+    replies.first[at] = receipts.length;
+    if (head.startsWith(" ") || words.length < 3 || !/^[0-9]+$/.test(words[0])) return;
+    replies.of[at] = Number(words[0]);
+    if (words[1] === "dump") return;
+    const [, cpu, call, ...answer] = words;
     const table = this.tables.get(this.part) ?? 0;
-    const before = this.columns.entry.length;
-    if (bar >= 0) this.receipts(at, start + bar + 1, end, Number(words[1]), this.numberOf(call), table);
-    if (this.isOnWindow(call, words.slice(3), before)) this.columns.isWindow.values.fill(1, before, this.columns.entry.length);
-    if (call === COMMIT && words[3] === "0") this.tables.set(this.part, table + 1);
+    replies.cpu[at] = Number(cpu);
+    replies.call[at] = this.numberOf(call);
+    replies.table[at] = table;
+    if (bar < end) this.readReceipts(at, bar + 1, end);
+    replies.isWindow[at] = this.isOnWindow(call, answer, replies.first[at]) ? 1 : 0;
+    if (call === COMMIT && answer[0] === "0") this.tables.set(this.part, table + 1);
   }
 
   // Each receipt is a space and ENTRY.STAMP.BITS.ANSWER.
-  receipts(at, from, to, cpu, call, table) {
+  readReceipts(reply, from, to) {
     const { bytes } = this.lines;
-    const put = this.columns;
+    const { receipts } = this;
     let place = from;
     while (place < to && bytes[place] === SPACE) {
       let entry = 0;
@@ -116,23 +122,29 @@ class Reader {
       for (place = word; place < to && bytes[place] !== SPACE && bytes[place] !== LF; place += 1);
       const answer = this.answers.get(keyOf(place - word, bytes[word]));
       if (answer === undefined) return;
-      put.reply.push(at);
-      put.entry.push(entry);
-      put.stamp.push(stamp);
-      put.bits.push(bits);
-      put.answer.push(answer);
-      put.cpu.push(cpu);
-      put.call.push(call);
-      put.table.push(table);
-      put.isWindow.push(0);
+      const at = receipts.add();
+      receipts.reply[at] = reply;
+      receipts.entry[at] = entry;
+      receipts.stamp[at] = stamp;
+      receipts.bits[at] = bits;
+      receipts.answer[at] = answer;
     }
+  }
+
+  // One more row of lines says where the receipts of the last line end.
+  done() {
+    const last = this.replies.add();
+    this.replies.first[last] = this.receipts.length;
+    const { of, ...lines } = this.replies.done();
+    return { ...lines, of: of.slice(0, last), ...this.receipts.done(), calls: this.calls };
   }
 
   // Whether a line is on a DMA window. Of a call by its number the form of the reply tells it: other calls that read or
   // remove an entry, or find none, have other words or codes.
   isOnWindow(call, [code, ...words], before) {
-    if (call !== "hcall" || this.columns.entry.length === before) return ON_WINDOWS.has(call);
-    const answers = [...this.columns.answer.values.subarray(before, this.columns.entry.length)].map((it) => ANSWERS[it]);
+    const { receipts } = this;
+    if (call !== "hcall" || receipts.length === before) return ON_WINDOWS.has(call);
+    const answers = [...receipts.answer.subarray(before, receipts.length)].map((it) => ANSWERS[it]);
     const isGet = answers.length === 1 && answers[0] === "read" && words.length === 1;
     const isPut = ["removed", "notfound"].includes(answers[0]) && words.length === 0 && ["0", "1"].includes(code);
     return isGet || isPut;
@@ -150,16 +162,17 @@ function keyOf(length, first) {
 
 // One receipt of the columns as an object.
 export function receiptAt(replies, at) {
+  const reply = replies.reply[at];
   const receipt = {
-    line: replies.of[replies.reply[at]],
-    cpu: replies.cpu[at],
-    call: replies.calls[replies.call[at]],
+    line: replies.of[reply],
+    cpu: replies.cpu[reply],
+    call: replies.calls[replies.call[reply]],
     entry: replies.entry[at],
     stamp: replies.stamp[at],
     bits: replies.bits[at],
     answer: ANSWERS[replies.answer[at]],
-    table: replies.table[at],
-    isWindow: replies.isWindow[at] === 1,
+    table: replies.table[reply],
+    isWindow: replies.isWindow[reply] === 1,
   };
   receipt.bitsAfter = bitsAfter(receipt);
   receipt.isChange = receipt.answer === "at" ? receipt.bitsAfter !== receipt.bits : CHANGES.has(receipt.answer);
@@ -187,7 +200,8 @@ export function wordsOf(receipt) {
 export function historyOf(replies, part, entry) {
   const found = [];
   for (let at = replies.entry.indexOf(entry); at >= 0; at = replies.entry.indexOf(entry, at + 1)) {
-    if (!replies.isWindow[at] && replies.part[replies.reply[at]] === part) found.push(receiptAt(replies, at));
+    const reply = replies.reply[at];
+    if (!replies.isWindow[reply] && replies.part[reply] === part) found.push(receiptAt(replies, at));
   }
   const count = (bits) => (bits >> 1) + (bits & 1);
   return found.sort(

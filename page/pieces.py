@@ -58,13 +58,6 @@ def in_order(name: str, found: list[str]) -> None:
     found.append(name)
 
 
-def names_in(text: str) -> set[str]:
-    """What a module declares outside all blocks."""
-    named = re.findall(r"^(?:export )?(?:async )?(?:const|let|class|function) (\w+)", text, re.MULTILINE)
-    listed = re.findall(r"^(?:export )?(?:const|let) \[([^\]]*)\]", text, re.MULTILINE)
-    return {*named, *(name.strip() for names in listed for name in names.split(","))}
-
-
 def script() -> str:
     """All modules as one script: each in a function of its own, which gives what it exports."""
     order: list[str] = []
@@ -76,7 +69,8 @@ def script() -> str:
         exports = re.findall(r"^export (?:async )?(?:const|class|function) (\w+)", text, re.MULTILINE)
         body = re.sub(r"^export ", "", IMPORT.sub("", text), flags=re.MULTILINE).strip()
         begin = "".join(f'  const {names} = modules["{used}"];\n' for names, used in taken)
-        parts.append(f'modules["{name}"] = (() => {{\n{begin}{body}\n  return {{ {", ".join(exports)} }};\n}})();')
+        end = f"  return {{ {', '.join(exports)} }};"
+        parts.append(f'modules["{name}"] = (() => {{\n{begin}{body}\n{end}\n}})();')
     whole = "\n".join(parts)
     if "</" + "script" in whole:
         raise Bad("a module would end the script that it stands in")
@@ -92,7 +86,7 @@ def examples() -> dict[str, str]:
     """Each trace, text to judge and set of examples/, packed; the boot as it lies there."""
     folder = TOP / "examples"
     found = [path for kind in KINDS for path in sorted(folder.glob(f"*.{kind}"))]
-    found.sort(key=lambda it: FIRST_EXAMPLES.index(it.name) if it.name in FIRST_EXAMPLES else len(FIRST_EXAMPLES))
+    found.sort(key=lambda it: [*FIRST_EXAMPLES, it.name].index(it.name))
     packed = {path.name: encoded(gzip.compress(path.read_bytes(), mtime=0)) for path in found}
     boot = folder / "linux-boot.trace.xz"
     return {**packed, "linux-boot.trace": encoded(boot.read_bytes())}

@@ -1,9 +1,9 @@
 """What the toolchain lowers for x86-64, made what it lowers for wasm64.
 
-`rattle build` lowers no call of the heap for wasm64. A crate that is proved and lowered for x86-64 stands on the
-heap's three functions and on nothing of the processor but its name, so its module of LLVM is retargeted here as
-text. What isn't of the form that is known is refused. `differences` compares the outcome with the toolchain's own
-of a crate without the heap, which it lowers for both.
+`rattle build` lowers no call of the heap for wasm64. A crate that is proved and lowered for x86-64 stands
+on the heap's three functions and on nothing of the processor but its name, so its module of LLVM is retargeted
+here as text. What isn't of the form that is known is refused. `compared` compares the outcome with the toolchain's
+own of a crate without the heap, which it lowers for both.
 """
 
 import re
@@ -17,11 +17,13 @@ TARGET, PROCESSOR = "wasm64-unknown-unknown", "lime1"
 # Assembly, a processor's own intrinsics, and a form in which blocks can't be renamed by text alone.
 NOT_PORTABLE = re.compile(r"^declare .*@llvm\.(x86|aarch64|arm|riscv)\.| asm | phi ", re.MULTILINE)
 FUNCTION = re.compile(r"^(define .*?^\}\n)", re.MULTILINE | re.DOTALL)
-HEAD_AND_ENTRY = re.compile(r"(define [^\n]*\{\nstart:[^\n]*\n)(.*?)((?:^\n|^\}).*)", re.MULTILINE | re.DOTALL)
+HEAD_AND_ENTRY = re.compile(
+    r"(define [^\n]*\{\nstart:[^\n]*\n)(.*?)((?:^\n|^\}).*)", re.MULTILINE | re.DOTALL
+)
 SIGNATURE = re.compile(r"define (.*) @\w+\((.*)\) #(\d+) \{")
 
-# On wasm64 a stack that ends runs below address 0, where nothing traps until it is written to. So each function tests
-# where its frame lies.
+# On wasm64 a stack that ends runs below address 0, where nothing traps until it is written to. So each
+# function tests where its frame lies.
 FRAME_TEST = """  %frame.at = call ptr @llvm.frameaddress.p0(i32 0)
   %frame.number = ptrtoaddr ptr %frame.at to i64
   %frame.low = icmp slt i64 %frame.number, 16

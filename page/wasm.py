@@ -20,13 +20,14 @@ WASM = ["--target=wasm64-unknown-unknown", "-mcpu=lime1", "--no-default-config"]
 AS_THE_TOOLCHAIN = """
     -mllvm -expand-div-rem-bits=64 -mllvm -expand-fp-convert-bits=64 -ffunction-sections -fdata-sections
     -mllvm -trap-unreachable -mllvm -no-x86-call-frame-opt -mllvm -disable-machine-licm
-    -mllvm -disable-postra-machine-licm -mllvm -sink-common-insts=false -no-canonical-prefixes -fintegrated-cc1
-    -fno-crash-diagnostics -Werror
+    -mllvm -disable-postra-machine-licm -mllvm -sink-common-insts=false -no-canonical-prefixes
+    -fintegrated-cc1 -fno-crash-diagnostics -Werror
 """.split()
 HEAP_FLAGS = "-std=gnu11 -O2 -fwrapv -ffreestanding -nostdinc -Wall -Wextra -Werror".split()
 # What every engine has by now. The memory's numbers become 32 bits wide.
 FEATURES = "memory64 bulk-memory sign-ext nontrapping-float-to-int mutable-globals multivalue".split()
-NARROWED = [*(f"--enable-{it}" for it in FEATURES), "--memory64-lowering", "-O2", "--strip-debug", "--strip-producers"]
+NARROWED = [*(f"--enable-{it}" for it in FEATURES), "--memory64-lowering", "--strip-producers"]
+TEXT_OF_MODULE = "-S -emit-llvm -x ir -O3 -Xclang -disable-llvm-passes".split()
 
 # A clang that keeps each module of LLVM that it is given, and goes on as the kit's.
 KEEPING_CLANG = """#!/bin/sh
@@ -90,7 +91,7 @@ class Workshop:
         return folder
 
     def proved(self, crate: str, target: str = "") -> Path:
-        """Proves a crate, builds its static library, and gives the text of the module that it is lowered to."""
+        """Proves a crate, builds its static library, and gives the text of the module of LLVM on the way."""
         kept = self.work / f"{crate}-{target or 'native'}.bc"
         line = lines_of(TOP / "crates.txt")[crate]
         root = CRATES / crate / "src" / "lib.rt"
@@ -101,7 +102,7 @@ class Workshop:
         if not re.search(r"^logic=proved ", said, re.MULTILINE):
             raise Bad(f"{crate} isn't proved:\n{said[-2_000:]}")
         text = kept.with_suffix(".ll")
-        run([self.clang, "-S", "-emit-llvm", "-x", "ir", str(kept), "-o", str(text), "-O3", "-Xclang", "-disable-llvm-passes"])
+        run([self.clang, *TEXT_OF_MODULE, str(kept), "-o", str(text)])
         return text
 
     def library(self, out: Path) -> None:
@@ -114,7 +115,7 @@ class Workshop:
         run([archiver, "-M"], script)
 
     def compared(self) -> retarget.Compared:
-        """The retargeting of the library for C, which has no heap, against the toolchain's own lowering of it."""
+        """The retargeting of papr_c, which has no heap, against the toolchain's own lowering of it."""
         of_x86 = self.proved("papr_c").read_text(encoding="utf-8")
         of_wasm = self.proved("papr_c", retarget.TARGET).read_text(encoding="utf-8")
         return retarget.compared(of_x86, of_wasm)
@@ -133,7 +134,7 @@ class Workshop:
         return made
 
     def module(self) -> Path:
-        """The module: proved, retargeted, compiled for wasm64, linked with the heap, and narrowed to 32 bits."""
+        """The module: proved, retargeted, compiled for wasm64, linked with the heap, and made of 32 bits."""
         given = self.proved(CRATE).read_text(encoding="utf-8")
         text, made = self.work / "wasm.ll", self.work / "papr.o"
         text.write_text(retarget.retargeted(given, {EXPORT}), encoding="utf-8")

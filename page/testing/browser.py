@@ -21,7 +21,8 @@ PATIENCE = 180.0  # seconds
 
 def chromium() -> Optional[str]:
     """Where Chromium is, or nothing."""
-    return next((found for found in map(shutil.which, PROGRAMS) if found), None)
+    found = [shutil.which(name) for name in PROGRAMS]
+    return next((it for it in found if it), None)
 
 
 class Browser:
@@ -59,7 +60,10 @@ class Browser:
         return self
 
     def __exit__(
-        self, kind: Optional[type[BaseException]], error: Optional[BaseException], trace: Optional[TracebackType]
+        self,
+        kind: Optional[type[BaseException]],
+        error: Optional[BaseException],
+        trace: Optional[TracebackType],
     ) -> None:
         self.session = None
         try:
@@ -118,9 +122,8 @@ class Browser:
 
     def size(self, width: int, height: int) -> None:
         """The size of the window."""
-        self.call(
-            "Emulation.setDeviceMetricsOverride", width=width, height=height, deviceScaleFactor=1, mobile=width < 500
-        )
+        given = {"width": width, "height": height, "deviceScaleFactor": 1, "mobile": width < 500}
+        self.call("Emulation.setDeviceMetricsOverride", **given)
 
     def scheme(self, name: str) -> None:
         """Light or dark, as the user prefers."""
@@ -135,9 +138,8 @@ class Browser:
     def key(self, name: str, code: int, modifiers: int = 0) -> None:
         """Presses a key; 2 is Control."""
         for kind in ("rawKeyDown", "keyUp"):
-            self.call(
-                "Input.dispatchKeyEvent", type=kind, key=name, code=name, windowsVirtualKeyCode=code, modifiers=modifiers
-            )
+            given = {"key": name, "code": name, "windowsVirtualKeyCode": code, "modifiers": modifiers}
+            self.call("Input.dispatchKeyEvent", type=kind, **given)
 
     def click(self, script: str) -> None:
         """Clicks with the mouse on the middle of the element that an expression gives."""

@@ -50,10 +50,10 @@ def number(word: str) -> str:
 
 def shape_of(tag: str, given: dict[str, str], words: str) -> Shape:
     """What a shape shows: its points, its colour where it has one of its own, and its words."""
-    places = tuple(number(given.get(name, "")) for name in GEOMETRY[tag])
+    places = [number(given.get(name, "")) for name in GEOMETRY[tag]]
     colour = given.get("fill" if tag == "polygon" else "stroke", "") if tag in COLOURED else ""
     if tag == "circle":
-        colour = given.get("stroke") or given.get("fill", "")
+        colour = given.get("stroke", given.get("fill", ""))
     if tag == "line" and "stroke-dasharray" not in given:
         colour = ""
     return (tag, *places, colour, words)
@@ -64,7 +64,8 @@ def by_tool(tool: str, words: list[str], replies: str) -> ET.Element:
     with tempfile.NamedTemporaryFile("w", suffix=".replies", encoding="ascii") as file:
         file.write(replies)
         file.flush()
-        ran = subprocess.run([str(TOOLS / tool), *words, file.name], capture_output=True, text=True, check=True)
+        command = [str(TOOLS / tool), *words, file.name]
+        ran = subprocess.run(command, capture_output=True, text=True, check=True)
     return ET.fromstring(ran.stdout)
 
 
@@ -74,14 +75,16 @@ def shapes_of_tool(root: ET.Element) -> Drawn:
     for element in list(root)[2:]:
         tag = element.tag.rpartition("}")[2]
         if element.get("class") != "title":
-            found[shape_of(tag, dict(element.attrib), (element.text or "").strip() if tag == "text" else "")] += 1
+            words = (element.text or "").strip() if tag == "text" else ""
+            found[shape_of(tag, dict(element.attrib), words)] += 1
     return found
 
 
 def shapes_of_page(opened: Opened, ident: str) -> Drawn:
     """The shapes of a picture of the page."""
     script = (
-        f"[...document.querySelectorAll('#{ident} svg *')].filter((it) => !['title', 'g'].includes(it.tagName))"
+        f"[...document.querySelectorAll('#{ident} svg *')]"
+        ".filter((it) => !['title', 'g'].includes(it.tagName))"
         ".map((it) => [it.tagName, Object.fromEntries([...it.attributes].map((a) => [a.name, a.value])),"
         " it.tagName === 'text' ? it.textContent : ''])"
     )
@@ -92,15 +95,13 @@ def shapes_of_page(opened: Opened, ident: str) -> Drawn:
 def agree(one: Drawn, other: Drawn, words: str) -> None:
     """The same shapes, as often."""
     if one != other:
-        raise Bad(f"{words}: the page alone has {list((one - other).items())[:4]}, the tool {list((other - one).items())[:4]}")
+        ours, theirs = (list(it.items())[:4] for it in (one - other, other - one))
+        raise Bad(f"{words}: the page alone has {ours}, the tool {theirs}")
 
 
 def choose_entry(opened: Opened, entry: int) -> None:
     """Writes an entry into the history's field."""
-    opened.value(
-        f"(() => {{ const it = document.getElementById('entry'); it.value = '{entry:#x}';"
-        "it.dispatchEvent(new Event('change')); })()"
-    )
+    opened.put("entry", f"{entry:#x}", "change")
 
 
 def histories(opened: Opened) -> None:
@@ -120,11 +121,12 @@ def long_history(opened: Opened) -> None:
     entry, _count = max(counts.items(), key=lambda it: (it[1], -it[0]))
     if int(opened.value("document.getElementById('entry').value"), 16) != entry:
         raise Bad("the page doesn't open with the busiest entry")
-    agree(shapes_of_page(opened, "history"), shapes_of_tool(by_tool("entry-history", [f"{entry:#x}"], replies)), "all")
-    opened.value("document.getElementById('changes').click()")
+    tool = by_tool("entry-history", [f"{entry:#x}"], replies)
+    agree(shapes_of_page(opened, "history"), shapes_of_tool(tool), "all")
+    opened.press("changes")
     tool = by_tool("entry-history", [f"{entry:#x}", "--changes"], replies)
     agree(shapes_of_page(opened, "history"), shapes_of_tool(tool), "changes")
-    opened.value("document.getElementById('changes').click()")
+    opened.press("changes")
 
 
 # ---- the map
@@ -139,7 +141,8 @@ def cells_of(paths: list[tuple[int, str]]) -> dict[tuple[int, int], int]:
 
 def map_of_page(opened: Opened) -> dict[tuple[int, int], int]:
     """The cells that the page draws."""
-    script = "[...document.querySelectorAll('#map path')].map((it) => [it.getAttribute('class'), it.getAttribute('d')])"
+    read = "(it) => [it.getAttribute('class'), it.getAttribute('d')]"
+    script = f"[...document.querySelectorAll('#map path')].map({read})"
     paths: list[tuple[str, str]] = opened.value(script)
     return cells_of([(int(kind.removeprefix("heat-")), path) for kind, path in paths])
 
@@ -147,12 +150,14 @@ def map_of_page(opened: Opened) -> dict[tuple[int, int], int]:
 def map_of_tool(root: ET.Element) -> dict[tuple[int, int], int]:
     """The cells that the tool draws."""
     paths = [(it.get("fill", ""), it.get("d", "")) for it in root if it.tag.endswith("path")]
-    return cells_of([(HEAT.index(fill), path) for fill, path in paths if fill in HEAT and "h13v13h-13z" in path])
+    cells = [(fill, path) for fill, path in paths if fill in HEAT and "h13v13h-13z" in path]
+    return cells_of([(HEAT.index(fill), path) for fill, path in cells])
 
 
 def scale_of_tool(root: ET.Element) -> list[str]:
     """The words beside the colours of the tool's scale."""
-    found = [it for it in root if it.tag.endswith("rect") and it.get("width") == "14" and it.get("height") == "12"]
+    boxes = [it for it in root if it.tag.endswith("rect")]
+    found = [it for it in boxes if (it.get("width"), it.get("height")) == ("14", "12")]
     heights = {it.get("y") for it in found}
     if len(heights) != 1:
         raise Bad("the tool's picture has no scale")
@@ -168,8 +173,9 @@ def maps(opened: Opened) -> None:
         root = by_tool("run-picture", [], opened.written())
         one, other = map_of_page(opened), map_of_tool(root)
         if one != other:
-            raise Bad(f"{name}: {[(it, one.get(it), other.get(it)) for it in other if one.get(it) != other[it]][:5]}")
-        scale: list[str] = opened.value("[...document.querySelectorAll('#scale span')].map((it) => it.textContent)")
+            differ = [(it, one.get(it), other[it]) for it in other if one.get(it) != other[it]]
+            raise Bad(f"{name}: {differ[:5]}")
+        scale = opened.texts("#scale span")
         if scale[:-1] != scale_of_tool(root):
             raise Bad(f"{name}: the scale is {scale[:-1]}, the tool's {scale_of_tool(root)}")
 
@@ -179,9 +185,7 @@ def slider(opened: Opened) -> None:
     opened.example("linux-boot.trace")
     replies = opened.written().splitlines()
     for line in (4, 1_000, 40_000, 92_582):
-        opened.value(
-            f"(() => {{ const it = document.getElementById('time'); it.value = {line}; it.dispatchEvent(new Event('input')); }})()"
-        )
+        opened.put("time", str(line))
         counts: Counter[int] = Counter()
         for reply, _ in replies_of(replies):
             if reply.line <= line:

@@ -38,21 +38,28 @@ REFUSED = (
     ("order 18\n", 2, "begin"),
     ("#\tümlaut\n", 1, "ascii"),
 )
-# Doublewords worked out by hand of docs/FORMATS.md and the Power ISA's fields: layout, index, and what has to stand there.
+# Doublewords worked out by hand of docs/FORMATS.md and the Power ISA's fields, each with the layout and the
+# index, and what has to stand there. The first: a page of 4 KB in segment 1, at 0x5000, since its group is 4, and
+# 4 is 5 xor 1.
+OFFSET, PROTECTION, ADDRESS = "offset in the segment", "protection (PP)", "logical address"
 ENTRIES = (
-    # A page of 4 KB at the offset 0x5000 of the segment 1: group 4 is 1 xor 5.
-    ("0x1001", "0x3012", "old", "0x20", {"VSID": "0x1", "page": "4 KB", "logical address": "0x3000", "offset in the segment": "0x5000",
-     "protection (PP)": "2: key 0 read and write, key 1 read and write", "W, I, M, G": "M", "bolted": "no", "group (H)": "primary"}),
-    ("0x1013", "0x80000000000031f8", "old", "", {"bolted": "yes", "group (H)": "secondary", "referenced (R)": "yes", "changed (C)": "yes",
-     "offset in the segment": "known with the entry's index", "W, I, M, G": "W I M G", "fetches refused (N, G)": "yes",
-     "protection (PP)": "4: key 0 nothing, key 1 nothing"}),
-    ("0x1005", "0x2000000000402c12", "old", "0x20", {"page": "none is encoded", "key of AMR and IAMR": "22", "logical address": "–"}),
-    ("0x1005", "0x11012", "old", "0x20", {"page": "64 KB", "logical address": "0x10000"}),
-    ("0x1005", "0x17012", "old", "0x20", {"page": "4 KB inside 64 KB", "logical address": "0x10000"}),
-    ("0x1005", "0x38012", "old", "0x20", {"page": "4 KB inside 16 MB", "logical address": "0x0"}),
-    ("0x1005", "0x1008012", "old", "0x20", {"page": "64 KB inside 16 MB", "logical address": "0x1000000"}),
-    ("0x1005", "0x2000012", "old", "0x20", {"page": "16 MB", "logical address": "0x2000000"}),
-    ("0x1000001", "0x0400000000003012", "new", "", {"segment (B)": "1 TB", "VSID": "0x1", "valid (V)": "yes"}),
+    ("0x1001", "0x3012", "old", "0x20", {"VSID": "0x1", "page": "4 KB", ADDRESS: "0x3000", OFFSET: "0x5000"}),
+    ("0x1001", "0x3012", "old", "0x20", {"W, I, M, G": "M", "bolted": "no", "group (H)": "primary"}),
+    ("0x1001", "0x3012", "old", "0x20", {PROTECTION: "2: key 0 read and write, key 1 read and write"}),
+    ("0x1013", "0x80000000000031f8", "old", "", {"bolted": "yes", "group (H)": "secondary"}),
+    ("0x1013", "0x80000000000031f8", "old", "", {"referenced (R)": "yes", "changed (C)": "yes"}),
+    ("0x1013", "0x80000000000031f8", "old", "", {"W, I, M, G": "W I M G", "fetches refused (N, G)": "yes"}),
+    ("0x1013", "0x80000000000031f8", "old", "", {PROTECTION: "4: key 0 nothing, key 1 nothing"}),
+    ("0x1013", "0x80000000000031f8", "old", "", {OFFSET: "known with the entry's index"}),
+    ("0x1003", "0x3012", "old", "0x3fd8", {OFFSET: "0x5000"}),
+    ("0x1005", "0x2000000000402c12", "old", "0x20", {"page": "none is encoded", ADDRESS: "–"}),
+    ("0x1005", "0x2000000000402c12", "old", "0x20", {"key of AMR and IAMR": "22"}),
+    ("0x1005", "0x11012", "old", "0x20", {"page": "64 KB", ADDRESS: "0x10000", OFFSET: "0x50000"}),
+    ("0x1005", "0x17012", "old", "0x20", {"page": "4 KB inside 64 KB", ADDRESS: "0x10000"}),
+    ("0x1005", "0x38012", "old", "0x20", {"page": "4 KB inside 16 MB", ADDRESS: "0x0"}),
+    ("0x1005", "0x1008012", "old", "0x20", {"page": "64 KB inside 16 MB", ADDRESS: "0x1000000"}),
+    ("0x1005", "0x2000012", "old", "0x20", {"page": "16 MB", ADDRESS: "0x2000000"}),
+    ("0x1000001", "0x0400000000003012", "new", "", {"segment (B)": "1 TB", "VSID": "0x1"}),
     ("0x4000000001000001", "0x3012", "old", "", {"segment (B)": "1 TB", "VSID": "0x1"}),
     ("0x8000000000001000", "0x3012", "old", "", {"segment (B)": "none: B is above 1", "valid (V)": "no"}),
 )
@@ -76,20 +83,26 @@ def need(holds: object, words: str) -> None:
         raise Bad(words)
 
 
+def shows(opened: Opened, status: str, words: str = "") -> None:
+    """The page's status is this one."""
+    found = opened.text("status")
+    need(found == status, f"{words}: {found!r} in place of {status!r}")
+
+
 def refusals(opened: Opened) -> None:
     """A refused line is marked at its place, and its rule and its form are told as tools/why tells them."""
     why = tool("why")
     formats = (TOP / "docs" / "FORMATS.md").read_text(encoding="utf-8")
     for text, line, reason in REFUSED:
         opened.trace(text)
-        need(opened.text("status") == f"2: line {line} is refused: {reason}", f"{text!r}: {opened.text('status')}")
-        told: list[str] = opened.value("[...document.querySelectorAll('#told p')].map((it) => it.textContent)")
+        shows(opened, f"2: line {line} is refused: {reason}", repr(text))
+        told = opened.texts("#told p")
         wanted = [f"rule: {why.rule_of(formats, reason, False)}"]
         lines = text.split("\n")[:-1]
         if line <= len(lines):
             wanted.append(f"form: {why.form_of(why.forms_of(formats), lines[line - 1])}")
             need("refused" in opened.classes("trace", line), f"line {line} isn't marked in {text!r}")
-            need(opened.value("document.querySelectorAll('#trace .refused').length") == 1, f"{text!r}: marks")
+            need(opened.count("#trace .refused") == 1, f"{text!r}: marks")
         need(told == wanted, f"{text!r}: {told} in place of {wanted}")
     beside = opened.shown("replies")
     need(beside == ["papr: line 1: ascii"], f"beside the last one: {beside}")
@@ -99,32 +112,32 @@ def set_refusals(opened: Opened) -> None:
     """Of a set the rules and forms are a set's."""
     why = tool("why")
     formats = (TOP / "docs" / "FORMATS.md").read_text(encoding="utf-8")
-    for text, line, reason in (("9 order 18\n", 1, "lpar"), ("0 order\n", 1, "count"), ("shared 1\n", 1, "count")):
+    for text, reason in (("9 order 18\n", "lpar"), ("0 order\n", "count"), ("shared 1\n", "count")):
+        line = 1
         opened.trace(text, "set")
-        told: list[str] = opened.value("[...document.querySelectorAll('#told p')].map((it) => it.textContent)")
-        wanted = [f"rule: {why.rule_of(formats, reason, True)}", f"form: {why.form_in_set(formats, text.strip())}"]
-        need(opened.text("status") == f"2: line {line} is refused: {reason}", f"{text!r}: {opened.text('status')}")
+        told = opened.texts("#told p")
+        rule, form = why.rule_of(formats, reason, True), why.form_in_set(formats, text.strip())
+        wanted = [f"rule: {rule}", f"form: {form}"]
+        shows(opened, f"2: line {line} is refused: {reason}", repr(text))
         need(told == wanted, f"{text!r}: {told} in place of {wanted}")
 
 
 def line_by_line(opened: Opened) -> None:
-    """A click on a line marks it and its reply, lists its receipts, rings their groups, and marks the history."""
+    """A click on a line marks it and its reply, lists its receipts, rings their groups, marks the history."""
     opened.example("sharing.trace")
     opened.click_line(27)
     need("selected" in opened.classes("trace", 27), "line 27 isn't marked")
     reply = opened.value(f"{opened.row('replies', 27)}.textContent")
     need(reply.startswith("27 1 load nopage walk | 0x20.5.0.nomatch"), f"beside line 27: {reply}")
     need("selected" in opened.classes("replies", 27), "the reply of line 27 isn't marked")
-    chips: list[str] = opened.value("[...document.querySelectorAll('.chip')].map((it) => it.textContent)")
+    chips = opened.texts(".chip")
     receipts = reply.partition(" | ")[2].split()
     need(chips == [f"{it.split('.')[0]} {it.split('.')[3]}" for it in receipts], f"receipts {chips}")
-    need(opened.value("document.querySelectorAll('#map .ring').length") == 2, "two groups aren't ringed")
-    need(opened.value("document.querySelectorAll('#history .here').length") == 1, "the history isn't marked")
-    touched = opened.value("document.querySelectorAll('#replies .touches').length")
+    need(opened.count("#map .ring") == 2, "two groups aren't ringed")
+    need(opened.count("#history .here") == 1, "the history isn't marked")
     opened.browser.click("document.querySelectorAll('.chip')[3]")
     need(opened.value("document.getElementById('entry').value") == "0x23", "a receipt's entry isn't chosen")
-    touched_then = opened.value("document.querySelectorAll('#replies .touches').length")
-    need((touched, touched_then) == (0, 1) or touched_then == 1, f"lines with the entry: {touched}, {touched_then}")
+    need(opened.count("#replies .touches") == 1, "its one line isn't marked")
     opened.browser.click("document.querySelector('#history .mark[data-line]')")
     need(opened.text("line-number") == "Line 27", "the history's mark doesn't lead to its line")
 
@@ -134,7 +147,7 @@ def dumps(opened: Opened) -> None:
     opened.example("resize.trace")
     row = "[...document.querySelectorAll('#replies .row')].find((it) => it.textContent.startsWith(' 0x21 '))"
     place = int(opened.value(f"{row}.dataset.row"))
-    need(opened.value(f"document.getElementById('trace-{place}').textContent") == "", "beside an entry stands a line")
+    need(opened.text(f"trace-{place}") == "", "beside an entry stands a line")
     opened.browser.click(row)
     need(opened.text("line-number") == "Line 11", "the entry's dump isn't chosen")
     need(opened.value("document.getElementById('dword0').value") == "0x1001", "its doublewords aren't shown")
@@ -143,44 +156,44 @@ def dumps(opened: Opened) -> None:
 def verdicts(opened: Opened) -> None:
     """The section that no good run explains is marked, on both sides; a good text has no mark."""
     opened.example("bad-stale-byte.judged")
-    need(opened.text("status") == "6: bad section 1", opened.text("status"))
+    shows(opened, "6: bad section 1")
     for side in ("trace", "replies"):
-        need(opened.value(f"document.querySelectorAll('#{side} .section').length") > 5, f"no section in {side}")
-    opened.trace("order 18\nbegin\ndump\n0 slbclear\nreplies\n3 dump table 0 order 18 place 0x1000000000 entries 0\n", "judged")
-    need(opened.text("status") == "6: bad section 2", opened.text("status"))
-    need(opened.value("document.querySelectorAll('#trace .section').length") == 1, "more than line 4 is marked")
+        need(opened.count(f"#{side} .section") > 5, f"no section in {side}")
+    dump = "3 dump table 0 order 18 place 0x1000000000 entries 0\n"
+    opened.trace(f"order 18\nbegin\ndump\n0 slbclear\nreplies\n{dump}", "judged")
+    shows(opened, "6: bad section 2")
+    need(opened.count("#trace .section") == 1, "more than line 4 is marked")
     need("section" in opened.classes("trace", 4), "line 4 isn't marked")
     opened.example("good-schedule.judged")
-    need(opened.text("status") == "0: good", opened.text("status"))
-    need(opened.value("document.querySelectorAll('.section').length") == 0, "a good text has a mark")
+    shows(opened, "0: good")
+    need(opened.count(".section") == 0, "a good text has a mark")
 
 
 def changed_and_judged(opened: Opened) -> None:
     """The replies of a run can be judged as they are, and with a change."""
     opened.example("first.trace")
     opened.command("check")
-    need(opened.text("status") == "0: good", opened.text("status"))
-    opened.value("document.getElementById('replies-edit').click()")
-    change = "it.value = it.value.replace('0x27.1.0.taken', '0x27.2.0.taken'); it.dispatchEvent(new Event('input'))"
-    opened.value(f"(() => {{ const it = document.getElementById('replies-field'); {change} }})()")
+    shows(opened, "0: good")
+    opened.press("replies-edit")
+    text = str(opened.value("document.getElementById('replies-field').value"))
+    need("0x27.1.0.taken" in text, f"the field has {text!r}")
+    opened.put("replies-field", text.replace("0x27.1.0.taken", "0x27.2.0.taken"))
     opened.command("check")
-    need(opened.text("status") == "6: bad section 1", opened.text("status"))
+    shows(opened, "6: bad section 1")
 
 
 def keys(opened: Opened) -> None:
     """Lines are chosen by keys, a changed trace is run by Control and Enter."""
     opened.example("first.trace")
     opened.value("document.getElementById('trace').focus()")
-    for key, number in ((DOWN, "Line 1"), (DOWN, "Line 2"), (UP, "Line 1"), (END, "Line 5"), (HOME, "Line 1")):
+    for key, line in ((DOWN, 1), (DOWN, 2), (UP, 1), (END, 5), (HOME, 1)):
         opened.browser.key(*key)
-        need(opened.text("line-number") == number, f"{key[0]}: {opened.text('line-number')}")
+        need(opened.text("line-number") == f"Line {line}", f"{key[0]}: {opened.text('line-number')}")
     active = opened.value("document.getElementById('trace').getAttribute('aria-activedescendant')")
     need(active == "trace-0", f"the chosen row is {active}")
-    opened.value("document.getElementById('trace-edit').click()")
-    opened.value(
-        "(() => { const it = document.getElementById('trace-field'); it.value += '0 slbclear\\n';"
-        "it.dispatchEvent(new Event('input')); })()"
-    )
+    opened.press("trace-edit")
+    text = (EXAMPLES / "first.trace").read_text(encoding="ascii")
+    opened.put("trace-field", f"{text}0 slbclear\n")
     opened.begin()
     opened.browser.key(*ENTER, modifiers=CONTROL)
     opened.await_run()
@@ -220,23 +233,18 @@ def files(opened: Opened) -> None:
         path = Path(folder) / "e.trace.xz"
         path.write_bytes(broken)
         opened.browser.drop(path, "document.getElementById('trace')")
-        opened.browser.wait("document.getElementById('status').textContent.startsWith('e.trace.xz: the file isn')")
+        status = "document.getElementById('status').textContent"
+        opened.browser.wait(f"{status}.startsWith('e.trace.xz: the file is')")
 
 
 def entries(opened: Opened) -> None:
     """An entry in words, against values worked out by hand."""
     for dword0, dword1, layout, index, wanted in ENTRIES:
         for name, value in (("dword0", dword0), ("dword1", dword1), ("layout", layout), ("index", index)):
-            opened.value(
-                f"(() => {{ const it = document.getElementById('{name}'); it.value = '{value}';"
-                "it.dispatchEvent(new Event('input')); })()"
-            )
-        rows: list[list[str]] = opened.value(
-            "[...document.querySelectorAll('#fields tr')].map((it) => [...it.children].map((x) => x.textContent))"
-        )
-        found = {name: words for name, words in rows}
+            opened.put(name, value)
+        found = dict(zip(opened.texts("#fields th"), opened.texts("#fields td")))
         for name, words in wanted.items():
-            need(found[name] == words, f"{dword0} {dword1} {layout}: {name} is {found[name]!r}, not {words!r}")
+            need(found[name] == words, f"{dword0} {dword1}: {name} is {found[name]!r}, not {words!r}")
 
 
 def entries_by_tool(opened: Opened) -> None:
@@ -246,11 +254,8 @@ def entries_by_tool(opened: Opened) -> None:
     names = {12: "4 KB", 16: "64 KB", 24: "16 MB", 34: "16 GB"}
     for dword0, dword1 in given:
         for name, value in (("dword0", dword0), ("dword1", dword1)):
-            opened.value(
-                f"(() => {{ const it = document.getElementById('{name}'); it.value = '{value}';"
-                "it.dispatchEvent(new Event('input')); })()"
-            )
-        words = opened.value("[...document.querySelectorAll('#fields tr')].map((it) => it.lastChild.textContent)")
+            opened.put(name, value)
+        words = opened.texts("#fields td")
         shift = grants.actual_shift(int(dword0, 16), int(dword1, 16))
         page = grants.entered_page(int(dword0, 16), int(dword1, 16))
         need(shift in names and page is not None, f"the tool finds no page in {dword0} {dword1}")
@@ -263,7 +268,7 @@ def behind_a_line(opened: Opened) -> None:
     """An entry as the table has it behind a line is the image of the trace up to there."""
     opened.example("sharing.trace")
     opened.click_line(14)
-    opened.browser.click("document.getElementById('behind')")
+    opened.press("behind")
     opened.browser.wait("document.getElementById('entry-from').textContent.includes('behind line 14')")
     words = opened.value("['dword0', 'dword1', 'index'].map((it) => document.getElementById(it).value)")
     need(words == ["0x1011", "0x3192", "0x20"], f"behind line 14: {words}")
@@ -290,31 +295,32 @@ def long_run(opened: Opened) -> None:
         file.write(head + lines)
         file.flush()
         opened.value(
-            "window.ticks = 0;"
-            "window.ticking = setInterval(() => { window.ticks += document.body.dataset.state === 'running' ? 1 : 0; }, 10)"
+            "window.ticks = 0; window.ticking = setInterval(() => {"
+            "window.ticks += document.body.dataset.state === 'running' ? 1 : 0; }, 10)"
         )
         opened.file(Path(file.name))
     opened.value("clearInterval(window.ticking)")
     need(opened.status() == 0, opened.text("status"))
-    need(opened.value("document.querySelectorAll('.row').length") < 250, "more rows are drawn than seen")
+    need(opened.count(".row") < 250, "more rows are drawn than seen")
     ticks = opened.value("window.ticks")
     need(ticks > 10, f"the page stood still while the program ran: {ticks} ticks")
     opened.value("document.getElementById('trace').focus()")
     opened.browser.key(*END)
-    need(opened.shown("replies")[-1].startswith("131072 0 load nopage walk | "), opened.shown("replies")[-1][:60])
-    need(opened.shown("trace")[-1].startswith("131072 0 load "), opened.shown("trace")[-1])
+    last, line = opened.shown("replies")[-1], opened.shown("trace")[-1]
+    need(last.startswith("131072 0 load nopage walk | "), last[:60])
+    need(line.startswith("131072 0 load "), line)
 
 
 def stopped(opened: Opened) -> None:
     """A run can be stopped, and the next one runs."""
-    opened.value("document.getElementById('seed').value = '1'; document.getElementById('lines').value = '100000'")
+    opened.put("lines", "100000")
     opened.begin()
     opened.value("document.querySelector('input[value=drill]').click()")
-    opened.value("document.getElementById('go').click(); setTimeout(() => document.getElementById('stop').click(), 1)")
+    opened.value("['go', 'stop'].forEach((it) => document.getElementById(it).click())")
     opened.browser.wait(IS_DONE)
-    need(opened.text("status") == "stopped", opened.text("status"))
+    shows(opened, "stopped")
     opened.example("first.trace")
-    need(opened.text("status") == "0: done", opened.text("status"))
+    shows(opened, "0: done")
 
 
 TESTS: list[tuple[str, Callable[[Opened], Any]]] = [

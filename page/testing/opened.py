@@ -33,9 +33,8 @@ class Opened:
         self.browser.open(self.page, place)
         self.browser.wait("['done', 'failed'].includes(document.body?.dataset.state)")
         # What is saved is taken here, in place of the user's folder.
-        self.browser.value(
-            "URL.createObjectURL = (blob) => { window.saved = blob; return 'data:,'; }; HTMLAnchorElement.prototype.click = () => {}"
-        )
+        self.value("HTMLAnchorElement.prototype.click = () => {}")
+        self.value("URL.createObjectURL = (blob) => { window.saved = blob; return 'data:,'; }")
 
     def value(self, script: str) -> Any:
         """What an expression of JavaScript gives."""
@@ -45,6 +44,27 @@ class Opened:
         """The text of an element."""
         words: str = self.value(f"document.getElementById({quoted(ident)}).textContent")
         return words
+
+    def texts(self, selector: str) -> list[str]:
+        """The texts of all elements that a selector names."""
+        script = f"[...document.querySelectorAll({quoted(selector)})].map((it) => it.textContent)"
+        found: list[str] = self.value(script)
+        return found
+
+    def count(self, selector: str) -> int:
+        """How many elements a selector names."""
+        return int(self.value(f"document.querySelectorAll({quoted(selector)}).length"))
+
+    def put(self, ident: str, value: str, event: str = "input") -> None:
+        """Writes into a field, or chooses in a list or by a slider."""
+        self.value(
+            f"(() => {{ const it = document.getElementById({quoted(ident)}); it.value = {quoted(value)};"
+            f"it.dispatchEvent(new Event({quoted(event)})); }})()"
+        )
+
+    def press(self, ident: str) -> None:
+        """Presses a button."""
+        self.value(f"document.getElementById({quoted(ident)}).click()")
 
     def await_run(self) -> None:
         """Waits until the program has ended and the page shows it."""
@@ -57,22 +77,20 @@ class Opened:
     def example(self, name: str) -> None:
         """Chooses an example in the list."""
         self.begin()
-        self.value(
-            f"(() => {{ const it = document.getElementById('example'); it.value = {quoted(name)};"
-            "it.dispatchEvent(new Event('change')); })()"
-        )
+        self.put("example", name, "change")
         self.await_run()
 
     def command(self, name: str) -> None:
         """Chooses a command and runs it."""
         self.begin()
         self.value(f"document.querySelector('input[value={quoted(name)}]').click()")
-        self.value("document.getElementById('go').click()")
+        self.press("go")
         self.await_run()
 
     def drill(self, seed: int, lines: int) -> None:
         """Runs a drill by its fields."""
-        self.value(f"document.getElementById('seed').value = '{seed}'; document.getElementById('lines').value = '{lines}'")
+        self.put("seed", str(seed))
+        self.put("lines", str(lines))
         self.command("drill")
 
     def file(self, path: Path) -> None:
@@ -103,7 +121,7 @@ class Opened:
         if self.status() == 2 and " is refused: " in said:
             line, reason = said.removeprefix("2: line ").split(" is refused: ")
             return f"papr: line {line}: {reason}\n"
-        self.value("document.getElementById('save').click()")
+        self.press("save")
         text: str = self.value("window.saved.text()")
         return text
 
@@ -120,15 +138,16 @@ class Opened:
 
     def shown(self, side: str) -> list[str]:
         """The lines that a list has drawn and that hold something."""
-        script = f"[...document.querySelectorAll('#{side} .row')].map((it) => [...it.children].map((x) => x.textContent))"
-        parts: list[list[str]] = self.value(script)
+        rows = f"[...document.querySelectorAll('#{side} .row')]"
+        parts: list[list[str]] = self.value(f"{rows}.map((it) => [...it.children].map((x) => x.textContent))")
         between = " " if side == "trace" else ""
         return [between.join(it) for it in parts if it]
 
     def row(self, side: str, line: int) -> str:
         """JavaScript for the row that has a line of the trace, where it is drawn."""
-        number = f"[...document.querySelectorAll('#trace .row')].find((it) => it.firstChild?.textContent === '{line}')"
-        return f"document.getElementById('{side}-' + {number}?.dataset.row)"
+        rows = "[...document.querySelectorAll('#trace .row')]"
+        found = f"{rows}.find((it) => it.firstChild?.textContent === '{line}')"
+        return f"document.getElementById('{side}-' + {found}?.dataset.row)"
 
     def click_line(self, line: int) -> None:
         """Clicks a line of the trace."""
@@ -167,7 +186,8 @@ def changed(text: str, draw: random.Random) -> str:
             lines[at], lines[other] = lines[other], lines[at]
         else:
             place = draw.randint(0, len(lines[at]))
-            lines[at] = lines[at][:place] + chr(draw.randint(32, 251)) + lines[at][place + draw.randrange(2) :]
+            rest = lines[at][place + draw.randrange(2) :]
+            lines[at] = lines[at][:place] + chr(draw.randint(32, 251)) + rest
     return "\n".join(lines)
 
 

@@ -1,9 +1,9 @@
 """What the toolchain lowers for x86-64, made what it lowers for wasm64.
 
 `rattle build` lowers no call of the heap for wasm64. A crate that is proved and lowered for x86-64 stands
-on the heap's three functions and on nothing of the processor but its name, so its module of LLVM is retargeted
-here as text. What isn't of the form that is known is refused. `compared` compares the outcome with the toolchain's
-own of a crate without the heap, which it lowers for both.
+on the heap's three functions and on nothing of the processor but its name, so its module of LLVM is
+retargeted here as text. What isn't of the form that is known is refused. `compared` compares the outcome with
+the toolchain's own of a crate without the heap, which it lowers for both.
 """
 
 import re

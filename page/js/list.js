@@ -70,7 +70,8 @@ export class List {
   select(row) {
     this.selected = row;
     const top = this.top;
-    if (row < top || row + 1 > top + this.seen) this.scrollTo(row - Math.floor(this.seen / 3));
+    if (row < 0) this.element.removeAttribute("aria-activedescendant");
+    else if (row < top || row + 1 > top + this.seen) this.scrollTo(row - Math.floor(this.seen / 3));
     this.draw();
   }
 

@@ -7,7 +7,7 @@ import { EntryReader, Pictures } from "./pictures.js";
 import { NOT_GOOD, NO_MEMORY, REFUSED, STATUSES } from "./program.js";
 import { Refusals } from "./refusals.js";
 import { receiptAt } from "./replies.js";
-import { Rows, alignedRows, looseRows } from "./rows.js";
+import { alignedRows, looseRows } from "./rows.js";
 import { Runner } from "./runner.js";
 import { cutBehind, judgedParts, judgedText, sectionOf } from "./traces.js";
 import { serveWorker } from "./worker.js";
@@ -22,7 +22,7 @@ class Page {
     this.examples = data.examples;
     this.refusals = new Refusals(data.formats);
     this.runner = new Runner(module, source, (stage, part) => this.tellStage(stage, part));
-    this.panes = new Panes((row, at) => this.chooseRow(row, at));
+    this.panes = new Panes((line, reply, below) => this.chooseRow(line, reply, below));
     this.pictures = new Pictures((line) => this.goTo(line), (entry) => this.panes.mark(entry));
     this.reader = new EntryReader();
     this.traceField = new Field("trace", by("trace"));
@@ -275,7 +275,7 @@ class Page {
 
   scrollTo(line) {
     const row = this.panes.rows.rowOf(line);
-    if (row >= 0) this.panes.left.scrollTo(Math.max(0, row - 2));
+    if (row >= 0) for (const list of [this.panes.left, this.panes.right]) list.scrollTo(Math.max(0, row - 2));
   }
 
   goTo(line) {
@@ -284,21 +284,18 @@ class Page {
   }
 
   // A row was chosen: its line, its reply and its receipts are shown, and their entries marked.
-  chooseRow(row, at) {
-    const [line, reply] = [this.panes.rows.left[row], this.panes.rows.right[row]];
-    const isAligned = this.panes.rows instanceof Rows && this.replies !== null;
-    const words = line > 0 ? this.panes.trace.text(line - 1) : "";
-    const answer = reply > 0 && isAligned ? this.panes.text.text(reply - 1) : "";
-    const below = this.panes.rows.right[at] > 0 ? this.panes.text.text(this.panes.rows.right[at] - 1) : "";
-    const receipts = isAligned && reply > 0 ? this.receiptsOf(reply - 1) : [];
+  chooseRow(line, reply, below) {
+    const textOf = (lines, place) => (place > 0 ? lines.text(place - 1) : "");
+    const [words, answer] = [textOf(this.panes.trace, line), textOf(this.panes.text, reply)];
+    const receipts = this.replies !== null && reply > 0 ? this.receiptsOf(reply - 1) : [];
     by("line").hidden = line === 0;
     by("line-number").textContent = line > 0 ? `Line ${line}` : "";
     by("line-words").textContent = words.slice(0, 500);
     by("line-reply").textContent = answer.split(" |")[0];
     by("line-receipts").replaceChildren(...receipts.map((receipt) => this.chip(receipt)));
     by("behind").hidden = !(["run", "image"].includes(document.body.dataset.command) && line > 0 && receipts.some((it) => !it.isWindow));
-    this.reader.offer(words, at === row && isAligned ? answer : below);
-    this.pictures.chooseLine(line, receipts);
+    this.reader.offer(words, textOf(this.panes.text, below));
+    if (receipts.length > 0 || line > 0) this.pictures.chooseLine(line, receipts, this.replies?.part[reply - 1]);
   }
 
   receiptsOf(reply) {

@@ -19,14 +19,16 @@ const span = (kind, text) => {
 };
 
 export class Panes {
-  // `chosen(row)` hears of a row that was chosen.
+  // `chosen(line, reply)` hears of a row that was chosen, by the places of what it shows, 0 for nothing; a third word is
+  // the place of the text's line itself, which may be one below its reply's.
   constructor(chosen) {
     const list = (id, fill) =>
-      new List(by(id), ROW_HEIGHT, { fill: fill.bind(this), chosen: (row) => this.choose(row, by(id)) });
+      new List(by(id), ROW_HEIGHT, { fill: fill.bind(this), chosen: (row) => this.choose(row, id === "replies") });
     this.left = list("trace", this.fillLeft);
     this.right = list("replies", this.fillRight);
     Object.assign(this, { chosen, trace: NO_LINES, text: NO_LINES, rows: looseRows(0, 0), marks: {}, entry: null });
     const follow = (from, to) => from.element.addEventListener("scroll", () => {
+      if (!this.rows.isAligned) return;
       if (Math.abs(to.element.scrollTop - from.element.scrollTop) > 1) to.element.scrollTop = from.element.scrollTop;
     });
     follow(this.left, this.right);
@@ -39,13 +41,15 @@ export class Panes {
     for (const list of [this.left, this.right]) list.show(rows.count);
   }
 
-  choose(row) {
-    this.select(row);
-    this.chosen(this.rows.head(row), row);
-  }
-
-  select(row) {
-    for (const list of [this.left, this.right]) list.select(row);
+  choose(row, isRight = false) {
+    const { left, right, isAligned } = this.rows;
+    const head = this.rows.head(row);
+    const [own, other] = isRight ? [this.right, this.left] : [this.left, this.right];
+    own.select(row);
+    if (isAligned) other.select(row);
+    else other.select(-1);
+    if (isAligned) this.chosen(left[head], right[head], right[row]);
+    else this.chosen(isRight ? 0 : left[row], 0, isRight ? right[row] : 0);
   }
 
   // Marks the lines with receipts of an entry.
@@ -75,7 +79,7 @@ export class Panes {
   }
 
   classes(element, row) {
-    const line = this.rows.left[this.rows.head(row)];
+    const line = this.rows.isAligned ? this.rows.left[this.rows.head(row)] : 0;
     const { refused, section } = this.marks;
     element.classList.toggle("refused", refused !== undefined && line === refused);
     element.classList.toggle("section", section !== undefined && line >= section[0] && line <= section[1]);

@@ -26,14 +26,14 @@ export class Pictures {
     });
   }
 
-  // Takes the replies of a run of so many lines; of a set one partition's.
-  take(replies, lines, part = 0) {
+  // Takes the replies of a run of so many lines; of a set one partition's, at first that of the first receipt.
+  take(replies, lines, part = replies?.part[replies.reply[0] ?? 0] ?? 0) {
     Object.assign(this, { replies, lines, part, line: null, ringed: [], entry: null });
-    const hasReceipts = replies !== null && replies.entry.length > 0;
+    this.groups = replies === null ? null : new Groups(replies, part);
+    const hasReceipts = replies !== null && replies.reply.some((reply) => replies.isWindow[reply] === 0);
     by("pictures").hidden = !hasReceipts;
     this.marked(null);
     if (!hasReceipts) return;
-    this.groups = new Groups(replies, part);
     this.offerParts();
     by("time").max = lines;
     by("time").value = lines;
@@ -52,8 +52,9 @@ export class Pictures {
   }
 
   // A line was chosen: the cells of its entries are ringed, and its column in the history is marked.
-  chooseLine(line, receipts) {
-    if (this.replies === null || this.groups === null) return;
+  chooseLine(line, receipts, part = this.part) {
+    if (by("pictures").hidden) return;
+    if (part !== this.part) this.take(this.replies, this.lines, part);
     const own = receipts.filter((receipt) => !receipt.isWindow);
     this.line = line;
     this.ringed = [...new Set(own.map(({ entry }) => entry))];
@@ -120,7 +121,17 @@ export class Pictures {
     const words = shown.length < chosen.length ? `, of which ${counted(shown.length, "receipt")} are drawn` : "";
     by("history-label").textContent = `${counted(chosen.length, by("changes").checked ? "change" : "receipt")}${words}`;
     by("history").innerHTML = shown.length > 0 ? drawHistory(shown, this.line) : "<p>No receipt of this entry.</p>";
-    by("history").querySelector(".here")?.scrollIntoView?.({ block: "nearest", inline: "nearest" });
+    this.showColumn();
+  }
+
+  // Scrolls the picture alone, so that the chosen line's column is seen.
+  showColumn() {
+    const picture = by("history");
+    const column = picture.querySelector(".here")?.getBoundingClientRect();
+    if (column === undefined) return;
+    const frame = picture.getBoundingClientRect();
+    if (column.left < frame.left || column.right > frame.right) picture.scrollLeft += column.left - frame.left - frame.width / 2;
+    if (column.top < frame.top || column.bottom > frame.bottom) picture.scrollTop += column.top - frame.top - 120;
   }
 }
 

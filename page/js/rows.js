@@ -22,20 +22,20 @@ export function alignedRows(traceCount, of) {
     right[rows - 1] = at + 1;
   }
   upTo(traceCount);
-  return new Rows(left.slice(0, rows), right.slice(0, rows));
+  return new Rows(left.slice(0, rows), right.slice(0, rows), true);
 }
 
 // Two texts side by side that have nothing to do with each other.
 export function looseRows(traceCount, textCount) {
   const counted = (count) =>
     Uint32Array.from({ length: Math.max(traceCount, textCount) }, (_, at) => (at < count ? at + 1 : NONE));
-  return new Rows(counted(traceCount), counted(textCount));
+  return new Rows(counted(traceCount), counted(textCount), false);
 }
 
 export class Rows {
-  constructor(left, right) {
-    this.left = left;
-    this.right = right;
+  // Where rows aren't aligned the two sides of one have nothing to do with each other.
+  constructor(left, right, isAligned) {
+    Object.assign(this, { left, right, isAligned });
   }
 
   get count() {
@@ -59,7 +59,7 @@ export class Rows {
   // The row whose reply this one's text belongs to: itself, or the nearest above that has a line of the trace.
   head(row) {
     let at = row;
-    while (at > 0 && this.left[at] === NONE) at -= 1;
+    while (this.isAligned && at > 0 && this.left[at] === NONE) at -= 1;
     return at;
   }
 }

@@ -45,7 +45,7 @@ Drawn = Counter[Shape]
 
 def number(word: str) -> str:
     """A number as one text, however it was written."""
-    return re.sub(r"\.0\b", "", word)
+    return re.sub(r"\.0(?![0-9])", "", word)
 
 
 def shape_of(tag: str, given: dict[str, str], words: str) -> Shape:

@@ -39,8 +39,8 @@ REFUSED = (
     ("#\tümlaut\n", 1, "ascii"),
 )
 # Doublewords worked out by hand of docs/FORMATS.md and the Power ISA's fields, each with the layout and the
-# index, and what has to stand there. The first: a page of 4 KB in segment 1, at 0x5000, since its group is 4, and
-# 4 is 5 xor 1.
+# index, and what has to stand there. The first: a page of 4 KB in segment 1, at 0x5000, since its group is 4,
+# and 4 is 5 xor 1.
 OFFSET, PROTECTION, ADDRESS = "offset in the segment", "protection (PP)", "logical address"
 ENTRIES = (
     ("0x1001", "0x3012", "old", "0x20", {"VSID": "0x1", "page": "4 KB", ADDRESS: "0x3000", OFFSET: "0x5000"}),

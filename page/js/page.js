@@ -27,8 +27,9 @@ class Page {
     this.reader = new EntryReader();
     this.traceField = new Field("trace", by("trace"));
     this.repliesField = new Field("replies", by("replies"));
-    Object.assign(this, { trace: NOTHING, judged: NOTHING, written: null, replies: null, isStale: false });
-    this.traceField.changed = (bytes) => this.change({ trace: bytes });
+    // `answered` are the replies of the last run of this trace, or null; they are what is judged until the user has others.
+    Object.assign(this, { trace: NOTHING, judged: NOTHING, written: null, replies: null, answered: null });
+    this.traceField.changed = (bytes) => this.change({ trace: bytes, answered: null });
     this.repliesField.changed = (bytes) => this.change({ judged: bytes });
     this.listen();
   }
@@ -85,7 +86,7 @@ class Page {
     by("right-title").textContent = { check: "Replies to judge", drill: "Summary", set: "Replies" }[command]
       ?? (command.startsWith("image") ? "Table at the end" : "Replies");
     if (command !== "check") this.repliesField.open(false);
-    else if (this.judged.length === 0 && this.written !== null && !this.isStale) this.judged = this.written;
+    else if (this.judged.length === 0 && this.answered !== null) this.judged = this.answered;
     this.repliesField.take(this.judged);
     this.showGiven();
   }
@@ -93,12 +94,11 @@ class Page {
   // A trace or a text to judge was changed: what was written stands for it no more.
   change(given) {
     Object.assign(this, given);
-    this.isStale = true;
-    this.showGiven(false);
+    this.showGiven();
   }
 
   // Shows what is given, before it is run.
-  showGiven(isWhole = true) {
+  showGiven() {
     const trace = new Lines(this.trace);
     this.lines = trace;
     const text = this.command === "check" ? new Lines(this.judged) : null;
@@ -109,14 +109,13 @@ class Page {
     by("left-size").textContent = counted(trace.count, "line");
     by("right-size").textContent = "";
     by("line").hidden = true;
-    if (isWhole) this.tell("", "", []);
+    this.tell("", "", []);
   }
 
   async openBytes(name, bytes, command) {
     const parts = command === "check" ? judgedParts(bytes) : null;
     this.trace = parts ? parts[0] : bytes;
-    if (parts) this.judged = parts[1];
-    this.written = null;
+    Object.assign(this, { judged: parts ? parts[1] : NOTHING, written: null, answered: null });
     by("name").textContent = name;
     this.traceField.take(this.trace);
     this.choose(command);
@@ -125,7 +124,6 @@ class Page {
 
   async openExample(name, command = null) {
     by("example").value = name;
-    this.judged = NOTHING;
     const bytes = await unpacked(fromBase64(this.examples[name]));
     await this.openBytes(name, bytes, command ?? commandFor(name, bytes));
   }
@@ -209,7 +207,12 @@ class Page {
   show(command, { status, ms, memory, written, given }) {
     const trace = new Lines(this.trace);
     const text = new Lines(written.text, written.starts);
-    Object.assign(this, { lines: trace, written: written.text, isStale: false, replies: given?.replies ?? written.replies });
+    Object.assign(this, { lines: trace, written: written.text, replies: given?.replies ?? written.replies });
+    if (command === "run") {
+      // What is judged next are these replies, unless the user has put others there.
+      if (this.judged === this.answered) this.judged = NOTHING;
+      this.answered = status === 0 ? written.text : null;
+    }
     Object.assign(document.body.dataset, { status, ms: ms.toFixed(1), memory });
     by("took").textContent = `${ms.toFixed(ms < 10 ? 1 : 0)} ms, ${counted(written.text.length, "byte")} written, ${Math.round(memory / 2 ** 20)} MB of memory`;
     if (status === REFUSED) this.showRefusal(command, trace, text);
@@ -246,7 +249,6 @@ class Page {
   // The lines of the section that no good run explains are marked.
   showVerdict(trace, given, verdict, status) {
     const text = new Lines(given.text, given.starts);
-    this.judged = given.text;
     const rows = alignedRows(trace.count, given.replies.of);
     if (status !== NOT_GOOD) {
       this.panes.show(trace, text, rows);

@@ -8,7 +8,7 @@ import { NOT_GOOD, NO_MEMORY, REFUSED, STATUSES } from "./program.js";
 import { Refusals } from "./refusals.js";
 import { receiptAt } from "./replies.js";
 import { alignedRows, looseRows } from "./rows.js";
-import { Runner } from "./runner.js";
+import { Runner, STOPPED } from "./runner.js";
 import { cutBehind, judgedParts, judgedText, sectionOf } from "./traces.js";
 import { serveWorker } from "./worker.js";
 
@@ -28,7 +28,7 @@ class Page {
     this.traceField = new Field("trace", by("trace"));
     this.repliesField = new Field("replies", by("replies"));
     // `answered` are the replies of the last run of this trace, or null; they are what is judged until the user has others.
-    Object.assign(this, { trace: NOTHING, judged: NOTHING, written: null, replies: null, answered: null });
+    Object.assign(this, { trace: NOTHING, judged: NOTHING, written: null, replies: null, answered: null, turn: 0 });
     this.traceField.changed = (bytes) => this.change({ trace: bytes, answered: null });
     this.repliesField.changed = (bytes) => this.change({ judged: bytes });
     this.listen();
@@ -171,15 +171,19 @@ class Page {
     const isCheck = command === "check";
     for (const field of [this.traceField, this.repliesField]) field.open(false);
     const input = { drill: NOTHING, check: judgedText(this.trace, this.judged) }[command] ?? this.trace;
+    // A run that is still on its way is stopped, and shows nothing.
+    if (document.body.dataset.state === "running") this.runner.start();
+    this.turn += 1;
+    const { turn } = this;
     this.begin();
     try {
       const outcome = await this.runner.call(words, input, isCheck ? this.judged : null);
-      this.show(command, outcome);
+      if (turn === this.turn) this.show(command, outcome);
     } catch (error) {
-      this.tell("bad", error.message === "stopped" ? "stopped" : `the program didn't end: ${error.message}`, []);
-    } finally {
-      this.end();
+      const words = error.message === STOPPED ? STOPPED : `the program didn't end: ${error.message}`;
+      if (turn === this.turn) this.tell("bad", words, []);
     }
+    if (turn === this.turn) this.end();
   }
 
   begin() {

@@ -2,31 +2,48 @@
 
 import { server } from "./worker.js";
 
+export const STOPPED = "stopped";
+
 export class Runner {
   // `source` is the text of this script, which the worker runs too; `told` hears how a job comes along.
   constructor(module, source, told) {
-    Object.assign(this, { module, source, told, jobs: new Map(), last: 0 });
+    Object.assign(this, { module, source, told, jobs: new Map(), last: 0, turn: 0 });
     this.start();
   }
 
   // Starts a worker; one that is busy is ended, and its jobs with it.
   start() {
-    this.worker?.terminate();
-    for (const { reject } of this.jobs.values()) reject(new Error("stopped"));
-    this.jobs.clear();
+    if (this.worker) {
+      // One that is ended may still tell of an error.
+      this.worker.onerror = null;
+      this.worker.onmessage = null;
+      this.worker.terminate();
+    }
+    this.fail(STOPPED);
+    this.turn += 1;
     this.ready = new Promise((resolve) => {
       this.isReady = resolve;
     });
-    const hear = (message) => this.hear(message);
+    this.isStarted = false;
+    const { turn } = this;
+    const hear = (message) => {
+      if (turn === this.turn) this.hear(message);
+    };
     try {
-      const url = URL.createObjectURL(new Blob([this.source], { type: "text/javascript" }));
-      this.worker = new Worker(url);
+      this.url ??= URL.createObjectURL(new Blob([this.source], { type: "text/javascript" }));
+      this.worker = new Worker(this.url);
       this.worker.onmessage = ({ data }) => hear(data);
-      this.worker.onerror = (event) => this.fail(event.message);
+      this.worker.onerror = (event) => (this.isStarted ? this.fail(event.message) : this.startHere(hear));
+      this.worker.postMessage({ module: this.module });
     } catch {
-      const answer = server(hear);
-      this.worker = { postMessage: (message) => setTimeout(() => answer(message)), terminate() {} };
+      this.startHere(hear);
     }
+  }
+
+  // Where the browser starts no worker, the page itself does its work.
+  startHere(hear) {
+    const answer = server(hear);
+    this.worker = { postMessage: (message) => setTimeout(() => answer(message)), terminate() {} };
     this.worker.postMessage({ module: this.module });
   }
 
@@ -37,6 +54,7 @@ export class Runner {
 
   hear({ ready, job, stage, part, error, ...outcome }) {
     if (ready) {
+      this.isStarted = true;
       this.isReady();
       return;
     }
@@ -56,7 +74,9 @@ export class Runner {
 
   // Calls the program; gives its status, what it wrote, and how long it took.
   async call(words, input, judged = null) {
+    const { turn } = this;
     await this.ready;
+    if (turn !== this.turn) throw new Error(STOPPED);
     this.last += 1;
     const job = this.last;
     return new Promise((resolve, reject) => {

@@ -16,7 +16,7 @@ from common import Bad
 PROGRAMS = ("chromium", "chromium-browser", "google-chrome")
 READ_END, WRITE_END = 3, 4  # where Chromium has the pipes
 TOLD = ("Runtime.exceptionThrown", "Log.entryAdded", "Runtime.consoleAPICalled", "Network.requestWillBeSent")
-PATIENCE = 180.0  # seconds
+PATIENCE = 60.0  # seconds
 
 
 def chromium() -> Optional[str]:

@@ -34,7 +34,10 @@ class Opened:
         self.browser.wait("['done', 'failed'].includes(document.body?.dataset.state)")
         # What is saved is taken here, in place of the user's folder.
         self.value("HTMLAnchorElement.prototype.click = () => {}")
-        self.value("URL.createObjectURL = (blob) => { window.saved = blob; return 'data:,'; }")
+        self.value(
+            "(() => { const before = URL.createObjectURL.bind(URL); URL.createObjectURL = (blob) =>"
+            "{ if (blob.type === 'text/plain') window.saved = blob; return before(blob); }; })()"
+        )
 
     def value(self, script: str) -> Any:
         """What an expression of JavaScript gives."""
@@ -99,7 +102,6 @@ class Opened:
         root = self.browser.call("DOM.getDocument")["root"]["nodeId"]
         field = self.browser.call("DOM.querySelector", nodeId=root, selector="#file")["nodeId"]
         self.browser.call("DOM.setFileInputFiles", files=[str(path)], nodeId=field)
-        self.value("document.getElementById('file').dispatchEvent(new Event('change'))")
         self.await_run()
 
     def trace(self, text: str, kind: str = "trace") -> None:

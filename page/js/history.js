@@ -165,8 +165,14 @@ class Band {
     const states = part.spans;
     const bit = (of) => states.map(({ bits }) => (bits === null ? null : (bits & of) !== 0));
     const strips = [states.map(({ valid }) => valid), bit(2), bit(1)].map((values, row) => this.strip(part, row, values));
-    const receipts = part.receipts.map((receipt, at) => this.receipt(receipt, part.first + at, selected));
-    return strips.join("") + this.stamps(part) + receipts.join("") + (part.isNewTable ? this.newTable(part) : "");
+    const receipts = part.receipts.map((receipt, at) => this.receipt(receipt, part.first + at));
+    return this.here(part, selected) + strips.join("") + this.stamps(part) + receipts.join("") + (part.isNewTable ? this.newTable(part) : "");
+  }
+
+  // The columns of the chosen line.
+  here(part, selected) {
+    const columns = part.receipts.flatMap(({ line }, at) => (line === selected ? [part.first + at] : []));
+    return columns.map((it) => box(middle(it) - COLUMN / 2, this.top, COLUMN, this.feet - this.top, "here")).join("");
   }
 
   // A bar over the columns: filled, empty, or grey where the replies don't tell.
@@ -188,9 +194,9 @@ class Band {
   }
 
   // Its call above, its mark in the lane, its line below, and where it changed the entry.
-  receipt(receipt, column, selected) {
+  receipt(receipt, column) {
     const [x, y] = [middle(column), this.top + LANE * this.cpus.indexOf(receipt.cpu) + LANE / 2];
-    let out = receipt.line === selected ? box(x - COLUMN / 2, this.top, COLUMN, this.feet - this.top, "here") : "";
+    let out = "";
     if (receipt.isChange) {
       // An access leaves the stamp as it is.
       const end = this.feet - (receipt.answer === "at" ? STRIP + 2 * GAP : GAP);

@@ -218,7 +218,7 @@ class Page {
       this.answered = status === 0 ? written.text : null;
     }
     Object.assign(document.body.dataset, { status, ms: ms.toFixed(1), memory });
-    by("took").textContent = `${ms.toFixed(ms < 10 ? 1 : 0)} ms, ${counted(written.text.length, "byte")} written, ${Math.round(memory / 2 ** 20)} MB of memory`;
+    by("took").textContent = `in ${ms.toFixed(ms < 10 ? 1 : 0)} ms, ${counted(written.text.length, "byte")} written`;
     if (status === REFUSED) this.showRefusal(command, trace, text);
     else if (command === "check" && given) this.showVerdict(trace, given, decoded(written.text), status);
     else {

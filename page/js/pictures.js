@@ -60,7 +60,7 @@ export class Pictures {
     this.ringed = [...new Set(own.map(({ entry }) => entry))];
     this.drawMap();
     if (own.length > 0 && !this.ringed.includes(this.entry)) this.chooseEntry(own[own.length - 1].entry);
-    else this.drawHistory();
+    else this.chooseEntry(this.entry);
   }
 
   chooseWord(word) {

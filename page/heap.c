@@ -1,9 +1,10 @@
 /*
- * The heap of the module, in place of a C library's. A block has 16 bytes in front of it and is, with them, a power of two
- * bytes long; of each power the free blocks are a list. What no block has yet been made of lies behind `end`.
+ * The heap of the module, in place of a C library's. A block has 16 bytes in front of it and is, with them, a
+ * power of two bytes long; of each power the free blocks are a list. What no block has yet been made of lies
+ * behind `end`.
  *
- * The three functions `rattle_..` are those that the Rattle toolchain's heap calls. Blocks lie at multiples of 16, and no
- * type of papr wants more.
+ * The three functions `rattle_..` are those that the Rattle toolchain's heap calls. Blocks lie at multiples of 16,
+ * and no type of papr wants more.
  */
 typedef unsigned long size;
 
@@ -27,8 +28,9 @@ static head *free_blocks[33];
 static size end;
 
 /*
- * Whether the memory has so many bytes, and more of it where it had fewer: at once some more than is asked for, since
- * growing is dear. What memory.grow answers isn't read: in a module made one of a 32-bit memory it is another number.
+ * Whether the memory has so many bytes, and more of it where it had fewer: at once some more than is asked for,
+ * since growing is dear. What memory.grow answers isn't read: in a module made one of a 32-bit memory it is another
+ * number.
  */
 static _Bool has(size bytes) {
     size wanted = (bytes + PAGE - 1) / PAGE, there = __builtin_wasm_memory_size(0);
@@ -79,9 +81,21 @@ void rattle_dealloc(void *at) {
     free_blocks[block->power] = block;
 }
 
+/* Whether a block that has no other behind it could be made longer where it lies: nothing has to be copied then. */
+static _Bool lengthens(head *block, size bytes) {
+    if ((size)block + ((size)1 << block->power) != end || bytes >= MOST)
+        return 0;
+    size power = power_of(bytes);
+    if (!has((size)block + ((size)1 << power)))
+        return 0;
+    block->power = power;
+    end = (size)block + ((size)1 << power);
+    return 1;
+}
+
 tried rattle_realloc(void *at, size kept, size bytes, size alignment) {
     head *block = (head *)at - 1;
-    if (bytes <= ((size)1 << block->power) - sizeof(head))
+    if (bytes <= ((size)1 << block->power) - sizeof(head) || lengthens(block, bytes))
         return (tried){1, at};
     tried new = rattle_alloc(bytes, alignment);
     if (!new.ok)
@@ -91,8 +105,8 @@ tried rattle_realloc(void *at, size kept, size bytes, size alignment) {
     return new;
 }
 
-/* Room for the page's own bytes, or null. It is exported by an attribute that the build puts here: one of C would give the
- * module a table of functions. */
+/* Room for the page's own bytes, or null. It is exported by an attribute that the build puts here: one of C would
+ * give the module a table of functions. */
 void *page_room(size bytes) {
     tried new = rattle_alloc(bytes, 16);
     return new.ok ? new.at : 0;

@@ -1,6 +1,6 @@
-// An entry's two doublewords in words. THIS IS THE PAGE'S OWN READING, and not proved: papr writes entries as digits. It
-// follows docs/FORMATS.md and the definitions in crates/hpte_fields, page_sizes, storage_prot, power_addr and hpt_hash, and
-// tests/page compares it with tools/grants.py and with values worked out by hand.
+// An entry's two doublewords in words. THIS IS THE PAGE'S OWN READING, and not proved: papr writes entries as digits.
+// It follows docs/FORMATS.md and the definitions in crates/hpte_fields, page_sizes, storage_prot, power_addr and
+// hpt_hash, and tests/page compares it with tools/grants.py and with values worked out by hand.
 
 const GROUP = 8n;
 // Base and actual page size as binary logarithms, and the low part of the real page number that encodes them.
@@ -83,7 +83,8 @@ const hex = (value) => `0x${value.toString(16)}`;
 
 // The fields as rows of a name and words.
 export function rowsOf(entry) {
-  const size = entry.base === null ? "none is encoded" : entry.base === entry.actual ? entry.base : `${entry.base} inside ${entry.actual}`;
+  const inside = entry.base === entry.actual ? "" : ` inside ${entry.actual}`;
+  const size = entry.base === null ? "none is encoded" : entry.base + inside;
   return [
     ["valid (V)", yes(entry.isValid)],
     ["segment (B)", entry.segment ?? "none: B is above 1"],

@@ -100,10 +100,12 @@ export class Groups {
       const level = levelOf(count, this.most);
       paths.set(level, `${paths.get(level) ?? ""}M${x},${y}h${CELL - 1}v${CELL - 1}h${1 - CELL}z`);
     });
-    const drawn = [...paths].sort(([a], [b]) => a - b).map(([level, path]) => `<path class="heat-${level}" d="${path}"/>`);
+    const levels = [...paths].sort(([a], [b]) => a - b);
+    const drawn = levels.map(([level, path]) => `<path class="heat-${level}" d="${path}"/>`);
     const names = Array.from({ length: ROWS / 8 }, (_, at) => {
       const entry = at * 8 * COLUMNS * this.aCell * A_GROUP;
-      return `<text class="num" x="${MARGIN - 8}" y="${TOP + at * 8 * CELL + 11}" text-anchor="end">0x${entry.toString(16)}</text>`;
+      const y = TOP + at * 8 * CELL + 11;
+      return `<text class="num" x="${MARGIN - 8}" y="${y}" text-anchor="end">0x${entry.toString(16)}</text>`;
     });
     const rings = [...new Set(chosen.map((entry) => this.cellOf(entry)))].map((cell) => {
       const [x, y] = this.place(cell);
@@ -111,7 +113,8 @@ export class Groups {
     });
     const [width, height] = [MARGIN + COLUMNS * CELL + 2, TOP + ROWS * CELL + 2];
     const label = "the groups of the table by their receipts";
-    return `<svg viewBox="0 0 ${width} ${height}" role="img" aria-label="${label}">${drawn.join("")}${names.join("")}${rings.join("")}</svg>`;
+    const all = [...drawn, ...names, ...rings].join("");
+    return `<svg viewBox="0 0 ${width} ${height}" role="img" aria-label="${label}">${all}</svg>`;
   }
 
   place(cell) {
@@ -127,12 +130,14 @@ export class Groups {
     const [column, row] = [Math.floor((x - MARGIN) / CELL), Math.floor((y - TOP) / CELL)];
     if (column < 0 || column >= COLUMNS || row < 0 || row >= ROWS) return null;
     const each = this.aCell * A_GROUP;
-    return { first: (row * COLUMNS + column) * each, count: each, receipts: this.cells(this.all)[row * COLUMNS + column] };
+    const cell = row * COLUMNS + column;
+    return { first: cell * each, count: each, receipts: this.cells(this.all)[cell] };
   }
 
   // The colours and the counts that they stand for.
   scale() {
-    return boundsOf(this.most).flatMap((bound, level) => (bound === null ? [] : [{ level, low: bound[0], high: bound[1] }]));
+    const colours = boundsOf(this.most).map((bound, level) => bound && { level, low: bound[0], high: bound[1] });
+    return colours.filter((it) => it !== null);
   }
 
   // The page table's entries with the most receipts, up to a number.

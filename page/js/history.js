@@ -84,7 +84,8 @@ function bandsOf(receipts) {
         column = 0;
       }
       const count = Math.min(left.length, A_BAND - column);
-      bands[bands.length - 1].push({ first: column, receipts: left.slice(0, count), spans: spans.slice(0, count + 1), isNewTable });
+      const own = { receipts: left.slice(0, count), spans: spans.slice(0, count + 1) };
+      bands[bands.length - 1].push({ first: column, ...own, isNewTable });
       [left, spans] = [left.slice(count), spans.slice(count)];
       [column, isNewTable] = [column + count, false];
     }
@@ -126,7 +127,10 @@ function mark(receipt, x, y) {
     return `<polygon ${head} points="${points}" fill="${colour}"${close("polygon")}`;
   }
   if (receipt.isChange) return `<circle ${head} cx="${x}" cy="${y}" r="${MARK}" fill="${colour}"${close("circle")}`;
-  if (isHollow) return `<circle ${head} cx="${x}" cy="${y}" r="${MARK - 3}" stroke="${colour}" stroke-width="2"${close("circle")}`;
+  if (isHollow) {
+    const ring = `r="${MARK - 3}" stroke="${colour}" stroke-width="2"`;
+    return `<circle ${head} cx="${x}" cy="${y}" ${ring}${close("circle")}`;
+  }
   const path = `M${x - 5},${y - 5}l10,10M${x + 5},${y - 5}l-10,10`;
   return `<path ${head} d="${path}" stroke="${colour}" stroke-width="2" fill="none"${close("path")}`;
 }
@@ -164,9 +168,11 @@ class Band {
   part(part, selected) {
     const states = part.spans;
     const bit = (of) => states.map(({ bits }) => (bits === null ? null : (bits & of) !== 0));
-    const strips = [states.map(({ valid }) => valid), bit(2), bit(1)].map((values, row) => this.strip(part, row, values));
+    const rows = [states.map(({ valid }) => valid), bit(2), bit(1)];
+    const strips = rows.map((values, row) => this.strip(part, row, values));
     const receipts = part.receipts.map((receipt, at) => this.receipt(receipt, part.first + at));
-    return this.here(part, selected) + strips.join("") + this.stamps(part) + receipts.join("") + (part.isNewTable ? this.newTable(part) : "");
+    const table = part.isNewTable ? this.newTable(part) : "";
+    return [this.here(part, selected), ...strips, this.stamps(part), ...receipts, table].join("");
   }
 
   // The columns of the chosen line.
@@ -180,8 +186,9 @@ class Band {
     const y = this.strips + row * (STRIP + GAP);
     return runs(values).map(([start, end, value]) => {
       const [left, right] = edges(part, start, end);
-      if (value === null) return box(left, y, right - left, STRIP, "strip unknown") + centred("?", (left + right) / 2, y, "small");
-      return box(left, y, right - left, STRIP, value ? "strip" : "strip clear", value ? `fill="${STRIPS[row]}"` : "");
+      const bar = (kind, more) => box(left, y, right - left, STRIP, kind, more);
+      if (value === null) return bar("strip unknown") + centred("?", (left + right) / 2, y, "small");
+      return value ? bar("strip", `fill="${STRIPS[row]}"`) : bar("strip clear");
     }).join("");
   }
 
@@ -209,8 +216,8 @@ class Band {
 
   newTable(part) {
     const x = middle(part.first - 1);
-    const line = `<line class="new-table" x1="${x}" y1="${this.top}" x2="${x}" y2="${this.feet - GAP}" stroke-width="2"/>`;
-    return line + turned("new table", x + 4, this.top - 8);
+    const ends = `x1="${x}" y1="${this.top}" x2="${x}" y2="${this.feet - GAP}"`;
+    return `<line class="new-table" ${ends} stroke-width="2"/>` + turned("new table", x + 4, this.top - 8);
   }
 }
 
@@ -265,5 +272,6 @@ export function drawHistory(receipts, selected) {
     end = band.end;
   }
   const [marks, height] = legend(receipts, width, end + 10);
-  return `<svg width="${width}" height="${height}" viewBox="0 ${HEAD} ${width} ${height - HEAD}" role="img">${drawn}${marks}</svg>`;
+  const sizes = `width="${width}" height="${height}" viewBox="0 ${HEAD} ${width} ${height - HEAD}"`;
+  return `<svg ${sizes} role="img">${drawn}${marks}</svg>`;
 }

@@ -32,7 +32,8 @@ export class List {
   get top() {
     const room = this.height - this.element.clientHeight;
     if (room <= 0) return 0;
-    return (Math.min(1, this.element.scrollTop / room) * (this.count * this.rowHeight - this.element.clientHeight)) / this.rowHeight;
+    const all = this.count * this.rowHeight - this.element.clientHeight;
+    return (Math.min(1, this.element.scrollTop / room) * all) / this.rowHeight;
   }
 
   show(count) {
@@ -89,7 +90,8 @@ export class List {
   }
 
   key(event) {
-    const steps = { ArrowDown: 1, ArrowUp: -1, PageDown: this.seen, PageUp: -this.seen, Home: -this.count, End: this.count };
+    const { seen, count } = this;
+    const steps = { ArrowDown: 1, ArrowUp: -1, PageDown: seen, PageUp: -seen, Home: -count, End: count };
     const step = steps[event.key];
     if (step === undefined || event.ctrlKey || event.metaKey || event.altKey) return;
     event.preventDefault();

@@ -13,6 +13,10 @@ import { cutBehind, judgedParts, judgedText, sectionOf } from "./traces.js";
 import { serveWorker } from "./worker.js";
 
 const NOTHING = new Uint8Array(0);
+const SAVED = { run: "run.replies", check: "judged.replies", set: "set.replies", drill: "drill.summary" };
+const NO_PLACE =
+  "The newer layout has no place for this entry: doubleword 0 has a bit of 0x3FF0000000000000, or doubleword 1 one " +
+  "of 0x0C00000000000000.";
 const by = (id) => document.getElementById(id);
 const counted = (count, word) => `${count.toLocaleString("en")} ${word}${count === 1 ? "" : "s"}`;
 const decoded = (bytes) => new TextDecoder().decode(bytes);
@@ -27,7 +31,7 @@ class Page {
     this.reader = new EntryReader();
     this.traceField = new Field("trace", by("trace"));
     this.repliesField = new Field("replies", by("replies"));
-    // `answered` are the replies of the last run of this trace, or null; they are what is judged until the user has others.
+    // `answered` are the replies of the last run of this trace, or null; they are judged until the user has others.
     Object.assign(this, { trace: NOTHING, judged: NOTHING, written: null, replies: null, answered: null, turn: 0 });
     this.traceField.changed = (bytes) => this.change({ trace: bytes, answered: null });
     this.repliesField.changed = (bytes) => this.change({ judged: bytes });
@@ -167,7 +171,8 @@ class Page {
 
   async run() {
     const { command } = this;
-    const words = command === "drill" ? ["drill", by("seed").value.trim(), by("lines").value.trim()] : command.split(" ");
+    const words = command.split(" ");
+    if (command === "drill") words.push(by("seed").value.trim(), by("lines").value.trim());
     const isCheck = command === "check";
     for (const field of [this.traceField, this.repliesField]) field.open(false);
     const input = { drill: NOTHING, check: judgedText(this.trace, this.judged) }[command] ?? this.trace;
@@ -236,8 +241,7 @@ class Page {
     const refusal = this.refusals.read(decoded(text.bytes));
     if (refusal?.line === undefined) {
       this.panes.show(trace, text, looseRows(trace.count, text.count));
-      const words = "The newer layout has no place for this entry: doubleword 0 has a bit of 0x3FF0000000000000, or doubleword 1 one of 0x0C00000000000000.";
-      this.tell("bad", `2: refused, entry ${refusal?.entry}`, [words]);
+      this.tell("bad", `2: refused, entry ${refusal?.entry}`, [NO_PLACE]);
       return;
     }
     const isSet = command === "set";
@@ -263,7 +267,7 @@ class Page {
     const section = sectionOf(trace, number);
     this.panes.show(trace, text, rows, section ? { section } : {});
     const where = section
-      ? `No good run of the trace begins with this text up to the end of section ${number}, lines ${section[0]} to ${section[1]}.`
+      ? `Up to the end of section ${number}, lines ${section[0]} to ${section[1]}, no good run writes this text.`
       : "Each section stands, but the text doesn't end behind the last.";
     this.tell("bad", `${status}: ${verdict.trim()}`, [where]);
     if (section) this.scrollTo(section[0]);
@@ -299,14 +303,16 @@ class Page {
     by("line-words").textContent = words.slice(0, 500);
     by("line-reply").textContent = answer.split(" |")[0];
     by("line-receipts").replaceChildren(...receipts.map((receipt) => this.chip(receipt)));
-    by("behind").hidden = !(["run", "image"].includes(document.body.dataset.command) && line > 0 && receipts.some((it) => !it.isWindow));
+    const isOfTable = receipts.some((it) => !it.isWindow);
+    by("behind").hidden = !(this.command === "run" && line > 0 && isOfTable);
     this.reader.offer(words, textOf(this.panes.text, below));
     if (receipts.length > 0 || line > 0) this.pictures.chooseLine(line, receipts, this.replies?.part[reply - 1]);
   }
 
   receiptsOf(reply) {
     const { first } = this.replies;
-    return Array.from({ length: first[reply + 1] - first[reply] }, (_, at) => receiptAt(this.replies, first[reply] + at));
+    const [from, to] = [first[reply], first[reply + 1]];
+    return Array.from({ length: to - from }, (_, at) => receiptAt(this.replies, from + at));
   }
 
   chip(receipt) {
@@ -339,7 +345,7 @@ class Page {
     if (bytes === null) return;
     const link = document.createElement("a");
     link.href = URL.createObjectURL(new Blob([bytes], { type: "text/plain" }));
-    link.download = { run: "run.replies", check: "judged.replies", set: "set.replies", drill: "drill.summary" }[this.command] ?? "table.image";
+    link.download = SAVED[this.command] ?? "table.image";
     link.click();
     setTimeout(() => URL.revokeObjectURL(link.href), 1_000);
   }

@@ -1,5 +1,5 @@
-// The trace and its replies side by side, line against line: two lists that scroll together, and a field for each in which
-// it can be changed.
+// The trace and its replies side by side, line against line: two lists that scroll together, and a field for each in
+// which it can be changed.
 
 import { Lines } from "./lines.js";
 import { List } from "./list.js";
@@ -8,6 +8,7 @@ import { looseRows } from "./rows.js";
 const ROW_HEIGHT = 20;
 const MOST_SHOWN = 2_000; // characters of a line
 const MOST_EDITED = 2_000_000; // bytes of a text that a field holds
+const strict = new TextDecoder("utf-8", { fatal: true, ignoreBOM: true });
 const NO_LINES = new Lines(new Uint8Array(0));
 
 const by = (id) => document.getElementById(id);
@@ -19,7 +20,7 @@ const span = (kind, text) => {
 };
 
 export class Panes {
-  // `chosen(line, reply)` hears of a row that was chosen, by the places of what it shows, 0 for nothing; a third word is
+  // `chosen(line, reply, own)` hears of a row that was chosen, by the places of what it shows, 0 for nothing; `own` is
   // the place of the text's line itself, which may be one below its reply's.
   constructor(chosen) {
     const list = (id, fill) =>
@@ -103,7 +104,7 @@ export class Field {
     this.bytes = bytes;
     let text = null;
     try {
-      text = bytes.length <= MOST_EDITED ? new TextDecoder("utf-8", { fatal: true, ignoreBOM: true }).decode(bytes) : null;
+      if (bytes.length <= MOST_EDITED) text = strict.decode(bytes);
     } catch {
       text = null;
     }

@@ -48,7 +48,8 @@ export class Pictures {
   offerParts() {
     const parts = [...new Set(this.replies.part.subarray(0, this.replies.of.length))].sort((a, b) => a - b);
     by("part-label").hidden = parts.length < 2;
-    by("part").replaceChildren(...parts.map((part) => new Option(`partition ${part}`, part, false, part === this.part)));
+    const options = parts.map((part) => new Option(`partition ${part}`, part, false, part === this.part));
+    by("part").replaceChildren(...options);
   }
 
   // A line was chosen: the cells of its entries are ringed, and its column in the history is marked.
@@ -83,7 +84,8 @@ export class Pictures {
     if (cell === null) return;
     const own = this.groups.entriesUpTo(Infinity).subarray(cell.first, cell.first + cell.count);
     const busiest = own.reduce((best, count, at) => (count > own[best] ? at : best), 0);
-    by("cell").textContent = `entries ${hex(cell.first)} to ${hex(cell.first + cell.count - 1)}: ${counted(cell.receipts, "receipt")}`;
+    const last = cell.first + cell.count - 1;
+    by("cell").textContent = `entries ${hex(cell.first)} to ${hex(last)}: ${counted(cell.receipts, "receipt")}`;
     if (own[busiest] > 0) this.chooseEntry(cell.first + busiest);
   }
 
@@ -91,16 +93,18 @@ export class Pictures {
     const line = Number(by("time").value);
     const isAll = line >= Number(by("time").max);
     by("map").innerHTML = this.groups.draw(isAll ? Infinity : line, this.ringed);
-    by("time-label").textContent = isAll ? `to the last line, ${line.toLocaleString("en")}` : `up to line ${line.toLocaleString("en")}`;
+    by("time-label").textContent = `${isAll ? "to the last line," : "up to line"} ${line.toLocaleString("en")}`;
     const counts = isAll ? this.groups.all : this.groups.countsUpTo(line);
-    const busiest = this.groups.busiest(counts).map(([group, count]) => `${hex(8 * group)} (${count.toLocaleString("en")})`);
-    by("busiest").textContent = busiest.length > 0 ? `Busiest groups, by their first entry: ${busiest.join(", ")}` : "No receipts yet.";
+    const named = ([group, count]) => `${hex(8 * group)} (${count.toLocaleString("en")})`;
+    const busiest = this.groups.busiest(counts).map(named).join(", ");
+    by("busiest").textContent = busiest ? `Busiest groups, by their first entry: ${busiest}` : "No receipts yet.";
   }
 
   drawScale() {
     const cells = this.groups.scale().map(({ level, low, high }) => {
       const words = low === high ? String(low) : `${low.toLocaleString("en")} to ${high.toLocaleString("en")}`;
-      return `<span><svg class="swatch" viewBox="0 0 13 13"><rect class="heat-${level}" width="13" height="13"/></svg>${words}</span>`;
+      const box = `<rect class="heat-${level}" width="13" height="13"/>`;
+      return `<span><svg class="swatch" viewBox="0 0 13 13">${box}</svg>${words}</span>`;
     });
     const each = this.groups.aCell === 1 ? "a group" : `${this.groups.aCell} groups`;
     by("scale").innerHTML = `${cells.join(" ")} <span>receipts; a cell is ${each} of 8 entries</span>`;
@@ -130,8 +134,10 @@ export class Pictures {
     const column = picture.querySelector(".here")?.getBoundingClientRect();
     if (column === undefined) return;
     const frame = picture.getBoundingClientRect();
-    if (column.left < frame.left || column.right > frame.right) picture.scrollLeft += column.left - frame.left - frame.width / 2;
-    if (column.top < frame.top || column.bottom > frame.bottom) picture.scrollTop += column.top - frame.top - 120;
+    const isBeside = column.left < frame.left || column.right > frame.right;
+    const isBeyond = column.top < frame.top || column.bottom > frame.bottom;
+    if (isBeside) picture.scrollLeft += column.left - frame.left - frame.width / 2;
+    if (isBeyond) picture.scrollTop += column.top - frame.top - 120;
   }
 }
 
@@ -172,26 +178,31 @@ export class EntryReader {
   }
 }
 
+const number = (digits) => BigInt(`0x${digits}`);
+
 // A line of an image or of a dump: an index and an entry's doublewords.
 function fromText(text) {
-  const image = /^(0x[0-9a-f]+) ([0-9a-f]{16})([0-9a-f]{16})$/.exec(text ?? "");
-  if (image) return { index: BigInt(image[1]), dword0: BigInt(`0x${image[2]}`), dword1: BigInt(`0x${image[3]}`), from: "of the image", isImage: true };
-  const dump = /^(?:[0-7] )? (0x[0-9a-f]+) (0x[0-9a-f]+) (0x[0-9a-f]+) [0-9]+$/.exec(text ?? "");
-  return dump ? { index: BigInt(dump[1]), dword0: BigInt(dump[2]), dword1: BigInt(dump[3]), from: "of the dump" } : null;
+  const image = /^0x([0-9a-f]+) ([0-9a-f]{16})([0-9a-f]{16})$/.exec(text ?? "");
+  const dump = /^(?:[0-7] )? 0x([0-9a-f]+) 0x([0-9a-f]+) 0x([0-9a-f]+) [0-9]+$/.exec(text ?? "");
+  if (!image && !dump) return null;
+  const [index, dword0, dword1] = (image ?? dump).slice(1).map(number);
+  return { index, dword0, dword1, from: image ? "of the image" : "of the dump" };
 }
 
 // The words that a call gave.
 function fromReply(reply) {
-  const found = /(?:^| )(H_READ|H_REMOVE) 0 (0x[0-9a-f]+) (0x[0-9a-f]+).* \| (0x[0-9a-f]+)\./.exec(reply ?? "");
+  const form = /(?:^| )(H_READ|H_REMOVE) 0 0x([0-9a-f]+) 0x([0-9a-f]+).* \| 0x([0-9a-f]+)\./;
+  const found = form.exec(reply ?? "");
   if (!found) return null;
-  return { index: BigInt(found[4]), dword0: BigInt(found[2]), dword1: BigInt(found[3]), from: `as ${found[1]} told them` };
+  const [dword0, dword1, index] = found.slice(2).map(number);
+  return { index, dword0, dword1, from: `as ${found[1]} told them` };
 }
 
 // The words that a line of the trace gives.
 function fromLine(line, reply) {
   const words = wordsOfLine(line ?? "");
   if (words[0] === "entry" && /^[0-9a-fA-F]{32}$/.test(words[3] ?? "")) {
-    const [dword0, dword1] = [words[3].slice(0, 16), words[3].slice(16)].map((digits) => BigInt(`0x${digits}`));
+    const [dword0, dword1] = [words[3].slice(0, 16), words[3].slice(16)].map(number);
     return { dword0, dword1, layout: words[1], index: readNumber(words[2]), from: "of the opening table" };
   }
   const at = words.indexOf("H_ENTER");

@@ -6,7 +6,7 @@ import { wordsOfLine } from "./traces.js";
 const REFUSED = /^papr: line ([0-9]+): ([a-z]+)\n?$/;
 const NO_LAYOUT = /^papr: entry (0x[0-9a-f]+): layout\n?$/;
 
-// `formats` has `rules` and `setRules` (a reason and its rule), `settings` and `runLines` (a form, and what is accepted).
+// `formats` has `rules` and `setRules` (a reason and its rule), `settings` and `runLines` (a form, what is accepted).
 export class Refusals {
   constructor(formats) {
     this.formats = formats;

@@ -42,8 +42,9 @@ class Columns {
   }
 }
 
-// Of each line of the text: `of` is the line of the trace, 0 where the text's line belongs to the reply above it, and `first`
-// its first receipt. All receipts of a reply are of one processor, one call, one table, and of a DMA window all or none.
+// Of each line of the text: `of` is the line of the trace, 0 where the text's line belongs to the reply above it, and
+// `first` its first receipt. All receipts of a reply are of one processor, one call and one table, and of a DMA window
+// all or none.
 const OF_LINES = {
   of: Uint32Array,
   part: Uint8Array,
@@ -54,9 +55,15 @@ const OF_LINES = {
   isWindow: Uint8Array,
 };
 // Of each receipt: `reply` is the text's line.
-const OF_RECEIPTS = { reply: Uint32Array, entry: Uint32Array, stamp: Uint32Array, bits: Uint8Array, answer: Uint8Array };
+const OF_RECEIPTS = {
+  reply: Uint32Array,
+  entry: Uint32Array,
+  stamp: Uint32Array,
+  bits: Uint8Array,
+  answer: Uint8Array,
+};
 
-// Reads a text of replies; of a set each line has its partition's number in front. `told` hears of the progress, 0 to 1.
+// Reads a text of replies; of a set each line has its partition's number in front. `told` hears how far it is, 0 to 1.
 export function readReplies(lines, isSet, told = () => {}) {
   const reader = new Reader(lines, isSet);
   for (let at = 0; at < lines.count; at += 1) {
@@ -196,7 +203,7 @@ export function wordsOf(receipt) {
   return `line ${line}, processor ${cpu}: ${call} ${answer}; before: stamp ${stamp}, R ${bits >> 1}, C ${bits & 1}`;
 }
 
-// The receipts of one entry of a page table, in the order of its history: by table, stamp, bits set and what changes last.
+// The receipts of one entry of a page table, in the order of its history: by table, stamp, bits set, changes last.
 export function historyOf(replies, part, entry) {
   const found = [];
   for (let at = replies.entry.indexOf(entry); at >= 0; at = replies.entry.indexOf(entry, at + 1)) {

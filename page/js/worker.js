@@ -1,5 +1,5 @@
-// The side of the page that computes: it holds the proved program, and reads the replies into columns. It runs in a worker of
-// its own, so that the page stays alive in a long run; where a browser starts none, in the page itself.
+// The side of the page that computes: it holds the proved program, and reads the replies into columns. It runs in a
+// worker of its own, so that the page stays alive in a long run; where a browser starts none, in the page itself.
 
 import { Lines } from "./lines.js";
 import { Program } from "./program.js";
@@ -16,8 +16,8 @@ function buffersOf({ text, starts, replies }) {
   return [text, starts, ...columns].map((it) => it.buffer);
 }
 
-// Answers messages by `post`: `module` is compiled; of a job `words` are called on `input`, and where a text is `judged`
-// that one is read in place of what was written.
+// Answers messages by `post`: `module` is compiled; of a job `words` are called on `input`, and where a text is
+// `judged` that one is read in place of what was written.
 export function server(post) {
   let program = null;
   return ({ module, job, words, input, judged }) => {

@@ -1,4 +1,4 @@
-// Files of xz, which browsers can't open themselves: streams with the filter LZMA2 and the checks none, CRC32 and CRC64.
+// Files of xz, which browsers can't open themselves: streams with the filter LZMA2 and no check, CRC32 or CRC64.
 
 const MAGIC = [0xfd, 0x37, 0x7a, 0x58, 0x5a, 0x00];
 const CHECK_BYTES = new Map([[0, 0], [1, 4], [4, 8]]);
@@ -193,7 +193,8 @@ const TOP = 2 ** 24;
 const probabilities = (count) => new Uint16Array(count).fill(EVEN);
 
 function lengths() {
-  return { choice: probabilities(2), low: probabilities(16 * LEN_LOW), middle: probabilities(16 * LEN_MIDDLE), high: probabilities(256) };
+  const [low, middle] = [probabilities(16 * LEN_LOW), probabilities(16 * LEN_MIDDLE)];
+  return { choice: probabilities(2), low, middle, high: probabilities(256) };
 }
 
 class Lzma {

@@ -1,6 +1,7 @@
 // Bytes as lines: where each begins, without a string for any of them.
 
 const LF = 10;
+const MOST = 65_536; // bytes of a line; no line that means something is as long
 const decoder = new TextDecoder();
 
 export class Lines {
@@ -14,11 +15,12 @@ export class Lines {
     return this.starts.length - 1;
   }
 
-  // The line at a place, from 0 on, without its end.
-  text(at) {
+  // The line at a place, from 0 on, without its end; of a long one so many bytes.
+  text(at, most = MOST) {
+    const start = this.starts[at];
     let end = this.starts[at + 1];
-    if (end > this.starts[at] && this.bytes[end - 1] === LF) end -= 1;
-    return decoder.decode(this.bytes.subarray(this.starts[at], end));
+    if (end > start && this.bytes[end - 1] === LF) end -= 1;
+    return decoder.decode(this.bytes.subarray(start, Math.min(end, start + most)));
   }
 }
 

@@ -6,7 +6,7 @@ import { List } from "./list.js";
 import { looseRows } from "./rows.js";
 
 const ROW_HEIGHT = 20;
-const MOST_SHOWN = 2_000; // characters of a line
+const MOST_SHOWN = 2_000; // bytes of a line
 const MOST_EDITED = 2_000_000; // bytes of a text that a field holds
 const strict = new TextDecoder("utf-8", { fatal: true, ignoreBOM: true });
 const NO_LINES = new Lines(new Uint8Array(0));
@@ -63,7 +63,7 @@ export class Panes {
     const line = this.rows.left[row];
     this.classes(element, row);
     if (line === 0) return;
-    const words = this.trace.text(line - 1).slice(0, MOST_SHOWN);
+    const words = this.trace.text(line - 1, MOST_SHOWN);
     element.append(span("number", String(line)), span(/^[ \t]*#/.test(words) ? "words remark" : "words", words));
   }
 
@@ -71,7 +71,7 @@ export class Panes {
     const place = this.rows.right[row];
     this.classes(element, row);
     if (place === 0) return;
-    const words = this.text.text(place - 1).slice(0, MOST_SHOWN);
+    const words = this.text.text(place - 1, MOST_SHOWN);
     const bar = words.indexOf(" |");
     const [head, receipts] = bar < 0 ? [words, ""] : [words.slice(0, bar), words.slice(bar)];
     element.append(span("words", head), span("receipts", receipts));

@@ -15,9 +15,10 @@ export const NO_MEMORY = 5;
 export const NOT_GOOD = 6;
 const NO_ROOM = 7;
 const END_BYTES = 16; // of what a call ends with: a status of four bytes, and a length of eight behind it
+const MOST_INPUT = 2 ** 24; // bytes that aren't refused
 // A reply has at most sixteen receipts. A room that is too small is answered with the one that is wanted, after all the
 // work; one that is too large costs nothing, since the memory behind a text is never touched.
-const ROOM = (length) => 65_536 + 24 * length;
+const ROOM = (length) => 65_536 + (length > MOST_INPUT ? 0 : 24 * length);
 
 export class Program {
   constructor(bytes) {

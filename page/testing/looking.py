@@ -104,6 +104,10 @@ def refusals(opened: Opened) -> None:
             need("refused" in opened.classes("trace", line), f"line {line} isn't marked in {text!r}")
             need(opened.count("#trace .refused") == 1, f"{text!r}: marks")
         need(told == wanted, f"{text!r}: {told} in place of {wanted}")
+    opened.trace("#" * (2**24 + 1))
+    shows(opened, "2: line 0 is refused: long")
+    need(opened.count("#trace .refused") == 0, "a line is marked, and none is refused")
+    opened.trace(REFUSED[-1][0])
     beside = opened.shown("replies")
     need(beside == ["papr: line 1: ascii"], f"beside the last one: {beside}")
 

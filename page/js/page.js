@@ -6,7 +6,7 @@ import { Field, Panes } from "./panes.js";
 import { EntryReader, Pictures } from "./pictures.js";
 import { NOT_GOOD, NO_MEMORY, REFUSED, STATUSES } from "./program.js";
 import { Refusals } from "./refusals.js";
-import { receiptAt } from "./replies.js";
+import { receiptAt, touches } from "./replies.js";
 import { alignedRows, looseRows } from "./rows.js";
 import { Runner, STOPPED } from "./runner.js";
 import { cutBehind, judgedParts, judgedText, sectionOf } from "./traces.js";
@@ -27,7 +27,8 @@ class Page {
     this.refusals = new Refusals(data.formats);
     this.runner = new Runner(module, source, (stage, part) => this.tellStage(stage, part));
     this.panes = new Panes((line, reply, below) => this.chooseRow(line, reply, below));
-    this.pictures = new Pictures((line) => this.goTo(line), (entry) => this.panes.mark(entry));
+    const mark = (part, entry) => this.panes.mark((reply) => touches(this.replies, reply, part, entry));
+    this.pictures = new Pictures((line) => this.goTo(line), mark);
     this.reader = new EntryReader();
     this.traceField = new Field("trace", by("trace"));
     this.repliesField = new Field("replies", by("replies"));

@@ -27,7 +27,8 @@ export class Panes {
       new List(by(id), ROW_HEIGHT, { fill: fill.bind(this), chosen: (row) => this.choose(row, id === "replies") });
     this.left = list("trace", this.fillLeft);
     this.right = list("replies", this.fillRight);
-    Object.assign(this, { chosen, trace: NO_LINES, text: NO_LINES, rows: looseRows(0, 0), marks: {}, entry: null });
+    Object.assign(this, { chosen, trace: NO_LINES, text: NO_LINES, rows: looseRows(0, 0), marks: {} });
+    this.touches = () => false;
     const follow = (from, to) => from.element.addEventListener("scroll", () => {
       if (!this.rows.isAligned) return;
       if (Math.abs(to.element.scrollTop - from.element.scrollTop) > 1) to.element.scrollTop = from.element.scrollTop;
@@ -38,7 +39,7 @@ export class Panes {
 
   // Shows texts by rows. Marks are `refused`, a line, and `section`, a first and a last line.
   show(trace, text, rows, marks = {}) {
-    Object.assign(this, { trace, text: text ?? NO_LINES, rows, marks, entry: null });
+    Object.assign(this, { trace, text: text ?? NO_LINES, rows, marks, touches: () => false });
     for (const list of [this.left, this.right]) list.show(rows.count);
   }
 
@@ -53,10 +54,10 @@ export class Panes {
     else this.chosen(isRight ? 0 : left[row], 0, isRight ? right[row] : 0);
   }
 
-  // Marks the lines with receipts of an entry.
-  mark(entry) {
-    this.entry = entry === null ? null : `0x${entry.toString(16)}.`;
-    for (const list of [this.left, this.right]) list.draw();
+  // Marks the replies, by their places, that touch what is looked at.
+  mark(touches) {
+    this.touches = touches;
+    this.right.draw();
   }
 
   fillLeft(element, row) {
@@ -75,8 +76,7 @@ export class Panes {
     const bar = words.indexOf(" |");
     const [head, receipts] = bar < 0 ? [words, ""] : [words.slice(0, bar), words.slice(bar)];
     element.append(span("words", head), span("receipts", receipts));
-    const touches = this.entry !== null && receipts.split(" ").some((word) => word.startsWith(this.entry));
-    element.classList.toggle("touches", touches);
+    element.classList.toggle("touches", this.touches(place - 1));
   }
 
   classes(element, row) {

@@ -12,7 +12,7 @@ const hex = (value) => `0x${value.toString(16)}`;
 const counted = (count, word) => `${count.toLocaleString("en")} ${word}${count === 1 ? "" : "s"}`;
 
 export class Pictures {
-  // `goTo(line)` shows a line of the trace, and `marked(entry)` hears which entry is looked at.
+  // `goTo(line)` shows a line of the trace, and `marked(part, entry)` hears which entry is looked at.
   constructor(goTo, marked) {
     Object.assign(this, { goTo, marked, replies: null, groups: null, part: 0, entry: null, line: null, ringed: [] });
     by("time").addEventListener("input", () => this.drawMap());
@@ -32,7 +32,7 @@ export class Pictures {
     this.groups = replies === null ? null : new Groups(replies, part);
     const hasReceipts = replies !== null && replies.reply.some((reply) => replies.isWindow[reply] === 0);
     by("pictures").hidden = !hasReceipts;
-    this.marked(null);
+    this.marked(part, null);
     if (!hasReceipts) return;
     this.offerParts();
     by("time").max = lines;
@@ -72,7 +72,7 @@ export class Pictures {
   chooseEntry(entry, isMarked = true) {
     this.entry = entry;
     by("entry").value = entry === null ? "" : hex(entry);
-    if (isMarked) this.marked(entry);
+    if (isMarked) this.marked(this.part, entry);
     this.drawHistory();
   }
 

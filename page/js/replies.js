@@ -215,3 +215,9 @@ export function historyOf(replies, part, entry) {
     (a, b) => a.table - b.table || a.stamp - b.stamp || count(a.bits) - count(b.bits) || a.isChange - b.isChange,
   );
 }
+
+// Whether a reply, by its place, has a receipt of this entry of a partition's page table.
+export function touches(replies, reply, part, entry) {
+  if (replies === null || entry === null || replies.isWindow[reply] || replies.part[reply] !== part) return false;
+  return replies.entry.subarray(replies.first[reply], replies.first[reply + 1]).includes(entry);
+}

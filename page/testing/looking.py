@@ -106,7 +106,7 @@ def refusals(opened: Opened) -> None:
         need(told == wanted, f"{text!r}: {told} in place of {wanted}")
     opened.trace("#" * (2**24 + 1))
     shows(opened, "2: line 0 is refused: long")
-    need(opened.count("#trace .refused") == 0, "a line is marked, and none is refused")
+    need(opened.texts("#trace .refused") == [""], "a line is marked, and none is refused")
     opened.trace(REFUSED[-1][0])
     beside = opened.shown("replies")
     need(beside == ["papr: line 1: ascii"], f"beside the last one: {beside}")
@@ -144,6 +144,18 @@ def line_by_line(opened: Opened) -> None:
     need(opened.count("#replies .touches") == 1, "its one line isn't marked")
     opened.browser.click("document.querySelector('#history .mark[data-line]')")
     need(opened.text("line-number") == "Line 27", "the history's mark doesn't lead to its line")
+
+
+def entries_apart(opened: Opened) -> None:
+    """An entry of a window, or of another partition, is another one than the page table's with its number."""
+    opened.example("dma.trace")
+    opened.goto(30)
+    need(opened.count("#replies .touches") == 1, "a window's entry is marked with the table's")
+    opened.example("two-partitions.set")
+    for line, part, count in ((20, "1", 3), (21, "0", 3)):
+        opened.goto(line)
+        need(opened.value("document.getElementById('part').value") == part, f"line {line}: another partition")
+        need(opened.count("#replies .touches") == count, f"line {line}: {opened.count('#replies .touches')} marks")
 
 
 def dumps(opened: Opened) -> None:
@@ -331,6 +343,7 @@ TESTS: list[tuple[str, Callable[[Opened], Any]]] = [
     ("refused lines are marked and explained", refusals),
     ("refused lines of a set", set_refusals),
     ("line against line", line_by_line),
+    ("entries that have a number in common", entries_apart),
     ("dumps stand below their lines", dumps),
     ("verdicts mark their sections", verdicts),
     ("replies that are changed and judged", changed_and_judged),

@@ -151,6 +151,13 @@ class Opened:
         found = f"{rows}.find((it) => it.firstChild?.textContent === '{line}')"
         return f"document.getElementById('{side}-' + {found}?.dataset.row)"
 
+    def goto(self, line: int) -> None:
+        """Chooses a line by keys, from the first one on; no row of a dump may stand before it."""
+        self.value("document.getElementById('trace').focus()")
+        self.browser.key("Home", 36)
+        for _ in range(line - 1):
+            self.browser.key("ArrowDown", 40)
+
     def click_line(self, line: int) -> None:
         """Clicks a line of the trace."""
         self.browser.click(self.row("trace", line))

@@ -115,6 +115,14 @@ def module_in(page: str) -> bytes:
     return gzip.decompress(base64.b64decode(found[1]))
 
 
+def made_in(page: str) -> str:
+    """What a page says it was made with."""
+    found = re.search(r"<p>(Made with [^<]*)</p>", page)
+    if found is None:
+        raise Bad("the page doesn't say what it was made with")
+    return found[1]
+
+
 def unpacked(page: str) -> tuple[str, bytes, dict[str, bytes]]:
     """A page with what is packed in it unpacked: how it is packed goes by the machine's zlib."""
     module = module_in(page)

@@ -155,7 +155,8 @@ def entries_apart(opened: Opened) -> None:
     for line, part, count in ((20, "1", 3), (21, "0", 3)):
         opened.goto(line)
         need(opened.value("document.getElementById('part').value") == part, f"line {line}: another partition")
-        need(opened.count("#replies .touches") == count, f"line {line}: {opened.count('#replies .touches')} marks")
+        found = opened.count("#replies .touches")
+        need(found == count, f"line {line}: {found} marks")
 
 
 def dumps(opened: Opened) -> None:

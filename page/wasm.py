@@ -54,11 +54,13 @@ def made_with(kit: Path) -> str:
     return f"Made with {name} and binaryen {binaryen[1] if binaryen else 'of no known version'}."
 
 
-def missing(page: str) -> Optional[str]:
-    """Why a page can't be built here with the bytes that it has, or nothing."""
+def missing(page: str, built: Path) -> Optional[str]:
+    """Why a page can't be built here with the bytes that it has, over what is proved; or nothing."""
     for tool in ("rt", "wasm-opt"):
         if shutil.which(tool) is None:
             return f"{tool} is not here"
+    if not (built / "papr_top.rlib").exists():
+        return f"what ./papr proves isn't kept in {built}"
     made = made_with(toolchain().kit)
     return None if f"<p>{made}</p>" in page else f"the page was made with other tools; here: {made}"
 

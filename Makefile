@@ -5,6 +5,8 @@
 #   make install PREFIX=/usr      build both and install; DESTDIR is put in front of every path. install-program leaves
 #                                 out the library for C, install-library installs it alone
 #   make library                  build the library for C where it is missing or older than its sources
+#   make bytes-library            prove and build the whole program on bytes, for C (include/papr_bytes.h)
+#   make page                     prove it, and build docs/papr.html of it, in which it runs in a browser
 #   make uninstall PREFIX=/usr    take away what install put there
 #   make dist                     the committed sources as out/dist/papr-VERSION.tar.gz
 #   make deb                      a Debian package of the program, out/dist/papr_VERSION_ARCHITECTURE.deb
@@ -15,6 +17,7 @@ own_program = crates/papr_main/out/papr_main
 own_library = crates/papr_c/out/libpapr_c.a
 PROGRAM ?= $(own_program)
 LIBRARY ?= $(own_library)
+BYTES_LIBRARY ?= crates/papr_bytes/out/libpapr_bytes.a
 INSTALL ?= install
 VERSION := $(shell cat VERSION)
 
@@ -42,12 +45,12 @@ tool_files = $(foreach tool,$(tools),tools/$(call tool_file,$(tool)))
 modules = tools/common.py tools/grants.py tools/replies.py tools/svg.py tools/traces.py
 pages = man/papr.1 $(commands:%=man/%.1)
 examples = $(filter-out examples/c examples/rust,$(wildcard examples/*))
-sources_c = $(wildcard examples/c/*)
+sources_c = $(wildcard examples/c/*.[ch])
 sources_rust = $(wildcard examples/rust/*)
 texts = README.md CHANGELOG.md CONTRIBUTING.md LICENSE-APACHE LICENSE-MIT
-documents = $(wildcard docs/*.md docs/*.svg)
+documents = $(wildcard docs/*.md docs/*.svg docs/*.html docs/*.png)
 
-.PHONY: all check install install-program install-library library uninstall dist deb $(own_program) $(own_library)
+.PHONY: all check install install-program install-library library bytes-library page uninstall dist deb $(own_program) $(own_library)
 
 all $(own_program):
 	./papr run <examples/first.trace >/dev/null
@@ -58,6 +61,13 @@ check: all
 
 library $(own_library):
 	tools/build --library
+
+# Both prove the crates below first, as ./papr does.
+bytes-library:
+	page/build --library $(BYTES_LIBRARY)
+
+page:
+	page/build
 
 define pc_file
 prefix=$(PREFIX)

@@ -1,0 +1,45 @@
+ghost use Rattle.std.specs.Prelude.{◌≡◌};
+ghost use Rattle.papr_bytes.specs.Calls.{handed, no_memory};
+
+use papr_top::Status;
+
+/// How a call ended: the program's status, or [`NO_ROOM`], and the length of what it wrote.
+#[repr(C)]
+#[derive(Clone, Copy)]
+pub struct CallEnd {
+    pub status: u32,
+    pub length: u64,
+}
+
+/// The status where the caller's place is too small for what was written.
+const NO_ROOM: u32 = 7;
+
+impl CallEnd {
+    /// There is not enough memory to begin.
+    pub fn no_memory() -> CallEnd
+        ensures { result ≡ no_memory }
+    {
+        CallEnd {
+            status: u32::from(Status::Memory.number()),
+            length: 0,
+        }
+    }
+}
+
+/// Puts what was written into the caller's place, if it has room for all of it.
+pub fn hand_over(status: Status, text: &[u8], place: &mut [u8]) -> CallEnd
+    ensures { (result, place.new) ≡ handed status text.now place.old }
+{
+    let length = text.len();
+    if place.len() < length {
+        return CallEnd {
+            status: NO_ROOM,
+            length: length as u64,
+        };
+    }
+    place[..length].copy_from_slice(text);
+    CallEnd {
+        status: u32::from(status.number()),
+        length: length as u64,
+    }
+}

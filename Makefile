@@ -64,10 +64,10 @@ library $(own_library):
 
 # Both prove the crates below first, as ./papr does.
 bytes-library:
-	page/build --library $(BYTES_LIBRARY)
+	page/build-page --library $(BYTES_LIBRARY)
 
 page:
-	page/build
+	page/build-page
 
 define pc_file
 prefix=$(PREFIX)

@@ -3,6 +3,7 @@
 import hashlib
 import os
 import resource
+import shutil
 import signal
 import subprocess
 import tempfile
@@ -14,7 +15,7 @@ from pathlib import Path
 from typing import Callable, Optional
 
 from common import Bad
-from crates import CRATES, TOP, files_of, is_program, is_static, uses_of
+from crates import CRATES, TOP, files_of, is_program, is_static, uses_of, with_those_below
 from progress import Progress
 from schedule import Plan
 from toolchain import Toolchain
@@ -95,6 +96,26 @@ class Builder:
         if status == 0:
             write(kept, stamp, "w")
         return status == 0
+
+    def take_over(self, name: str) -> bool:
+        """Keeps the library that the gate left beside a crate, and tells whether there is one of these sources.
+
+        `rt ci` makes it of a crate that it proved. One that `rt lib` made has a file `stamp` beside it,
+        and isn't taken. To be asked of the crates below before: a library fits those that it was made over.
+        """
+        self.stamps[name] = self.stamp(name)
+        left = CRATES / name / "out" / "rlib"
+        rlib, kept = left / f"{name}.rlib", self.built / f"{name}.rlib"
+        if (left / "stamp").exists() or not rlib.is_dir():
+            return False
+        made = rlib.stat().st_mtime
+        if any(f.stat().st_mtime > made for it in with_those_below([name], self.uses) for f in files_of(it)):
+            return False
+        self.stamp_of(name).unlink(missing_ok=True)
+        shutil.rmtree(kept, ignore_errors=True)
+        shutil.copytree(rlib, kept, copy_function=os.link)
+        write(self.stamp_of(name), self.stamps[name], "w")
+        return True
 
     def command_of(self, name: str) -> Callable[[str, str, Path, int], list[str]]:
         """The toolchain's command for a crate of its kind."""

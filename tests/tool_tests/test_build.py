@@ -63,6 +63,30 @@ class Library(BuildTest):
         self.assertIn("building the library for C: 2 of 3 crates to prove\n", ran.err)
         self.assertEqual(self.checkout.proved(), ["beside", "papr_c"])
 
+    def leave(self, *names: str) -> None:
+        """Leaves the library of each crate where the gate does."""
+        for name in names:
+            (self.checkout.top / "crates" / name / "out" / "rlib" / f"{name}.rlib").mkdir(parents=True)
+
+    def test_it_takes_over_what_the_gate_left(self) -> None:
+        self.leave("low", "beside")
+        ran = self.checkout.build("--from-gate")
+        self.assert_ran(ran, err="build: 2 of 4 libraries are those that the gate left\n")
+        self.checkout.build("--library")
+        self.assertEqual(self.checkout.proved(), ["papr_c"])
+
+    def test_nothing_is_taken_over_that_is_older_than_a_source_below(self) -> None:
+        self.leave("low", "beside")
+        self.checkout.touch("low")
+        ran = self.checkout.build("--from-gate")
+        self.assert_ran(ran, err="build: 0 of 4 libraries are those that the gate left\n")
+
+    def test_nothing_is_taken_over_that_the_gate_did_not_make(self) -> None:
+        self.leave("low", "beside")
+        (self.checkout.top / "crates" / "beside" / "out" / "rlib" / "stamp").touch()
+        ran = self.checkout.build("--from-gate")
+        self.assert_ran(ran, err="build: 1 of 4 libraries are those that the gate left\n")
+
     def test_the_program_takes_over_what_it_proved(self) -> None:
         self.checkout.build("--library")
         ran = self.checkout.papr("run")

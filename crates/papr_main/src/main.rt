@@ -3,8 +3,7 @@
 //! and prints nothing itself.
 #![tactic(auto)]
 
-ghost use Rattle.std.specs.Prelude.{◌≡◌, ◌∷◌, [], ◌↔◌, IsTrue, codes, map, string_bytes};
-
+use papr_edge::{Command, command_of};
 use papr_top::{OpenGate, Status, papr, papr_serial};
 use std::alloc::Global;
 use std::env;
@@ -18,16 +17,6 @@ fn words(rt: &(impl Env + Alloc<A = Global>)) -> io::Result<Vec<String>> {
     Ok(env::args(rt)?.skip(1).collect(rt.alloc())?)
 }
 
-/// Whether the words ask for threads: the one word `par` does.
-fn is_par(words: &[String]) -> bool
-    ensures { IsTrue result ↔ (map string_bytes words.now ≡ codes "par" ∷ []) }
-{
-    match words {
-        [word] => word.as_str() == "par",
-        _ => false,
-    }
-}
-
 fn main(rt: HostRuntime) -> ExitCode {
     let words = match words(&rt) {
         Ok(words) => words,
@@ -37,10 +26,9 @@ fn main(rt: HostRuntime) -> ExitCode {
     };
     let mut source = StdSource::new(rt.stdin());
     let mut sink = StdSink::new(rt.stdout());
-    let status = if is_par(&words) {
-        papr(&rt, rt.alloc(), &words, &mut source, &mut sink, &OpenGate)
-    } else {
-        papr_serial(rt.alloc(), &words, &mut source, &mut sink)
+    let status = match command_of(&words) {
+        Some(Command::Par) => papr(&rt, rt.alloc(), &words, &mut source, &mut sink, &OpenGate),
+        _ => papr_serial(rt.alloc(), &words, &mut source, &mut sink),
     };
     ExitCode::from(status.number())
 }

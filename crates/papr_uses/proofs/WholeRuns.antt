@@ -14,7 +14,7 @@ use Rattle.papr_edge.specs.declared.status.Status.{Status}
 use Rattle.papr_edge.specs.declared.status.Status.TheVariants.{Done}
 use Rattle.papr_edge.specs.Inputs.{trace_input, with_reason}
 use Rattle.papr_edge.specs.Reading.{Reads}
-use Rattle.papr_edge.specs.Ends.{Run, Answers, WithDone, IsAnswered}
+use Rattle.papr_edge.specs.Ends.{Run, Answers, IsAnswered}
 use Rattle.run_model.specs.SerialRun.{serial_replies}
 use Rattle.papr_top.specs.Texts.{IsSerialText, IsParallelText}
 use Rattle.papr_uses.specs.RunText.{PutsTextOfBytes}

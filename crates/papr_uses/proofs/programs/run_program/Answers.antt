@@ -2,8 +2,7 @@ use Rattle.std.proofs.Common.{◌≡◌, ◌⊎◌, inl, inr, [], ◌∷◌, Som
 use Rattle.trace_io.specs.Memory.{SourceState, told}
 use Rattle.papr_edge.specs.declared.command.Command.TheVariants as commands
 use Rattle.papr_edge.specs.Commands.{command_of}
-use Rattle.papr_edge.specs.declared.status.Status.{Status}
-use Rattle.papr_edge.specs.declared.status.Status.TheVariants.{Done, Memory}
+use Rattle.papr_edge.specs.declared.status.Status.TheVariants.{Memory}
 use Rattle.papr_edge.specs.Inputs.{trace_input}
 use Rattle.papr_edge.specs.Ends.{Run, EndsReading, WithDone, IsAnswered}
 use Rattle.papr_top.specs.Texts.{IsSerialText}

@@ -7,7 +7,9 @@ use papr_top::Status;
 #[repr(C)]
 #[derive(Clone, Copy)]
 pub struct CallEnd {
+    /// The program's exit status, or 7 where the place is too small.
     pub status: u32,
+    /// In bytes: of what was written, or of the room that is wanted.
     pub length: u64,
 }
 

@@ -1,7 +1,7 @@
 """Each allocation refused in turn, as a table in docs/HOSTILE.md.
 
-Runs the program on a refused trace, a resize, a trace of three processors under `par`, a dump, a set, a
-drill and wrong words, with the first allocation refused, then the second, and so on until none is. Each run
+Runs the program on traces with a store and an H_PROTECT, with resizes, of two and of three processors under
+`par`, with a dump, on a refused trace, a set, drills and wrong words, with the first allocation refused, then the second, and so on until none is. Each run
 has to end with status 5 and nothing written, or as it ends where none is refused. Compares how many
 allocations were refused for each, and which of them the program did without, with the table.
 
@@ -65,6 +65,36 @@ def dump_trace() -> bytes:
     return "\n".join([*lines, "dump", ""]).encode()
 
 
+BASIS = "order 18\nram 0x0 0x2000000000 0x40000000\nbegin\n"
+PROTECTED = """\
+0 slbmte 0x8000000 0x1000
+0 H_ENTER 0x0 0x20 0x1001 0x3013
+0 store 0x5000 priv
+0 H_PROTECT 0x2 0x20 0x0
+0 store 0x5000 priv
+0 H_CLEAR_MOD 0x0 0x20
+0 store 0x5000 priv
+0 H_REMOVE 0x0 0x20 0x0
+"""
+RESIZED = """\
+0 H_ENTER 0x8000000000 0x20 0x801011 0x3012
+0 H_ENTER 0x8000000000 0x400 0x1015 0x11012
+0 H_ENTER 0x8000000000 0x21 0x1001 0x4012
+0 H_RESIZE_HPT_PREPARE 0x0 19
+0 H_RESIZE_HPT_PREPARE 0x0 19
+0 H_RESIZE_HPT_COMMIT 0x0 19
+dump
+"""
+APART = """\
+order 18
+cpus 2
+ram 0x0 0x2000000000 0x40000000
+begin
+0 H_ENTER 0x8000000000 0x20 0x1001 0x3012
+1 H_ENTER 0x8000000000 0x28 0x1001 0x4012
+"""
+
+
 def example(name: str, word: str, file: str, seen: Callable[[bytes], object] = bytes) -> Case:
     """A command with one of examples/."""
     return Case(f"{name}, `{file}`", [word], (EXAMPLES / file).read_bytes(), seen)
@@ -73,6 +103,10 @@ def example(name: str, word: str, file: str, seen: Callable[[bytes], object] = b
 def cases() -> list[Case]:
     """The rows of the table."""
     return [
+        Case("a store that is denied, and then let through", ["run"], (BASIS + PROTECTED).encode()),
+        Case("a resize that carries one bolted page", ["run"], (BASIS + RESIZED).encode()),
+        Case("two processors in two groups", ["par"], APART.encode()),
+        Case("an empty drill", ["drill", "1", "0"], b""),
         example("a refused trace", "run", "refused.trace"),
         example("a resize", "run", "resize.trace"),
         example("three processors", "par", "sharing.trace", heads),

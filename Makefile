@@ -4,9 +4,10 @@
 #   make check                    run the examples and the tests of the tools
 #   make install PREFIX=/usr      build both and install; DESTDIR is put in front of every path. install-program leaves
 #                                 out the library for C, install-library installs it alone
-#   make library                  build the library for C where it is missing or older than its sources
-#   make bytes-library            prove and build the whole program on bytes, for C (include/papr_bytes.h)
-#   make page                     prove it, and build docs/papr.html of it, in which it runs in a browser
+#   make library                  build both libraries for C: the calls (include/papr.h), where it is missing or older than its
+#                                 sources, and the whole program on bytes (include/papr_bytes.h)
+#   make bytes-library            build the second of these alone
+#   make page                     build docs/papr.html, in which the program runs in a browser
 #   make uninstall PREFIX=/usr    take away what install put there
 #   make dist                     the committed sources as out/dist/papr-VERSION.tar.gz
 #   make deb                      a Debian package of the program, out/dist/papr_VERSION_ARCHITECTURE.deb
@@ -59,8 +60,10 @@ check: all
 	examples/check
 	tests/tools
 
-library $(own_library):
+$(own_library):
 	tools/build --library
+
+library: $(own_library) bytes-library
 
 # Both prove the crates below first, as ./papr does.
 bytes-library:

@@ -162,10 +162,10 @@ class Installed(BuildTest):
         self.assert_same_file(self.tree / "usr/lib/libpapr_c.a", self.checkout.archive)
         self.assertFalse(self.checkout.program.exists())
 
-    def test_make_library_builds_it_once(self) -> None:
-        self.assert_ran(self.make("library"), err=None)
+    def test_make_builds_it_once(self) -> None:
+        self.assert_ran(self.make("crates/papr_c/out/libpapr_c.a"), err=None)
         self.assertTrue(self.checkout.archive.is_file())
-        self.assert_ran(self.make("library"))
+        self.assert_ran(self.make("crates/papr_c/out/libpapr_c.a"))
 
 
 class Ended(BuildTest):

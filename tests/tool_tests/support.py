@@ -4,6 +4,7 @@ import difflib
 import filecmp
 import os
 import shutil
+import signal
 import subprocess
 import tempfile
 import unittest
@@ -22,6 +23,16 @@ SHOWN = 60  # lines of a difference
 Word = Union[str, Path]
 Text = Union[str, bytes, Path]
 Test = TypeVar("Test", bound=Callable[..., Any])
+
+
+def hear_signals() -> None:
+    """Has a signal that this process was begun to ignore end what the tests begin, as at a terminal."""
+    for number in (signal.SIGHUP, signal.SIGINT, signal.SIGTERM):
+        if signal.getsignal(number) == signal.SIG_IGN:
+            signal.signal(number, signal.SIG_DFL)
+
+
+hear_signals()
 
 
 @dataclass(frozen=True)

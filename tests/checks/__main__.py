@@ -20,6 +20,7 @@ from checks import (
     reach,
     refusals,
     sets,
+    sizes,
     tree,
     words,
 )
@@ -38,6 +39,7 @@ CHECKS: dict[str, Check] = {
     "calls": calls,
     "reach": reach,
     "levels": levels,
+    "sizes": sizes,
     "tree": tree,
     "words": words,
 }

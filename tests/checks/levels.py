@@ -61,7 +61,7 @@ def nearest(crate: str, uses: Uses) -> list[str]:
 
 def rows_of(uses: Uses, levels: dict[str, int]) -> list[str]:
     """The lines of the table."""
-    rows = ["| level | crates, each with the nearest ones that it stands on |", "|---|---|"]
+    rows = ["| level | crates, each with the nearest ones that it depends on |", "|---|---|"]
     for level in range(1, max(levels.values()) + 1):
         cells = []
         for crate in (name for name in uses if levels[name] == level):

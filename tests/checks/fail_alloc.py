@@ -28,7 +28,7 @@ from crates import CRATES, TOP
 
 TABLE = Table(TOP / "docs" / "HOSTILE.md", "fail-alloc")
 HEAD = [
-    "| what | command | allocations refused | status 5, nothing written | the whole text all the same |",
+    "| what | command | allocations refused | status 5, nothing written | the whole text nevertheless |",
     "|---|---|---|---|---|",
 ]
 SOURCE = Path(__file__).with_name("refuse.c")
@@ -113,7 +113,7 @@ def cases() -> list[Case]:
         Case("a dump", ["run"], dump_trace()),
         example("two partitions", "set", "two-partitions.set"),
         Case("a drill", ["drill", "1", "1000"], b""),
-        Case("wrong words", ["ran", "x"], b""),
+        Case("wrong arguments", ["ran", "x"], b""),
     ]
 
 

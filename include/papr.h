@@ -2,25 +2,29 @@
  * papr for C: the hypervisor side of the hashed page table of a paravirtual Power guest, over a
  * table in the caller's memory. The calls are those of LoPAR (page frame table access), the table and
  * its walk those of the Power ISA, versions 2.07 and 3.0, Book III (hashed page table translation).
- * Each function's contract is proved; docs/LIBRARY.md says what it states and what the caller owes.
+ * Each function's contract is proved; docs/LIBRARY.md says what it states and what the caller has to
+ * ensure.
  *
- * The caller owns the table and lends it for the length of one call. Nothing is allocated, no
+ * The caller owns the table and lends it for the duration of one call. Nothing is allocated, no
  * pointer is kept, and no call waits. In all calls
  *
- *   entries   are `count` entries, the whole table: 2^order bytes of 16 a guest's entry, so `count`
- *             is 2^(order - 4). `order` is from 18 to 22, so 256 KB to 4 MB.
+ *   entries   is an array of `count` entries, the whole table. A guest's table of 2^order bytes has
+ *             entries of 16 bytes, so `count` is 2^(order - 4). `order` is from 18 to 22: 256 KB to
+ *             4 MB.
  *   ptex      is the index of an entry in the table.
- *   words     are `words_room` places for the words that a call gives in register 4 and behind it:
- *             never more than 8.
- *   receipts  are `receipts_room` places for what the call did to entries, in order: never more than
- *             16. A place is filled from the first on, as far as the room goes, and the answer says
- *             how many were; the others stay as they were. With a room of 0 the pointer may be NULL.
+ *   words     is an array of `words_room` elements for the words that a call returns in register 4
+ *             and the following ones: at most 8.
+ *   receipts  is an array of `receipts_room` elements for what the call did to entries, in order: at
+ *             most 16. An array is filled from its first element on, as far as it goes. The answer
+ *             says how many elements were filled; the others are unchanged. With a room of 0 the
+ *             pointer may be NULL.
  *
- * Another order or count answers PAPR_H_PARAMETER, and changes nothing.
+ * If the order isn't from 18 to 22, or the count isn't that of the order, the answer is
+ * PAPR_H_PARAMETER, and nothing changes.
  *
- * What the caller owes, since nothing can check it here: one call at a time on a table; memory of one
- * parameter that meets none of another; entries and lists of grants that are all zero or as the calls
- * left them, bools of 0 or 1, and initialised memory behind each pointer to const.
+ * The functions can't check these conditions, so the caller has to ensure them: one call at a time on
+ * a table; no parameter's memory overlaps that of another; entries and lists of grants are all zero or
+ * as the calls left them; bools are 0 or 1; and each pointer to const is to initialised memory.
  */
 #ifndef PAPR_H
 #define PAPR_H
@@ -35,13 +39,13 @@ extern "C" {
 
 /* ---- the table */
 
-/* One entry, in 24 bytes. All zero is an empty one, so calloc makes an empty table. The calls write
- * it; a caller that writes one itself keeps R and C (0x180) of dword1 clear, and an entry that isn't
- * valid without words and bits. */
+/* One entry, in 24 bytes. All zero is an empty entry, so calloc makes an empty table. The calls write
+ * entries. If the caller writes one itself, R and C (0x180) of dword1 are clear, and in an entry that
+ * isn't valid both doublewords and both bits are 0. */
 struct papr_entry {
     uint64_t dword0;
     uint64_t dword1;    /* with R and C clear */
-    uint32_t stamp;     /* how often it changed, but for R and C that accesses set */
+    uint32_t stamp;     /* how often it changed, without R and C that accesses set */
     bool valid;
     bool referenced;    /* R */
     bool changed;       /* C */
@@ -74,8 +78,8 @@ enum papr_answer {
     PAPR_MASKED = 11            /* its protection allows the access, and AMR or IAMR refuses it */
 };
 
-/* One operation that was made on one entry. The doublewords are those from before it, so that an
- * emulator can drop what it has cached of the entry. */
+/* One operation on one entry. The doublewords are those from before it, so that an emulator can drop
+ * the translations that it has cached of the entry. */
 struct papr_receipt {
     uint64_t dword0;
     uint64_t dword1;            /* with R and C */
@@ -93,31 +97,31 @@ struct papr_reply {
 
 /* ---- granted memory */
 
-/* A range of the guest's logical addresses and the machine range behind it, in bytes. */
+/* A range of the guest's logical addresses and the machine range that it maps to, in bytes. */
 struct papr_grant {
     uint64_t logical;
     uint64_t machine;
     uint64_t length;
-    bool is_io;                 /* a device's registers, and not main storage */
+    bool is_io;                 /* a device's registers, not main storage */
 };
 
-/* A list of grants that papr_make_grants checked and sorted. All zero is the list of none. */
+/* A list of grants that papr_make_grants checked and sorted. All zero is the empty list. */
 struct papr_grants {
     struct papr_grant grants[64];
     uint32_t count;
 };
 
-/* Why a list isn't made. */
+/* Why papr_make_grants refuses a list. */
 enum papr_refusal {
     PAPR_GRANTED = 0,
     PAPR_GRANT_EMPTY = 1,
-    PAPR_GRANT_UNALIGNED = 2,   /* an address or the length is no multiple of 4,096 */
+    PAPR_GRANT_UNALIGNED = 2,   /* an address or the length isn't a multiple of 4,096 */
     PAPR_GRANT_PAST = 3,        /* it ends above 2^60 */
     PAPR_GRANT_TOO_MANY = 4,    /* there are 64 already */
-    PAPR_GRANT_OVERLAP = 5,     /* its logical or machine range meets that of another */
-    PAPR_GRANT_POOL = 6,        /* its machine range meets the page tables' */
-    PAPR_POOL_ORDER = 7,        /* pool_order is not from 18 to 34 */
-    PAPR_POOL_UNALIGNED = 8,    /* pool_base is no multiple of 2^pool_order */
+    PAPR_GRANT_OVERLAP = 5,     /* its logical or machine range overlaps another's */
+    PAPR_GRANT_POOL = 6,        /* its machine range overlaps the pool of page tables */
+    PAPR_POOL_ORDER = 7,        /* pool_order isn't from 18 to 34 */
+    PAPR_POOL_UNALIGNED = 8,    /* pool_base isn't a multiple of 2^pool_order */
     PAPR_POOL_PAST = 9          /* the range ends above 2^60 */
 };
 
@@ -126,9 +130,9 @@ struct papr_making {
     uint32_t refusal;           /* an enum papr_refusal */
 };
 
-/* Makes the list of `given_count` grants, in any order, beside the machine range of 2^pool_order bytes
- * from pool_base, where the hypervisor keeps page tables and which no grant may meet. Where one is
- * refused the list stays as it was. */
+/* Makes the list of `given_count` grants, which may be in any order. No grant may overlap the machine
+ * range of 2^pool_order bytes from pool_base, where the hypervisor keeps page tables. If a grant is
+ * refused, the list is unchanged. */
 struct papr_making papr_make_grants(const struct papr_grant *given, size_t given_count,
                                     uint64_t pool_base, uint8_t pool_order,
                                     struct papr_grants *list);
@@ -139,47 +143,49 @@ struct papr_range {
     bool is_io;
 };
 
-/* The machine range of `length` bytes from a logical address: granted where the length isn't 0 and one
- * grant of the list holds all of them. */
+/* The machine range of `length` bytes from a logical address. It is granted if the length isn't 0 and
+ * one grant of the list has all of them. */
 struct papr_range papr_machine_of(const struct papr_grants *list, uint64_t logical, uint64_t length);
 
 /* ---- the calls on entries */
 
-/* Flags. All others are ignored, but by papr_h_protect, which takes PP0, key, N and PP from them. */
+/* Flags. Others are ignored, except by papr_h_protect, which takes PP0, key, N and PP from them. */
 #define PAPR_EXACT   UINT64_C(0x8000000000)     /* H_ENTER: the named entry, and no other */
-#define PAPR_READ_4  UINT64_C(0x2000000000)     /* H_READ: the four entries it lies among */
+#define PAPR_READ_4  UINT64_C(0x2000000000)     /* H_READ: the aligned group of four entries */
 #define PAPR_AVPN    UINT64_C(0x80000000)       /* dword0 without its low 7 bits has to be avpn */
 #define PAPR_ANDCOND UINT64_C(0x40000000)       /* H_REMOVE: no bit of avpn may be set in dword0 */
 
-/* H_ENTER: puts a translation into the first empty entry of the group of eight that ptex lies in, or
- * under PAPR_EXACT into entry ptex. The word is the entry's index. PAPR_H_PARAMETER for an index past
- * the table, doublewords that can't be stored, or a page that no single grant holds with these storage
- * control bits; PAPR_H_PTEG_FULL where each entry tried is valid; PAPR_H_HARDWARE. */
+/* H_ENTER: puts a translation into the first empty entry of ptex's group of eight, or with PAPR_EXACT
+ * into entry ptex. The word is the entry's index. PAPR_H_PARAMETER: the index is past the table, the
+ * doublewords can't be stored, or no single grant has the page with these storage control bits.
+ * PAPR_H_PTEG_FULL: each entry tried is valid. Or PAPR_H_HARDWARE. */
 struct papr_reply papr_h_enter(struct papr_entry *entries, size_t count, uint8_t order,
                                const struct papr_grants *grants, uint64_t flags, uint64_t ptex,
                                uint64_t pteh, uint64_t ptel, uint64_t *words, size_t words_room,
                                struct papr_receipt *receipts, size_t receipts_room);
 
-/* H_REMOVE: empties the entry. The words are its two doublewords before. PAPR_H_PARAMETER for an index
- * past the table, PAPR_H_NOT_FOUND where it is empty or fails the test, PAPR_H_HARDWARE. */
+/* H_REMOVE: empties the entry. The words are its two doublewords from before. PAPR_H_PARAMETER: the
+ * index is past the table. PAPR_H_NOT_FOUND: the entry is empty or fails the test. Or
+ * PAPR_H_HARDWARE. */
 struct papr_reply papr_h_remove(struct papr_entry *entries, size_t count, uint8_t order,
                                 uint64_t flags, uint64_t ptex, uint64_t avpn, uint64_t *words,
                                 size_t words_room, struct papr_receipt *receipts,
                                 size_t receipts_room);
 
-/* H_PROTECT: gives the entry the protection in flags. No word. Errors as papr_h_remove. */
+/* H_PROTECT: gives the entry the protection in flags. No word. Errors as for papr_h_remove. */
 struct papr_reply papr_h_protect(struct papr_entry *entries, size_t count, uint8_t order,
                                  uint64_t flags, uint64_t ptex, uint64_t avpn, uint64_t *words,
                                  size_t words_room, struct papr_receipt *receipts,
                                  size_t receipts_room);
 
-/* H_READ: the words are the entry's two doublewords, or under PAPR_READ_4 those of four entries; an
- * empty one reads as zeros. PAPR_H_PARAMETER for an index past the table. */
+/* H_READ: the words are the entry's two doublewords, or with PAPR_READ_4 those of four entries; an
+ * empty entry reads as zeros. PAPR_H_PARAMETER: the index is past the table. */
 struct papr_reply papr_h_read(struct papr_entry *entries, size_t count, uint8_t order,
                               uint64_t flags, uint64_t ptex, uint64_t *words, size_t words_room,
                               struct papr_receipt *receipts, size_t receipts_room);
 
-/* H_CLEAR_REF clears R, H_CLEAR_MOD C. The word is doubleword 1 before. Errors as papr_h_remove. */
+/* H_CLEAR_REF clears R, H_CLEAR_MOD clears C. The word is doubleword 1 from before. Errors as for
+ * papr_h_remove. */
 struct papr_reply papr_h_clear_ref(struct papr_entry *entries, size_t count, uint8_t order,
                                    uint64_t flags, uint64_t ptex, uint64_t *words, size_t words_room,
                                    struct papr_receipt *receipts, size_t receipts_room);
@@ -187,10 +193,10 @@ struct papr_reply papr_h_clear_mod(struct papr_entry *entries, size_t count, uin
                                    uint64_t flags, uint64_t ptex, uint64_t *words, size_t words_room,
                                    struct papr_receipt *receipts, size_t receipts_room);
 
-/* H_BULK_REMOVE: four pairs of words, so pairs_count is 8; another answers PAPR_H_PARAMETER, and no
- * word. The words are all eight, with a response in place of each request that was taken up.
- * PAPR_H_PARAMETER at an ill-formed pair and PAPR_H_HARDWARE at a worn entry: the pairs before it are
- * removed then. */
+/* H_BULK_REMOVE: four pairs of words, so pairs_count is 8; with another count the answer is
+ * PAPR_H_PARAMETER, and there are no words. The words are all eight, with a response instead of each
+ * request that was processed. PAPR_H_PARAMETER at an ill-formed pair and PAPR_H_HARDWARE at an entry
+ * that can't change again; the entries of the pairs before it stay removed. */
 struct papr_reply papr_h_bulk_remove(struct papr_entry *entries, size_t count, uint8_t order,
                                      const uint64_t *pairs, size_t pairs_count, uint64_t *words,
                                      size_t words_room, struct papr_receipt *receipts,
@@ -206,7 +212,7 @@ struct papr_access {
     uint64_t iamr;              /* its mask for instruction fetches; 0 refuses nothing */
     uint8_t shift;              /* log2 of its base page: 12, 16, 24, or in one of 1 TB also 34 */
     uint8_t want;               /* 0 load, 1 store, 2 fetch */
-    bool one_tb;                /* a segment of 1 TB, and not of 256 MB */
+    bool one_tb;                /* a segment of 1 TB, not of 256 MB */
     bool key;                   /* Kp in problem state, else Ks */
     bool no_execute;            /* the segment's N */
 };
@@ -215,20 +221,20 @@ enum papr_outcome {
     PAPR_WALK_AT = 0,
     PAPR_WALK_DENIED = 1,       /* the entry's protection refuses the access */
     PAPR_WALK_NO_PAGE = 2,      /* no entry translates the page */
-    PAPR_WALK_PARAMETER = 3,    /* arguments out of range, another order or count; nothing changed */
+    PAPR_WALK_PARAMETER = 3,    /* an argument is out of range, or a wrong order or count; nothing changed */
     PAPR_WALK_AMR = 4,          /* AMR refuses it, for the entry's key */
     PAPR_WALK_IAMR = 5          /* IAMR refuses it, for the entry's key */
 };
 
 struct papr_walk {
     uint64_t logical;           /* the logical address at PAPR_WALK_AT, else 0 */
-    uint32_t entry;             /* the entry that translates the page, where there is one, else 0 */
+    uint32_t entry;             /* the entry that translates the page, if there is one, else 0 */
     uint32_t outcome;           /* an enum papr_outcome */
     uint32_t receipts;          /* places filled */
 };
 
 /* Walks the page's primary and then its secondary group, up to the first entry that translates the
- * page, and records an access that is allowed in its R, and a store in its C. */
+ * page. An access that is allowed sets its R, and a store also its C. */
 struct papr_walk papr_walk(struct papr_entry *entries, size_t count, uint8_t order,
                            const struct papr_access *access, struct papr_receipt *receipts,
                            size_t receipts_room);
@@ -237,20 +243,20 @@ struct papr_walk papr_walk(struct papr_entry *entries, size_t count, uint8_t ord
 
 struct papr_rehash {
     int64_t rc;                 /* PAPR_H_SUCCESS, PAPR_H_PTEG_FULL or PAPR_H_PARAMETER */
-    uint32_t first;             /* at PAPR_H_PTEG_FULL the lower of the two old indices that meet */
+    uint32_t first;             /* at PAPR_H_PTEG_FULL the lower of the two old indices that collide */
     uint32_t second;            /* .. the higher one */
-    uint32_t target;            /* .. and where, in the new table; else all three are 0 */
+    uint32_t target;            /* .. and their index in the new table; else all three are 0 */
 };
 
-/* Carries the bolted entries of one table over to another, as H_RESIZE_HPT_COMMIT does: each that
- * translates a page goes to that page's group there, at its old slot and at stamp 0. What stood in
- * `into` is dropped; at PAPR_H_PTEG_FULL it is empty. PAPR_H_PARAMETER for another order or count of
- * either table changes nothing. */
+/* Carries the bolted entries of one table to another, as H_RESIZE_HPT_COMMIT does: each that
+ * translates a page goes to that page's group there, at its old slot and at stamp 0. The old content
+ * of `into` is lost; at PAPR_H_PTEG_FULL it is empty. PAPR_H_PARAMETER: an order isn't from 18 to 22,
+ * or a count isn't that of its order; nothing changes. */
 struct papr_rehash papr_rehash(const struct papr_entry *entries, size_t count, uint8_t order,
                                struct papr_entry *into, size_t into_count, uint8_t into_order);
 
-/* ---- how the structs lie in memory, as the library for x86-64 has them: tested where the language
- * can, from C11 and from C++11 on */
+/* ---- the layout of the structs, as the library for x86-64 has it: asserted from C11 and from C++11
+ * on */
 
 #if defined(__cplusplus) && __cplusplus >= 201103L
 #define PAPR_TEST static_assert

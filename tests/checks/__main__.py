@@ -17,6 +17,7 @@ from checks import (
     levels,
     limits,
     lint,
+    phrases,
     reach,
     refusals,
     sets,
@@ -42,6 +43,7 @@ CHECKS: dict[str, Check] = {
     "sizes": sizes,
     "tree": tree,
     "words": words,
+    "phrases": phrases,
 }
 PROGRAM = "tests/check"
 PASSED, FAILED, SKIPPED = "pass", "FAIL", "skip"

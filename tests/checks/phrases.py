@@ -1,0 +1,141 @@
+"""Phrases that no document and no message has, each with its better words.
+
+Looks at the documents, the manual pages, the headers for C, the page for a browser, and the messages of the tools:
+their strings, and the sentence on top that `--help` shows. Names and code, in backticks or indented, are left out.
+"""
+
+import argparse
+import ast
+import re
+from dataclasses import dataclass
+from pathlib import Path
+from typing import Iterator
+
+from checks.running import Failed
+from crates import TOP
+
+DOCUMENTS = ("*.md", "docs/*.md", "examples/*.md")
+OTHERS = ("man/*.[15]", "include/*.h", "page/page.html")
+TOOLS = ("papr", "tools/**/*", "page/build-page")
+COMMENT = re.compile(r"/\*.*?\*/", re.DOTALL)
+
+
+@dataclass(frozen=True)
+class Phrase:
+    """A phrase, as a pattern, and what to say instead."""
+
+    pattern: str
+    better: str
+
+
+PHRASES = [
+    Phrase(r"told|tells", "said, says, stated, known, shows"),
+    Phrase(r"behind(?! (one lock|a lock|a pointer|a proxy))", "after"),
+    Phrase(r"one behind the other", "one after the other"),
+    Phrase(r"(?:the )?way of an? (?:line|call|access)", "how a line is run"),
+    Phrase(r"how far (?:it|the build) is", "progress"),
+    Phrase(r"of which none", "none of which"),
+    Phrase(r"stands? (?:there|here|in|on|once|twice|beside|alone|above|below|too)", "is"),
+    Phrase(r"go(?:es)? by", "depends on, uses"),
+    Phrase(r"by the clock", "of elapsed time"),
+    Phrase(r"(?:minutes|seconds) of (?:the )?processor(?! time)", "of processor time"),
+    Phrase(r"dear(?:er|est)?", "expensive, long"),
+    Phrase(r"anew", "again"),
+    Phrase(r"all the same", "nevertheless"),
+    Phrase(r"cached lines?", "cached translation"),
+    Phrase(r"gone lines?", "stale translation"),
+    Phrase(r"exactly where", "exactly if, exactly when"),
+    Phrase(r"but for", "except for"),
+    Phrase(r"with a word(?! )", "with a note"),
+    Phrase(r"comes? of it", "the result"),
+    Phrase(r"in place of", "instead of"),
+    Phrase(r"beside (?:that|it|them|others?)", "at the same time, next to"),
+]
+ALL = [(re.compile(rf"(?i)\b(?:{phrase.pattern})\b"), phrase) for phrase in PHRASES]
+
+Lines = Iterator[tuple[int, str]]
+
+
+def paths(patterns: tuple[str, ...]) -> Iterator[Path]:
+    """The files of these patterns."""
+    for pattern in patterns:
+        for path in sorted(TOP.glob(pattern)):
+            if path.is_file() and "__pycache__" not in path.parts:
+                yield path
+
+
+def prose(text: str) -> Lines:
+    """The lines of a document without code: neither fenced nor indented nor in backticks."""
+    fenced = False
+    for number, line in enumerate(text.splitlines(), 1):
+        if line.startswith("```"):
+            fenced = not fenced
+        elif not fenced and not line.startswith("    "):
+            yield number, re.sub(r"`[^`]*`", "`", line)
+
+
+def whole(text: str) -> Lines:
+    """All lines; of a manual page without its macros' marks, which no phrase has."""
+    yield from enumerate(text.splitlines(), 1)
+
+
+def comments(text: str) -> Lines:
+    """The lines of a header's comments."""
+    for found in COMMENT.finditer(text):
+        first = text.count("\n", 0, found.start()) + 1
+        yield from enumerate(found[0].splitlines(), first)
+
+
+def strings(text: str) -> Lines:
+    """The strings of a script of Python but those that say what a class or function is."""
+    tree = ast.parse(text)
+    inner = (ast.FunctionDef, ast.ClassDef)
+    docs = {id(node.body[0].value) for node in ast.walk(tree) if isinstance(node, inner)
+            and isinstance(node.body[0], ast.Expr)}  # fmt: skip
+    for node in ast.walk(tree):
+        if isinstance(node, ast.Constant) and isinstance(node.value, str) and id(node) not in docs:
+            for number, line in enumerate(node.value.splitlines(), node.lineno):
+                yield number, re.sub(r"`[^`]*`", "`", line)
+
+
+def quoted(text: str) -> Lines:
+    """What a script of the shell has in quotes."""
+    for number, line in enumerate(text.splitlines(), 1):
+        if not line.lstrip().startswith("#"):
+            yield number, " ".join(re.findall(r"\"[^\"]*\"|'[^']*'", line))
+
+
+def texts(path: Path) -> Lines:
+    """What a user reads of a file, line by line."""
+    text = path.read_text(encoding="utf-8")
+    if path.suffix == ".md":
+        return prose(text)
+    if path.suffix in (".h", ".c"):
+        return comments(text) if path.parent.name == "include" else iter(())
+    if text.startswith("#!/usr/bin/env python3") or path.suffix == ".py":
+        return strings(text)
+    if text.startswith("#!"):
+        return quoted(text)
+    return whole(text) if path.suffix in (".1", ".5", ".html") else iter(())
+
+
+def faults(path: Path) -> Iterator[str]:
+    """The phrases of a file, each with its line."""
+    for number, line in texts(path):
+        for pattern, phrase in ALL:
+            found = pattern.search(line)
+            if found:
+                yield f"{path.relative_to(TOP)}:{number}: `{found[0]}`; better: {phrase.better}"
+
+
+def add_options(_parser: argparse.ArgumentParser) -> None:
+    """This check has no options."""
+
+
+def check(_given: argparse.Namespace) -> str:
+    """All files by all phrases."""
+    looked_at = list(paths(DOCUMENTS + OTHERS + TOOLS))
+    found = [fault for path in looked_at for fault in faults(path)]
+    if found:
+        raise Failed("\n".join(["phrases with better words", *found]))
+    return f"{len(looked_at)} files have none of {len(PHRASES)} phrases"

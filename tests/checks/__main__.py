@@ -22,6 +22,7 @@ from checks import (
     refusals,
     sets,
     sizes,
+    standard,
     tree,
     words,
 )
@@ -41,6 +42,7 @@ CHECKS: dict[str, Check] = {
     "reach": reach,
     "levels": levels,
     "sizes": sizes,
+    "standard": standard,
     "tree": tree,
     "words": words,
     "phrases": phrases,

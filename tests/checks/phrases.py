@@ -87,13 +87,14 @@ def comments(text: str) -> Lines:
 
 
 def strings(text: str) -> Lines:
-    """The strings of a script of Python but those that say what a class or function is."""
+    """The strings of a script of Python, without those that say what a class or a function is."""
     tree = ast.parse(text)
-    inner = (ast.FunctionDef, ast.ClassDef)
-    docs = {id(node.body[0].value) for node in ast.walk(tree) if isinstance(node, inner)
-            and isinstance(node.body[0], ast.Expr)}  # fmt: skip
+    about = set()
     for node in ast.walk(tree):
-        if isinstance(node, ast.Constant) and isinstance(node.value, str) and id(node) not in docs:
+        if isinstance(node, (ast.FunctionDef, ast.ClassDef)) and isinstance(node.body[0], ast.Expr):
+            about.add(node.body[0].value)
+    for node in ast.walk(tree):
+        if isinstance(node, ast.Constant) and isinstance(node.value, str) and node not in about:
             for number, line in enumerate(node.value.splitlines(), node.lineno):
                 yield number, re.sub(r"`[^`]*`", "`", line)
 

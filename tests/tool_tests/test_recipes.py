@@ -1,7 +1,7 @@
-"""Tests that the recipes of docs/RECIPES.md, and the README's transcript, write what the pages say.
+"""Tests that the commands in the documents run, and write what the documents say.
 
-The page's commands run in its order, in a folder of their own that has the sources' tools and examples, and
-the program.
+The shell blocks of a document run in its order, in a folder of their own that has the sources' tools and examples,
+and the program. Blocks that need a network, the toolchain or minutes are read by the shell and not run.
 """
 
 import re
@@ -11,82 +11,180 @@ from dataclasses import dataclass
 from pathlib import Path
 from typing import ClassVar, Optional
 
-from .support import DOCS, EXAMPLES, PROGRAM, TOOLS, TOP, Ran, ToolTest, for_each, missing, needs
-from .support import needs_program, run, write_script
+from .support import DATA, DOCS, EXAMPLES, LIBRARY, PROGRAM, TOOLS, TOP, Ran, ToolTest, for_each, missing, needs
+from .support import needs_library, needs_program, run, write_script
 
 BLOCKS = re.compile(r"^```sh\n(.*?)^```\n(?:```text\n(.*?)^```\n)?", re.MULTILINE | re.DOTALL)
-TRANSCRIPT = re.compile(r"^```text\n(.*?)^```\n", re.MULTILINE | re.DOTALL)
+TRANSCRIPT = re.compile(r"^```text\n(\$ .*?)^```\n", re.MULTILINE | re.DOTALL)
+UNNAMED = re.compile(r"^```\n(.*?)^```\n", re.MULTILINE | re.DOTALL)
+IN_C = re.compile(r"^```c\n(.*?)^```\n", re.MULTILINE | re.DOTALL)
+INDENTED = re.compile(r"^    (\./papr |papr |tools/|make |rt (?:new|try|run)|bench/|cc )", re.MULTILINE)
+
+PAGES = ("README.md", "docs/RECIPES.md", "docs/RECORDING.md", "docs/LIBRARY.md", "docs/QEMU-SHADOW.md", "docs/PERFORMANCE.md")
+
+# Blocks that aren't run, each by a word that it alone has, with the reason.
+LEFT_OUT = {
+    "rt try -- run": "builds the program without its proof: a minute",
+    ".ci/run": "the whole gate: an hour",
+    "apt-get install": "needs a network, and runs a guest for a minute",
+    "rt new": "needs the toolchain: test_library makes that crate and runs it",
+    "make library": "proves the library: minutes; test_c_library links it",
+    "make bytes-library": "proves the library: minutes; test_c_library calls it",
+    "tools/qemu-shadow/build": "needs a network, and builds QEMU",
+    "bench/speed": "measures for minutes",
+    "bench/pool": "proves and measures for minutes",
+    "bench/table": "proves and measures for minutes",
+}
 
 
 @dataclass(frozen=True)
-class Recipe:
-    """A command of the page, and what it writes, if the page says it."""
+class Block:
+    """Commands of a document, and what they write, if it says so."""
 
+    page: str
+    number: int
     command: str
     written: Optional[str]
 
+    @property
+    def reason(self) -> Optional[str]:
+        """Why it isn't run, if it isn't."""
+        return next((LEFT_OUT[word] for word in LEFT_OUT if word in self.command), None)
 
-def recipes() -> list[Recipe]:
-    """The recipes of the page."""
-    page = (DOCS / "RECIPES.md").read_text(encoding="utf-8")
-    return [Recipe(found[1], found[2]) for found in BLOCKS.finditer(page)]
+    def __str__(self) -> str:
+        return f"{Path(self.page).stem.lower()} {self.number}"
+
+
+def text_of(page: str) -> str:
+    """A document."""
+    return (TOP / page).read_text(encoding="utf-8")
+
+
+def blocks_of(page: str) -> list[Block]:
+    """The shell blocks of a document."""
+    found = BLOCKS.finditer(text_of(page))
+    return [Block(page, number, it[1], it[2]) for number, it in enumerate(found, 1)]
+
+
+ALL = [block for page in PAGES for block in blocks_of(page)]
+RUN = [block for block in ALL if block.reason is None]
 
 
 def sources(folder: Path) -> None:
-    """Puts into a folder what the recipes use of the sources; papr is the program under test."""
-    for path in (EXAMPLES, DOCS, TOP / "tests"):
+    """Puts into a folder what the documents use of the sources; papr is the program under test."""
+    for path in (EXAMPLES, DOCS, TOP / "tests", TOP / "crates", TOP / "crates.txt", TOP / "LICENSE-MIT"):
         (folder / path.name).symlink_to(path)
+    (folder / "LICENSE-APACHE").symlink_to(TOP / "LICENSE-APACHE")
     shutil.copytree(TOOLS, folder / "tools", ignore=shutil.ignore_patterns("__pycache__"))
     write_script(folder / "papr", f'#!/bin/sh\nexec {PROGRAM} "$@"\n')
 
 
+def folder_of(work: Path, page: str) -> Path:
+    """A folder for the commands of a document, with what it takes for granted."""
+    folder = work / Path(page).stem / "papr"
+    folder.mkdir(parents=True)
+    sources(folder)
+    (folder.parent / "emulator").mkdir()
+    shutil.copy(DATA / "small.log", folder / "int.log")
+    return folder
+
+
 @needs_program
 @needs("bash", "xz")
-class Recipes(ToolTest):
-    """The recipes, each on the files that those before it made."""
+class Commands(ToolTest):
+    """The commands, each on the files that those before it in its document made."""
 
-    ran: ClassVar[list[Ran]]
+    ran: ClassVar[dict[str, Ran]]
 
     @classmethod
     def setUpClass(cls) -> None:
         """Runs them all, once for the class."""
         super().setUpClass()
-        work = tempfile.TemporaryDirectory(prefix="papr-recipes-")
+        work = tempfile.TemporaryDirectory(prefix="papr-documents-")
         cls.addClassCleanup(work.cleanup)
-        folder = Path(work.name)
-        sources(folder)
-        cls.ran = [run("bash", "-c", recipe.command, folder=folder) for recipe in recipes()]
+        folders = {page: folder_of(Path(work.name), page) for page in PAGES}
+        cls.ran = {str(it): run("bash", "-c", it.command, folder=folders[it.page]) for it in RUN}
 
-    @for_each(*range(1, len(recipes()) + 1))
-    def test_the_page_says_what_its_command_writes(self, number: int) -> None:
+    @for_each(*map(str, RUN))
+    def test_the_document_says_what_its_command_writes(self, name: str) -> None:
         """Status 1 is that of diff, and of tools/why."""
-        recipe, ran = recipes()[number - 1], self.ran[number - 1]
-        if "sqlite3" in recipe.command and missing("sqlite3"):
+        block, ran = next(it for it in RUN if str(it) == name), self.ran[name]
+        if "sqlite3" in block.command and missing("sqlite3"):
             self.skipTest("sqlite3 is not installed")
-        self.assertIn(ran.status, (0, 1), f"{recipe.command}{ran.err}")
-        if recipe.written is not None:
-            self.assert_text(ran.out, recipe.written)
+        self.assertIn(ran.status, (0, 1), f"{block.command}{ran.err}")
+        if block.written is not None:
+            self.assert_text(ran.out, block.written)
 
 
 class Pages(ToolTest):
-    """The pages themselves."""
+    """The documents themselves."""
 
-    def test_each_block_of_the_page_is_a_recipe_or_what_one_writes(self) -> None:
-        page = (DOCS / "RECIPES.md").read_text(encoding="utf-8")
-        written = [recipe for recipe in recipes() if recipe.written is not None]
-        self.assertEqual(page.count("```\n"), len(recipes()) + len(written))
+    @needs("bash")
+    @for_each(*map(str, ALL))
+    def test_the_shell_reads_the_block(self, name: str) -> None:
+        block = next(it for it in ALL if str(it) == name)
+        self.assert_ran(run("bash", "-n", given=block.command), out="")
+
+    def test_each_word_of_a_block_that_is_left_out_names_one(self) -> None:
+        for word in LEFT_OUT:
+            self.assertEqual([word in block.command for block in ALL].count(True), 1, word)
+
+    @for_each(*PAGES)
+    def test_no_command_is_only_indented(self, page: str) -> None:
+        """So that all commands are blocks for the shell."""
+        self.assertEqual(INDENTED.findall(text_of(page)), [])
+
+    def test_each_block_of_the_recipes_is_a_recipe_or_what_one_writes(self) -> None:
+        page, found = text_of("docs/RECIPES.md"), blocks_of("docs/RECIPES.md")
+        written = [block for block in found if block.written is not None]
+        self.assertEqual(page.count("```\n"), len(found) + len(written))
         self.assertGreater(len(written), 10)
 
-    @needs_program
+
+@needs_program
+class Texts(ToolTest):
+    """Transcripts, traces and code in the documents."""
+
     def test_the_transcript_in_the_readme_is_what_its_commands_write(self) -> None:
-        found = TRANSCRIPT.search((TOP / "README.md").read_text(encoding="utf-8"))
+        found = TRANSCRIPT.search(text_of("README.md"))
         transcript = found[1] if found else ""
         commands = [line for line in transcript.splitlines() if line.startswith("$ ")]
         self.assertTrue(commands)
         sources(self.folder)
-        told = ""
+        written = ""
         for line in commands:
             ran = run("bash", "-c", line[2:], folder=self.folder)
             self.assert_ran(ran, out=None)
-            told += f"{line}\n{ran.out}"
-        self.assert_text(told, transcript)
+            written += f"{line}\n{ran.out}"
+        self.assert_text(written, transcript)
+
+    def test_the_traces_of_the_formats_have_the_replies_that_follow(self) -> None:
+        """A block with a line `begin` is a trace or a set; the next one without is its replies."""
+        found = UNNAMED.findall(text_of("docs/FORMATS.md"))
+        inputs = [at for at, text in enumerate(found) if re.search(r"(?m)^(\d )?begin$", text)]
+        self.assertGreater(len(inputs), 2)
+        for at in inputs:
+            command = "set" if found[at].startswith("shared") else "run"
+            ran = run(PROGRAM, command, given=found[at])
+            has_replies = at + 1 < len(found) and at + 1 not in inputs
+            self.assert_ran(ran, out=found[at + 1] if has_replies else "")
+
+
+@needs_library
+@needs("cc")
+class InC(ToolTest):
+    """The lines of C in docs/LIBRARY.md."""
+
+    def test_they_compile_and_do_what_their_remark_says(self) -> None:
+        found = IN_C.search(text_of("docs/LIBRARY.md"))
+        lines = found[1] if found else ""
+        self.assertIn("reply.rc is 0, words[0] is 0x20, and receipts[0] says that entry 0x20 was empty", lines)
+        source = self.folder / "lines.c"
+        holds = "reply.rc == 0 && words[0] == 0x20 && receipts[0].entry == 0x20 && receipts[0].stamp == 0"
+        source.write_text(
+            f"#include <papr.h>\n#include <stdlib.h>\nint main(void)\n{{\n{lines}return {holds} ? 0 : 1;\n}}\n",
+            encoding="utf-8",
+        )
+        program = self.folder / "lines"
+        self.assert_ran(run("cc", f"-I{TOP / 'include'}", source, LIBRARY, "-o", program))
+        self.assert_ran(run(program))

@@ -15,7 +15,7 @@ import { serveWorker } from "./worker.js";
 const NOTHING = new Uint8Array(0);
 const SAVED = { run: "run.replies", check: "judged.replies", set: "set.replies", drill: "drill.summary" };
 const NO_PLACE =
-  "The newer layout has no place for this entry: doubleword 0 has a bit of 0x3FF0000000000000, or doubleword 1 one " +
+  "The newer layout can't hold this entry: doubleword 0 has a bit of 0x3FF0000000000000, or doubleword 1 one " +
   "of 0x0C00000000000000.";
 const by = (id) => document.getElementById(id);
 const counted = (count, word) => `${count.toLocaleString("en")} ${word}${count === 1 ? "" : "s"}`;
@@ -269,7 +269,7 @@ class Page {
     this.panes.show(trace, text, rows, section ? { section } : {});
     const where = section
       ? `Up to the end of section ${number}, lines ${section[0]} to ${section[1]}, no good run writes this text.`
-      : "Each section stands, but the text doesn't end behind the last.";
+      : "All sections are good, but the text doesn't end after the last one.";
     this.tell("bad", `${status}: ${verdict.trim()}`, [where]);
     if (section) this.scrollTo(section[0]);
   }
@@ -334,10 +334,10 @@ class Page {
     const { status, written } = await this.runner.call(["image", "old"], cut);
     const name = `0x${entry.toString(16)}`;
     const found = status === 0 ? decoded(written.text).split("\n").find((it) => it.startsWith(`${name} `)) : undefined;
-    if (found === undefined) by("entry-from").textContent = `entry ${name} isn't valid behind line ${line}`;
+    if (found === undefined) by("entry-from").textContent = `entry ${name} isn't valid after line ${line}`;
     else {
       this.reader.offer("", found);
-      by("entry-from").textContent = `entry ${name} behind line ${line}, as image old has it`;
+      by("entry-from").textContent = `entry ${name} after line ${line}, as image old has it`;
     }
   }
 

@@ -195,7 +195,7 @@ function fromReply(reply) {
   const found = form.exec(reply ?? "");
   if (!found) return null;
   const [dword0, dword1, index] = found.slice(2).map(number);
-  return { index, dword0, dword1, from: `as ${found[1]} told them` };
+  return { index, dword0, dword1, from: `as ${found[1]} shows them` };
 }
 
 // The words that a line of the trace gives.

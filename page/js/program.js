@@ -5,8 +5,8 @@ export const STATUSES = [
   "done",
   "no such command",
   "refused",
-  "the source failed",
-  "the sink failed",
+  "reading failed",
+  "writing failed",
   "not enough memory",
   "not the text of a good run",
 ];

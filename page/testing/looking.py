@@ -286,9 +286,9 @@ def behind_a_line(opened: Opened) -> None:
     opened.example("sharing.trace")
     opened.click_line(14)
     opened.press("behind")
-    opened.browser.wait("document.getElementById('entry-from').textContent.includes('behind line 14')")
+    opened.browser.wait("document.getElementById('entry-from').textContent.includes('after line 14')")
     words = opened.value("['dword0', 'dword1', 'index'].map((it) => document.getElementById(it).value)")
-    need(words == ["0x1011", "0x3192", "0x20"], f"behind line 14: {words}")
+    need(words == ["0x1011", "0x3192", "0x20"], f"after line 14: {words}")
 
 
 def narrow(opened: Opened) -> None:

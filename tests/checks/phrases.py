@@ -1,7 +1,8 @@
 """Phrases that no document and no message has, each with its better words.
 
-Looks at the documents, the manual pages, the headers for C, the page for a browser, and the messages of the tools:
-their strings, and the sentence on top that `--help` shows. Names and code, in backticks or indented, are left out.
+Looks at the documents, the manual pages, the headers for C, the page for a browser, and the messages of
+the tools: their strings, and the sentence on top that `--help` shows. Names and code, in backticks or
+indented, are left out.
 """
 
 import argparse
@@ -9,13 +10,13 @@ import ast
 import re
 from dataclasses import dataclass
 from pathlib import Path
-from typing import Iterator
+from typing import Callable, Iterator, Optional
 
 from checks.running import Failed
 from crates import TOP
 
 DOCUMENTS = ("*.md", "docs/*.md", "examples/*.md")
-OTHERS = ("man/*.[15]", "include/*.h", "page/page.html")
+OTHERS = ("man/*.[15]", "include/*.h", "page/page.html", "page/js/*.js")
 TOOLS = ("papr", "tools/**/*", "page/build-page")
 COMMENT = re.compile(r"/\*.*?\*/", re.DOTALL)
 
@@ -75,8 +76,13 @@ def prose(text: str) -> Lines:
 
 
 def whole(text: str) -> Lines:
-    """All lines; of a manual page without its macros' marks, which no phrase has."""
+    """All lines of a manual page."""
     yield from enumerate(text.splitlines(), 1)
+
+
+def without_marks(text: str) -> Lines:
+    """The lines of a page of HTML without its marks."""
+    yield from enumerate(re.sub(r"<[^>\n]*>", " ", text).splitlines(), 1)
 
 
 def comments(text: str) -> Lines:
@@ -100,29 +106,36 @@ def strings(text: str) -> Lines:
 
 
 def quoted(text: str) -> Lines:
-    """What a script of the shell has in quotes."""
+    """What a script of the shell or of the page has in quotes, where it is more than a word."""
     for number, line in enumerate(text.splitlines(), 1):
-        if not line.lstrip().startswith("#"):
-            yield number, " ".join(re.findall(r"\"[^\"]*\"|'[^']*'", line))
+        if not line.lstrip().startswith(("#", "//")):
+            found = re.findall(r"\"[^\"]*\"|'[^']*'|`[^`]*`", line)
+            yield number, "; ".join(it for it in found if " " in it)
 
 
-def texts(path: Path) -> Lines:
-    """What a user reads of a file, line by line."""
-    text = path.read_text(encoding="utf-8")
-    if path.suffix == ".md":
-        return prose(text)
-    if path.suffix in (".h", ".c"):
-        return comments(text) if path.parent.name == "include" else iter(())
-    if text.startswith("#!/usr/bin/env python3") or path.suffix == ".py":
-        return strings(text)
-    if text.startswith("#!"):
-        return quoted(text)
-    return whole(text) if path.suffix in (".1", ".5", ".html") else iter(())
+READERS: dict[str, Callable[[str], Lines]] = {
+    ".md": prose,
+    ".1": whole,
+    ".5": whole,
+    ".h": comments,
+    ".html": without_marks,
+    ".js": quoted,
+    ".py": strings,
+}
+
+
+def reader_of(path: Path, text: str) -> Optional[Callable[[str], Lines]]:
+    """What gives the lines of a file that a user reads."""
+    if path.suffix or not text.startswith("#!"):
+        return READERS.get(path.suffix)
+    return strings if text.startswith("#!/usr/bin/env python3") else quoted
 
 
 def faults(path: Path) -> Iterator[str]:
     """The phrases of a file, each with its line."""
-    for number, line in texts(path):
+    text = path.read_text(encoding="utf-8")
+    reader = reader_of(path, text)
+    for number, line in reader(text) if reader else ():
         for pattern, phrase in ALL:
             found = pattern.search(line)
             if found:

@@ -1,7 +1,7 @@
 """Whether docs/STANDARD.md names what is there.
 
-The page's tables go from sentences of the public standards to definitions and clauses. Each definition has to
-be in the file of its row, each function with each of its clauses in the sources, and each file or folder there.
+The page's tables go from sentences of the public standards to definitions and clauses. Each definition has
+to be in the file of its row, each function with its clauses in the sources, and each file or folder there.
 """
 
 import argparse
@@ -81,7 +81,7 @@ def check(_given: argparse.Namespace) -> str:
     for one in read_functions(TOP):
         clauses.setdefault((one.crate, one.path), set()).update(clause.name for clause in one.clauses)
     specs, found = read_specs(TOP), list(rows())
-    wrong = [f"docs/STANDARD.md:{row.line}: {fault}" for row in found for fault in faults(row, specs, clauses)]
+    wrong = [f"{PAGE.name}:{row.line}: {it}" for row in found for it in faults(row, specs, clauses)]
     if wrong:
         raise Failed("\n".join(["names that aren't there", *wrong]))
     return f"{len(found)} rows, {sum(len(WORD.findall(row.names)) for row in found)} names"

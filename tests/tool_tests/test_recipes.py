@@ -1,7 +1,8 @@
 """Tests that the commands in the documents run, and write what the documents say.
 
-The shell blocks of a document run in its order, in a folder of their own that has the sources' tools and examples,
-and the program. Blocks that need a network, the toolchain or minutes are read by the shell and not run.
+The shell blocks of a document run in its order, in a folder of their own that has the sources' tools and
+examples, and the program. Blocks that need a network, the toolchain or minutes are read by the shell, and
+not run.
 """
 
 import re
@@ -11,8 +12,8 @@ from dataclasses import dataclass
 from pathlib import Path
 from typing import ClassVar, Optional
 
-from .support import DATA, DOCS, EXAMPLES, LIBRARY, PROGRAM, TOOLS, TOP, Ran, ToolTest, for_each, missing, needs
-from .support import needs_library, needs_program, run, write_script
+from .support import DATA, DOCS, EXAMPLES, LIBRARY, PROGRAM, TOOLS, TOP, Ran, ToolTest, for_each, missing
+from .support import needs, needs_library, needs_program, run, write_script
 
 BLOCKS = re.compile(r"^```sh\n(.*?)^```\n(?:```text\n(.*?)^```\n)?", re.MULTILINE | re.DOTALL)
 TRANSCRIPT = re.compile(r"^```text\n(\$ .*?)^```\n", re.MULTILINE | re.DOTALL)
@@ -20,7 +21,14 @@ UNNAMED = re.compile(r"^```\n(.*?)^```\n", re.MULTILINE | re.DOTALL)
 IN_C = re.compile(r"^```c\n(.*?)^```\n", re.MULTILINE | re.DOTALL)
 INDENTED = re.compile(r"^    (\./papr |papr |tools/|make |rt (?:new|try|run)|bench/|cc )", re.MULTILINE)
 
-PAGES = ("README.md", "docs/RECIPES.md", "docs/RECORDING.md", "docs/LIBRARY.md", "docs/QEMU-SHADOW.md", "docs/PERFORMANCE.md")
+PAGES = (
+    "README.md",
+    "docs/RECIPES.md",
+    "docs/RECORDING.md",
+    "docs/LIBRARY.md",
+    "docs/QEMU-SHADOW.md",
+    "docs/PERFORMANCE.md",
+)
 
 # Blocks that aren't run, each by a word that it alone has, with the reason.
 LEFT_OUT = {
@@ -178,13 +186,12 @@ class InC(ToolTest):
     def test_they_compile_and_do_what_their_remark_says(self) -> None:
         found = IN_C.search(text_of("docs/LIBRARY.md"))
         lines = found[1] if found else ""
-        self.assertIn("reply.rc is 0, words[0] is 0x20, and receipts[0] says that entry 0x20 was empty", lines)
+        self.assertIn("reply.rc is 0, words[0] is 0x20, and receipts[0] says that entry 0x20", lines)
         source = self.folder / "lines.c"
-        holds = "reply.rc == 0 && words[0] == 0x20 && receipts[0].entry == 0x20 && receipts[0].stamp == 0"
-        source.write_text(
-            f"#include <papr.h>\n#include <stdlib.h>\nint main(void)\n{{\n{lines}return {holds} ? 0 : 1;\n}}\n",
-            encoding="utf-8",
-        )
+        receipt = "receipts[0].entry == 0x20 && receipts[0].stamp == 0"
+        end = f"return reply.rc == 0 && words[0] == 0x20 && {receipt} ? 0 : 1;"
+        head = "#include <papr.h>\n#include <stdlib.h>\nint main(void)\n"
+        source.write_text(f"{head}{{\n{lines}{end}\n}}\n", encoding="utf-8")
         program = self.folder / "lines"
         self.assert_ran(run("cc", f"-I{TOP / 'include'}", source, LIBRARY, "-o", program))
         self.assert_ran(run(program))

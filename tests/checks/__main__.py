@@ -16,6 +16,7 @@ from checks import (
     judged,
     levels,
     limits,
+    links,
     lint,
     phrases,
     reach,
@@ -46,6 +47,7 @@ CHECKS: dict[str, Check] = {
     "tree": tree,
     "words": words,
     "phrases": phrases,
+    "links": links,
 }
 PROGRAM = "tests/check"
 PASSED, FAILED, SKIPPED = "pass", "FAIL", "skip"

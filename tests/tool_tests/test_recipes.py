@@ -12,9 +12,10 @@ from dataclasses import dataclass
 from pathlib import Path
 from typing import ClassVar, Optional
 
-from .support import DATA, DOCS, EXAMPLES, LIBRARY, PROGRAM, TOOLS, TOP, Ran, ToolTest, for_each, missing
-from .support import needs, needs_library, needs_program, run, write_script
+from .support import DATA, LIBRARY, PROGRAM, TOOLS, TOP, Ran, ToolTest, for_each, missing, needs
+from .support import needs_library, needs_program, run
 
+PROGRAM_PLACE = "crates/papr_main/out/papr_main"
 BLOCKS = re.compile(r"^```sh\n(.*?)^```\n(?:```text\n(.*?)^```\n)?", re.MULTILINE | re.DOTALL)
 TRANSCRIPT = re.compile(r"^```text\n(\$ .*?)^```\n", re.MULTILINE | re.DOTALL)
 UNNAMED = re.compile(r"^```\n(.*?)^```\n", re.MULTILINE | re.DOTALL)
@@ -79,12 +80,17 @@ RUN = [block for block in ALL if block.reason is None]
 
 
 def sources(folder: Path) -> None:
-    """Puts into a folder what the documents use of the sources; papr is the program under test."""
-    for path in (EXAMPLES, DOCS, TOP / "tests", TOP / "crates", TOP / "crates.txt", TOP / "LICENSE-MIT"):
-        (folder / path.name).symlink_to(path)
-    (folder / "LICENSE-APACHE").symlink_to(TOP / "LICENSE-APACHE")
+    """Puts into a folder what the documents use of the sources, with the program under test as the built one."""
+    for name in ("docs", "examples", "tests", "crates.txt", "LICENSE-MIT", "LICENSE-APACHE"):
+        (folder / name).symlink_to(TOP / name)
+    place = folder / PROGRAM_PLACE
+    place.parent.mkdir(parents=True)
+    shutil.copy(PROGRAM, place)
+    for crate in (TOP / "crates").iterdir():
+        if crate.name not in PROGRAM_PLACE:
+            (folder / "crates" / crate.name).symlink_to(crate)
     shutil.copytree(TOOLS, folder / "tools", ignore=shutil.ignore_patterns("__pycache__"))
-    write_script(folder / "papr", f'#!/bin/sh\nexec {PROGRAM} "$@"\n')
+    shutil.copy(TOP / "papr", folder)
 
 
 def folder_of(work: Path, page: str) -> Path:

@@ -1,4 +1,4 @@
-"""The crates of this repository and what each stands on, as crates.txt lists them."""
+"""The crates of this repository and what each depends on, as crates.txt lists them."""
 
 from pathlib import Path
 from typing import Iterator

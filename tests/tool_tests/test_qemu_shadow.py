@@ -100,8 +100,8 @@ class Refusals(ShadowTest):
         path = self.tree / "hw" / "ppc" / "spapr.c"
         path.write_text(self.text("hw/ppc/spapr.c").replace("htab_fd = -1", "htab_fd = 0"), encoding="utf-8")
         before = self.files()
-        place = "spapr.c: behind static void spapr_instance_init("
-        message = f"apply: {place} stands nothing of the form spapr->htab_fd = -1;"
+        place = "static void spapr_instance_init("
+        message = f"apply: spapr.c: nothing of the form spapr->htab_fd = -1; after {place}"
         self.assert_refused(run(APPLY, self.tree), message)
         self.assertEqual(self.files(), before)
 

@@ -149,7 +149,8 @@ class Installing(ToolTest):
         self.assertEqual([line for line in described if line.startswith("Version")], [f"Version: {VERSION}"])
 
     def test_make_install_puts_the_program_the_documents_and_the_examples(self) -> None:
-        self.assertEqual(text_of(self.usr / "bin" / "papr"), STAND_IN)
+        self.assertEqual(text_of(self.usr / "libexec" / "papr" / "papr"), STAND_IN)
+        self.assert_same_file(self.usr / "bin" / "papr", TOP / "papr")
         share = self.usr / "share"
         self.assert_same_file(share / "zsh" / "site-functions" / "_papr", ZSH)
         self.assert_same_file(share / "doc" / "papr" / "docs" / "FORMATS.md", DOCS / "FORMATS.md")
@@ -181,8 +182,35 @@ class Installing(ToolTest):
         self.assert_help(tree / "usr" / "bin" / "papr-why")
         make("uninstall", tree)
         self.assertEqual([path for path in tree.rglob("*") if not path.is_dir()], [])
-        share = tree / "usr" / "share"
-        self.assertEqual([path for path in (share / "doc" / "papr", share / "papr") if path.exists()], [])
+        self.assertEqual([path for path in tree.rglob("papr")], [])
+
+    def test_a_prefix_and_a_destination_with_blanks(self) -> None:
+        """All is put there and taken away from there, and nothing is put anywhere else."""
+        tree, prefix = self.folder / "a tree", "/opt/in st"
+        library = write_script(self.folder / "library", A_LIBRARY)
+        program = write_script(self.folder / "program", STAND_IN)
+        words = ["make", "-s", "-C", TOP, f"DESTDIR={tree}", f"PREFIX={prefix}"]
+        self.assert_ran(run(*words, "install", f"PROGRAM={program}", f"LIBRARY={library}"))
+        installed = Path(f"{tree}{prefix}")
+        self.assert_same_folder(installed / "share" / "doc", self.usr / "share" / "doc")
+        self.assertIn(f"prefix={prefix}\n", text_of(installed / "lib" / "pkgconfig" / "papr_c.pc"))
+        self.assert_ran(run(installed / "bin" / "papr", "run"), "stand-in\n")
+        self.assert_help(installed / "bin" / "papr-why")
+        self.assert_ran(run(*words, "uninstall"))
+        self.assertEqual([path for path in self.folder.rglob("*") if not path.is_dir()], [library, program])
+        self.assertEqual([path for path in tree.rglob("papr")], [])
+
+    @needs("pkg-config")
+    def test_pkg_config_names_folders_with_blanks(self) -> None:
+        tree = self.folder / "a tree"
+        library = write_script(self.folder / "library", A_LIBRARY)
+        ran = run("make", "-s", "-C", TOP, f"PREFIX={tree}", "install-library", f"LIBRARY={library}")
+        self.assert_ran(ran)
+        variables = {"PKG_CONFIG_PATH": str(tree / "lib" / "pkgconfig")}
+        flags = run("pkg-config", "--cflags", "--libs", "papr_c", environment=variables)
+        self.assert_ran(flags, out=None)
+        named = run("sh", "-c", f"printf '%s\\n' {flags.out.strip()}").out.splitlines()
+        self.assertEqual(named, [f"-I{tree}/include", f"-L{tree}/lib", "-lpapr_c"])
 
 
 @needs("make")
@@ -212,6 +240,29 @@ class Packages(ToolTest):
         self.assertCountEqual(files, [f"papr-{VERSION}/{name}" for name in committed])
         self.assertEqual([name for name in packed if "/out/" in name], [])
 
+    @needs("git", "tar")
+    def test_make_dist_in_what_was_unpacked_packs_the_same(self) -> None:
+        """Where there is no git, with what was made left out."""
+        if run("git", "-C", TOP, "rev-parse", "HEAD").status:
+            self.skipTest("this is no checkout of git")
+        self.make("dist")
+        archive, again = self.folder / f"papr-{VERSION}.tar.gz", self.folder / "again"
+        self.assert_ran(run("tar", "-xzf", archive, "-C", self.folder))
+        unpacked = self.folder / f"papr-{VERSION}"
+        commit = run("git", "-C", TOP, "rev-parse", "HEAD").out
+        self.assertTrue(commit.startswith(text_of(unpacked / "COMMIT").strip()))
+        write_script(unpacked / "out" / "made", "")
+        ran = run("make", "-s", "-C", unpacked, "dist", f"dist={again}")
+        self.assert_ran(ran)
+        names = [
+            sorted(name for name in run("tar", "-tzf", it).out.splitlines() if not name.endswith("/"))
+            for it in (archive, again / archive.name)
+        ]
+        self.assertEqual(names[1], names[0])
+        version = run(unpacked / "papr", "--version")
+        self.assert_ran(version, out=None)
+        self.assertIn(f"\ncommit {text_of(unpacked / 'COMMIT')}", version.out)
+
     @needs("dpkg-deb", "tar")
     def test_make_deb_packs_the_commands_and_their_pages(self) -> None:
         program = write_script(self.folder / "program", STAND_IN)
@@ -226,6 +277,7 @@ class Packages(ToolTest):
         }
         for command in ("papr", *COMMANDS):
             wanted |= {f"/usr/bin/{command}", f"/usr/share/man/man1/{command}.1.gz"}
+        wanted.add("/usr/libexec/papr/papr")
         self.assertEqual(wanted - packed, set())
         self.assert_ran(run("dpkg-deb", "-f", self.package(), "Depends"), "libc6 (>= 2.34)\n")
         self.assert_ran(run("dpkg-deb", "-f", self.package(), "Version"), f"{VERSION}\n")
@@ -239,7 +291,7 @@ class Packages(ToolTest):
         depends = run("dpkg-deb", "-f", self.package(), "Depends").out
         self.assertRegex(depends, r"\Alibc6 \(>= 2[.0-9]*\)\n\Z")
         papr = tree / "usr" / "bin" / "papr"
-        linked = run("ldd", papr)
+        linked = run("ldd", tree / "usr" / "libexec" / "papr" / "papr")
         self.assertEqual([line for line in linked.out.splitlines() if not C_LIBRARY.search(line)], [])
         ran = run(papr, "run", given=EXAMPLES / "first.trace")
         self.assert_ran(ran, text_of(EXAMPLES / "first.replies"))

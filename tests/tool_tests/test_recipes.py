@@ -12,8 +12,9 @@ from pathlib import Path
 from typing import ClassVar, Optional
 
 from .support import DOCS, EXAMPLES, PROGRAM, TOOLS, TOP, Ran, ToolTest, for_each, missing, needs
-from .support import needs_program, run, write_script
+from .support import needs_program, run
 
+PROGRAM_PLACE = "crates/papr_main/out/papr_main"
 BLOCKS = re.compile(r"^```sh\n(.*?)^```\n(?:```text\n(.*?)^```\n)?", re.MULTILINE | re.DOTALL)
 TRANSCRIPT = re.compile(r"^```text\n(.*?)^```\n", re.MULTILINE | re.DOTALL)
 
@@ -37,7 +38,12 @@ def sources(folder: Path) -> None:
     for path in (EXAMPLES, DOCS, TOP / "tests"):
         (folder / path.name).symlink_to(path)
     shutil.copytree(TOOLS, folder / "tools", ignore=shutil.ignore_patterns("__pycache__"))
-    write_script(folder / "papr", f'#!/bin/sh\nexec {PROGRAM} "$@"\n')
+    shutil.copy(TOP / "papr", folder)
+    (folder / "crates.txt").touch()
+    place = folder / PROGRAM_PLACE
+    place.parent.mkdir(parents=True)
+    shutil.copyfile(PROGRAM, place)
+    place.chmod(0o755)
 
 
 @needs_program

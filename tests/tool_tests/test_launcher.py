@@ -40,13 +40,7 @@ REFUSED = (
     "  rule: the first word begins with no digit, and is no first word of a configuration line and not `dump`\n"
 )
 USAGE = "papr: usage\n"
-COMMANDS = {
-    "run": [],
-    "par": [],
-    "check": [],
-    "set": [],
-    "image": ["old"],
-}
+COMMANDS: dict[str, list[str]] = {"run": [], "par": [], "check": [], "set": [], "image": ["old"]}
 TOOLS_OF = {
     "why": "why",
     "history": "entry-history",

@@ -189,7 +189,7 @@ class Installing(ToolTest):
         tree, prefix = self.folder / "a tree", "/opt/in st"
         library = write_script(self.folder / "library", A_LIBRARY)
         program = write_script(self.folder / "program", STAND_IN)
-        words = ["make", "-s", "-C", TOP, f"DESTDIR={tree}", f"PREFIX={prefix}"]
+        words: list[Word] = ["make", "-s", "-C", TOP, f"DESTDIR={tree}", f"PREFIX={prefix}"]
         self.assert_ran(run(*words, "install", f"PROGRAM={program}", f"LIBRARY={library}"))
         installed = Path(f"{tree}{prefix}")
         self.assert_same_folder(installed / "share" / "doc", self.usr / "share" / "doc")

@@ -18,6 +18,14 @@ NAME = os.environ.pop("PAPR_NAME", "") or os.path.basename(sys.argv[0])
 class Bad(Exception):
     """An argument or an input with which a tool can't do its work."""
 
+    status = 2
+
+
+class Missing(Bad):
+    """Something that a tool needs isn't there."""
+
+    status = 127
+
 
 def read_number(word: str) -> int:
     """A number as a trace writes it: decimal, or hexadecimal behind 0x, below 2^64."""
@@ -77,7 +85,10 @@ def run_tool(work: Callable[[], Optional[int]]) -> int:
         status = work()
         sys.stdout.flush()
         return status or 0
-    except (Bad, UnicodeDecodeError) as error:
+    except Bad as error:
+        note(error)
+        return error.status
+    except UnicodeDecodeError as error:
         note(error)
     except KeyboardInterrupt:
         return 128 + signal.SIGINT

@@ -39,14 +39,15 @@ dist = out/dist
 
 # A tool's name behind papr-, and its file in tools/.
 tools = from-qemu:qemu-log-to-trace history:entry-history picture:run-picture receipts:receipts why:why bad-line:bad-line \
-    cut:cut-trace entries:htab-to-entries
+    cut:cut-trace entries:htab-to-entries decode:decode diff:diff
 tool_name = $(firstword $(subst :, ,$(1)))
 tool_file = $(lastword $(subst :, ,$(1)))
 commands = $(foreach tool,$(tools),papr-$(call tool_name,$(tool)))
 tool_files = $(foreach tool,$(tools),tools/$(call tool_file,$(tool)))
-modules = $(addprefix tools/,common.py grants.py refusals.py replies.py svg.py traces.py launcher.bash telling.bash)
+modules = $(addprefix tools/,choosing.py common.py decoding.py grants.py known.py refusals.py replies.py svg.py traces.py \
+    launcher.bash telling.bash)
 pages = man/papr.1 $(commands:%=man/%.1)
-formats =
+formats = man/papr-trace.5 man/papr-replies.5
 examples = $(filter-out examples/c examples/rust,$(wildcard examples/*))
 sources_c = $(wildcard examples/c/*.[ch])
 sources_rust = $(wildcard examples/rust/*)
@@ -111,7 +112,7 @@ install-program: $(PROGRAM)
 	printf '%s\n' '$(VERSION)' '$(commit)' '$(kit)' >"$(tooldir)/version"
 	$(foreach tool,$(tools),ln -sf ../share/papr/$(call tool_file,$(tool)) "$(bindir)/papr-$(call tool_name,$(tool))" &&) :
 	$(INSTALL) -m 644 $(pages) "$(mandir)/man1"
-	$(if $(formats),$(INSTALL) -m 644 $(formats) "$(mandir)/man5")
+	$(INSTALL) -m 644 $(formats) "$(mandir)/man5"
 	$(INSTALL) -m 644 completions/papr.bash "$(bashdir)/papr"
 	$(INSTALL) -m 644 completions/papr.zsh "$(zshdir)/_papr"
 	$(INSTALL) -m 644 completions/papr.fish "$(fishdir)/papr.fish"

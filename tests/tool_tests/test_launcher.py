@@ -50,6 +50,8 @@ TOOLS_OF = {
     "cut": "cut-trace",
     "from-qemu": "qemu-log-to-trace",
     "entries": "htab-to-entries",
+    "decode": "decode",
+    "diff": "diff",
 }
 
 

@@ -19,6 +19,7 @@ from checks import (
     lint,
     reach,
     refusals,
+    rows,
     sets,
     tree,
     words,
@@ -38,6 +39,7 @@ CHECKS: dict[str, Check] = {
     "calls": calls,
     "reach": reach,
     "levels": levels,
+    "rows": rows,
     "tree": tree,
     "words": words,
 }

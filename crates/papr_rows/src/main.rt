@@ -1,35 +1,27 @@
-//! Runs the program over rows: an input, its words, and the status and the text that must come of it.
-//! The rows stand in files of `data/`, which the words name. A line is written for each row, and the last
-//! line counts the cases; the status is 1 where one failed or couldn't be read.
+//! Runs the program's calls over cases: words and an input, and the status and the text that must come of
+//! them. They stand in a file, whose head tells its commands. A line is written for each row of cases, and
+//! the last line counts the runs; the exit status is 1 where one failed or a line couldn't be read.
 #![tactic(auto)]
 
-mod checking;
-mod counted;
-mod error;
-mod faults;
-mod form;
-mod pieces;
-mod row;
+mod case;
+mod copies;
+mod miss;
+mod rows;
 mod running;
-mod tally;
 
-use anyhow::Result;
-use checking::check_file;
-use std::env;
+use rows::Rows;
 use std::process::ExitCode;
-use tally::Tally;
+use std::{fs, io};
 
-fn main(rt: HostRuntime) -> Result<ExitCode> {
-    let mut tally = Tally::new(rt.alloc());
-    for path in env::args(&rt)?.skip(1) {
-        if let Err(error) = check_file(&rt, path.as_str(), &mut tally) {
-            tally.fail(&rt, path.as_str(), &error)?;
-        }
+/// The file of the cases, in the folder that the program is run in.
+const CASES: &str = "cases.txt";
+
+fn main(rt: HostRuntime) -> io::Result<ExitCode> {
+    let text = fs::read_to_string(&rt, CASES)?;
+    let mut rows = Rows::new(rt.alloc());
+    for line in text.as_str().split('\n') {
+        rows.take(&rt, line)?;
     }
-    println!(&rt; "{} passed, {} failed", tally.passed, tally.failed)?;
-    Ok(if tally.failed == 0 {
-        ExitCode::SUCCESS
-    } else {
-        ExitCode::FAILURE
-    })
+    rows.tell_all(&rt)?;
+    Ok(ExitCode::from((rows.failed > 0) as u8))
 }

@@ -116,6 +116,7 @@ def files() -> dict[Path, str]:
     texts = ["".join(f"{line}\n" for line in commands_of_row(row)) for row in found]
     return {
         DATA / CASES: "\n".join([HEAD, *texts]),
+        ROWS / "args": f"{CASES}\n",
         ROWS / "stdout": "".join(f"{line}\n" for line in printed),
     }
 

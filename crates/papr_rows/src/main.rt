@@ -1,5 +1,6 @@
 //! Runs the program's calls over cases: words and an input, and the status and the text that must come of
-//! them. They stand in a file, whose head tells its commands. A line is written for each row of cases, and
+//! them. They stand in the file that
+//! the first word names; its head tells its commands. A line is written for each row of cases, and
 //! the last line counts the runs; the exit status is 1 where one failed or a line couldn't be read.
 #![tactic(auto)]
 
@@ -11,13 +12,12 @@ mod running;
 
 use rows::Rows;
 use std::process::ExitCode;
-use std::{fs, io};
-
-/// The file of the cases, in the folder that the program is run in.
-const CASES: &str = "cases.txt";
+use std::{env, fs, io};
 
 fn main(rt: HostRuntime) -> io::Result<ExitCode> {
-    let text = fs::read_to_string(&rt, CASES)?;
+    let mut words = env::args(&rt)?;
+    let path = words.nth(1).unwrap_or(String::new(rt.alloc()));
+    let text = fs::read_to_string(&rt, path.as_str())?;
     let mut rows = Rows::new(rt.alloc());
     for line in text.as_str().split('\n') {
         rows.take(&rt, line)?;

@@ -10,18 +10,13 @@ mod miss;
 mod rows;
 mod running;
 
-use rows::Rows;
+use rows::take_lines;
 use std::process::ExitCode;
 use std::{env, fs, io};
 
 fn main(rt: HostRuntime) -> io::Result<ExitCode> {
-    let mut words = env::args(&rt)?;
-    let path = words.nth(1).unwrap_or(String::new(rt.alloc()));
+    let path = env::args(&rt)?.nth(1).unwrap_or(String::new(rt.alloc()));
     let text = fs::read_to_string(&rt, path.as_str())?;
-    let mut rows = Rows::new(rt.alloc());
-    for line in text.as_str().split('\n') {
-        rows.take(&rt, line)?;
-    }
-    rows.tell_all(&rt)?;
-    Ok(ExitCode::from((rows.failed > 0) as u8))
+    let failed = take_lines(&rt, text.as_str())?;
+    Ok(ExitCode::from((failed > 0) as u8))
 }

@@ -7,9 +7,22 @@ use std::io;
 use std::sync::Wait;
 use std::thread::Threads;
 
+/// Takes the lines of a file, writes what came of each row, and tells how many runs failed.
+pub fn take_lines<R: AllocGlobal + Print + Threads + Wait + Sync>(
+    rt: &R,
+    text: &str,
+) -> io::Result<u64> {
+    let mut rows = Rows::new(rt.alloc());
+    for line in text.split('\n') {
+        rows.take(rt, line)?;
+    }
+    println!(rt; "{} passed, {} failed", rows.passed, rows.failed)?;
+    Ok(rows.failed)
+}
+
 /// The row at work, and what came of all runs so far.
 #[derive(Drop)]
-pub struct Rows<'a> {
+struct Rows<'a> {
     alloc: Global,
     name: &'a str,
     case: Case,
@@ -18,12 +31,12 @@ pub struct Rows<'a> {
     /// The runs of the row that passed.
     runs: u64,
     passed: u64,
-    pub failed: u64,
+    failed: u64,
 }
 
 impl<'a> Rows<'a> {
     /// Before the first line.
-    pub fn new(alloc: Global) -> Self {
+    fn new(alloc: Global) -> Self {
         Rows {
             alloc,
             name: "",
@@ -36,7 +49,7 @@ impl<'a> Rows<'a> {
     }
 
     /// Takes a line. One that can't be read counts as a run that failed.
-    pub fn take<R: AllocGlobal + Print + Threads + Wait + Sync>(
+    fn take<R: AllocGlobal + Print + Threads + Wait + Sync>(
         &mut self,
         rt: &R,
         line: &'a str,
@@ -87,10 +100,5 @@ impl<'a> Rows<'a> {
 
     fn tell_row(&self, rt: &impl Print) -> io::Result<()> {
         println!(rt; "{}: {}", self.name, self.runs)
-    }
-
-    /// Counts the runs.
-    pub fn tell_all(&self, rt: &impl Print) -> io::Result<()> {
-        println!(rt; "{} passed, {} failed", self.passed, self.failed)
     }
 }

@@ -1,5 +1,5 @@
 -- What the judge carries between two sections.
-use Rattle.std.specs.Prelude.{ℕ, List}
+use Rattle.std.specs.Prelude.{ℕ, List, None}
 use Rattle.tlb_model.specs.Processor.{Processor}
 use Rattle.papr_codes.specs.declared.calls.Hcall.{Hcall}
 use Rattle.partition.specs.PartitionState.{PartitionState}
@@ -11,6 +11,7 @@ use Rattle.run_model.specs.SerialRun.{WindowState, AllStores}
 abbrev pub run_state_of : PartitionState → List Processor → RunState
 run_state_of partition processors = record {
   grants = partition.granted.grants;
+  window = None;
   memory = partition.memory;
   processors = processors;
 }

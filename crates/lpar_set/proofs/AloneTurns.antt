@@ -6,6 +6,7 @@ use Rattle.std.proofs.lemmas.List.{get_or-set_same}
 use Rattle.hpt_pool.specs.Pool.{PoolState}
 use Rattle.trace_line.specs.declared.line.TraceLine.{TraceLine}
 use Rattle.trace_reply.specs.declared.reply.Reply.{Reply}
+use Rattle.run_model.proofs.TableNamed.{IsTable, line_window}
 use Rattle.run_model.specs.RunState.{RunState}
 use Rattle.run_model.specs.SerialRun.{run_line, replies_from as serial_from}
 use Rattle.lpar_set.specs.declared.turn.Turn.{Turn}
@@ -42,6 +43,10 @@ record IsLikeStep (w : SetState) (k : ℕ) (u : RunState) (l : TraceLine) : Type
   reply : without_place (run_line u l).0 ≡ without_place (set_line w k l).0
   state : IsLike (set_line w k l).1 k (run_line u l).1
 
+-- A run of the page table is its member's with the pool.
+put_back : (w : RunState) → IsTable w → with_pool w.memory.pool (without_pool w) ≡ w
+put_back w e = λ i. record w { window = sym e i }
+
 own_step : (w : SetState) (k : ℕ) (u : RunState) (l : TraceLine) → IsSetState w → k < length w.members → IsLike w k u → is_no_mem (set_line w k l).0 ≡ false → IsLikeStep w k u l
 own_step w k u l is inside like served =
     let v = with_pool w.pool (member_at w k) in
@@ -56,7 +61,7 @@ own_step w k u l is inside like served =
         pool = same.pool;
         place = same.place;
         other = same.other;
-        is = subst (λ (m : MemberState). (run_line u l).1 ≡ moved (with_pool after.memory.pool m) same.pool same.place same.other) (sym own) same.state;
+        is = subst (λ (m : MemberState). (run_line u l).1 ≡ moved (with_pool after.memory.pool m) same.pool same.place same.other) (sym own) (same.state ∙ ap (λ (z : RunState). moved z same.pool same.place same.other) (sym (put_back after (line_window (with_pool w.pool (member_at w k)) l))));
         alone = alone_keeps u l like.alone;
         order = (line_keeps_run u l like.alone.held).moves.pools.size ∙ like.order ∙ sym stays.order;
       };

@@ -33,6 +33,7 @@ pub record SetState : Type 0 where
 abbrev pub with_pool : PoolState → MemberState → RunState
 with_pool pool m = record {
   grants = m.grants;
+  window = None;
   memory = record { limit = m.limit; pool = pool; pending = m.pending; table = m.table };
   processors = m.processors;
 }

@@ -17,7 +17,8 @@ use Rattle.trace_line.specs.Lines.{is_quiet}
 use Rattle.trace_read.specs.Trace.{AcceptedTrace, IsAccepted}
 use Rattle.trace_reply.specs.declared.reply.Reply.{Reply}
 use Rattle.trace_reply.specs.Replies.{RepliedLine, IsOfKind, AreReplies, receipts_in, lines_with_replies}
-use Rattle.run_model.specs.StoreContexts.{access_of, table_context}
+use Rattle.run_model.proofs.TableNamed.{table_is, opening_table}
+use Rattle.run_model.specs.StoreContexts.{StoreContext, access_of, table_context}
 use Rattle.run_model.specs.Processors.{processors_after}
 use Rattle.run_model.specs.LineReplies.{IsCallReply}
 use Rattle.run_model.specs.RunState.{RunState, context_of, states_of, opening_run, run_quiet_line}
@@ -25,7 +26,7 @@ use Rattle.run_model.specs.Histories.{receipts_by}
 use Rattle.run_model.specs.Quiet.{cut, cut_before}
 use Rattle.run_model.specs.Windows.{is_on_table, table_lines}
 use Rattle.run_model.specs.Sections.{receipts_made, section_end, sections_from, sections_of}
-use Rattle.run_model.specs.GoodRun.{AreLegal, CallsAreReplied, IsAccessLine, AccessesAreReplied, QuietIsReplied, IsGoodRun}
+use Rattle.run_model.specs.GoodRun.{AreLegal, CallsAreReplied, IsAccessLine, AccessesAreReplied, QuietIsReplied, IsGoodRun, HasCallReplies}
 use Rattle.run_model.specs.Landings.{AccessesLand, IsUnworn}
 use Rattle.run_model.proofs.Each.{each_map, each_front, each_back, each_filter, filter_length}
 use Rattle.run_model.proofs.LineReceipts.{each_receipt, weight_by_lines}
@@ -63,10 +64,13 @@ tame_safe granted [] h low_stamp = tt
 tame_safe granted (t ∷ ts) h low_stamp = (h.0.safe (each_front (λ (r : Receipt). IsLowStamp granted.grants top r.before) (receipts_in t.reply) (receipts_by ts) low_stamp), tame_safe granted ts h.1 (each_back (λ (r : Receipt). IsLowStamp granted.grants top r.before) (receipts_in t.reply) (receipts_by ts) low_stamp))
 
 -- ---- a section
+abbrev HasCalls : StoreContext → RunState → List RepliedLine → Type 0
+HasCalls set w ts = HasCallReplies (record { context = set; opening = states_of w; processors = w.processors; replied_lines = ts })
+
 section_safe : (granted : GrantedMemory) (n m cpus : ℕ) (w : RunState) (ts : List RepliedLine) (quiet : Option RepliedLine) → AreApart granted → IsLowStampRunState granted n cpus w → AllByRecursion (IsLine cpus) ts → n + 32 * length ts ≤ m → m ≤ top → AreLegal (record { before = w; replied_lines = ts; quiet = quiet }) → CallsAreReplied (record { before = w; replied_lines = ts; quiet = quiet }) → AccessesAreReplied (record { before = w; replied_lines = ts; quiet = quiet }) → AreUnworn ts × AccessesLand granted (record { before = w; replied_lines = ts; quiet = quiet }) × IsLowStampRunState granted m cpus (section_end w ts)
 section_safe granted n m cpus w ts quiet apart run_state lines low high legal calls accesses =
     let within : Cpus (length w.processors) ts = subst (λ k. Cpus k ts) (sym run_state.processors) (each_map (IsLine cpus) (λ (t : RepliedLine). t.line.cpu < cpus) ts (λ t h. h.0) lines) in
-    let tame : AreTame granted ts = lines_tame granted (access_of (context_of w)) (states_of (section_end w ts)) cpus w.processors ts run_state.grants lines (file_lines (λ processor t. IsCallReply (context_of w) t.line.act t.reply) w.processors ts within calls) (file_lines (IsAccessLine (access_of (context_of w)) (states_of (section_end w ts))) w.processors ts within accesses) in
+    let tame : AreTame granted ts = lines_tame granted (access_of (context_of w)) (states_of (section_end w ts)) cpus w.processors ts run_state.grants lines (file_lines (λ processor t. IsCallReply (table_context (access_of (context_of w))) t.line.act t.reply) w.processors ts within (subst (λ set. HasCalls set w ts) (table_is w run_state.table) calls)) (file_lines (IsAccessLine (access_of (context_of w)) (states_of (section_end w ts))) w.processors ts within accesses) in
     let listed : Regrouped (receipts_by ts) (receipts_made w ts) = file_listed (length w.processors) ts within in
     let same : weight (receipts_by ts) ≡ weight (receipts_made w ts) = weight_regrouped listed in
     let enters : EnterGranted granted.grants (receipts_made w ts) = each_regrouped (λ (r : Receipt). EntersOnly (IsGrantedWords granted.grants) r.op) listed (tame_enters granted ts tame) in
@@ -157,7 +161,7 @@ table_safe t rs is good =
     let on = λ (x : RepliedLine). is_on_table t.config.windows x.line.act in
     let replied_lines = table_lines t rs in
     let c = cut replied_lines in
-    let run_state : IsLowStampRunState granted 1 cpus (opening_run t.config) = record { grants = opening_grants t.config; processors = opening_processors t; states = opening_states t.config is.entries; placed = opening_placed t.config } in
+    let run_state : IsLowStampRunState granted 1 cpus (opening_run t.config) = record { grants = opening_grants t.config; processors = opening_processors t; states = opening_states t.config is.entries; placed = opening_placed t.config; table = opening_table t } in
     let lines : InSections (IsLine cpus) c.0 c.1 = cut_in (IsLine cpus) replied_lines (each_filter (IsLine cpus) on all (replied_lines_lines cpus t.lines rs is.lines.on_cpus good.kinds)) in
     let few : length t.lines ≤ 2 ^ 17 = is.lines.few in
     let low : 1 + 32 * line_count c.0 c.1 ≤ top = omega (arith, cut_count replied_lines, filter_length on all, replied_lines_count t.lines rs) in

@@ -116,6 +116,7 @@ section : ℕ → ℕ → List State → Section
 section order number states = record {
   before = record {
     grants = [];
+    window = None;
     memory = record {
       limit = 22;
       pool = record { base = 0x1000000000; order = 20; taken = [] };

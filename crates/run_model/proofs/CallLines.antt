@@ -1,7 +1,7 @@
 -- Facts of each line of a good run, on the page table or on a window, by its reply as a call's.
 use Rattle.std.specs.Prelude.{◌==◌}
 use Rattle.std.specs.Option.{option_map_or}
-use Rattle.std.proofs.Common.{◌≡◌, ℕ, List, [], ◌∷◌, true, false, sym, ◌∙◌, refl}
+use Rattle.std.proofs.Common.{◌≡◌, ℕ, List, [], ◌∷◌, true, false, sym, ◌∙◌, refl, subst}
 use Rattle.std.specs.List.{AllByRecursion}
 use Rattle.std.proofs.lemmas.Bool.{cond_both, eq-eqb, false≢true}
 use Rattle.bus_window.specs.Windows.{BusWindow}
@@ -18,6 +18,7 @@ use Rattle.trace_line.specs.declared.act.Act.TheVariants as acts
 use Rattle.trace_read.specs.Trace.{AcceptedTrace}
 use Rattle.trace_reply.specs.declared.reply.Reply.{Reply}
 use Rattle.trace_reply.specs.Replies.{RepliedLine, lines_with_replies}
+use Rattle.run_model.proofs.TableNamed.{IsTable, table_is, opening_table, quiet_window, closed_window}
 use Rattle.run_model.specs.Processors.{processor_at, processor_after}
 use Rattle.run_model.specs.Histories.{lines_of_processor}
 use Rattle.run_model.specs.Quiet.{QuietPart, cut}
@@ -88,17 +89,20 @@ HoldsAtQuiet P = (t : RepliedLine) → is_quiet t.line.act ≡ true → P t
 abbrev pub FollowsOnTable : (RepliedLine → Type 0) → Type 0
 FollowsOnTable P = (context : AccessContext) (t : RepliedLine) → IsCallReply (table_context context) t.line.act t.reply → P t
 
-table_sections : (P : RepliedLine → Type 0) (w : RunState) (ts : List RepliedLine) (qs : List QuietPart) → FollowsOnTable P → HoldsAtQuiet P → AllByRecursion (λ (q : QuietPart). is_quiet q.0.line.act ≡ true) qs → AllByRecursion CallsAreReplied (sections_from w ts qs) → InSections P ts qs
-table_sections P w ts [] shows quiets quiet h = (section_calls P (table_section w ts) (shows (access_of (context_of w))) h.0, tt)
-table_sections P w ts (q ∷ qs) shows quiets quiet h =
-    let rest = table_sections P (run_quiet_line (section_end w ts) q.0.line.act).1 q.1 qs shows quiets quiet.1 h.1 in
-    (section_calls P (table_section w ts) (shows (access_of (context_of w))) h.0, ((quiets q.0 quiet.0, rest.0), rest.1))
+shows_on : (P : RepliedLine → Type 0) (w : RunState) → IsTable w → FollowsOnTable P → (t : RepliedLine) → IsCallReply (context_of w) t.line.act t.reply → P t
+shows_on P w table shows t h = shows (access_of (context_of w)) t (subst (λ set. IsCallReply set t.line.act t.reply) (table_is w table) h)
+
+table_sections : (P : RepliedLine → Type 0) (w : RunState) (ts : List RepliedLine) (qs : List QuietPart) → IsTable w → FollowsOnTable P → HoldsAtQuiet P → AllByRecursion (λ (q : QuietPart). is_quiet q.0.line.act ≡ true) qs → AllByRecursion CallsAreReplied (sections_from w ts qs) → InSections P ts qs
+table_sections P w ts [] table shows quiets quiet h = (section_calls P (table_section w ts) (shows_on P w table shows) h.0, tt)
+table_sections P w ts (q ∷ qs) table shows quiets quiet h =
+    let rest = table_sections P (run_quiet_line (section_end w ts) q.0.line.act).1 q.1 qs (quiet_window (section_end w ts) q.0.line.act ∙ closed_window w ts ∙ table) shows quiets quiet.1 h.1 in
+    (section_calls P (table_section w ts) (shows_on P w table shows) h.0, ((quiets q.0 quiet.0, rest.0), rest.1))
 
 -- So for each line on the page table.
 pub table_calls : (P : RepliedLine → Type 0) (t : AcceptedTrace) (rs : List Reply) → FollowsOnTable P → HoldsAtQuiet P → IsGoodRun t rs → AllByRecursion P (table_lines t rs)
 table_calls P t rs shows quiets good =
     let ts = table_lines t rs in
-    cut_out P ts (table_sections P (opening_run t.config) (cut ts).0 (cut ts).1 shows quiets (cut_quiet ts) good.calls)
+    cut_out P ts (table_sections P (opening_run t.config) (cut ts).0 (cut ts).1 (opening_table t) shows quiets (cut_quiet ts) good.calls)
 
 -- ---- the sections of a window
 -- The fact holds of each line on the window.

@@ -37,6 +37,7 @@ use Rattle.trace_line.specs.declared.act.Act.{Act}
 use Rattle.trace_line.specs.declared.line.TraceLine.{TraceLine}
 use Rattle.trace_line.specs.Lines.{is_quiet}
 use Rattle.trace_reply.specs.declared.reply.Reply.{Reply}
+use Rattle.run_model.proofs.TableNamed.{IsTable, table_is}
 use Rattle.run_model.specs.StoreContexts.{access_of, table_context}
 use Rattle.run_model.specs.EnteredEntries.{CanBeEntered}
 use Rattle.run_model.specs.Laws.{EntriesCanBeEntered}
@@ -137,15 +138,16 @@ result_kept set p states acts.Dump h = h
 -- The grants are these, and each state is kept.
 record IsKeptRun (grants : List Grant) (w : RunState) : Type 0 where
   same : w.grants ≡ grants
+  table : IsTable w
   states : AreKept grants (states_of w)
 
 resize_kept : (grants : List Grant) (w : RunState) (call : Hcall) (args : List ℕ) → IsKeptRun grants w → IsKeptRun grants (run_resize w call args).1
 unfolding run_resize
 resize_kept grants w calls.Prepare args h =
     let table = prepare_table w.memory (slice_index args 0) (slice_index args 1) in
-    record { same = h.same; states = subst (λ t. AreKept grants t.states) (sym table) h.states }
+    record { same = h.same; table = h.table; states = subst (λ t. AreKept grants t.states) (sym table) h.states }
 resize_kept grants w calls.Commit args h =
-    record { same = h.same; states = committed_each (IsKept grants) (empty_kept grants) (λ s k. k) w.memory (slice_index args 0) (slice_index args 1) h.states }
+    record { same = h.same; table = h.table; states = committed_each (IsKept grants) (empty_kept grants) (λ s k. k) w.memory (slice_index args 0) (slice_index args 1) h.states }
 resize_kept grants w other args h = h
 
 quiet_kept : (grants : List Grant) (w : RunState) (act : Act) → IsKeptRun grants w → IsKeptRun grants (run_quiet_line w act).1
@@ -156,7 +158,7 @@ quiet_kept grants w other h = h
 plain_kept : (grants : List Grant) (w : RunState) (l : TraceLine) → IsKeptRun grants w → IsKeptRun grants (with_result w l (line_result (context_of w) (processor_at w.processors l.cpu) (states_of w) l.act)).1
 plain_kept grants w l h =
     let own : AreKept w.grants (states_of w) = subst (λ g. AreKept g (states_of w)) (sym h.same) h.states in
-    record { same = h.same; states = subst (λ g. AreKept g (line_result (context_of w) (processor_at w.processors l.cpu) (states_of w) l.act).1) h.same (result_kept (access_of (context_of w)) (processor_at w.processors l.cpu) (states_of w) l.act own) }
+    record { same = h.same; table = h.table; states = subst (λ g. AreKept g (line_result (context_of w) (processor_at w.processors l.cpu) (states_of w) l.act).1) h.same (subst (λ set. AreKept w.grants (line_result set (processor_at w.processors l.cpu) (states_of w) l.act).1) (sym (table_is w h.table)) (result_kept (access_of (context_of w)) (processor_at w.processors l.cpu) (states_of w) l.act own)) }
 
 one_kept : (grants : List Grant) (w : RunState) (l : TraceLine) → IsKeptRun grants w → IsKeptRun grants (run_line w l).1
 unfolding run_line
@@ -174,8 +176,12 @@ all_kept grants w (l ∷ ls) h = all_kept grants (run_line w l).1 ls (one_kept g
 entered_kept : (order : ℕ) (grants : List Grant) (e : ImageEntry) → IsOpeningEntry order grants e → IsKept grants (entered_state e.dword0 e.dword1)
 entered_kept order grants e h = reply_kept grants (empty_state 0) (ops.Enter e.dword0 e.dword1) (stored_parts grants e.dword0 e.dword1 h.stored) (empty_kept grants)
 
+opening_is : (c : Configuration) → IsTable (opening_run c)
+unfolding opening_run
+opening_is c = refl
+
 opening_kept : (c : Configuration) → AreOpeningEntries c.order c.granted.grants c.entries → IsKeptRun c.granted.grants (opening_run c)
-opening_kept c is = record { same = opening_grants c; states = each_opening (IsKept c.granted.grants) c (empty_kept c.granted.grants) (entered_kept c.order c.granted.grants) is }
+opening_kept c is = record { same = opening_grants c; table = opening_is c; states = each_opening (IsKept c.granted.grants) c (empty_kept c.granted.grants) (entered_kept c.order c.granted.grants) is }
 
 can_be_entered : (grants : List Grant) (s : State) → IsKept grants s → CanBeEntered grants s
 can_be_entered grants s h = record { canonical = h.1; stored = λ valid. stored_whole grants s.dword0 s.dword1 (h.0 valid) }

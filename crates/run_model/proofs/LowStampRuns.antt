@@ -23,6 +23,7 @@ use Rattle.trace_read.specs.Configuration.{Configuration, IsOpeningEntry, AreOpe
 use Rattle.trace_line.specs.declared.act.Act.{Act}
 use Rattle.trace_reply.specs.declared.reply.Reply.{Reply}
 use Rattle.trace_reply.specs.Replies.{RepliedLine}
+use Rattle.run_model.proofs.TableNamed.{IsTable, quiet_window}
 use Rattle.run_model.specs.RunState.{RunState, states_of, opening_run, run_resize, run_quiet_line}
 use Rattle.run_model.specs.Sections.{processors_after_lines, section_end}
 use Rattle.run_model.specs.Landings.{IsUnworn}
@@ -44,6 +45,7 @@ pub record IsLowStampRunState (granted : GrantedMemory) (n cpus : ℕ) (w : RunS
   pub processors : length w.processors ≡ cpus
   pub states : AreLowStamp granted n (states_of w)
   pub placed : AllPlaced w
+  pub table : IsTable w
 
 -- ---- a committed resize
 restamped_low_stamp : (grants : List Grant) (n : ℕ) (s : State) → IsLowStamp grants n s → IsLowStamp grants n (at_stamp_0 s)
@@ -129,7 +131,7 @@ quiet_keeps granted n w other g h = (tt, g, h)
 pub quiet_safe : (granted : GrantedMemory) (n cpus : ℕ) (w : RunState) (act : Act) → IsLowStampRunState granted n cpus w → IsUnworn (run_quiet_line w act).0 × IsLowStampRunState granted n cpus (run_quiet_line w act).1
 quiet_safe granted n cpus w act h =
     let kept = quiet_keeps granted n w act h.grants h.states in
-    (kept.0, record { grants = kept.1; processors = quiet_size w act ∙ h.processors; states = kept.2; placed = quiet_placed w act h.placed })
+    (kept.0, record { grants = kept.1; processors = quiet_size w act ∙ h.processors; states = kept.2; placed = quiet_placed w act h.placed; table = quiet_window w act ∙ h.table })
 
 -- ---- the ends of sections
 processors_by_size : (cpu : ℕ) (processors : List Processor) (ts : List RepliedLine) → length (processors_after_lines cpu processors ts) ≡ length processors
@@ -138,7 +140,7 @@ processors_by_size cpu (s ∷ ss) ts = ap suc (processors_by_size (suc cpu) ss t
 
 pub closed_run_state : (granted : GrantedMemory) (n m cpus : ℕ) (w : RunState) (ts : List RepliedLine) → IsLowStampRunState granted n cpus w → AreLowStamp granted m (states_of (section_end w ts)) → AllByRecursion (ProcessorPlaced w.memory.table.order) (processors_after_lines 0 w.processors ts) → IsLowStampRunState granted m cpus (section_end w ts)
 unfolding section_end
-closed_run_state granted n m cpus w ts h states placed = record { grants = h.grants; processors = processors_by_size 0 w.processors ts ∙ h.processors; states = states; placed = placed }
+closed_run_state granted n m cpus w ts h states placed = record { grants = h.grants; processors = processors_by_size 0 w.processors ts ∙ h.processors; states = states; placed = placed; table = h.table }
 
 -- ---- the beginning
 -- An entry that is valid at first has stamp 0, and a granted page.

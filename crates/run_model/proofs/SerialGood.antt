@@ -104,7 +104,7 @@ unfolding opening_run
 opening_sound t is =
     let c = t.config in
     let memory = opening_stands c.limit c.order c.granted.pool_base c.granted.pool_order c.entries is.configured.settings.at_most is.configured.settings.at_least in
-    record { lines = record { size = memory.size; low = memory.low; fresh = each_replicate _ c.cpus new_processor (empty_fresh _) }; memory = memory }
+    record { window = tt; lines = record { size = memory.size; low = memory.low; fresh = each_replicate _ c.cpus new_processor (empty_fresh _) }; memory = memory }
 
 pub opening_processors : (t : AcceptedTrace) → length (opening_run t.config).processors ≡ t.config.cpus
 unfolding opening_run

@@ -1,5 +1,5 @@
 -- The serial run runs with nobody else at the table.
-use Rattle.std.specs.Prelude.{if◌then◌else◌, slice_index}
+use Rattle.std.specs.Prelude.{if◌then◌else◌, slice_index, IfSome}
 use Rattle.std.proofs.Common.{◌≡◌, ℕ, List, [], ◌∷◌, true, false, refl, sym, subst, ◌⊎◌, inl, inr, map}
 use Rattle.std.specs.List.{AllByRecursion}
 use Rattle.std.proofs.lemmas.Bool.{cases_Bool, cond_both}
@@ -16,6 +16,7 @@ use Rattle.trace_line.specs.declared.line.TraceLine.{TraceLine}
 use Rattle.trace_line.specs.Lines.{is_quiet}
 use Rattle.trace_reply.specs.declared.reply.Reply.{Reply}
 use Rattle.trace_reply.specs.Replies.{RepliedLine, lines_with_replies}
+use Rattle.bus_window.specs.Windows.{IsWindow}
 use Rattle.run_model.specs.Processors.{processor_at, processors_after}
 use Rattle.run_model.specs.RunState.{RunState, context_of, states_of, is_success, after_prepare, after_commit, run_resize, run_quiet_line}
 use Rattle.run_model.specs.SerialRun.{line_result, with_result, run_line, replies_from}
@@ -31,6 +32,7 @@ use Rattle.trace_line.specs.declared.act.Act.TheVariants as acts
 
 -- What stands between two lines.
 pub record SoundRunState (w : RunState) : Type 0 where
+  pub window : IfSome w.window IsWindow
   pub lines : IsSound w.memory.table.order w.processors (states_of w)
   pub memory : MemoryStands w.memory
 
@@ -40,13 +42,13 @@ each_cleared states processors = each_of_map (ProcessorFresh states) without_cac
 
 -- With the caches cleared any table is as good as another.
 committed_fresh : (w : RunState) (x : Rc × TableMemory) → MemoryStands x.1 → SoundRunState w → (x.0 ≡ Success) ⊎ (x.1.table ≡ w.memory.table) → SoundRunState (after_commit w x).1
-committed_fresh w x stands h with_result = record { lines = record { size = stands.size; low = stands.low; fresh = at with_result }; memory = stands } where
+committed_fresh w x stands h with_result = record { window = h.window; lines = record { size = stands.size; low = stands.low; fresh = at with_result }; memory = stands } where
   at : (x.0 ≡ Success) ⊎ (x.1.table ≡ w.memory.table) → AllByRecursion (ProcessorFresh x.1.table.states) (if is_success x.0 then map without_cache w.processors else w.processors)
   at (inl done) = rw done (each_cleared x.1.table.states w.processors)
   at (inr same) = cond_both (is_success x.0) (map without_cache w.processors) w.processors (AllByRecursion (ProcessorFresh x.1.table.states)) (λ _. each_cleared x.1.table.states w.processors) (λ _. subst (λ (t : Table). AllByRecursion (ProcessorFresh t.states) w.processors) (sym same) h.lines.fresh)
 
 prepared_sound : (w : RunState) (x : Rc × TableMemory) → MemoryStands x.1 → x.1.table ≡ w.memory.table → SoundRunState w → SoundRunState (after_prepare w x).1
-prepared_sound w x stands same h = record { lines = subst (λ (t : Table). IsSound t.order w.processors t.states) (sym same) h.lines; memory = stands }
+prepared_sound w x stands same h = record { window = h.window; lines = subst (λ (t : Table). IsSound t.order w.processors t.states) (sym same) h.lines; memory = stands }
 
 resize_sound : (w : RunState) (call : Hcall) (args : List ℕ) → SoundRunState w → SoundRunState (run_resize w call args).1
 unfolding run_resize
@@ -82,7 +84,7 @@ front_stands w t mid ts (q ∷ qs) replied_line h = (h.0, (mid, replied_line, h.
 next_sound : (w : RunState) (t : RepliedLine) (mid : List State) → SoundRunState w → IsUndisturbed (context_of w) (processor_at w.processors t.line.cpu) (states_of w) t mid → SoundRunState (next w t mid)
 next_sound w t mid h replied_line =
     let lines : IsSound w.memory.table.order (processors_after w.processors t) mid = sound_on (context_of w) w.processors (states_of w) mid t h.lines replied_line in
-    record { lines = lines; memory = record { limited = h.memory.limited; low = h.memory.low; size = lines.size; allowed = h.memory.allowed } }
+    record { window = h.window; lines = lines; memory = record { limited = h.memory.limited; low = h.memory.low; size = lines.size; allowed = h.memory.allowed } }
 
 abbrev pub Cut : RunState → List RepliedLine → Type 0
 Cut w ts = Stands w (cut ts).0 (cut ts).1
@@ -104,7 +106,7 @@ front_cut w l ls h rest = at (cases_Bool (is_quiet l.act)) where
       let y = with_result w l (line_result (context_of w) (processor_at w.processors l.cpu) (states_of w) l.act) in
       let t : RepliedLine = record { line = l; reply = y.0 } in
       let x = cut (lines_with_replies ls (replies_from y.1 ls)) in
-      let replied_line = replied_line_meets (context_of w) w.processors (states_of w) l q tt h.lines in
+      let replied_line = replied_line_meets (context_of w) w.processors (states_of w) l q h.window h.lines in
       let k : Stands w (t ∷ x.0) x.1 = front_stands w t (states_of y.1) x.0 x.1 replied_line (rest y.1 (next_sound w t (states_of y.1) h replied_line)) in
       rw q k
 

@@ -22,6 +22,7 @@ memory_of states = record {
 abbrev pub small : ℕ → RunState
 small cpus = record {
   grants = record { logical = 0; machine = 0x2000000000; length = 0x40000000; kind = Ram } ∷ record { logical = 0x40000000; machine = 0x3000000000; length = 0x10000; kind = Io } ∷ [];
+  window = None;
   memory = memory_of (replicate 16 (empty_state 0));
   processors = replicate cpus new_processor;
 }

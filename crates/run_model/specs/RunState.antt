@@ -1,16 +1,16 @@
 -- All that a run carries from line to line, and the quiet lines.
-use Rattle.std.specs.Prelude.{ℕ, List, [], map, replicate, if◌then◌else◌, slice_index, Bool, true, false}
+use Rattle.std.specs.Prelude.{ℕ, List, [], map, replicate, if◌then◌else◌, slice_index, Bool, true, false, Option, None}
+use Rattle.bus_window.specs.Windows.{BusWindow}
 use Rattle.frame_grants.specs.declared.grant.Grant.{Grant}
 use Rattle.entry_model.specs.State.{State}
 use Rattle.papr_codes.specs.declared.calls.Hcall.{Hcall}
 use Rattle.papr_codes.specs.declared.codes.Rc.{Rc}
 use Rattle.papr_codes.specs.Hcalls.{hcall_of}
 use Rattle.hpt_resize.specs.TableMemory.{TableMemory, opening_memory, prepare_result, commit_result}
-use Rattle.hpt_walk.specs.Access.{access_context}
 use Rattle.tlb_model.specs.Processor.{Processor, new_processor, without_cache}
 use Rattle.trace_read.specs.Configuration.{Configuration}
 use Rattle.trace_line.specs.declared.act.Act.{Act}
-use Rattle.run_model.specs.StoreContexts.{StoreContext, table_context}
+use Rattle.run_model.specs.StoreContexts.{StoreContext}
 use Rattle.trace_reply.specs.declared.shown.Shown.{Shown}
 use Rattle.trace_reply.specs.declared.reply.Reply.{Reply}
 use Rattle.trace_reply.specs.ShownTable.{table_shown}
@@ -23,12 +23,13 @@ use Rattle.trace_reply.specs.declared.reply.Reply.TheVariants as replies
 -- The granted memory, the tables and their pool, and the processors.
 pub record RunState : Type 0 where
   pub grants : List Grant
+  pub window : Option BusWindow
   pub memory : TableMemory
   pub processors : List Processor
 
 -- What the lines on the page table between two quiet lines have in common.
 abbrev pub context_of : RunState → StoreContext
-context_of w = table_context (access_context w.memory.table.order w.grants)
+context_of w = record { order = w.memory.table.order; grants = w.grants; window = w.window }
 
 -- The states of the table's entries.
 abbrev pub states_of : RunState → List State
@@ -38,6 +39,7 @@ states_of w = w.memory.table.states
 unfoldable pub opening_run : Configuration → RunState
 opening_run c = record {
   grants = c.granted.grants;
+  window = None;
   memory =
       opening_memory
       c.limit

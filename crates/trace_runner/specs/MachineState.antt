@@ -1,5 +1,5 @@
 -- What the machine that runs a trace carries: a partition, its processors and its windows.
-use Rattle.std.specs.Prelude.{List}
+use Rattle.std.specs.Prelude.{List, None}
 use Rattle.tlb_model.specs.Processor.{Processor}
 use Rattle.trace_read.specs.Configuration.{NumbersDiffer}
 use Rattle.partition.specs.PartitionState.{PartitionState, HasStates}
@@ -12,6 +12,7 @@ use Rattle.trace_runner.specs.Windows.{windows_of}
 abbrev pub run_state_of : PartitionState → List Processor → RunState
 run_state_of partition processors = record {
   grants = partition.granted.grants;
+  window = None;
   memory = partition.memory;
   processors = processors;
 }

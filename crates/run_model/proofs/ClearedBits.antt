@@ -34,9 +34,9 @@ use Rattle.run_model.specs.StoreContexts.{StoreContext, access_of, table_context
 use Rattle.run_model.specs.Processors.{processor_after, processor_at}
 use Rattle.run_model.specs.Histories.{lines_of_processor}
 use Rattle.run_model.specs.LineReplies.{hcall_plan, IsCallReply}
-use Rattle.run_model.specs.RunState.{context_of}
+use Rattle.run_model.specs.Stores.{context_of}
 use Rattle.run_model.specs.Sections.{Section, sections_of}
-use Rattle.run_model.specs.GoodRun.{EachLineOfProcessor, CallsAreReplied, IsGoodRun}
+use Rattle.run_model.specs.GoodRun.{EachLineOfProcessor, CallsAreReplied, IsGoodSection, IsGoodRun}
 use Rattle.run_model.specs.ShownStores.{clears_by, ShowsWhatItClears, ShowsClearedBits, ClearedBitsAreShown}
 use Rattle.run_model.proofs.Each.{each_map, each_both}
 use Rattle.papr_codes.specs.declared.calls.Hcall.TheVariants as calls
@@ -168,4 +168,4 @@ section_shows : (s : Section) → IsTable s.before → CallsAreReplied s → Cle
 section_shows s table h = λ cpu. lines_show (access_of (context_of s.before)) _ _ (subst (λ set. EachLineOfProcessor (λ q t. IsCallReply set t.line.act t.reply) (processor_at s.before.processors cpu) (lines_of_processor cpu s.replied_lines)) (table_is s.before table) (h cpu))
 
 pub cleared_are_shown : (t : AcceptedTrace) (rs : List Reply) → IsGoodRun t rs → AllByRecursion ClearedBitsAreShown (sections_of t rs)
-cleared_are_shown t rs good = each_map (λ (s : Section). IsTable s.before × CallsAreReplied s) ClearedBitsAreShown (sections_of t rs) (λ s h. section_shows s h.0 h.1) (each_both (λ (s : Section). IsTable s.before) CallsAreReplied (sections_of t rs) (all_table t rs) good.calls)
+cleared_are_shown t rs good = each_map (λ (s : Section). IsTable s.before × CallsAreReplied s) ClearedBitsAreShown (sections_of t rs) (λ s h. section_shows s h.0 h.1) (each_both (λ (s : Section). IsTable s.before) CallsAreReplied (sections_of t rs) (all_table t rs) (each_map IsGoodSection CallsAreReplied (sections_of t rs) (λ s h. h.calls) good.stores.0))

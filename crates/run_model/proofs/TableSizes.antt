@@ -37,11 +37,11 @@ use Rattle.trace_read.specs.Trace.{AcceptedTrace, IsAccepted}
 use Rattle.run_model.specs.StoreContexts.{StoreContext, access_of, table_context}
 use Rattle.run_model.specs.LineReplies.{hcall_plan}
 use Rattle.run_model.specs.Processors.{processor_at}
-use Rattle.run_model.specs.RunState.{RunState, context_of, states_of, opening_run, run_resize, run_quiet_line}
+use Rattle.run_model.specs.Stores.{Store, context_of, states_of, page_table, trace_lines_on, is_on}
+use Rattle.run_model.specs.QuietLines.{run_resize, run_quiet_line}
 use Rattle.run_model.specs.OpeningAgain.{memory_after}
-use Rattle.run_model.specs.Windows.{trace_lines_on_table}
-use Rattle.run_model.proofs.SerialStores.{opened_after}
-use Rattle.run_model.specs.SerialRun.{current_line, result_by_line, result_by_segment, device_by_entry, device_by_window, line_result, run_line, state_after_lines}
+use Rattle.run_model.proofs.FirstStore.{first_after}
+use Rattle.run_model.specs.SerialRun.{current_line, result_by_line, result_by_segment, device_by_entry, device_by_window, line_result, run_on}
 use Rattle.run_model.proofs.Memories.{IsAllowed, MemoryStands, memory_prepared, prepare_table, memory_committed, opening_stands}
 use Rattle.papr_codes.specs.declared.calls.Hcall.TheVariants as calls
 use Rattle.trace_line.specs.declared.act.Act.TheVariants as acts
@@ -122,7 +122,7 @@ committed_high : (memory : TableMemory) (flags shift : ℕ) → IsSized memory �
 unfolding commit_result outcome_of_commit
 committed_high memory flags shift h = answered_high (commit_refusal flags shift memory.pending) memory.pending memory.pool memory.table h.stands.allowed h.high
 
-resize_sized : (w : RunState) (call : Hcall) (args : List ℕ) → IsSized w.memory → IsSized (run_resize w call args).1.memory
+resize_sized : (w : Store) (call : Hcall) (args : List ℕ) → IsSized w.memory → IsSized (run_resize w call args).1.memory
 unfolding run_resize
 resize_sized w calls.Prepare args h =
     record { stands = memory_prepared w.memory (slice_index args 0) (slice_index args 1) h.stands; high = subst (λ (t : Table). t.order ≤ 22) (sym (prepare_table w.memory (slice_index args 0) (slice_index args 1))) h.high }
@@ -130,29 +130,25 @@ resize_sized w calls.Commit args h =
     record { stands = memory_committed w.memory (slice_index args 0) (slice_index args 1) h.stands; high = committed_high w.memory (slice_index args 0) (slice_index args 1) h }
 resize_sized w other args h = h
 
-quiet_sized : (w : RunState) (act : Act) → IsSized w.memory → IsSized (run_quiet_line w act).1.memory
+quiet_sized : (w : Store) (act : Act) → IsSized w.memory → IsSized (run_quiet_line w act).1.memory
 unfolding run_quiet_line
 quiet_sized w (acts.Call number args spelt) h = resize_sized w (hcall_of number) args h
 quiet_sized w other h = h
 
 -- ---- all lines
-pub one_sized : (w : RunState) (l : TraceLine) → IsSized w.memory → IsSized (run_line w l).1.memory
-unfolding run_line
+pub one_sized : (w : Store) (l : TraceLine) → IsSized w.memory → IsSized (run_on w l).1.memory
+unfolding run_on
 one_sized w l h = at (cases_Bool (is_quiet l.act)) where
-  at : (is_quiet l.act ≡ true) ⊎ (is_quiet l.act ≡ false) → IsSized (run_line w l).1.memory
+  at : (is_quiet l.act ≡ true) ⊎ (is_quiet l.act ≡ false) → IsSized (run_on w l).1.memory
   at (inl q) = rw q (quiet_sized w l.act h)
   at (inr q) = rw q (same_size w.memory _ (result_length (context_of w) (processor_at w.processors l.cpu) (states_of w) l.act) h)
 
-all_sized : (w : RunState) (ls : List TraceLine) → IsSized w.memory → IsSized (state_after_lines w ls).memory
-all_sized w [] h = h
-all_sized w (l ∷ ls) h = all_sized (run_line w l).1 ls (one_sized w l h)
-
-opening_sized : (t : AcceptedTrace) → IsAccepted t → IsSized (opening_run t.config).memory
-unfolding opening_run opening_memory
+opening_sized : (t : AcceptedTrace) → IsAccepted t → IsSized (page_table t.config).memory
+unfolding page_table opening_memory
 opening_sized t is =
     let c = t.config in
     let settings = is.configured.settings in
     record { stands = opening_stands c.limit c.order c.granted.pool_base c.granted.pool_order c.entries settings.at_most settings.at_least; high = let below : c.order ≤ c.limit = settings.within in let most : c.limit ≤ 22 = settings.at_most in omega arith }
 
 pub serial_sized : (t : AcceptedTrace) (ls : List TraceLine) → IsAccepted t → IsSized (memory_after t ls)
-serial_sized t ls is = subst (λ (w : RunState). IsSized w.memory) (sym (opened_after t ls)) (all_sized (opening_run t.config) (trace_lines_on_table t.config.windows ls) (opening_sized t is))
+serial_sized t ls is = first_after (λ (s : Store). IsSized s.memory) t.config ls one_sized (opening_sized t is)

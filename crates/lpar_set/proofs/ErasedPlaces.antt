@@ -1,6 +1,6 @@
 -- What a run assures doesn't hang on where dumps say that the table lies.
 use Rattle.std.proofs.Common.{◌≡◌, ℕ, List, [], ◌∷◌, true, false, Option, Some, None, map, refl, sym, subst, ap, ◌∙◌, ◌⊎◌, inl, inr}
-use Rattle.std.specs.Prelude.{◌<◌, length, option_map, MatchOption}
+use Rattle.std.specs.Prelude.{◌<◌, length, option_map, MatchOption, Bool}
 use Rattle.std.specs.List.{AllByRecursion}
 use Rattle.std.proofs.Math.Path.{transport, transport⁻¹}
 use Rattle.std.proofs.lemmas.Bool.{cases_Bool}

@@ -4,7 +4,7 @@ ghost use Rattle.papr_c.specs.Walks.{WalkMemory, want_of, walk_memory, refused_w
 use crate::lent::is_table;
 use crate::receipts::PaprReceipt;
 use crate::reply::filled_count;
-use crate::trying::try_lent;
+use crate::trying::try_by_groups;
 use authority_mask::{MaskName, Masks};
 use entry_model::{Answer, EntryState, Receipt};
 use hpt_walk::{PageCalls, logical_of};
@@ -165,7 +165,7 @@ pub extern "C" fn papr_walk(
         iamr: access.iamr,
     };
     let calls = PageCalls::of(&page, order, want, access.key, access.no_execute, masks);
-    let tried = try_lent(entries, &calls, receipts);
+    let tried = try_by_groups(entries, &calls, receipts);
     let filled = filled_count(receipts.len(), tried.count);
     PaprWalk::end(access.ea, &tried.ending, filled)
 }

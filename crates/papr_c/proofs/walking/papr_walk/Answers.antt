@@ -2,22 +2,22 @@ use Rattle.std.proofs.Common.{rules}
 use Rattle.papr_c.proofs.Outcomes.{calls_inside, walk_is}
 use Rattle.papr_c.proofs.walking.papr_walk.Goals as goal
 
-pub try_lent-tried-requires-clause-in_table : goal.try_lent-tried-requires-clause-in_table
-try_lent-tried-requires-clause-in_table c =
+pub try_by_groups-tried-requires-clause-in_table : goal.try_by_groups-tried-requires-clause-in_table
+try_by_groups-tried-requires-clause-in_table c =
     calls_inside c.args.order c.args.entries.now _ (search rules) c.of-calls.ensures.fits
 
-pub try_lent-tried-requires-clause-few : goal.try_lent-tried-requires-clause-few
-try_lent-tried-requires-clause-few c = c.of-calls.ensures.fits.few
+pub try_by_groups-tried-requires-clause-few : goal.try_by_groups-tried-requires-clause-few
+try_by_groups-tried-requires-clause-few c = c.of-calls.ensures.fits.few
 
 pub returns : goal.returns
 returns c =
-    walk_is c.args.order c.args.access.now c.in-Some-Some.page c.in-Some-Some.want _ _ c.try_lent-tried.result.ending c.filled_count-filled.result c.end.result c.try_lent-tried.new.receipts c.try_lent-tried.new.entries
+    walk_is c.args.order c.args.access.now c.in-Some-Some.page c.in-Some-Some.want _ _ c.try_by_groups-tried.result.ending c.filled_count-filled.result c.end.result c.try_by_groups-tried.new.receipts c.try_by_groups-tried.new.entries
     (search rules)
     (search rules)
     (search rules)
     c.of-calls.ensures.calls
-    c.try_lent-tried.ensures.ending
-    (rw (c.try_lent-tried.auto.receipts, c.try_lent-tried.ensures.count) at c.filled_count-filled.ensures)
+    c.try_by_groups-tried.ensures.ending
+    (rw (c.try_by_groups-tried.auto.receipts, c.try_by_groups-tried.ensures.count) at c.filled_count-filled.ensures)
     c.end.ensures
-    c.try_lent-tried.ensures.receipts
-    c.try_lent-tried.ensures.entries
+    c.try_by_groups-tried.ensures.receipts
+    c.try_by_groups-tried.ensures.entries

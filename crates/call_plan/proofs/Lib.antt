@@ -1,1 +1,2 @@
 pub mod TrialCalls
+pub mod RemovalCalls

@@ -5,15 +5,19 @@
 //! [`run_plan`] runs any of these over any store of entries.
 #![tactic(auto)]
 
+mod page_calls;
 mod plan;
 mod plans;
+mod removals;
 mod running;
 mod telling;
 
+pub use page_calls::PageCalls;
 pub use plan::{CallPlan, Told, Trial};
 pub use plans::{
     bulk_remove_plan, clear_mod_plan, clear_ref_plan, enter_plan, protect_plan, read_plan,
     remove_plan,
 };
+pub use removals::Removals;
 pub use running::run_plan;
 pub use telling::told_registers;

@@ -7,7 +7,7 @@ use crate::reply::filled_count;
 use crate::trying::try_by_groups;
 use authority_mask::{MaskName, Masks};
 use entry_model::{Answer, EntryState, Receipt};
-use hpt_walk::{PageCalls, logical_of};
+use hpt_walk::logical_of;
 use power_addr::Page;
 use storage_prot::Want;
 

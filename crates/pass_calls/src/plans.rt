@@ -8,10 +8,10 @@ ghost use Rattle.pass_calls.specs.HeldUp.{IsHeldUp};
 
 use crate::tried::TriedStore;
 use crate::trying::try_calls;
-use call_plan::{CallPlan, told_registers};
+use call_plan::{CallPlan, Removals, told_registers};
 use entry_lock::Busy;
 use entry_model::{Receipts, Registers};
-use h_update::{Removals, removal_registers};
+use h_update::removal_registers;
 
 /// Makes the rest of H_BULK_REMOVE, of which these receipts were made.
 fn try_removals<S: TriedStore>(

@@ -1,7 +1,7 @@
 use Rattle.std.proofs.Common.{◌≡◌, ◌≤◌, length, arith, subst}
 use Rattle.call_trials.specs.Calls.{AreCallsIn}
 use Rattle.h_update.specs.Bulk.{h_bulk_remove_plan}
-use Rattle.h_update.proofs.RemovalSteps.{removals_in}
+use Rattle.call_plan.proofs.RemovalCalls.{removals_in}
 use Rattle.pass_calls.proofs.plans.try_removals.Goals as goal
 
 pub try_calls-requires-clause-fits : goal.try_calls-requires-clause-fits

@@ -1,10 +1,10 @@
 ghost use Rattle.std.specs.Prelude.{◌<◌, ◌^◌};
 
-use crate::access::access_op;
 use authority_mask::Masks;
 use call_trials::CallList;
 use entry_model::{Answer, Op};
 use hpt_hash::groups;
+use hpt_walk::access_op;
 use hpte_fields::GROUP_SIZE;
 use power_addr::Page;
 use storage_prot::Want;
@@ -26,13 +26,13 @@ impl PageCalls {
     ghost use Rattle.entry_model.specs.Reply.{access_mode};
     ghost use Rattle.call_trials.specs.Calls.{AreCallsIn};
     ghost use Rattle.hpt_walk.specs.Walk.{walk_calls};
-    ghost use Rattle.hpt_walk.specs.PageCalls.{calls_of};
+    ghost use Rattle.call_plan.specs.PageCalls.{calls_of};
 
     /// Those of an access of the page on a table of `2^order` bytes. `key` is the segment's key for
     /// the state of the processor, `no_execute` says whether the segment refuses instruction
     /// fetches, and `masks` are the processor's.
     #[inline(always)]
-    #[tactic(auto, unfolding(crate::specs::Walk::walk_calls))]
+    #[tactic(auto, unfolding(hpt_walk::specs::Walk::walk_calls))]
     pub fn of(
         page: &Page,
         order: u8,
@@ -59,7 +59,7 @@ impl PageCalls {
 
 impl CallList for PageCalls {
     ghost use Rattle.entry_model.specs.Receipt.{is_no_match};
-    ghost use Rattle.hpt_walk.specs.PageCalls.{calls_of};
+    ghost use Rattle.call_plan.specs.PageCalls.{calls_of};
 
     ghost calls = { calls_of };
 

@@ -1,8 +1,8 @@
 use Rattle.std.proofs.Common.{arith, ap, sym, ◌∙◌}
 use Rattle.h_update.specs.Bulk.{h_bulk_remove_plan}
 use Rattle.call_trials.proofs.BegunLaws.{at_end}
-use Rattle.h_update.proofs.RemovalSteps.{call_asked, removals_at, removals_few}
-use Rattle.h_update.proofs.removals.RemovalsCallList.call_at.Goals as goal
+use Rattle.call_plan.proofs.RemovalCalls.{call_asked, removals_at, removals_few}
+use Rattle.call_plan.proofs.removals.RemovalsCallList.call_at.Goals as goal
 
 pub returns-then-made-ge4 : goal.returns-then-made-ge4
 returns-then-made-ge4 c =

@@ -2,7 +2,7 @@ use Rattle.std.proofs.Common.{◌*◌, arith}
 use Rattle.entry_model.proofs.TrialSteps.{calls_from}
 use Rattle.call_trials.proofs.Rows.{row_in, both_in}
 use Rattle.hpt_walk.proofs.Walks.{group_in_table}
-use Rattle.hpt_walk.proofs.page_calls.PageCalls.of.Goals as goal
+use Rattle.call_plan.proofs.page_calls.PageCalls.of.Goals as goal
 
 pub returns-clause-fits : goal.returns-clause-fits
 returns-clause-fits c =

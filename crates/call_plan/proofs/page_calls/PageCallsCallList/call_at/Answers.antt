@@ -1,7 +1,7 @@
 use Rattle.std.proofs.Common.{◌≡◌, ◌+◌, ◌-◌, ◌*◌, arith, sym, ◌∙◌}
 use Rattle.entry_model.proofs.TrialSteps.{calls_from}
 use Rattle.call_trials.proofs.Rows.{row_at, at_behind}
-use Rattle.hpt_walk.proofs.page_calls.PageCallsCallList.call_at.Goals as goal
+use Rattle.call_plan.proofs.page_calls.PageCallsCallList.call_at.Goals as goal
 
 pub returns-then-made : goal.returns-then-made
 returns-then-made c =

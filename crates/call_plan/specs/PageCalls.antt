@@ -2,7 +2,7 @@
 use Rattle.std.specs.Prelude.{List, ◌++◌}
 use Rattle.entry_model.specs.Trial.{Call}
 use Rattle.hpt_walk.specs.Walk.{group_calls}
-use Rattle.hpt_walk.specs.declared.page_calls.PageCalls.{PageCalls}
+use Rattle.call_plan.specs.declared.page_calls.PageCalls.{PageCalls}
 
 -- Those on the primary group, then those on the secondary one.
 abbrev pub calls_of : PageCalls → List Call

@@ -1,8 +1,8 @@
 ghost use Rattle.std.specs.Prelude.{◌≡◌, ◌≤◌, length};
 
-use crate::bulk::{Asked, asked_by};
 use call_trials::CallList;
 use entry_model::{Answer, Op};
+use h_update::{Asked, asked_by};
 
 /// The removals of H_BULK_REMOVE: what four pairs of words ask of a table of `2^order` bytes, up to
 /// the first pair that asks for none.
@@ -37,7 +37,7 @@ impl<'a> CallList for Removals<'a> {
     }
 
     #[inline]
-    #[tactic(auto, unfolding(crate::specs::Bulk::h_bulk_remove_plan))]
+    #[tactic(auto, unfolding(h_update::specs::Bulk::h_bulk_remove_plan))]
     fn goes_on_after(&self, answer: Answer) -> bool {
         !matches!(answer, Answer::Worn)
     }

@@ -22,10 +22,12 @@ BYTES_LIBRARY ?= crates/papr_bytes/out/libpapr_bytes.a
 INSTALL ?= install
 VERSION := $(shell cat VERSION)
 
+# Folders, which may have blanks in their names: each stands in double quotes where a shell reads it.
 share = $(DESTDIR)$(PREFIX)/share
 bindir = $(DESTDIR)$(PREFIX)/bin
+programdir = $(DESTDIR)$(PREFIX)/libexec/papr
 tooldir = $(share)/papr
-mandir = $(share)/man/man1
+mandir = $(share)/man
 docdir = $(share)/doc/papr
 exampledir = $(docdir)/examples
 bashdir = $(share)/bash-completion/completions
@@ -37,14 +39,15 @@ dist = out/dist
 
 # A tool's name behind papr-, and its file in tools/.
 tools = from-qemu:qemu-log-to-trace history:entry-history picture:run-picture receipts:receipts why:why bad-line:bad-line \
-    cut:cut-trace entries:htab-to-entries
+    cut:cut-trace entries:htab-to-entries decode:decode diff:diff
 tool_name = $(firstword $(subst :, ,$(1)))
 tool_file = $(lastword $(subst :, ,$(1)))
-link_tool = ln -sf ../share/papr/$(1) $(bindir)/papr-$(2);
 commands = $(foreach tool,$(tools),papr-$(call tool_name,$(tool)))
 tool_files = $(foreach tool,$(tools),tools/$(call tool_file,$(tool)))
-modules = tools/common.py tools/grants.py tools/replies.py tools/svg.py tools/traces.py
+modules = $(addprefix tools/,choosing.py common.py decoding.py grants.py known.py refusals.py replies.py svg.py traces.py \
+    launcher.bash telling.bash)
 pages = man/papr.1 $(commands:%=man/%.1)
+formats = man/papr-trace.5 man/papr-replies.5
 examples = $(filter-out examples/c examples/rust,$(wildcard examples/*))
 sources_c = $(wildcard examples/c/*.[ch])
 sources_rust = $(wildcard examples/rust/*)
@@ -80,51 +83,73 @@ includedir=$${prefix}/include
 Name: papr_c
 Description: the hypervisor side of the hashed page table of a paravirtual Power guest, proved
 Version: $(VERSION)
-Libs: -L$${libdir} -lpapr_c
-Cflags: -I$${includedir}
+Libs: -L"$${libdir}" -lpapr_c
+Cflags: -I"$${includedir}"
 endef
 export pc_file
 
 install: install-program install-library
 
 install-library: $(LIBRARY)
-	$(INSTALL) -d $(libdir)/pkgconfig $(includedir) $(exampledir)/c $(exampledir)/rust
-	$(INSTALL) -m 644 $(LIBRARY) $(libdir)/libpapr_c.a
-	$(INSTALL) -m 644 include/papr.h $(includedir)/papr.h
-	printf '%s\n' "$$pc_file" >$(libdir)/pkgconfig/papr_c.pc
-	$(INSTALL) -m 644 $(sources_c) $(exampledir)/c
-	$(INSTALL) -m 644 $(sources_rust) $(exampledir)/rust
+	$(INSTALL) -d "$(libdir)/pkgconfig" "$(includedir)" "$(exampledir)/c" "$(exampledir)/rust"
+	$(INSTALL) -m 644 $(LIBRARY) "$(libdir)/libpapr_c.a"
+	$(INSTALL) -m 644 include/papr.h "$(includedir)/papr.h"
+	printf '%s\n' "$$pc_file" >"$(libdir)/pkgconfig/papr_c.pc"
+	$(INSTALL) -m 644 $(sources_c) "$(exampledir)/c"
+	$(INSTALL) -m 644 $(sources_rust) "$(exampledir)/rust"
+
+# The version, the commit, and the toolchain that proved the program, a line each.
+commit = $(shell { test -e .git && git describe --always --dirty --exclude '*' || cat COMMIT; } 2>/dev/null)
+kit = $(shell cat out/build.kit 2>/dev/null)
 
 install-program: $(PROGRAM)
-	$(INSTALL) -d $(bindir) $(tooldir) $(mandir) $(docdir)/docs $(exampledir) $(bashdir) $(zshdir) $(fishdir)
-	$(INSTALL) -m 755 $(PROGRAM) $(bindir)/papr
-	$(INSTALL) -m 755 $(tool_files) $(tooldir)
-	$(INSTALL) -m 644 $(modules) $(tooldir)
-	$(foreach tool,$(tools),$(call link_tool,$(call tool_file,$(tool)),$(call tool_name,$(tool))))
-	$(INSTALL) -m 644 $(pages) $(mandir)
-	$(INSTALL) -m 644 completions/papr.bash $(bashdir)/papr
-	$(INSTALL) -m 644 completions/papr.zsh $(zshdir)/_papr
-	$(INSTALL) -m 644 completions/papr.fish $(fishdir)/papr.fish
-	for command in $(commands); do ln -sf papr $(bashdir)/$$command; done
-	for command in $(commands); do ln -sf papr.fish $(fishdir)/$$command.fish; done
-	$(INSTALL) -m 644 $(texts) $(docdir)
-	$(INSTALL) -m 644 $(documents) $(docdir)/docs
-	$(INSTALL) -m 644 $(filter-out examples/check,$(examples)) $(exampledir)
-	$(INSTALL) -m 755 examples/check $(exampledir)/check
+	$(INSTALL) -d "$(bindir)" "$(programdir)" "$(tooldir)" "$(mandir)/man1" "$(mandir)/man5"
+	$(INSTALL) -d "$(docdir)/docs" "$(exampledir)" "$(bashdir)" "$(zshdir)" "$(fishdir)"
+	$(INSTALL) -m 755 papr "$(bindir)/papr"
+	$(INSTALL) -m 755 $(PROGRAM) "$(programdir)/papr"
+	$(INSTALL) -m 755 $(tool_files) "$(tooldir)"
+	$(INSTALL) -m 644 $(modules) "$(tooldir)"
+	printf '%s\n' '$(VERSION)' '$(commit)' '$(kit)' >"$(tooldir)/version"
+	$(foreach tool,$(tools),ln -sf ../share/papr/$(call tool_file,$(tool)) "$(bindir)/papr-$(call tool_name,$(tool))" &&) :
+	$(INSTALL) -m 644 $(pages) "$(mandir)/man1"
+	$(INSTALL) -m 644 $(formats) "$(mandir)/man5"
+	$(INSTALL) -m 644 completions/papr.bash "$(bashdir)/papr"
+	$(INSTALL) -m 644 completions/papr.zsh "$(zshdir)/_papr"
+	$(INSTALL) -m 644 completions/papr.fish "$(fishdir)/papr.fish"
+	for command in $(commands); do ln -sf papr "$(bashdir)/$$command" || exit; done
+	for command in $(commands); do ln -sf papr.fish "$(fishdir)/$$command.fish" || exit; done
+	$(INSTALL) -m 644 $(texts) "$(docdir)"
+	$(INSTALL) -m 644 $(documents) "$(docdir)/docs"
+	$(INSTALL) -m 644 $(filter-out examples/check,$(examples)) "$(exampledir)"
+	$(INSTALL) -m 755 examples/check "$(exampledir)/check"
+
+# In a folder that is there, without those of the names that are: $(call remove,FOLDER,NAME..)
+remove = if cd "$(1)" 2>/dev/null; then rm -f $(2); fi
 
 uninstall:
-	rm -f $(addprefix $(bindir)/,papr $(commands)) $(addprefix $(mandir)/,$(notdir $(pages)))
-	rm -f $(addprefix $(bashdir)/,papr $(commands)) $(zshdir)/_papr
-	rm -f $(addprefix $(fishdir)/,papr.fish $(addsuffix .fish,$(commands)))
-	rm -f $(addprefix $(tooldir)/,$(notdir $(tool_files) $(modules))) $(tooldir)/__pycache__/*
-	rm -f $(addprefix $(docdir)/,$(texts) $(documents) $(examples))
-	rm -f $(libdir)/libpapr_c.a $(libdir)/pkgconfig/papr_c.pc $(includedir)/papr.h
-	rm -f $(addprefix $(docdir)/,$(sources_c) $(sources_rust))
-	rmdir $(exampledir)/c $(exampledir)/rust $(exampledir) $(docdir)/docs $(docdir) $(tooldir)/__pycache__ $(tooldir) 2>/dev/null || true
+	$(call remove,$(bindir),papr $(commands))
+	$(call remove,$(programdir),papr)
+	$(call remove,$(mandir)/man1,$(notdir $(pages)))
+	$(call remove,$(mandir)/man5,$(notdir $(formats)))
+	$(call remove,$(bashdir),papr $(commands))
+	$(call remove,$(zshdir),_papr)
+	$(call remove,$(fishdir),papr.fish $(addsuffix .fish,$(commands)))
+	$(call remove,$(tooldir),$(notdir $(tool_files) $(modules)) version __pycache__/*)
+	$(call remove,$(docdir),$(texts) $(documents) $(examples) $(sources_c) $(sources_rust))
+	$(call remove,$(libdir),libpapr_c.a pkgconfig/papr_c.pc)
+	$(call remove,$(includedir),papr.h)
+	for folder in "$(exampledir)/c" "$(exampledir)/rust" "$(exampledir)" "$(docdir)/docs" "$(docdir)" \
+	    "$(tooldir)/__pycache__" "$(tooldir)" "$(programdir)"; do rmdir "$$folder" 2>/dev/null || true; done
 
+# Of a checkout of git what is committed; of what was unpacked all but what was made.
 dist:
-	mkdir -p $(dist)
-	git archive --format=tar.gz --prefix=papr-$(VERSION)/ -o $(dist)/papr-$(VERSION).tar.gz HEAD
+	mkdir -p "$(dist)"
+	if [ -e .git ]; then \
+	    git archive --format=tar.gz --prefix=papr-$(VERSION)/ -o "$(dist)/papr-$(VERSION).tar.gz" HEAD; \
+	else \
+	    tar -czf "$(dist)/papr-$(VERSION).tar.gz" --exclude=out --exclude=__pycache__ --exclude=.git \
+	        --transform='s,^\.,papr-$(VERSION),' .; \
+	fi
 
 deb: $(PROGRAM)
-	tools/debian $(VERSION) $(PROGRAM) $(dist)
+	tools/debian $(VERSION) $(PROGRAM) "$(dist)"

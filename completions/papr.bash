@@ -1,29 +1,50 @@
 # shellcheck shell=bash
-# Completion of papr's words and of its tools' options in bash. Files behind `<` are completed by bash itself.
+# Completion of papr's commands, options and files, and of its tools by names of their own, in bash.
 
-# The options of a tool, as its help lists them.
-_papr_options() {
-    "$1" --help 2>/dev/null | grep -oE -- '--[a-z][a-z-]+' | sort -u
+_papr_tools='why bad-line decode receipts history picture diff from-qemu entries cut'
+
+# _papr_words WORD..: completes by these words.
+_papr_words() {
+    mapfile -t COMPREPLY < <(compgen -W "$*" -- "${COMP_WORDS[COMP_CWORD]}")
+}
+
+_papr_files() {
+    compopt -o filenames 2>/dev/null
+    mapfile -t COMPREPLY < <(compgen -f -- "${COMP_WORDS[COMP_CWORD]}")
+}
+
+# _papr_of_tool COMMAND..: completes by the options that a tool's help lists, or by files.
+_papr_of_tool() {
+    if [[ ${COMP_WORDS[COMP_CWORD]} == -* ]]; then
+        _papr_words "$("$@" --help 2>/dev/null | grep -oE -- '--[a-z][a-z-]+' | sort -u)"
+    else
+        _papr_files
+    fi
 }
 
 _papr() {
+    local command=${COMP_WORDS[1]}
     COMPREPLY=()
     if [ "$COMP_CWORD" -eq 1 ]; then
-        mapfile -t COMPREPLY < <(compgen -W 'run par check set image drill' -- "${COMP_WORDS[COMP_CWORD]}")
-    elif [ "$COMP_CWORD" -eq 2 ] && [ "${COMP_WORDS[1]}" = image ]; then
-        mapfile -t COMPREPLY < <(compgen -W 'old new' -- "${COMP_WORDS[COMP_CWORD]}")
+        _papr_words "run par check set image drill $_papr_tools help --help --version"
+    elif [[ " $_papr_tools " == *" $command "* ]]; then
+        _papr_of_tool "$1" "$command"
+    elif [ "$command" = help ]; then
+        _papr_words "run par check set image drill $_papr_tools"
+    elif [ "$command" = image ] && [ "$COMP_CWORD" -eq 2 ]; then
+        _papr_words old new
+    elif [[ ${COMP_WORDS[COMP_CWORD]} == -* ]]; then
+        _papr_words -o --output --help
+    elif [ "$command" != drill ] || [[ ${COMP_WORDS[COMP_CWORD - 1]} == -o ]]; then
+        _papr_files
     fi
 }
 
 _papr_tool() {
-    local word=${COMP_WORDS[COMP_CWORD]}
-    if [[ $word == -* ]]; then
-        mapfile -t COMPREPLY < <(compgen -W "$(_papr_options "$1")" -- "$word")
-    else
-        mapfile -t COMPREPLY < <(compgen -f -- "$word")
-    fi
+    COMPREPLY=()
+    _papr_of_tool "$1"
 }
 
 complete -F _papr papr
 complete -o filenames -F _papr_tool papr-from-qemu papr-history papr-picture papr-receipts papr-why papr-bad-line \
-    papr-cut papr-entries
+    papr-cut papr-entries papr-decode papr-diff

@@ -4,17 +4,27 @@ import argparse
 import os
 import re
 import signal
+import subprocess
 import sys
 from contextlib import contextmanager
 from pathlib import Path
 from typing import Callable, Iterator, Optional, TextIO
 
 HERE = Path(__file__).resolve().parent
-NAME = os.path.basename(sys.argv[0])  # of the tool that runs
+# The tool's name in messages: `papr why` where the command papr began it, else that of its file.
+NAME = os.environ.pop("PAPR_NAME", "") or os.path.basename(sys.argv[0])
 
 
 class Bad(Exception):
     """An argument or an input with which a tool can't do its work."""
+
+    status = 2
+
+
+class Missing(Bad):
+    """Something that a tool needs isn't there."""
+
+    status = 127
 
 
 def read_number(word: str) -> int:
@@ -47,9 +57,21 @@ def page(name: str) -> Path:
 
 
 def program() -> str:
-    """The program: that of these sources, or of an installed tool the one that the shell finds."""
-    wrapper = HERE.parent / "papr"
-    return str(wrapper) if wrapper.is_file() else "papr"
+    """The proved program: that of these sources, which is built where it has to be, or the installed one."""
+    launcher, installed = HERE.parent / "papr", HERE.parent.parent / "libexec" / "papr" / "papr"
+    if launcher.is_file():
+        told = subprocess.run([launcher, "--program"], stdout=subprocess.PIPE, text=True, check=False)
+        if told.returncode != 0:
+            raise Bad("there is no program: it couldn't be built")
+        return told.stdout.rstrip("\n")
+    if not installed.is_file():
+        raise Bad(f"there is no program: {installed} is missing")
+    return str(installed)
+
+
+def parser_of(description: str, epilog: str) -> argparse.ArgumentParser:
+    """A parser of arguments, which calls the tool by its name in messages."""
+    return argparse.ArgumentParser(prog=NAME, description=description, epilog=epilog)
 
 
 def note(words: object) -> None:
@@ -63,7 +85,10 @@ def run_tool(work: Callable[[], Optional[int]]) -> int:
         status = work()
         sys.stdout.flush()
         return status or 0
-    except (Bad, UnicodeDecodeError) as error:
+    except Bad as error:
+        note(error)
+        return error.status
+    except UnicodeDecodeError as error:
         note(error)
     except KeyboardInterrupt:
         return 128 + signal.SIGINT

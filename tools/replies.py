@@ -68,6 +68,16 @@ class Receipt:
 
 
 @dataclass(frozen=True)
+class Shown:
+    """An entry as a dump shows it, with R and C."""
+
+    entry: int
+    dword0: int
+    dword1: int
+    stamp: int
+
+
+@dataclass(frozen=True)
 class Reply:
     """One reply: the line of the trace, its call or access, how it ended, and its receipts."""
 
@@ -117,16 +127,27 @@ def reply_of(text: str, table: int) -> Reply:
     return Reply(table, line, cpu, call, words[3], words[4:], receipts, store)
 
 
-def replies_of(text: Iterable[str]) -> Iterator[tuple[Reply, list[int]]]:
+def shown_of(line: str) -> Shown:
+    """The entry that a further line of a dump shows."""
+    words = line.split()
+    if len(words) != 4:
+        raise Bad(f"this is no entry of a dump: {line.strip()[:60]}")
+    try:
+        return Shown(int(words[0], 16), int(words[1], 16), int(words[2], 16), int(words[3]))
+    except ValueError as error:
+        raise Bad(f"this is no entry of a dump: {line.strip()[:60]}") from error
+
+
+def replies_of(text: Iterable[str]) -> Iterator[tuple[Reply, list[Shown]]]:
     """Each reply in the order of the trace; a dump with the entries that it shows."""
     table = 0
     dump: Optional[Reply] = None
-    shown: list[int] = []
+    shown: list[Shown] = []
     for line in text:
         if line.startswith("papr: "):
             raise Bad(f"these are no replies: {line.strip()}")
         if line.startswith(" ") and dump is not None:
-            shown.append(int(line.split()[0], 16))
+            shown.append(shown_of(line))
             continue
         if dump is not None:
             yield dump, shown

@@ -1,5 +1,7 @@
 """What the tests of refusals share: the rules as docs/FORMATS.md has them."""
 
+import re
+
 from .support import DOCS
 
 REFUSALS, SETS = "### Refusals", "## What `set` reads and writes"
@@ -12,3 +14,11 @@ def rule(reason: str, heading: str = REFUSALS) -> str:
     begin = f"| `{reason}` | "
     (found,) = (line for line in below.splitlines() if line.startswith(begin))
     return found.removeprefix(begin).removesuffix(" |")
+
+
+def causes_of_entries() -> list[str]:
+    """The causes for which an entry of the opening table is refused, as the list has them."""
+    formats = (DOCS / "FORMATS.md").read_text(encoding="utf-8")
+    below = formats.partition("one of these holds:\n\n")[2].partition("\n\n")[0]
+    items = re.split(r"(?m)^- ", below)[1:]
+    return [" ".join(item.split()).rstrip(";.") for item in items]

@@ -81,7 +81,7 @@ class Checkout:
         )
         self.tools = f"{self.kit}/bin:/usr/bin:/bin"
         (self.top / "tools").mkdir(parents=True)
-        for file in (TOP / "papr", TOOLS / "build", *TOOLS.glob("*.py")):
+        for file in (TOP / "papr", TOOLS / "build", *TOOLS.glob("*.py"), *TOOLS.glob("*.*sh")):
             shutil.copy(file, self.top / file.relative_to(TOP))
         for name in LINES:
             self.source(name).parent.mkdir(parents=True)

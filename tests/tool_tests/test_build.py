@@ -146,7 +146,9 @@ class Installed(BuildTest):
 
     def test_program_and_library_are_built_where_they_are_missing_or_older(self) -> None:
         self.assert_ran(self.make("install"), err=None)
-        self.assert_same_file(self.tree / "usr/bin/papr", self.checkout.program)
+        self.assert_same_file(self.tree / "usr/libexec/papr/papr", self.checkout.program)
+        version = (self.tree / "usr/share/papr/version").read_text().splitlines()
+        self.assertEqual(version[2], "a kit")
         self.assert_same_file(self.tree / "usr/lib/libpapr_c.a", self.checkout.archive)
         self.assertEqual(len(self.checkout.compilers()), len({*IN_PROGRAM, *IN_LIBRARY}))
         self.assert_ran(self.make("install"))
@@ -177,33 +179,36 @@ class Ended(BuildTest):
         begun.wait_for_proofs()
         return begun
 
-    def assert_ended(self, ran: Ran, number: int, proved: int = 0, command: str = "./papr", count: int = 4) -> None:
-        """The status is the signal's, the last line says what is kept, and no proof goes on."""
+    def assert_ended(
+        self, ran: Ran, status: int, proved: int = 0, command: str = "./papr", count: int = 4
+    ) -> None:
+        """The last line says what is kept, and no proof goes on. A status below 0 is a signal's."""
         kept = f"what is proved so far ({proved} of {count} crates) is kept"
-        self.assert_ran(ran, status=128 + number, err=None)
+        self.assert_ran(ran, status=status, err=None)
         self.assertEqual(ran.err.splitlines()[-1], f"papr: ended; {kept}, and the next {command} goes on from there")
         self.assertNotEqual(self.checkout.compilers(), [])
         self.assertEqual([it for it in self.checkout.compilers() if is_running(it)], [])
 
     @for_each(INT, TERM, HUP)
     def test_by_a_signal_to_the_wrapper(self, number: signal.Signals) -> None:
-        self.assert_ended(self.begin().end(number), number)
+        """The wrapper ends by it too, so that a shell's loop around it ends."""
+        self.assert_ended(self.begin().end(number), -number)
 
     @for_each(INT, TERM, HUP)
     def test_by_a_signal_to_the_build(self, number: signal.Signals) -> None:
         """The wrapper hands the status on."""
         begun = self.begin()
-        self.assert_ended(begun.end(number, begun.builder()), number)
+        self.assert_ended(begun.end(number, begun.builder()), 128 + number)
 
     def test_by_an_interrupt_to_all_that_a_terminal_runs(self) -> None:
         begun = self.begin()
         os.killpg(begun.ran.pid, INT)
-        self.assert_ended(begun.ended(), INT)
+        self.assert_ended(begun.ended(), -INT)
 
     def test_by_two_interrupts(self) -> None:
         begun = self.begin()
         os.kill(begun.ran.pid, INT)
-        self.assert_ended(begun.end(INT), INT)
+        self.assert_ended(begun.end(INT), -INT)
 
     def test_a_signal_that_is_ignored_does_not_end_it(self) -> None:
         """As that of a terminal that is closed, under nohup."""
@@ -218,7 +223,7 @@ class Ended(BuildTest):
         begun = self.checkout.begin(self.checkout.top / "papr", "run", SLOW="0", SLOWER="60")
         begun.wait_for("crate 2 of 4: trace_runner")
         begun.wait_for_proofs(3)
-        self.assert_ended(begun.end(INT), INT, proved=2)
+        self.assert_ended(begun.end(INT), -INT, proved=2)
         ran = self.checkout.papr("run")
         self.assertIn("building the program: 2 of 4 crates to prove\n", ran.err)
         self.assertEqual(self.checkout.proved(), ["mid", "papr_main"])
@@ -230,7 +235,7 @@ class Ended(BuildTest):
         begun = self.checkout.begin(self.checkout.top / "papr", "run", SLOW="0", SLOWER="60")
         begun.wait_for("crate 2 of 4: trace_runner")
         begun.wait_for_proofs(3)
-        self.assert_ended(begun.end(TERM), TERM, proved=2)
+        self.assert_ended(begun.end(TERM), -TERM, proved=2)
         ran = self.checkout.papr("run")
         self.assertIn("building the program: 2 of 4 crates to prove\n", ran.err)
         self.assertFalse(self.checkout.built.exists())
@@ -238,16 +243,16 @@ class Ended(BuildTest):
     def test_a_build_of_the_library(self) -> None:
         begun = self.checkout.begin(self.checkout.top / "tools" / "build", "--library")
         begun.wait_for_proofs()
-        self.assert_ended(begun.end(INT), INT, command="make library", count=3)
+        self.assert_ended(begun.end(INT), 128 + INT, command="make library", count=3)
 
     def test_a_build_that_waits_for_another_promises_nothing(self) -> None:
         first = self.begin()
         second = self.checkout.begin(self.checkout.top / "papr", "run")
         second.wait_for("waiting for another build")
         ran = second.end(TERM)
-        self.assert_ran(ran, status=128 + TERM, err=None)
+        self.assert_ran(ran, status=-TERM, err=None)
         self.assertNotIn("kept", ran.err)
-        self.assert_ended(first.end(INT), INT)
+        self.assert_ended(first.end(INT), -INT)
 
 
 class GoneWrong(BuildTest):

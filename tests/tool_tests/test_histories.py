@@ -39,7 +39,7 @@ class Pictures(PictureTest):
         return [text for text in self.texts(svg) if text in marks + others]
 
     def test_a_picture_of_changes_has_just_the_receipts_that_changed_the_entry(self) -> None:
-        words = ("32", "--changes", "--from", "10", "--to", "26", str(SHARING))
+        words = ("32", "--changes", "--lines", "10..26", str(SHARING))
         ran = run(DRAW, *words)
         self.assert_ran(ran, out=None)
         changes = (10, 14, 17, 18, 21, 23, 26)
@@ -78,8 +78,27 @@ class Pictures(PictureTest):
         self.assert_refused(refused, "entry-history: no receipt of entry 0x6")
 
 
+    def test_the_legend_says_what_a_question_mark_is(self) -> None:
+        """Where one is drawn."""
+        words = "the replies don't tell"
+        self.assertIn(words, self.texts(self.draw("0x20", given=replies_of(SHARING))))
+        self.assertNotIn(words, self.texts(self.draw("0x20", given="1 0 H_REMOVE 0 0x1 0x0 | 0x20.0.0.removed\n")))
+
+
 class Words(PictureTest):
     """The tool's words, and inputs that it can't use."""
+
+    def test_a_choice_that_leaves_nothing_is_told_what_there_is(self) -> None:
+        ran = run(DRAW, "0x20", "--lines", "80000..80400", SHARING)
+        told = "none of these receipts of entry 0x20 is asked for: 16 receipts, of lines 9 to 28"
+        self.assert_refused(ran, f"entry-history: {told}")
+
+    def test_a_history_that_is_too_long_is_told_its_lines(self) -> None:
+        replies = "".join(f"{n} 0 H_ENTER 0 0x20 | 0x20.{n}.0.entered\n" for n in range(7, 1_108))
+        told = "entry 0x20 has 1,101 receipts, of lines 7 to 1,107, and a picture has room for 1,000"
+        ran = run(DRAW, "0x20", given=replies)
+        self.assert_refused(ran, f"entry-history: {told}; choose by --lines A..B or --changes")
+        self.assert_ran(run(DRAW, "0x20", "--lines", "..1000", given=replies), out=None)
 
     def test_the_tool_has_help(self) -> None:
         self.assert_help(DRAW)

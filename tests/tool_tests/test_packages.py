@@ -20,8 +20,11 @@ COMMANDS = (
     "papr-bad-line",
     "papr-cut",
     "papr-entries",
+    "papr-decode",
+    "papr-diff",
 )
 WORDS = ["run", "par", "check", "set", "image", "drill"]
+FORMATS = ("papr-trace", "papr-replies")
 VERSION = (TOP / "VERSION").read_text(encoding="ascii").strip()
 BASH, ZSH, FISH = (TOP / "completions" / f"papr.{shell}" for shell in ("bash", "zsh", "fish"))
 C_LIBRARY = re.compile(r"linux-vdso|ld-linux|lib(c|m|pthread|dl|rt)\.so")
@@ -30,8 +33,13 @@ C_LIBRARY = re.compile(r"linux-vdso|ld-linux|lib(c|m|pthread|dl|rt)\.so")
 STAND_IN = "#!/bin/sh\n# GLIBC_2.9 GLIBC_2.34\necho stand-in\n"
 A_LIBRARY = "what stands for the library\n"
 
-# One completion by bash: of the words behind the names of a function and of the script.
-COMPLETE = '. "$1" && COMP_WORDS=("$2" "$3") && COMP_CWORD=1 && "$4" "$2" && printf "%s\\n" "${COMPREPLY[@]}"'
+# A completion by bash: of the last of the words behind the script, of which the first is the command.
+COMPLETE = """\
+. "$1"; shift
+COMP_WORDS=("$@") COMP_CWORD=$(($# - 1))
+set -- $(complete -p "${1##*/}") && while [ "$1" != -F ]; do shift; done
+"$2" "${COMP_WORDS[0]}" && printf '%s\\n' "${COMPREPLY[@]}"
+"""
 
 
 def text_of(path: Path) -> str:
@@ -55,20 +63,49 @@ def scripts() -> list[Path]:
 class Completions(ToolTest):
     """What the shells complete."""
 
-    def test_bash_completes_a_word(self) -> None:
-        self.assert_ran(run("bash", "-c", COMPLETE, "bash", BASH, "papr", "d", "_papr"), "drill\n")
+    def by_bash(self, *words: Word) -> list[str]:
+        """What bash completes of the last of these words."""
+        ran = run("bash", "-c", COMPLETE, "bash", BASH, *words, folder=self.folder)
+        self.assert_ran(ran, out=None)
+        return ran.out.split()
+
+    def test_bash_completes_commands(self) -> None:
+        self.assertEqual(self.by_bash("papr", "d"), ["drill", "decode", "diff"])
+        self.assertEqual(self.by_bash("papr", "help", "from"), ["from-qemu"])
+        self.assertEqual(self.by_bash("papr", "image", ""), ["old", "new"])
+        self.assertEqual(self.by_bash("papr", "run", "--o"), ["--output"])
+
+    def test_bash_completes_files(self) -> None:
+        (self.folder / "a trace").touch()
+        for words in (["run", "a"], ["check", "x", "a"], ["image", "old", "a"], ["run", "-o", "a"], ["why", "a"]):
+            self.assertEqual(self.by_bash("papr", *words), ["a", "trace"])
+        self.assertEqual(self.by_bash("papr", "drill", "a"), [])
 
     def test_bash_completes_a_tools_options(self) -> None:
-        words = (TOP / "tools" / "receipts", "--c", "_papr_tool")
-        self.assert_ran(run("bash", "-c", COMPLETE, "bash", BASH, *words), "--csv\n")
+        self.assertEqual(self.by_bash(TOP / "papr", "receipts", "--c"), ["--csv"])
+        (self.folder / "papr-receipts").symlink_to(TOP / "tools" / "receipts")
+        self.assertEqual(self.by_bash(self.folder / "papr-receipts", "--c"), ["--csv"])
 
-    def test_the_completions_know_the_words_of_the_page(self) -> None:
-        (listed,) = re.findall(r"-W '(run [^']*)'", text_of(BASH))
-        self.assertEqual(listed.split(), WORDS)
+    def test_the_completions_know_all_commands(self) -> None:
+        tools = [command.removeprefix("papr-") for command in COMMANDS]
+        self.assertCountEqual(self.by_bash("papr", ""), [*WORDS, *tools, "help", "--help", "--version"])
+        self.assertCountEqual(re.findall(r"(?m)^ +'([a-z-]+)\[", text_of(ZSH)), [*WORDS, *tools, "help"])
+        self.assertCountEqual(re.findall(r"is_first_token -a ([a-z-]+) ", text_of(FISH)), [*WORDS, *tools, "help"])
         synopsis = text_of(page("papr")).partition(".Sh DESCRIPTION")[0]
-        self.assertEqual(re.findall(r"(?m)^\.Cm ([a-z]+)$", synopsis), WORDS)
-        self.assertEqual(re.findall(r"(?m)^ +'([a-z]+)\[", text_of(ZSH)), WORDS)
-        self.assertEqual(re.findall(r"is_first_token -a ([a-z]+) ", text_of(FISH)), WORDS)
+        self.assertEqual(re.findall(r"(?m)^\.Cm ([a-z]+)$", synopsis), [*WORDS, "help"])
+        mentioned = text_of(page("papr"))
+        self.assertEqual([tool for tool in tools if f"papr-{tool} 1" not in mentioned], [])
+
+    @for_each(*COMMANDS)
+    def test_fish_knows_the_options_of(self, command: str) -> None:
+        """As a command, and behind papr."""
+        tool = command.removeprefix("papr-")
+        ran = run(TOP / "papr", tool, "--help")
+        self.assert_ran(ran, out=None)
+        helped = set(re.findall(r"--([a-z][a-z-]+)", ran.out)) - {"help"}
+        for words in (f"complete -c {command} ", f"complete -c papr -n '__fish_seen_subcommand_from {tool}' "):
+            lines = [line for line in text_of(FISH).splitlines() if line.startswith(words)]
+            self.assertEqual({word for line in lines for word in re.findall(r" -l ([a-z-]+)", line)}, helped)
 
     @needs("zsh")
     def test_zsh_completes_papr_and_its_tools(self) -> None:
@@ -82,12 +119,13 @@ class Completions(ToolTest):
 
     @needs("fish")
     def test_fish_completes_words_and_options(self) -> None:
-        words = f"source {FISH}; complete -C 'papr '; echo; complete -C 'papr-receipts --'"
+        words = f"source {FISH}; complete -C 'papr '; echo; complete -C 'papr-diff --'"
         ran = run("fish", "-N", "-c", words, environment={"HOME": str(self.folder)})
         self.assert_ran(ran, out=None, err=None)
         parts = [part.splitlines() for part in ran.out.split("\n\n")]
         completed = [[line.partition("\t")[0] for line in part] for part in parts]
-        self.assertEqual(completed, [sorted(WORDS), ["--csv", "--help", "--json", "--replies"]])
+        tools = [command.removeprefix("papr-") for command in COMMANDS]
+        self.assertEqual(completed, [sorted([*WORDS, *tools, "help"]), ["--help", "--short"]])
 
 
 class Pages(ToolTest):
@@ -95,7 +133,7 @@ class Pages(ToolTest):
 
     @needs("mandoc")
     def test_mandoc_has_no_warning(self) -> None:
-        self.assert_ran(run("mandoc", "-T", "lint", "-W", "warning", *sorted((TOP / "man").glob("*.1"))))
+        self.assert_ran(run("mandoc", "-T", "lint", "-W", "warning", *sorted((TOP / "man").glob("*.[15]"))))
 
     @needs("man")
     def test_man_has_no_warning(self) -> None:
@@ -104,6 +142,25 @@ class Pages(ToolTest):
                 ran = run("man", "--warnings", "-l", page(command))
                 self.assert_ran(ran, out=None)
                 self.assertIn(command.upper(), ran.out)
+        for name in FORMATS:
+            ran = run("man", "--warnings", "-l", TOP / "man" / f"{name}.5")
+            self.assert_ran(ran, out=None)
+            self.assertIn(f"{name.upper()}(5)", ran.out)
+
+    def test_the_pages_of_formats_have_all_lines_and_reasons(self) -> None:
+        """As the documents have them."""
+        formats = text_of(DOCS / "FORMATS.md")
+        trace = text_of(TOP / "man" / "papr-trace.5")
+        for heading in ("### Configuration lines", "### Run lines", "### Refusals"):
+            rows = formats.partition(f"\n{heading}\n")[2].split("\n#")[0].splitlines()
+            cells = [row.split("|")[1] for row in rows if row.startswith("|")][2:]
+            words = {word for cell in cells for word in re.findall(r"`(?:C )?([A-Za-z_]+)", cell)}
+            self.assertTrue(words)
+            self.assertEqual([word for word in words if not re.search(rf"\b{word}\b", trace)], [])
+        replies = text_of(TOP / "man" / "papr-replies.5")
+        answers = re.findall(r"`([a-z]+)`", formats.partition("The answers are")[2].partition(".")[0])
+        self.assertGreater(len(answers), 10)
+        self.assertEqual([word for word in answers if not re.search(rf"\b{word}\b", replies)], [])
 
     @for_each(*COMMANDS)
     def test_a_page_has_just_the_options_of_the_help_of(self, command: str) -> None:
@@ -149,7 +206,8 @@ class Installing(ToolTest):
         self.assertEqual([line for line in described if line.startswith("Version")], [f"Version: {VERSION}"])
 
     def test_make_install_puts_the_program_the_documents_and_the_examples(self) -> None:
-        self.assertEqual(text_of(self.usr / "bin" / "papr"), STAND_IN)
+        self.assertEqual(text_of(self.usr / "libexec" / "papr" / "papr"), STAND_IN)
+        self.assert_same_file(self.usr / "bin" / "papr", TOP / "papr")
         share = self.usr / "share"
         self.assert_same_file(share / "zsh" / "site-functions" / "_papr", ZSH)
         self.assert_same_file(share / "doc" / "papr" / "docs" / "FORMATS.md", DOCS / "FORMATS.md")
@@ -167,6 +225,10 @@ class Installing(ToolTest):
     def test_where_it_is_installed_a_tool_speaks_by_its_name(self, command: str) -> None:
         self.assert_help(self.usr / "bin" / command)
 
+    @for_each(*FORMATS)
+    def test_make_install_puts_the_page_of_formats(self, name: str) -> None:
+        self.assert_same_file(self.usr / "share" / "man" / "man5" / f"{name}.5", TOP / "man" / f"{name}.5")
+
     def test_the_tools_run_from_where_they_are_installed(self) -> None:
         converted = self.run_installed("papr-from-qemu", DATA / "small.log")
         self.assert_ran(converted, text_of(DATA / "small.trace"), err=None)
@@ -181,8 +243,35 @@ class Installing(ToolTest):
         self.assert_help(tree / "usr" / "bin" / "papr-why")
         make("uninstall", tree)
         self.assertEqual([path for path in tree.rglob("*") if not path.is_dir()], [])
-        share = tree / "usr" / "share"
-        self.assertEqual([path for path in (share / "doc" / "papr", share / "papr") if path.exists()], [])
+        self.assertEqual([path for path in tree.rglob("papr")], [])
+
+    def test_a_prefix_and_a_destination_with_blanks(self) -> None:
+        """All is put there and taken away from there, and nothing is put anywhere else."""
+        tree, prefix = self.folder / "a tree", "/opt/in st"
+        library = write_script(self.folder / "library", A_LIBRARY)
+        program = write_script(self.folder / "program", STAND_IN)
+        words: list[Word] = ["make", "-s", "-C", TOP, f"DESTDIR={tree}", f"PREFIX={prefix}"]
+        self.assert_ran(run(*words, "install", f"PROGRAM={program}", f"LIBRARY={library}"))
+        installed = Path(f"{tree}{prefix}")
+        self.assert_same_folder(installed / "share" / "doc", self.usr / "share" / "doc")
+        self.assertIn(f"prefix={prefix}\n", text_of(installed / "lib" / "pkgconfig" / "papr_c.pc"))
+        self.assert_ran(run(installed / "bin" / "papr", "run"), "stand-in\n")
+        self.assert_help(installed / "bin" / "papr-why")
+        self.assert_ran(run(*words, "uninstall"))
+        self.assertEqual([path for path in self.folder.rglob("*") if not path.is_dir()], [library, program])
+        self.assertEqual([path for path in tree.rglob("papr")], [])
+
+    @needs("pkg-config")
+    def test_pkg_config_names_folders_with_blanks(self) -> None:
+        tree = self.folder / "a tree"
+        library = write_script(self.folder / "library", A_LIBRARY)
+        ran = run("make", "-s", "-C", TOP, f"PREFIX={tree}", "install-library", f"LIBRARY={library}")
+        self.assert_ran(ran)
+        variables = {"PKG_CONFIG_PATH": str(tree / "lib" / "pkgconfig")}
+        flags = run("pkg-config", "--cflags", "--libs", "papr_c", environment=variables)
+        self.assert_ran(flags, out=None)
+        named = run("sh", "-c", f"printf '%s\\n' {flags.out.strip()}").out.splitlines()
+        self.assertEqual(named, [f"-I{tree}/include", f"-L{tree}/lib", "-lpapr_c"])
 
 
 @needs("make")
@@ -212,6 +301,29 @@ class Packages(ToolTest):
         self.assertCountEqual(files, [f"papr-{VERSION}/{name}" for name in committed])
         self.assertEqual([name for name in packed if "/out/" in name], [])
 
+    @needs("git", "tar")
+    def test_make_dist_in_what_was_unpacked_packs_the_same(self) -> None:
+        """Where there is no git, with what was made left out."""
+        if run("git", "-C", TOP, "rev-parse", "HEAD").status:
+            self.skipTest("this is no checkout of git")
+        self.make("dist")
+        archive, again = self.folder / f"papr-{VERSION}.tar.gz", self.folder / "again"
+        self.assert_ran(run("tar", "-xzf", archive, "-C", self.folder))
+        unpacked = self.folder / f"papr-{VERSION}"
+        commit = run("git", "-C", TOP, "rev-parse", "HEAD").out
+        self.assertTrue(commit.startswith(text_of(unpacked / "COMMIT").strip()))
+        write_script(unpacked / "out" / "made", "")
+        ran = run("make", "-s", "-C", unpacked, "dist", f"dist={again}")
+        self.assert_ran(ran)
+        names = [
+            sorted(name for name in run("tar", "-tzf", it).out.splitlines() if not name.endswith("/"))
+            for it in (archive, again / archive.name)
+        ]
+        self.assertEqual(names[1], names[0])
+        version = run(unpacked / "papr", "--version")
+        self.assert_ran(version, out=None)
+        self.assertIn(f"\ncommit {text_of(unpacked / 'COMMIT')}", version.out)
+
     @needs("dpkg-deb", "tar")
     def test_make_deb_packs_the_commands_and_their_pages(self) -> None:
         program = write_script(self.folder / "program", STAND_IN)
@@ -226,6 +338,7 @@ class Packages(ToolTest):
         }
         for command in ("papr", *COMMANDS):
             wanted |= {f"/usr/bin/{command}", f"/usr/share/man/man1/{command}.1.gz"}
+        wanted |= {f"/usr/share/man/man5/{name}.5.gz" for name in FORMATS} | {"/usr/libexec/papr/papr"}
         self.assertEqual(wanted - packed, set())
         self.assert_ran(run("dpkg-deb", "-f", self.package(), "Depends"), "libc6 (>= 2.34)\n")
         self.assert_ran(run("dpkg-deb", "-f", self.package(), "Version"), f"{VERSION}\n")
@@ -239,7 +352,7 @@ class Packages(ToolTest):
         depends = run("dpkg-deb", "-f", self.package(), "Depends").out
         self.assertRegex(depends, r"\Alibc6 \(>= 2[.0-9]*\)\n\Z")
         papr = tree / "usr" / "bin" / "papr"
-        linked = run("ldd", papr)
+        linked = run("ldd", tree / "usr" / "libexec" / "papr" / "papr")
         self.assertEqual([line for line in linked.out.splitlines() if not C_LIBRARY.search(line)], [])
         ran = run(papr, "run", given=EXAMPLES / "first.trace")
         self.assert_ran(ran, text_of(EXAMPLES / "first.replies"))

@@ -2,16 +2,18 @@
 
 import csv
 import json
+import sqlite3
 import subprocess
+from contextlib import closing
 from pathlib import Path
 from typing import Union
 
 from .pictures import replies_of, written
-from .support import DATA, EXAMPLES, TOOLS, ToolTest, environment_with, needs, run
+from .support import DATA, EXAMPLES, TOOLS, ToolTest, environment_with, for_each, needs, run
 
 RECEIPTS = TOOLS / "receipts"
 SHARING = EXAMPLES / "sharing.replies"
-HEAD = "table,line,cpu,call,entry,group,stamp,referenced,changed,answer,changes,store"
+HEAD = "resizes,line,cpu,call,entry,pteg,stamp,referenced,changed,answer,changes,store"
 WORDS = ("call", "answer", "store")  # the columns that aren't numbers
 
 
@@ -34,12 +36,12 @@ class Tables(ToolTest):
         rows = self.rows(SHARING)
         expected = [
             {
-                "table": "0",
+                "resizes": "0",
                 "line": str(it.line),
                 "cpu": str(it.cpu),
                 "call": it.call,
                 "entry": str(it.entry),
-                "group": str(it.entry // 8),
+                "pteg": str(it.entry // 8),
                 "stamp": str(it.stamp),
                 "referenced": str(it.bits // 2),
                 "changed": str(it.bits % 2),
@@ -100,6 +102,49 @@ class Tables(ToolTest):
             self.assertEqual(tool.stderr.read(), b"")
             self.assertEqual(tool.wait(), 0)
 
+    def test_lines_and_an_entry_are_chosen(self) -> None:
+        every = self.rows(EXAMPLES / "sharing.replies")
+        for words, lines in (("10..14", (10, 14)), ("..10", (0, 10)), ("26..", (26, 99)), ("0x1B", (27, 27))):
+            ran = run(RECEIPTS, "--csv", "--lines", words, "--entry", "0x20", SHARING)
+            self.assert_ran(ran, out=None)
+            rows = list(csv.DictReader(ran.out.splitlines()))
+            wanted = [row for row in every if lines[0] <= int(row["line"]) <= lines[1] and row["entry"] == "32"]
+            self.assertTrue(rows)
+            self.assertEqual(rows, wanted)
+
+    def test_replies_are_chosen_that_have_such_a_receipt(self) -> None:
+        ran = run(RECEIPTS, "--csv", "--replies", "--entry", "0x3fd8", SHARING)
+        self.assert_ran(ran, out=None)
+        self.assertEqual([line.split(",")[1] for line in ran.out.splitlines()[1:]], ["27"])
+
+    def test_a_database_has_both_tables_with_types(self) -> None:
+        base = self.folder / "run.db"
+        for _turn in range(2):
+            self.assert_ran(run(RECEIPTS, "--sqlite", base, SHARING))
+        with closing(sqlite3.connect(base)) as opened:
+            types = opened.execute("select distinct typeof(stamp), typeof(pteg), typeof(answer) from receipts")
+            self.assertEqual(types.fetchall(), [("integer", "integer", "text")])
+            names = [row[1] for row in opened.execute("pragma table_info(receipts)")]
+            self.assertEqual(",".join(names), HEAD)
+            # No name wants quotes.
+            rows = opened.execute(f"select {', '.join(names)} from receipts order by line").fetchall()
+            self.assertEqual(len(rows), len(written(replies_of(SHARING))))
+            self.assertEqual(rows[0], (0, 9, 0, "H_ENTER", 32, 4, 0, 0, 0, "entered", 1, "table"))
+            most = opened.execute("select max(stamp) from receipts").fetchone()
+            self.assertEqual(most, (max(it.stamp for it in written(replies_of(SHARING))),))
+            count = opened.execute("select count(resizes), count(words) from replies").fetchone()
+            self.assertEqual(count, (replies_of(SHARING).count("\n"),) * 2)
+
+    def test_a_database_stays_as_it_was_where_the_text_is_no_replies(self) -> None:
+        base = self.folder / "run.db"
+        self.assert_ran(run(RECEIPTS, "--sqlite", base, SHARING))
+        before = base.read_bytes()
+        self.assert_refused(run(RECEIPTS, "--sqlite", base, given="x\n"), "receipts: this is no reply: x")
+        self.assertEqual(base.read_bytes(), before)
+        (self.folder / "text").write_text("no database\n" * 100)
+        ran = run(RECEIPTS, "--sqlite", self.folder / "text", SHARING)
+        self.assert_refused(ran, f"receipts: {self.folder / 'text'}: file is not a database")
+
     @needs("sqlite3")
     def test_sqlite_takes_the_table(self) -> None:
         table, base = self.folder / "receipts.csv", self.folder / "run.db"
@@ -119,8 +164,21 @@ class Words(ToolTest):
 
     def test_a_trace_is_no_replies(self) -> None:
         ran = run(RECEIPTS, "--csv", EXAMPLES / "first.trace")
-        self.assert_refused(ran, "receipts: this is no reply: order 18", out=f"{HEAD}\n")
+        self.assert_refused(ran, "receipts: this is no reply: order 18")
+
+    def test_nothing_is_written_of_a_text_whose_end_is_no_reply(self) -> None:
+        text = replies_of(SHARING) + "papr: line 9: word\n"
+        for form in ("--csv", "--json"):
+            refused = run(RECEIPTS, form, given=text)
+            self.assert_refused(refused, "receipts: these are no replies: papr: line 9: word")
 
     def test_a_form_has_to_be_named(self) -> None:
-        message = "receipts: error: one of the arguments --csv --json is required"
+        message = "receipts: error: one of the arguments --csv --json --sqlite is required"
         self.assert_refused(run(RECEIPTS), message)
+        self.assert_refused(run(RECEIPTS, "--sqlite", "x", "--replies"), "receipts: error: --sqlite writes both tables")
+
+    @for_each("x", "..", "5..1", "1..2..3")
+    def test_a_range_of_lines_that_is_none(self, lines: str) -> None:
+        ran = run(RECEIPTS, "--csv", "--lines", lines)
+        self.assert_ran(ran, status=2, err=None)
+        self.assertIn("argument --lines: ", ran.err)

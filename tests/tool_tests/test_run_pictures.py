@@ -30,6 +30,13 @@ class Pictures(PictureTest):
         self.assertCountEqual([text for text in texts if text in KINDS], KINDS)
         self.assertEqual([text for text in texts if text.endswith((" receipt", " receipts"))], ["3 receipts"])
 
+    def test_lines_and_an_entry_are_chosen(self) -> None:
+        ran = run(DRAW, "--lines", "10..26", "--entry", "0x20", EXAMPLES / "sharing.replies")
+        self.assert_ran(ran, out=None)
+        chosen = [it for it in written(replies_of(EXAMPLES / "sharing.replies")) if it.entry == 0x20 and 10 <= it.line <= 26]
+        lines = len({it.line for it in chosen})
+        self.assertEqual(self.texts(ran.out)[0], f"A run of papr: {lines} lines, {len(chosen)} receipts")
+
     @needs("xz")
     @needs_program
     def test_the_stored_picture_of_a_run_is_the_one_drawn(self) -> None:

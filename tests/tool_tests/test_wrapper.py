@@ -4,6 +4,7 @@ import os
 import pty
 import re
 import shlex
+import shutil
 import subprocess
 import unittest
 from pathlib import Path
@@ -185,16 +186,29 @@ class Refusals(WrapperTest):
 
     def test_wrong_words(self) -> None:
         """They are answered as the program answers them."""
-        ran = self.checkout.papr("--help")
-        self.assert_ran(ran, USAGE, status=1, err=None)
-        self.assertIn("man/papr.1", ran.err)
+        for words in (["runn"], ["run", "one", "other"], ["image"]):
+            ran = self.checkout.papr(*words)
+            self.assert_ran(ran, USAGE, status=1, err=None)
+            self.assertIn("man/papr.1", ran.err)
+        self.assertFalse((self.checkout.top / "out").exists())
+
+    def test_no_build_for_help_the_version_or_a_file_that_is_missing(self) -> None:
+        """Nothing is made."""
+        shutil.copy(TOP / "VERSION", self.checkout.top)
+        self.assert_ran(self.checkout.papr("--help"), out=None)
+        self.assert_ran(self.checkout.papr("help", "check"), out=None)
+        version = self.checkout.papr("--version")
+        self.assert_ran(version, out=None)
+        self.assertTrue(version.out.endswith("the program isn't built yet\n"), version.out)
+        ran = self.checkout.papr("run", "none")
+        self.assert_ran(ran, status=3, err="papr: none: No such file or directory\n")
         self.assertFalse((self.checkout.top / "out").exists())
 
     def test_wrong_words_into_a_full_device(self) -> None:
         """The status is the program's for a sink that fails."""
         with open("/dev/full", "wb") as full:
             ran = subprocess.run(
-                [self.checkout.top / "papr", "--help"], stdout=full, stderr=subprocess.PIPE, text=True, check=False
+                [self.checkout.top / "papr"], stdout=full, stderr=subprocess.PIPE, text=True, check=False
             )
         self.assertEqual(ran.returncode, 4)
         self.assertIn("man/papr.1", ran.stderr)
@@ -232,7 +246,7 @@ class AnswersBeforeTheProof(WrapperTest):
         """The same command in this checkout, on the first example."""
         told = self.checkout.papr("run").err
         command = f"cd {self.checkout.top}/crates/papr_main && rt try -- run <TRACE"
-        self.assertIn(f"an answer before it is proved, in a minute: {command}", told)
+        self.assertIn(f"an answer before it is proved, in a minute or two: {command}", told)
         given = EXAMPLES / "first.trace"
         ran = run("rt", "try", "--", "run", given=given, folder=TOP / "crates" / "papr_main")
         answers = "".join(ran.out.splitlines(keepends=True)[:2])
@@ -251,8 +265,8 @@ class SameWords(ToolTest):
         tried += [["drill", "1"], ["drill", "1", "1", "1"]]
         for word in words.split(" "):
             tried += [[word], ["drill", word, "1"], ["drill", "0", word], ["image", word]]
-        text = (TOP / "papr").read_text()
-        functions = text[: text.index('\nis_command "')]
+        text = (TOP / "tools" / "launcher.bash").read_text()
+        functions = text[text.index("# is_number WORD") : text.index("# take_words WORD")]
         asked = "\n".join(f"is_command {shlex.join(it)}; echo $?" for it in tried)
         own = run("bash", "-c", f"{functions}\n{asked}\n", folder=TOP).out.split()
         self.assertEqual(len(own), len(tried))

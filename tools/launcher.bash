@@ -1,0 +1,382 @@
+# shellcheck shell=bash
+# The command papr in all its uses: the script papr begins it, and serves just the plainest use alone.
+#
+#   launcher.bash TOP TOOLS PROGRAM WORD..
+#   launcher.bash TOP TOOLS PROGRAM --ended STATUS SKIP COMMAND
+#
+# The second says how the plain use ended that gave this status; it read standard input from byte SKIP on.
+set -u
+top=$1 tools=$2 program=$3
+shift 3
+manual='man papr'
+if [ -f "$tools/build" ]; then
+    manual="man $top/man/papr.1"
+    # shellcheck source=tools/current.sh
+    . "$tools/current.sh"
+else
+    is_current() { [ -x "$program" ]; }
+fi
+
+# The program's commands, and each tool's command with its file.
+answered=(run par check set image drill)
+declare -A file_of=([why]=why [history]=entry-history [picture]=run-picture [receipts]=receipts [decode]=decode
+    [diff]=diff [bad-line]=bad-line [cut]=cut-trace [from-qemu]=qemu-log-to-trace [entries]=htab-to-entries)
+
+most_bytes=16777217 # one more than the program takes
+made=()             # files to be removed at the end
+output=             # what -o names
+
+say() {
+    printf 'papr: %s\n' "$@" >&2
+}
+
+# telling FUNCTION WORD..: one of those that stand apart, since most runs need none of them.
+telling() {
+    # shellcheck source=tools/telling.bash
+    . "$tools/telling.bash"
+    "$@"
+}
+
+# ---- the program
+
+# have_program: sees to it that there is a program, or ends.
+have_program() {
+    if is_current; then
+        return
+    elif [ -f "$tools/build" ]; then
+        build
+    else
+        say "the program isn't there: $program"
+        exit 127
+    fi
+}
+
+build() {
+    local status
+    if ! command -v rt >/dev/null || ! command -v python3 >/dev/null; then
+        say "the program has to be built, and the Rattle toolchain (rt, and python3) isn't on the path" \
+            "README.md says which kit of it; a kit's bin/ has rt, and rt doc prints its first page"
+        exit 127
+    fi
+    if ! mkdir -p "$top/out" 2>/dev/null || ! [ -w "$top/out" ] || ! [ -w "$top/crates" ]; then
+        say "the program has to be built, and this folder can't be written: $top"
+        exit 126
+    fi
+    as_child python3 "$tools/build" </dev/null >&2
+    status=$?
+    case $status in
+        0) ;;
+        129 | 130 | 143) end_by "$status" ;;
+        *) exit 126 ;;
+    esac
+}
+
+# as_child COMMAND..: runs a command, and gives its status. A signal that would end this script ends the command.
+as_child() {
+    local name
+    ended_by=
+    for name in HUP INT TERM; do
+        # shellcheck disable=SC2064
+        trap "ended_by=$name; kill -s $name \$! 2>/dev/null" "$name"
+    done
+    # (A command in the background would ignore the interrupt, and have no standard input.)
+    if [ -e /dev/fd/0 ]; then
+        (trap - INT QUIT && exec "$@") <&0 &
+    else
+        (trap - INT QUIT && exec "$@") <&- &
+    fi
+    # A signal ends the wait before the command has ended. (The shell would say by which one the command did.)
+    {
+        wait "$!"
+        while [ -n "$ended_by" ] && kill -s 0 "$!"; do
+            wait "$!"
+        done
+        trap - HUP INT TERM
+        wait "$!"
+    } 2>/dev/null
+}
+
+# end_by STATUS: ends by the signal that ended the command, so that a loop around this script ends too.
+end_by() {
+    remove_made
+    trap - EXIT
+    [ -z "$ended_by" ] || kill -s "$ended_by" "$$"
+    exit "$1"
+}
+
+# ---- input and output
+
+remove_made() {
+    [ "${#made[@]}" -eq 0 ] || rm -f -- "${made[@]}"
+}
+
+# will_remove FILE: removes a file at the end.
+will_remove() {
+    made+=("$1")
+    trap remove_made EXIT
+}
+
+# make_temporary: a file for input that can't be read twice, in `again`.
+make_temporary() {
+    again=$(mktemp "${TMPDIR:-/tmp}/papr.XXXXXXXX" 2>/dev/null) || return
+    will_remove "$again"
+}
+
+# must_be_readable FILE: ends where it can't be read.
+must_be_readable() {
+    local reason=
+    if [ ! -e "$1" ]; then
+        reason='No such file or directory'
+    elif [ -d "$1" ]; then
+        reason='Is a directory'
+    elif [ ! -r "$1" ]; then
+        reason='Permission denied'
+    fi
+    [ -z "$reason" ] || { say "$1: $reason" && exit 3; }
+}
+
+# expander FILE: the command that expands a compressed file, in `expands`; nothing for any other.
+expander() {
+    case $1 in
+        *.xz) expands=xz ;;
+        *.gz) expands=gzip ;;
+        *.bz2) expands=bzip2 ;;
+        *.zst) expands=zstd ;;
+        *) expands= ;;
+    esac
+}
+
+# contents FILE: writes what a file has, expanded, as far as the program reads, and tells whether that went well.
+contents() {
+    local ends expands
+    expander "$1"
+    if [ "$1" = - ]; then
+        head -c "$most_bytes"
+    elif [ -z "$expands" ]; then
+        head -c "$most_bytes" -- "$1"
+    elif ! command -v "$expands" >/dev/null; then
+        say "$1: $expands, which expands it, isn't installed"
+        return 1
+    else
+        "$expands" -dc -- "$1" | head -c "$most_bytes"
+        ends=("${PIPESTATUS[@]}")
+        # (141: it had more than is read.)
+        [ "${ends[1]}" -eq 0 ] && { [ "${ends[0]}" -eq 0 ] || [ "${ends[0]}" -eq 141 ]; }
+    fi
+}
+
+# joined TRACE REPLIES: writes both as `check` reads them.
+joined() {
+    contents "$1" >"$again" || return
+    [ -z "$(tail -c 1 "$again")" ] || echo >>"$again"
+    { echo replies && contents "$2"; } >>"$again"
+}
+
+# open_input [FILE [REPLIES]]: makes standard input what is named. Afterwards `name` is what messages call it, and
+# `again` a file from which it can be read once more, from byte `skip` on; a copy is made there if `is_copied`.
+open_input() {
+    local file
+    name=${1:--} again='' skip=0 is_copied=''
+    for file; do
+        [ "$file" = - ] || must_be_readable "$file"
+    done
+    expander "$name"
+    if [ $# -eq 2 ]; then
+        make_temporary && joined "$@" || exit 3
+    elif [ -n "$expands" ]; then
+        make_temporary && contents "$1" >"$again" || exit 3
+    elif [ "$name" = - ]; then
+        name='standard input'
+        can_reread
+        return
+    elif [ -p "$1" ]; then
+        exec <"$1" || exit 3
+        can_reread
+        return
+    else
+        again=$1
+    fi
+    exec <"$again" || exit 3
+}
+
+# can_reread: sees to it that standard input can be read once more.
+can_reread() {
+    if [ -f /dev/fd/0 ]; then
+        again=/dev/fd/0
+        { read -r -u 3 _ skip 3</proc/self/fdinfo/0; } 2>/dev/null || skip=0
+    elif [ -p /dev/fd/0 ] || [ -S /dev/fd/0 ] || [ -t 0 ]; then
+        make_temporary && is_copied=yes
+    elif [ -c /dev/fd/0 ]; then
+        again=/dev/fd/0
+    fi
+}
+
+# read_again: writes the input once more.
+read_again() {
+    tail -c "+$((skip + 1))" -- "$again" | head -c "$most_bytes"
+}
+
+# open_output FILE: makes standard output a file beside FILE, `part`, that takes its `place` once it is whole.
+open_output() {
+    place=$1
+    [ ! -L "$place" ] || place=$(readlink -f -- "$place")
+    part=$place.papr-$$
+    if [ -d "$place" ]; then
+        say "$1: Is a directory"
+        exit 4
+    elif [ -e "$place" ] && [ ! -f "$place" ]; then
+        # A device or a pipe can't be replaced.
+        part='' place=''
+        { exec >"$1"; } 2>/dev/null || { say "$1: it can't be written" && exit 4; }
+    elif { exec >"$part"; } 2>/dev/null; then
+        will_remove "$part"
+        [ ! -e "$place" ] || chmod --reference="$place" -- "$part" 2>/dev/null
+    else
+        say "$1: it can't be written"
+        exit 4
+    fi
+}
+
+# ---- a run
+
+# run_program WORD..: runs the program, and gives its status. On a terminal it is told, from the first second on,
+# how far it is.
+run_program() {
+    if [ -t 1 ] && [ -t 2 ]; then
+        (echo "$BASHPID" && exec "$program" "$@") | telling show
+        return "${PIPESTATUS[0]}"
+    fi
+    as_child "$program" "$@"
+}
+
+# answer WORD..: runs the program with these words, and ends with its status.
+answer() {
+    local status
+    have_program
+    [ -z "$output" ] || open_output "$output"
+    if [ -n "$is_copied" ]; then
+        run_program "$@" < <(tee -- "$again" 2>/dev/null)
+    else
+        run_program "$@"
+    fi
+    status=$?
+    [ "$status" -ne 0 ] || [ -n "$part" ] || exit 0
+    [ "$status" -eq 0 ] || telling tell "$status" "$@"
+    [ "$status" -lt 129 ] || end_by "$status"
+    if [ -n "$part" ] && { [ "$status" -eq 0 ] || [ "$status" -eq 6 ]; }; then
+        mv -f -- "$part" "$place" || exit 4
+    fi
+    exit "$status"
+}
+
+# ---- the command line
+
+# is_number WORD: a number as a trace writes it, below 2^64.
+is_number() {
+    local end=18446744073709551616
+    # Both have 20 digits, so texts compare as numbers.
+    # shellcheck disable=SC2071
+    [[ $1 =~ ^(0[xX][0-9a-fA-F]{1,16}|[0-9]{1,20})$ ]] && { [ "${#1}" -lt 20 ] || [[ $1 < $end ]]; }
+}
+
+# is_length WORD: a number up to 100,000.
+is_length() {
+    is_number "$1" || return 1
+    if [[ $1 = 0[xX]* ]]; then
+        [[ $1 =~ ^0[xX]0*([0-9a-fA-F]{0,5})$ ]] && [ $((16#0${BASH_REMATCH[1]})) -le 100000 ]
+    else
+        [[ $1 =~ ^0*([0-9]{0,6})$ ]] && [ $((10#0${BASH_REMATCH[1]})) -le 100000 ]
+    fi
+}
+
+# is_command WORD..: whether the program takes these words.
+is_command() {
+    local LC_ALL=C
+    case $#,${1-} in
+        1,run | 1,par | 1,check | 1,set) true ;;
+        2,image) [ "$2" = old ] || [ "$2" = new ] ;;
+        3,drill) is_number "$2" && is_length "$3" ;;
+        *) false ;;
+    esac
+}
+
+# take_words WORD..: what stands behind a command: `words`, and the output.
+take_words() {
+    words=()
+    while [ $# -gt 0 ]; do
+        case $1 in
+            -o | --output)
+                [ $# -gt 1 ] || telling wrong "$1 wants a file"
+                output=$2
+                shift
+                ;;
+            -o*) output=${1#-o} ;;
+            --output=*) output=${1#--output=} ;;
+            --)
+                words+=("${@:2}")
+                break
+                ;;
+            -h | --help)
+                telling help "$command"
+                exit 0
+                ;;
+            -?*) telling wrong "no option '$1'" ;;
+            *) words+=("$1") ;;
+        esac
+        shift
+    done
+}
+
+# run_command COMMAND WORD..: one of the program's.
+run_command() {
+    local command=$1 most=1 first=()
+    take_words "${@:2}"
+    case $command in
+        check) most=2 ;;
+        image)
+            first=("${words[@]:0:1}") words=("${words[@]:1}")
+            is_command image "${first[@]}" || telling wrong "image wants a layout, old or new, and then at most one file"
+            ;;
+        drill)
+            is_command drill "${words[@]}" || telling wrong 'drill wants two numbers: a seed, and lines, at most 100,000'
+            first=("${words[@]}") words=() name=drill again='' is_copied=''
+            ;;
+    esac
+    [ "${#words[@]}" -le "$most" ] || telling wrong "$command wants at most $most file$([ "$most" -eq 1 ] || echo s)"
+    [ "$command" = drill ] || open_input "${words[@]}"
+    answer "$command" "${first[@]}"
+}
+
+# run_tool COMMAND WORD..
+run_tool() {
+    if ! command -v python3 >/dev/null; then
+        say "papr $1 needs Python 3, which isn't on the path"
+        exit 127
+    fi
+    PAPR_NAME="papr $1" exec "$tools/${file_of[$1]}" "${@:2}"
+}
+
+ended_by='' part='' place=''
+[ $# -gt 0 ] || telling wrong 'no command is named'
+case $1 in
+    run | par | check | set | image | drill)
+        run_command "$@"
+        ;;
+    -h | --help) telling help ;;
+    help) telling help "${@:2}" ;;
+    --version) telling version ;;
+    --ended)
+        name='standard input' again=/dev/fd/0 skip=$3
+        telling tell "$2" "$4"
+        exit "$2"
+        ;;
+    --program)
+        have_program
+        [[ $program = /* ]] || program=$PWD/$program
+        printf '%s\n' "$program"
+        ;;
+    *)
+        [ -n "${1:+${file_of[$1]-}}" ] || telling no_command "$1"
+        run_tool "$@"
+        ;;
+esac

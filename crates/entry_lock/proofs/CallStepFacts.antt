@@ -8,7 +8,7 @@ use Rattle.entry_model.specs.Receipt.{after_of, is_access}
 use Rattle.lock_core.specs.declared.control.Control.{Control}
 use Rattle.lock_core.specs.declared.doing.Doing.{Doing}
 use Rattle.lock_core.specs.declared.step.Step.{Step}
-use Rattle.lock_core.specs.declared.step.Step.TheVariants.{Look, Shut, StoreData, Settle}
+use Rattle.lock_core.specs.declared.step.Step.TheVariants.{Lock, Look, Shut, StoreData, Settle}
 use Rattle.lock_core.specs.declared.phase.Phase.TheVariants.{HeldShut}
 use Rattle.lock_core.specs.Words.{noted_state, next_state, changes, receipt}
 use Rattle.lock_core.specs.Steps.{with_noted}
@@ -16,7 +16,7 @@ use Rattle.lock_core.proofs.Noted.{changes_alike}
 use Rattle.entry_lock.specs.declared.busy.Busy.{Busy}
 use Rattle.entry_lock.specs.declared.rule.View.{View}
 use Rattle.entry_lock.specs.Layout.{word_of, valid_bit}
-use Rattle.entry_lock.specs.CallSteps.{after_steps, Took, loads_if, stores_if, leaves_state, changing_steps, IsDeciding, TookBusyAccess}
+use Rattle.entry_lock.specs.CallSteps.{after_steps, Took, loads_if, stores_if, leaves_state, changing_steps, IsDeciding, TookBusyAccess, TookBusy}
 use Rattle.entry_lock.specs.StepViews.{view_with_step, view_in_phase, view_with_receipt, view_with_store}
 use Rattle.entry_lock.proofs.Bits.{control_is}
 
@@ -68,12 +68,23 @@ module _ (d : Doing) (k : Control) (other : is_access d.op ≡ false) (valid : k
 other_words : (a b : ℕ) (F G : Type 0) → a ≢ b → G → MatchBool (a == b) F G
 other_words a b F G not_same g = subst (λ t. MatchBool t F G) (sym (ne_eqb a b not_same)) g
 
-pub busy_second : (e : ℕ) (op : Op) (noted : Control) (last : Step) (b : Busy) (u v w x : View) → noted.stamp < 2 ^ 32 → IsDeciding e op last → (b.looked ≡ word_of noted) × (b.found ≢ b.looked)
-    → Took (Look e op ∷ []) u v → Took (loads_if noted.valid) v w → Took (last ∷ []) w x → TookBusyAccess e op b u x
-busy_second e op noted last b u v w x low decides two look loads end =
-    let valid : valid_bit b.looked ≡ noted.valid = ap valid_bit two.0 ∙ ap (λ (k : Control). k.valid) (control_is (word_of noted) noted (refl, low)) in
-    let all = took_both u v x (Look e op ∷ []) (loads_if noted.valid ++ last ∷ []) look (took_both v w x (loads_if noted.valid) (last ∷ []) loads end) in
-    other_words b.looked b.found _ _ (λ q. two.1 (sym q)) (last, decides, subst (λ z. Took (Look e op ∷ loads_if z ++ last ∷ []) u x) (sym valid) all)
+pub busy_second :
+    (e : ℕ) (op : Op) (noted : Control) (last : Step) (b : Busy) (u v w x : View)
+    → is_access op ≡ true → noted.stamp < 2 ^ 32 → IsDeciding e op last
+    → (b.looked ≡ word_of noted) × (b.found ≢ b.looked)
+    → Took (Look e op ∷ []) u v → Took (loads_if noted.valid) v w → Took (last ∷ []) w x
+    → TookBusy e op b u x
+busy_second e op noted last b u v w x access low decides two look loads end =
+    let word = control_is (word_of noted) noted (refl, low) in
+    let valid : valid_bit b.looked ≡ noted.valid =
+    ap valid_bit two.0 ∙ ap (λ (k : Control). k.valid) word in
+    let rest = took_both v w x (loads_if noted.valid) (last ∷ []) loads end in
+    let all = took_both u v x (Look e op ∷ []) (loads_if noted.valid ++ last ∷ []) look rest in
+    let took = subst (λ z. Took (Look e op ∷ loads_if z ++ last ∷ []) u x) (sym valid) all in
+    let busy : TookBusyAccess e op b u x =
+    other_words b.looked b.found _ _ (λ q. two.1 (sym q)) (last, decides, took) in
+    subst (λ z. MatchBool z (TookBusyAccess e op b u x) (Took (Lock e op ∷ []) u x)) (sym access)
+    busy
 
 -- ---- results
 pub if_err : {A E : Type 0} (r : Result A E) (P Q : E → Type 0) → ((b : E) → P b → Q b) → IfErr r P → IfErr r Q

@@ -9,6 +9,7 @@ pub mod SeenLines
 pub mod LineSteps
 pub mod Plays
 pub mod PassInvariants
+pub mod Holding
 pub mod BusyCauses
 pub mod PassChanges
 pub mod CallSteps

@@ -12,7 +12,7 @@ ghost use Rattle.entry_lock.specs.PassInvariants.{IsActing, IsAt};
 ghost use Rattle.entry_lock.specs.AccessSteps.{IsLooking};
 ghost use Rattle.entry_lock.specs.BusyCauses.{IsChanging};
 ghost use Rattle.entry_lock.specs.PassChanges.{MadeNothing, MadeReceipt, TellsLastStep, TookAtMost};
-ghost use Rattle.entry_lock.specs.CallSteps.{Took, TookBusyAccess, loads_if, access_steps, leaves_state};
+ghost use Rattle.entry_lock.specs.CallSteps.{Took, TookBusy, loads_if, made_steps, leaves_state};
 ghost use Rattle.entry_lock.specs.Progress.{LookedAtEntry, IsSameDoing};
 
 use crate::access_steps::{load_looked, look, look_again, mark};
@@ -206,8 +206,8 @@ pub fn try_access(table: &Words, seat: &mut PassSeat, entry: u32, op: Op) -> Res
     ensures alone { length seat.old.me.0.numbers ≡ seat.old.me.0.passes → IsOk result }
     ensures once { TookAtMost 2 seat.old.me.0 seat.new.me.0 }
     ensures steps { IfOk result
-        (λ r. Took (access_steps entry op r) seat.old.me.0 seat.new.me.0) }
-    ensures busy { IfErr result (λ b. TookBusyAccess entry op b seat.old.me.0 seat.new.me.0) }
+        (λ r. Took (made_steps entry op r) seat.old.me.0 seat.new.me.0) }
+    ensures busy { IfErr result (λ b. TookBusy entry op b seat.old.me.0 seat.new.me.0) }
 {
     let looked = look_first(table, seat, entry, op)?;
     let doing = load_words(table, seat, &looked);

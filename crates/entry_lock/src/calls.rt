@@ -10,14 +10,14 @@ ghost use Rattle.entry_lock.specs.StepViews.{view_with_step, view_with_receipt};
 ghost use Rattle.entry_lock.specs.PassInvariants.{IsActing, IsAt};
 ghost use Rattle.entry_lock.specs.BusyCauses.{IsHeldElsewhere};
 ghost use Rattle.entry_lock.specs.PassChanges.{MadeNothing, MadeReceipt, TellsLastStep, TookAtMost};
-ghost use Rattle.entry_lock.specs.CallSteps.{Took, after_steps, loads_if, call_steps, changing_steps, leaves_state};
+ghost use Rattle.entry_lock.specs.CallSteps.{Took, TookBusy, after_steps, loads_if, changing_steps, made_steps, leaves_state};
 ghost use Rattle.entry_lock.specs.Progress.{TookEntry, IsSameDoing};
 
 use crate::busy::Busy;
 use crate::control_word::{control_of, word_from};
 use crate::holder_steps::{load_data, lock, release, settle, shut, store_data};
 use crate::outcome::{Outcome, outcome_by, outcome_of};
-use crate::pause::Pause;
+use crate::pause::{JustLocked, Pause};
 use crate::rule::{PassSeat, Words};
 use entry_model::{Op, Receipt};
 use lock_core::{Doing, settled_word};
@@ -162,11 +162,11 @@ pub fn try_call<P: Pause>(
     ensures alone { length seat.old.me.0.numbers ≡ seat.old.me.0.passes → IsOk result }
     ensures once { TookAtMost 1 seat.old.me.0 seat.new.me.0 }
     ensures steps { IfOk result
-        (λ r. Took (call_steps entry op r) seat.old.me.0 seat.new.me.0) }
-    ensures busy { IfErr result (λ b. Took (Lock entry op ∷ []) seat.old.me.0 seat.new.me.0) }
+        (λ r. Took (made_steps entry op r) seat.old.me.0 seat.new.me.0) }
+    ensures busy { IfErr result (λ b. TookBusy entry op b seat.old.me.0 seat.new.me.0) }
 {
     let taken = take_entry(table, seat, entry, op)?;
-    pause.held();
+    pause.held(JustLocked { seat: &*seat });
     let doing = load_held(table, seat, &taken);
     let known = outcome_of(&doing);
     if known.changes {

@@ -40,7 +40,7 @@ pub use laws::{
     tables_are_shared, tables_open_on_their_states,
 };
 pub use opening::OpenRefused;
-pub use pause::{NoPause, Pause};
+pub use pause::{JustLocked, NoPause, Pause};
 pub use rule::{LockRule, Opening, View};
 pub use table::{LockTable, Pass};
 pub use waiting::Waiting;

@@ -20,6 +20,8 @@ pub struct Outcome {
 
 /// What the operation does.
 #[tactic(auto, unfolding(lock_core::specs::Words::changes, lock_core::specs::Words::next_state))]
+// In line, so that each caller keeps what it needs of it: half of an operation's instructions.
+#[inline(always)]
 pub fn outcome_of(doing: &Doing) -> Outcome
     ensures receipt { result.receipt ≡ receipt_of doing.now }
     ensures after { result.after ≡ next_of doing.now }

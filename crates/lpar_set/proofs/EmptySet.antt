@@ -19,6 +19,7 @@ use Rattle.lpar_set.proofs.SetPlaces.{beside_later}
 abbrev pub still_empty : ℕ → ℕ → ℕ → Bool → SetReading
 still_empty base order taken untouched = record (set_beside base order) { taken = taken; untouched = untouched }
 
+-- None of the eight partitions has been read.
 abbrev pub no_readings : List (Option Reading)
 no_readings = replicate 8 None
 

@@ -23,6 +23,7 @@ all_below n =
     let same : 0 + n ≡ n = omega arith in
     subst (λ m. AllByRecursion (λ k. k < m) (range_with_len 0 n)) same (range_below 0 n)
 
+-- The lines at which these turns come, in their order.
 abbrev pub lines_named : List Turn → List ℕ
 lines_named turns = map (λ (t : Turn). t.line) turns
 

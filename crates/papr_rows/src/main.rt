@@ -1,35 +1,22 @@
-//! Runs the program over rows: an input, its words, and the status and the text that must come of it.
-//! The rows stand in files of `data/`, which the words name. A line is written for each row, and the last
-//! line counts the cases; the status is 1 where one failed or couldn't be read.
+//! Runs the program's calls over cases: words and an input, and the status and the text that must come of
+//! them. They stand in the file that
+//! the first word names; its head tells its commands. A line is written for each row of cases, and
+//! the last line counts the runs; the exit status is 1 where one failed or a line couldn't be read.
 #![tactic(auto)]
 
-mod checking;
-mod counted;
-mod error;
-mod faults;
-mod form;
-mod pieces;
-mod row;
+mod case;
+mod copies;
+mod miss;
+mod rows;
 mod running;
-mod tally;
 
-use anyhow::Result;
-use checking::check_file;
-use std::env;
+use rows::take_lines;
 use std::process::ExitCode;
-use tally::Tally;
+use std::{env, fs, io};
 
-fn main(rt: HostRuntime) -> Result<ExitCode> {
-    let mut tally = Tally::new(rt.alloc());
-    for path in env::args(&rt)?.skip(1) {
-        if let Err(error) = check_file(&rt, path.as_str(), &mut tally) {
-            tally.fail(&rt, path.as_str(), &error)?;
-        }
-    }
-    println!(&rt; "{} passed, {} failed", tally.passed, tally.failed)?;
-    Ok(if tally.failed == 0 {
-        ExitCode::SUCCESS
-    } else {
-        ExitCode::FAILURE
-    })
+fn main(rt: HostRuntime) -> io::Result<ExitCode> {
+    let path = env::args(&rt)?.nth(1).unwrap_or(String::new(rt.alloc()));
+    let text = fs::read_to_string(&rt, path.as_str())?;
+    let failed = take_lines(&rt, text.as_str())?;
+    Ok(ExitCode::from((failed > 0) as u8))
 }

@@ -23,9 +23,11 @@ as_image layout run Memory ends = ends
 as_image layout run CheckNo ends = ends
 
 -- ---- where the source tells its input
+-- The input is a trace, and the layout holds its image.
 abbrev pub IsHeld : Layout → Result AcceptedTrace (ℕ × Reason) → Type 0
 IsHeld layout read = IsOkAnd read (λ t. IsOk (image_output layout t))
 
+-- If the input is a trace, the layout doesn't hold its image.
 abbrev pub IsUnheld : Layout → Result AcceptedTrace (ℕ × Reason) → Type 0
 IsUnheld layout read = IfOk read (λ t. IsErr (image_output layout t))
 

@@ -50,6 +50,7 @@ unfolding between
 with_last line [] = refl
 with_last line (next ∷ rest) = ap (λ x. line ++ 10 ∷ x) (with_last next rest) ∙ sym (append_assoc line (10 ∷ between next rest) (10 ∷ []))
 
+-- No byte of it ends a line.
 abbrev pub IsLine : List ℕ → Type 0
 IsLine line = AllByRecursion (λ c. is_lf c ≡ false) line
 
@@ -84,6 +85,7 @@ pub record IsWordByte (c : ℕ) : Type 0 where
   pub low : 33 ≤ c
   pub high : c ≤ 126
 
+-- Each byte of it may stand in a word.
 abbrev pub IsWord : List ℕ → Type 0
 IsWord word = AllByRecursion IsWordByte word
 
@@ -128,6 +130,7 @@ pub record IsTextByte (c : ℕ) : Type 0 where
   pub low : 32 ≤ c
   pub high : c ≤ 126
 
+-- Each byte of it is a blank or one of a word.
 abbrev pub IsText : List ℕ → Type 0
 IsText xs = AllByRecursion IsTextByte xs
 

@@ -24,9 +24,8 @@ pub use pages::group_of_entry;
 pub use pools::{take_and_give, take_pair};
 pub use programs::run_program;
 pub use promises::{
-    accesses_land, caches_are_right, devices_land, masks_are_right, no_put_is_busy,
-    none_is_hardware, one_processor_has_one_run, refusals_leave, resizes_keep, stores_show,
-    text_tells_run, zero_masks_are_silent,
+    Accesses, Caches, Devices, KeptPromise, Masks, NoHardware, OneProcessor, Refusals, Resizes,
+    Stores, Texts, ZeroMasks, keep_promise, no_put_is_busy,
 };
 pub use resizing::resize;
 pub use segments::only_segment;

@@ -5,7 +5,7 @@ ghost use Rattle.std.specs.Prelude.{◌≡◌};
 ghost use Rattle.entry_lock.specs.PassOfTable.{IsOf};
 
 use super::{ENTRY, access, open_table, page, remove};
-use entry_lock::{Busy, LockTable, Pass, Pause};
+use entry_lock::{Busy, JustLocked, LockTable, Pass, Pause};
 use entry_model::{Answer, EntryState, Op, Receipt};
 use std::alloc::{AllocError, Global};
 use std::cell::RefCell;
@@ -41,7 +41,7 @@ struct Visit<'a> {
 }
 
 impl Pause for Visit<'_> {
-    fn held(&self) {
+    fn held(&self, _at: JustLocked) {
         if let Ok(mut visitor) = self.visitor.try_borrow_mut() {
             visitor.visit();
         }

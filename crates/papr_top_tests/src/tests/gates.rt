@@ -9,7 +9,6 @@ mod whole;
 use papr_top::{Gate, Status, papr};
 use std::alloc::Global;
 use std::sync::Wait;
-use std::sync::atomic::{AtomicU64, Ordering};
 use std::test::Fail;
 use std::thread::Threads;
 use trace_io::{SteadySink, SteadySource};
@@ -53,32 +52,4 @@ pub fn judged_input(alloc: Global, trace: &str, text: &str) -> Result<String, Fa
     input.push_str("replies\n")?;
     input.push_str(text)?;
     Ok(input)
-}
-
-/// Something that a processor may wait for.
-#[derive(Drop)]
-struct Flag(AtomicU64);
-
-impl Flag {
-    fn new() -> Self {
-        Flag(AtomicU64::new(0))
-    }
-
-    fn raise(&self) {
-        self.0.store(1, Ordering::SeqCst);
-    }
-
-    fn is_up(&self) -> bool {
-        self.0.load(Ordering::SeqCst) == 1
-    }
-
-    /// Waits for at most 2^28 turns; `late` is raised where that was too short.
-    fn wait(&self, late: &Flag) {
-        for _ in 0..1 << 28 {
-            if self.is_up() {
-                return;
-            }
-        }
-        late.raise();
-    }
 }

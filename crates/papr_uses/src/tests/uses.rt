@@ -129,7 +129,7 @@ fn programs(rt: HostRuntime) -> Result<(), Fail> {
 fn promises(rt: HostRuntime) -> Result<(), Fail> {
     let alloc = rt.alloc();
     let mut sink = SteadySink::new(alloc, 7, 4096)?;
-    let by_threads = stores_show(&rt, alloc, TRACE.to_vec(alloc)?, &mut sink);
+    let by_threads = keep_promise::<Stores, _>(&rt, alloc, TRACE.to_vec(alloc)?, &mut sink);
     let serially = no_put_is_busy(alloc, TRACE.to_vec(alloc)?, &mut sink);
     assert_eq!(rt; (by_threads, serially), (Status::Done, Status::Done));
     let twice = format!(in alloc; "{REPLY}{REPLY}")?;

@@ -1,5 +1,5 @@
-//! A gate that holds nobody, and lists its calls: each with its place, processor and line, in the order in
-//! which they came.
+//! A gate that lists its calls, each with its place, processor and line, in the order in which they
+//! came, and holds a processor at some of them.
 use papr_top::Gate;
 use std::alloc::Global;
 use std::fmt::Write;
@@ -7,7 +7,8 @@ use std::sync::atomic::{AtomicU64, Ordering};
 use std::test::Fail;
 
 /// The places at which a gate is called.
-enum Place {
+#[derive(Clone, Copy)]
+pub enum Place {
     Before,
     Step,
     Held,
@@ -19,13 +20,44 @@ const NAMES: [&str; 4] = ["before", "step", "held", "after"];
 
 impl Place {
     /// The place's number among the four.
-    fn number(&self) -> u64 {
+    fn number(self) -> u64 {
         match self {
             Place::Before => 0,
             Place::Step => 1,
             Place::Held => 2,
             Place::After => 3,
         }
+    }
+}
+
+/// A place in a line.
+#[derive(Clone, Copy)]
+pub struct Point {
+    pub place: Place,
+    pub line: u32,
+}
+
+impl Point {
+    /// Whether the call is at this place in this line.
+    fn is_at(self, call: &Call) -> bool {
+        call.line.load(Ordering::SeqCst) == u64::from(self.line)
+            && call.place.load(Ordering::SeqCst) == self.place.number()
+    }
+}
+
+/// Holds the processor that comes to one point until another point is reached.
+#[derive(Clone, Copy)]
+pub struct Hold {
+    pub at: Point,
+    pub until: Point,
+    /// Whether the other point is to be reached: in many turns it must be, in a few it must not.
+    pub comes: bool,
+}
+
+impl Hold {
+    /// For how many turns the processor is held at most.
+    fn turns(&self) -> u32 {
+        if self.comes { 1 << 26 } else { 1 << 18 }
     }
 }
 
@@ -40,16 +72,18 @@ struct Call {
     line: AtomicU64,
 }
 
-/// The calls so far, and how many there were.
+/// The calls so far, how many there were, and who is held where.
 #[derive(Drop)]
-pub struct Calls {
+pub struct Calls<'a> {
     count: AtomicU64,
     kept: Vec<Call>,
+    holds: &'a [Hold],
+    failed: AtomicU64,
 }
 
-impl Calls {
+impl<'a> Calls<'a> {
     /// No call, with room for 256.
-    pub fn new(alloc: Global) -> Result<Self, Fail> {
+    pub fn new(alloc: Global, holds: &'a [Hold]) -> Result<Self, Fail> {
         let mut kept = Vec::new(alloc);
         for _ in 0..MOST {
             kept.push(Call {
@@ -61,17 +95,51 @@ impl Calls {
         Ok(Calls {
             count: AtomicU64::new(0),
             kept,
+            holds,
+            failed: AtomicU64::new(0),
         })
     }
 
-    /// Puts a call behind the others.
-    fn note(&self, place: &Place, cpu: u32, line: u32) {
+    /// Puts a call behind the others. The line is put last: with it the call is there.
+    fn note(&self, place: Place, cpu: u32, line: u32) {
         let index = self.count.fetch_add(1, Ordering::SeqCst) as usize;
         if let Some(call) = self.kept.get(index) {
             call.place.store(place.number(), Ordering::SeqCst);
             call.cpu.store(u64::from(cpu), Ordering::SeqCst);
             call.line.store(u64::from(line), Ordering::SeqCst);
         }
+    }
+
+    /// Whether the point was reached.
+    fn has(&self, point: Point) -> bool {
+        self.kept
+            .iter()
+            .take(self.count() as usize)
+            .any(|call| point.is_at(call))
+    }
+
+    /// Holds the processor. Where the other point comes too late or too early, the run has failed.
+    fn wait(&self, hold: &Hold) {
+        let turns = hold.turns();
+        let came = (0..turns).any(|_| self.has(hold.until));
+        if came != hold.comes {
+            self.failed.store(1, Ordering::SeqCst);
+        }
+    }
+
+    /// Notes the call, and holds the processor as each hold at this point says.
+    fn reach(&self, place: Place, cpu: u32, line: u32) {
+        self.note(place, cpu, line);
+        for hold in self.holds {
+            if hold.at.line == line && hold.at.place.number() == place.number() {
+                self.wait(hold);
+            }
+        }
+    }
+
+    /// Whether each hold ended as it was to.
+    pub fn is_kept(&self) -> bool {
+        self.failed.load(Ordering::SeqCst) == 0
     }
 
     /// How many there were.
@@ -94,20 +162,20 @@ impl Calls {
     }
 }
 
-impl Gate for Calls {
+impl Gate for Calls<'_> {
     fn before(&self, cpu: u32, line: u32) {
-        self.note(&Place::Before, cpu, line);
+        self.reach(Place::Before, cpu, line);
     }
 
     fn step(&self, cpu: u32, line: u32) {
-        self.note(&Place::Step, cpu, line);
+        self.reach(Place::Step, cpu, line);
     }
 
     fn held(&self, cpu: u32, line: u32) {
-        self.note(&Place::Held, cpu, line);
+        self.reach(Place::Held, cpu, line);
     }
 
     fn after(&self, cpu: u32, line: u32) {
-        self.note(&Place::After, cpu, line);
+        self.reach(Place::After, cpu, line);
     }
 }

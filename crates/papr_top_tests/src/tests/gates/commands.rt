@@ -16,7 +16,7 @@ fn expect<R: Abort + Threads + Wait + Sync>(
     input: &str,
     wanted: &str,
 ) -> Result<(), Fail> {
-    let gate = Calls::new(alloc)?;
+    let gate = Calls::new(alloc, &[])?;
     let (status, text) = answered(rt, alloc, words, input, &gate)?;
     assert_eq!(rt; (status, text.as_str()), (Status::Done, wanted));
     assert_eq!(rt; gate.count(), 0);

@@ -96,7 +96,7 @@ after 2 20
 #[test]
 fn the_gate_is_called_at_each_place_of_each_line(rt: HostRuntime) -> Result<(), Fail> {
     let alloc = rt.alloc();
-    let gate = Calls::new(alloc)?;
+    let gate = Calls::new(alloc, &[])?;
     let (status, text) = answered(&rt, alloc, &["par"], TRACE, &gate)?;
     assert_eq!(rt; (status, text.as_str()), (Status::Done, REPLIES));
     assert_eq!(rt; gate.of(alloc, 2)?.as_str(), CALLS);

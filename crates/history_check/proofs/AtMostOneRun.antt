@@ -1,4 +1,5 @@
 -- Two good runs of one trace that show the same marks are one run: section by section, on each store.
+use Rattle.std.specs.Prelude.{None}
 use Rattle.std.proofs.Common.{◌≡◌, ℕ, zero, suc, ◌<◌, ◌+◌, List, [], ◌∷◌, ◌++◌, Bool, true, false, ap, sym, ◌∙◌, refl, subst, ◌⊎◌, inl, inr, map, length, arith, cond, eqb}
 use Rattle.std.specs.Prelude.{if◌then◌else◌, ◌==◌, filter}
 use Rattle.std.specs.List.{AllByRecursion}
@@ -20,14 +21,14 @@ use Rattle.run_model.specs.LineReplies.{IsCallReply, IsReplyToAccess}
 use Rattle.run_model.specs.Histories.{lines_of_processor, receipts_by, receipts_from_processor}
 use Rattle.run_model.specs.Quiet.{cut, cut_before}
 use Rattle.run_model.specs.StoreContexts.{StoreContext, access_of}
-use Rattle.run_model.specs.StoreSections.{made_in, closing_of}
-use Rattle.run_model.specs.Windows.{is_on_table, is_on_window}
-use Rattle.run_model.specs.SerialRun.{WindowState, AllStores, opening_stores}
-use Rattle.run_model.specs.GoodRun.{IsGoodRun, EachLineOfProcessor, IsAccessLine, IsGoodTo, IsGoodWindowSection}
+use Rattle.run_model.specs.Sections.{made_in}
+use Rattle.run_model.specs.Stores.{is_on, is_on_window}
+use Rattle.run_model.specs.AllStores.{WindowState, AllStores, opening_all}
+use Rattle.run_model.specs.GoodRun.{IsGoodRun, EachLineOfProcessor, IsAccessLine}
 use Rattle.run_model.proofs.Each.{each_append, each_front, each_back, each_filter, each_map}
 use Rattle.run_model.proofs.SerialGood.{opening_processors}
 use Rattle.history_check.specs.ReplyMarks.{ShowsSame, AllShowSame}
-use Rattle.history_check.specs.FoundSection.{Opening, opening_of, section_on, IsGoodOn}
+use Rattle.history_check.specs.FoundSection.{Opening, opening_of, section_on, IsGoodOn, closing_of, IsGoodTo, IsGoodPart}
 use Rattle.history_check.specs.FoundStores.{windows_of, window_opening, window_part, AreGoodOn}
 use Rattle.history_check.proofs.Alike.{Alike, Pair, firsts, seconds, AllAlike, AllBefore, same_states}
 use Rattle.history_check.proofs.AtMostOne.{zip, zip_firsts, zip_seconds, line_alike, line_same, segments_and_masks, kept_after}
@@ -170,7 +171,7 @@ section_same o ps a b low n m g k =
 -- ---- all stores
 -- The lines on the page table, and those on a window.
 abbrev own_table : List BusWindow → List Twice → List Twice
-own_table ws ps = filter (λ p. is_on_table ws p.line.act) ps
+own_table ws ps = filter (λ p. is_on ws None p.line.act) ps
 
 abbrev own_window : BusWindow → List Twice → List Twice
 own_window w ps = filter (λ p. is_on_window w p.line.act) ps
@@ -188,9 +189,9 @@ part_same o n f ps size low plain shown g k =
 pub stores_same : (s : AllStores) (ps : List Twice) → AllByRecursion (λ p. p.line.cpu < length s.table.processors) ps → Plain ps → Shown ps → AreGoodOn s (ones ps) → AreGoodOn s (twos ps) → AllSame ps
 stores_same s ps low plain shown g k =
     let n = length s.table.processors in
-    let both = each_pair (λ v. IsGoodWindowSection (window_part s (ones ps) v)) (λ v. IsGoodWindowSection (window_part s (twos ps) v)) s.windows g.windows k.windows in
-    let windows = each_map (λ v. IsGoodWindowSection (window_part s (ones ps) v) × IsGoodWindowSection (window_part s (twos ps) v)) (λ (v : WindowState). AllSame (own_window v.window ps)) s.windows (λ v h. part_same (window_opening s.table.grants (length s.table.processors) v) n (is_on_window v.window) ps (length-replicate n new_processor) low plain shown h.0 h.1) both in
-    each_by_store (λ p. p.one ≡ p.two) (λ p. p.line.act) (windows_of s) ps (part_same (opening_of s.table) n (is_on_table (windows_of s)) ps refl low plain shown g.table k.table) (mapped_to (λ w. AllSame (own_window w ps)) (λ (v : WindowState). v.window) s.windows windows)
+    let both = each_pair (λ v. IsGoodPart (window_part s (ones ps) v)) (λ v. IsGoodPart (window_part s (twos ps) v)) s.windows g.windows k.windows in
+    let windows = each_map (λ v. IsGoodPart (window_part s (ones ps) v) × IsGoodPart (window_part s (twos ps) v)) (λ (v : WindowState). AllSame (own_window v.window ps)) s.windows (λ v h. part_same (window_opening s.table.grants (length s.table.processors) v) n (is_on_window v.window) ps (length-replicate n new_processor) low plain shown h.0 h.1) both in
+    each_by_store (λ p. p.one ≡ p.two) (λ p. p.line.act) (windows_of s) ps (part_same (opening_of s.table) n (is_on (windows_of s) None) ps refl low plain shown g.table k.table) (mapped_to (λ w. AllSame (own_window w ps)) (λ (v : WindowState). v.window) s.windows windows)
 
 -- ---- all sections
 abbrev pub cut_twice : List Twice → List Twice × List (Twice × List Twice)
@@ -305,7 +306,7 @@ pub at_most_one : (t : AcceptedTrace) (rs qs : List Reply) → IsAccepted t → 
 at_most_one t rs qs is g k m =
     let ps = twice_of t.lines rs qs in
     let x = cut_twice ps in
-    let s = opening_stores t.config in
+    let s = opening_all t.config in
     let e1 : parts_of t rs ≡ both_ones x = ap cut (twice_ones t.lines rs qs g.kinds k.kinds) ∙ cut_ones ps in
     let e2 : parts_of t qs ≡ both_twos x = ap cut (twice_twos t.lines rs qs g.kinds k.kinds) ∙ cut_twos ps in
     let g' : AllGood s (ones x.0) (rest_ones x.1) = subst (λ (c : Parts). AllGood s c.0 c.1) e1 (parts_good t rs g) in

@@ -9,7 +9,7 @@ use Rattle.trace_reply.specs.declared.reply.Reply.{Reply}
 use Rattle.trace_reply.specs.Replies.{RepliedLine, IsOfKind, AreReplies, lines_with_replies}
 use Rattle.reply_text.specs.Text.{reply_text, text_from, text_of}
 use Rattle.run_model.specs.Quiet.{QuietPart, cut, cut_before}
-use Rattle.run_model.specs.SerialRun.{AllStores, opening_stores}
+use Rattle.run_model.specs.AllStores.{AllStores, opening_all}
 use Rattle.run_model.specs.GoodRun.{IsGoodRun}
 use Rattle.run_model.proofs.LinesByProcessor.{Cpus}
 use Rattle.run_model.proofs.SerialGood.{opening_processors}
@@ -102,7 +102,7 @@ pub one_run_has_text : (t : AcceptedTrace) (rs qs : List Reply) (x y : List ℕ)
 one_run_has_text t rs qs x y is g k e =
     let ps = twice_of t.lines rs qs in
     let c = cut_twice ps in
-    let s = opening_stores t.config in
+    let s = opening_all t.config in
     let e1 : parts_of t rs ≡ both_ones c = ap cut (twice_ones t.lines rs qs g.kinds k.kinds) ∙ cut_ones ps in
     let e2 : parts_of t qs ≡ both_twos c = ap cut (twice_twos t.lines rs qs g.kinds k.kinds) ∙ cut_twos ps in
     let g' : AllGood s (ones c.0) (rest_ones c.1) = subst (λ (z : Parts). AllGood s z.0 z.1) e1 (parts_good t rs g) in

@@ -7,7 +7,7 @@ use Rattle.trace_reply.specs.declared.reply.Reply.{Reply}
 use Rattle.trace_reply.specs.Replies.{RepliedLine, IsOfKind, AreReplies, lines_with_replies}
 use Rattle.reply_text.specs.Text.{reply_text, text_from, text_of}
 use Rattle.run_model.specs.Quiet.{cut, cut_before}
-use Rattle.run_model.specs.SerialRun.{AllStores, opening_stores}
+use Rattle.run_model.specs.AllStores.{AllStores, opening_all}
 use Rattle.run_model.specs.GoodRun.{IsGoodRun}
 use Rattle.history_check.specs.Verdict.{lines_to, trace_to, BeginsGood}
 use Rattle.history_check.specs.FoundSection.{ArePlain, AreOnProcessors, lines_text}
@@ -25,13 +25,13 @@ abbrev pub Explains : AllStores → List TraceLine → List ℕ → List ℕ →
 Explains w ls x rest = (rs : List Reply) × AreReplies ls rs × AllGood w (cut (lines_with_replies ls rs)).0 (cut (lines_with_replies ls rs)).1 × (x ≡ text_from ls rs ++ rest)
 
 -- The whole text is that of a good run, but for the rest.
-pub good_explained : (t : AcceptedTrace) (rs : List Reply) (text rest : List ℕ) → IsGoodRun t rs → text ≡ text_of t rs ++ rest → Explains (opening_stores t.config) t.lines text rest
+pub good_explained : (t : AcceptedTrace) (rs : List Reply) (text rest : List ℕ) → IsGoodRun t rs → text ≡ text_of t rs ++ rest → Explains (opening_all t.config) t.lines text rest
 good_explained t rs text rest g e = (rs, g.kinds, parts_good t rs g, e)
 
-pub begins_explained : (k : ℕ) (t : AcceptedTrace) (text : List ℕ) (b : BeginsGood (trace_to k t) text) → Explains (opening_stores t.config) (lines_to k t.lines) text b.1
+pub begins_explained : (k : ℕ) (t : AcceptedTrace) (text : List ℕ) (b : BeginsGood (trace_to k t) text) → Explains (opening_all t.config) (lines_to k t.lines) text b.1
 begins_explained k t text b = good_explained (trace_to k t) b.0 text b.1 b.2 b.3
 
-pub explained_begins : (k : ℕ) (t : AcceptedTrace) (text rest : List ℕ) → Explains (opening_stores t.config) (lines_to k t.lines) text rest → BeginsGood (trace_to k t) text
+pub explained_begins : (k : ℕ) (t : AcceptedTrace) (text rest : List ℕ) → Explains (opening_all t.config) (lines_to k t.lines) text rest → BeginsGood (trace_to k t) text
 explained_begins k t text rest h = (h.0, rest, good_parts (trace_to k t) h.0 h.1 h.2, h.3)
 
 -- The stores behind a section and its quiet line, and the reply to that.
@@ -143,19 +143,19 @@ behind_found w ms l ns x rs r y last plain h cpus q found replied e =
 
 -- The invariant of the judge's loop: what explains the rest, to the j-th quiet line from here, explains the text to the (k + j)-th.
 abbrev pub Reaches : AcceptedTrace → List ℕ → ℕ → AllStores → List TraceLine → List ℕ → Type 0
-Reaches t text k w ns y = (j : ℕ) (last : List ℕ) → (Explains (opening_stores t.config) (lines_to (k + j) t.lines) text last → Explains w (lines_to j ns) y last) × (Explains w (lines_to j ns) y last → Explains (opening_stores t.config) (lines_to (k + j) t.lines) text last)
+Reaches t text k w ns y = (j : ℕ) (last : List ℕ) → (Explains (opening_all t.config) (lines_to (k + j) t.lines) text last → Explains w (lines_to j ns) y last) × (Explains w (lines_to j ns) y last → Explains (opening_all t.config) (lines_to (k + j) t.lines) text last)
 
-pub reaches_first : (t : AcceptedTrace) (text : List ℕ) → Reaches t text 0 (opening_stores t.config) t.lines text
+pub reaches_first : (t : AcceptedTrace) (text : List ℕ) → Reaches t text 0 (opening_all t.config) t.lines text
 reaches_first t text j last =
     let e : 0 + j ≡ j = omega arith in
-    ((λ h. subst (λ n. Explains (opening_stores t.config) (lines_to n t.lines) text last) e h), (λ h. subst (λ n. Explains (opening_stores t.config) (lines_to n t.lines) text last) (sym e) h))
+    ((λ h. subst (λ n. Explains (opening_all t.config) (lines_to n t.lines) text last) e h), (λ h. subst (λ n. Explains (opening_all t.config) (lines_to n t.lines) text last) (sym e) h))
 
 pub reaches_next : (t : AcceptedTrace) (text : List ℕ) (k : ℕ) (w : AllStores) (ms : List TraceLine) (l : TraceLine) (ns : List TraceLine) (x : List ℕ) (rs : List Reply) (r : Reply) (y : List ℕ) → ArePlainStores w → ArePlain ms → AreOnProcessors (length w.table.processors) ms → is_quiet l.act ≡ true → IsOfKind l.act r → AreFound w ms x rs (reply_text l r ++ y) → r ≡ next_reply w ms rs l → Reaches t text k w (ms ++ l ∷ ns) x → Reaches t text (k + 1) (next_run w ms rs l) ns y
 reaches_next t text k w ms l ns x rs r y plain h cpus q kind found said before j last =
     let e : k + suc j ≡ k + 1 + j = omega arith in
     let lines : lines_to (suc j) (ms ++ l ∷ ns) ≡ ms ++ l ∷ lines_to j ns = lines_plain j ms l ns h q in (
-      (λ z. behind_found w ms l (lines_to j ns) x rs r y last plain h cpus q found said (subst (λ ls. Explains w ls x last) lines ((before (suc j) last).0 (subst (λ n. Explains (opening_stores t.config) (lines_to n t.lines) text last) (sym e) z)))),
-      (λ z. subst (λ n. Explains (opening_stores t.config) (lines_to n t.lines) text last) e ((before (suc j) last).1 (subst (λ ls. Explains w ls x last) (sym lines) (step_in w ms l (lines_to j ns) x last h q (record { replies = rs; reply = r; rest = y; kind = kind; found = found; said = said; later = z }))))),
+      (λ z. behind_found w ms l (lines_to j ns) x rs r y last plain h cpus q found said (subst (λ ls. Explains w ls x last) lines ((before (suc j) last).0 (subst (λ n. Explains (opening_all t.config) (lines_to n t.lines) text last) (sym e) z)))),
+      (λ z. subst (λ n. Explains (opening_all t.config) (lines_to n t.lines) text last) e ((before (suc j) last).1 (subst (λ ls. Explains w ls x last) (sym lines) (step_in w ms l (lines_to j ns) x last h q (record { replies = rs; reply = r; rest = y; kind = kind; found = found; said = said; later = z }))))),
     )
 
 -- A section that isn't found fails.
@@ -173,7 +173,7 @@ none_text y = refl
 pub reached_stands : (t : AcceptedTrace) (text : List ℕ) (k : ℕ) (w : AllStores) (ns : List TraceLine) (y : List ℕ) → Reaches t text k w ns y → BeginsGood (trace_to k t) text
 reached_stands t text k w ns y h =
     let e : k + 0 ≡ k = omega arith in
-    explained_begins k t text y (subst (λ n. Explains (opening_stores t.config) (lines_to n t.lines) text y) e ((h 0 y).1 ([], tt, empty_good w, none_text y)))
+    explained_begins k t text y (subst (λ n. Explains (opening_all t.config) (lines_to n t.lines) text y) e ((h 0 y).1 ([], tt, empty_good w, none_text y)))
 
 -- ---- the last section, which no quiet line ends
 pub lines_all : (k : ℕ) (ms : List TraceLine) → ArePlain ms → lines_to (suc k) ms ≡ ms

@@ -1,11 +1,12 @@
 -- Each line is on the page table or on a window: facts of all elements of a list by the stores of their lines.
+use Rattle.std.specs.Prelude.{None}
 use Rattle.std.specs.Prelude.{◌||◌, not, filter}
 use Rattle.std.proofs.Common.{◌≡◌, List, [], ◌∷◌, Bool, true, false, ap, refl, ◌⊎◌, inl, inr, map}
 use Rattle.std.specs.List.{AllByRecursion, list_any}
 use Rattle.std.proofs.lemmas.Bool.{cases_Bool}
 use Rattle.bus_window.specs.Windows.{BusWindow}
 use Rattle.trace_line.specs.declared.act.Act.{Act}
-use Rattle.run_model.specs.Windows.{is_on_window, is_on_table}
+use Rattle.run_model.specs.Stores.{is_on_window, is_on}
 
 filter_head : {A : Type 0} (P : A → Type 0) (f : A → Bool) (x : A) (xs : List A) → f x ≡ true → AllByRecursion P (filter f (x ∷ xs)) → P x
 filter_head P f x xs own h = let k = rw own at h in k.0
@@ -40,11 +41,11 @@ not_cases true = inr refl
 not_cases false = inl refl
 
 -- What holds of the elements on the page table and of those on each window holds of all.
-pub each_by_store : {A : Type 0} (P : A → Type 0) (act : A → Act) (ws : List BusWindow) (xs : List A) → AllByRecursion P (filter (λ x. is_on_table ws (act x)) xs) → AllByRecursion (λ (w : BusWindow). AllByRecursion P (filter (λ x. is_on_window w (act x)) xs)) ws → AllByRecursion P xs
+pub each_by_store : {A : Type 0} (P : A → Type 0) (act : A → Act) (ws : List BusWindow) (xs : List A) → AllByRecursion P (filter (λ x. is_on ws None (act x)) xs) → AllByRecursion (λ (w : BusWindow). AllByRecursion P (filter (λ x. is_on_window w (act x)) xs)) ws → AllByRecursion P xs
 each_by_store P act ws [] h k = tt
-each_by_store P act ws (x ∷ xs) h k = (at (not_cases (list_any (λ (w : BusWindow). is_on_window w (act x)) ws)), each_by_store P act ws xs (filter_tail P (λ x. is_on_table ws (act x)) x xs h) (passed_tail P (λ w x. is_on_window w (act x)) x xs ws k)) where
-  at : (is_on_table ws (act x) ≡ true) ⊎ (list_any (λ (w : BusWindow). is_on_window w (act x)) ws ≡ true) → P x
-  at (inl own) = filter_head P (λ x. is_on_table ws (act x)) x xs own h
+each_by_store P act ws (x ∷ xs) h k = (at (not_cases (list_any (λ (w : BusWindow). is_on_window w (act x)) ws)), each_by_store P act ws xs (filter_tail P (λ x. is_on ws None (act x)) x xs h) (passed_tail P (λ w x. is_on_window w (act x)) x xs ws k)) where
+  at : (is_on ws None (act x) ≡ true) ⊎ (list_any (λ (w : BusWindow). is_on_window w (act x)) ws ≡ true) → P x
+  at (inl own) = filter_head P (λ x. is_on ws None (act x)) x xs own h
   at (inr some) = passed_head P (λ w x. is_on_window w (act x)) x xs ws some k
 
 -- ---- filtered images

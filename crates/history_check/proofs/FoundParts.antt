@@ -1,4 +1,5 @@
 -- A section of all stores, from what is found on each, and the other way round.
+use Rattle.std.specs.Prelude.{None}
 use Rattle.std.specs.Prelude.{filter}
 use Rattle.std.specs.List.{AllByRecursion}
 use Rattle.std.proofs.Common.{◌≡◌, ℕ, List, [], ◌∷◌, ◌++◌, Bool, false, ap, sym, ◌∙◌, refl, subst, map, length, drop, append-nil}
@@ -12,18 +13,16 @@ use Rattle.trace_line.specs.Lines.{is_quiet}
 use Rattle.trace_read.specs.Configuration.{NumbersDiffer}
 use Rattle.trace_reply.specs.declared.reply.Reply.{Reply}
 use Rattle.trace_reply.specs.Replies.{RepliedLine, AreReplies, IsOfKind, lines_with_replies}
-use Rattle.run_model.specs.RunState.{RunState}
+use Rattle.run_model.specs.Stores.{Store, is_on_window, is_on, lines_on, trace_lines_on}
 use Rattle.run_model.specs.Sections.{section_end}
-use Rattle.run_model.specs.StoreSections.{closing_of}
-use Rattle.run_model.specs.Windows.{is_on_window, is_on_table, lines_on_table, lines_on_window, trace_lines_on_table, trace_lines_on_window}
-use Rattle.run_model.specs.SerialRun.{WindowState, AllStores}
+use Rattle.run_model.specs.AllStores.{WindowState, AllStores}
 use Rattle.run_model.proofs.Each.{each_filter}
-use Rattle.run_model.proofs.StoreLines.{on_all_stores, lines_back, kinds_each, kinds_back}
-use Rattle.history_check.specs.FoundSection.{ArePlain, lines_text, Opening, opening_of, section_on, IsGoodOn, IsFound, HasNoSection}
+use Rattle.run_model.proofs.StoreLines.{lines_back, kinds_each, kinds_back}
+use Rattle.history_check.specs.FoundSection.{ArePlain, lines_text, Opening, opening_of, section_on, IsGoodOn, IsFound, HasNoSection, closing_of}
 use Rattle.history_check.specs.FoundStores.{windows_of, AreGoodOn, AreFound, stores_behind, window_opening, windows_in}
 use Rattle.history_check.specs.PartedText.{behind_lines, part_text}
 use Rattle.history_check.specs.StoreParts.{HasPart, HasNoPart, HaveParts, HasTablePart}
-use Rattle.history_check.proofs.ByStore.{filter_map}
+use Rattle.history_check.proofs.ByStore.{each_by_store, filter_map}
 use Rattle.history_check.proofs.MergedLines.{Piece, merge_all}
 use Rattle.history_check.proofs.PartedTexts.{Tell, AllTell, IsPlainReply, ArePlainReplies, lines_in, text_tells, tells_text, tells_part, part_tells, all_tell}
 
@@ -70,7 +69,7 @@ module _ (grants : List Grant) (cpus : ℕ) (ls : List TraceLine) (text : List �
 
   one_part : (v w : WindowState) → ArePlain ls → HasPart grants cpus ls text v w → Piece (λ (z : Pair). z.old.window) IsPart ls (record { old = v; new = w })
   one_part v w plain h =
-      let own = trace_lines_on_window v.window ls in
+      let own = trace_lines_on (is_on_window v.window) ls in
       let us = lines_with_replies own h.found.replies in
       record {
         part = us;
@@ -101,7 +100,7 @@ module _ (grants : List Grant) (cpus : ℕ) (ls : List TraceLine) (text : List �
 
 -- ---- the whole from the parts
 -- The stores before a section, by pairs.
-abbrev before_all : RunState → List Pair → AllStores
+abbrev before_all : Store → List Pair → AllStores
 before_all w zs = record { table = w; windows = map (λ (z : Pair). z.old) zs }
 
 abbrev own_windows : List Pair → List BusWindow
@@ -147,48 +146,48 @@ all_found s new ls text ts h =
       h.behind ∙ ap (stores_behind s) back,
     )
 
-module _ (w newt : RunState) (ls : List TraceLine) (text : List ℕ) (plain : ArePlain ls) where
+module _ (w newt : Store) (ls : List TraceLine) (text : List ℕ) (plain : ArePlain ls) where
   abbrev Own : Pair → List RepliedLine → Type 0
   Own z us = IsPart w.grants (length w.processors) ls text z us
 
-  all_behind : (ts : List RepliedLine) (zs : List Pair) → AllByRecursion (λ (z : Pair). Own z (lines_on_window z.old.window ts)) zs → map (λ (z : Pair). z.new) zs ≡ map (λ (v : WindowState). record v { states = closing_of (section_on (window_opening w.grants (length w.processors) v) (lines_on_window v.window ts)) }) (map (λ (z : Pair). z.old) zs)
+  all_behind : (ts : List RepliedLine) (zs : List Pair) → AllByRecursion (λ (z : Pair). Own z (lines_on (is_on_window z.old.window) ts)) zs → map (λ (z : Pair). z.new) zs ≡ map (λ (v : WindowState). record v { states = closing_of (section_on (window_opening w.grants (length w.processors) v) (lines_on (is_on_window v.window) ts)) }) (map (λ (z : Pair). z.old) zs)
   all_behind ts [] h = refl
   all_behind ts (z ∷ zs) h = λ i. h.0.after i ∷ all_behind ts zs h.1 i
 
-  pairs_found : (zs : List Pair) (n : ℕ) → NumbersDiffer (windows_in (map (λ (z : Pair). z.old) zs)) → AllByRecursion (Piece (λ (z : Pair). z.old.window) (IsPart w.grants (length w.processors) ls text) ls) zs → HasTablePart w newt (trace_lines_on_table (windows_in (map (λ (z : Pair). z.old) zs)) ls) (part_text (is_on_table (windows_in (map (λ (z : Pair). z.old) zs))) ls text) n → Found (before_all w zs) (record { table = newt; windows = map (λ (z : Pair). z.new) zs }) ls text
+  pairs_found : (zs : List Pair) (n : ℕ) → NumbersDiffer (windows_in (map (λ (z : Pair). z.old) zs)) → AllByRecursion (Piece (λ (z : Pair). z.old.window) (IsPart w.grants (length w.processors) ls text) ls) zs → HasTablePart w newt (trace_lines_on (is_on (windows_in (map (λ (z : Pair). z.old) zs)) None) ls) (part_text (is_on (windows_in (map (λ (z : Pair). z.old) zs)) None) ls text) n → Found (before_all w zs) (record { table = newt; windows = map (λ (z : Pair). z.new) zs }) ls text
   pairs_found zs n apart parts table =
       let e = same_windows zs in
       let ws = own_windows zs in
       let W = windows_in (map (λ (z : Pair). z.old) zs) in
-      let own = trace_lines_on_table W ls in
+      let own = trace_lines_on (is_on W None) ls in
       let us = lines_with_replies own table.replies in
-      let rest = drop n (part_text (is_on_table W) ls text) in
-      let plain_us : ArePlainReplies us = found_plain own table.replies (each_filter (λ (l : TraceLine). is_quiet l.act ≡ false) (λ (l : TraceLine). is_on_table W l.act) ls plain) table.found.kinds in
-      let whole = merge_all (λ (z : Pair). z.old.window) (IsPart w.grants (length w.processors) ls text) zs ls us (subst NumbersDiffer e apart) (lines_are own table.replies table.found.kinds ∙ ap (λ z. trace_lines_on_table z ls) e) parts in
+      let rest = drop n (part_text (is_on W None) ls text) in
+      let plain_us : ArePlainReplies us = found_plain own table.replies (each_filter (λ (l : TraceLine). is_quiet l.act ≡ false) (λ (l : TraceLine). is_on W None l.act) ls plain) table.found.kinds in
+      let whole = merge_all (λ (z : Pair). z.old.window) (IsPart w.grants (length w.processors) ls text) zs ls us (subst NumbersDiffer e apart) (lines_are own table.replies table.found.kinds ∙ ap (λ z. trace_lines_on (is_on z None) ls) e) parts in
       let ts = whole.all in
-      let kinds : ArePlainReplies ts = on_all_stores IsPlainReply ws ts (subst ArePlainReplies (sym whole.on_table) plain_us) (each_window (λ v. ArePlainReplies (lines_on_window v ts)) zs (each_to (λ (z : Pair). Own z (lines_on_window z.old.window ts)) (λ (z : Pair). ArePlainReplies (lines_on_window z.old.window ts)) zs (λ z h. h.kinds) whole.each)) in
-      let table_told : part_text (is_on_table ws) (lines_in ts) text ≡ lines_text (lines_on_table ws ts) ++ rest = ap (λ z. part_text (is_on_table ws) z text) whole.lines ∙ ap (λ z. part_text (is_on_table z) ls text) (sym e) ∙ table.found.text ∙ ap (λ z. lines_text z ++ rest) (sym whole.on_table) in
-      let tell : AllTell ts text = all_tell ws ts text (part_tells (is_on_table ws) ts text rest kinds table_told) (each_window (λ v. Tell (is_on_window v) ts text) zs (each_to (λ (z : Pair). Own z (lines_on_window z.old.window ts)) (λ (z : Pair). Tell (is_on_window z.old.window) ts text) zs (λ z h. part_tells (is_on_window z.old.window) ts text h.rest kinds (ap (λ l. part_text (is_on_window z.old.window) l text) whole.lines ∙ h.told)) whole.each)) in
+      let kinds : ArePlainReplies ts = each_by_store IsPlainReply (λ (t : RepliedLine). t.line.act) ws ts (subst ArePlainReplies (sym whole.on_table) plain_us) (each_window (λ v. ArePlainReplies (lines_on (is_on_window v) ts)) zs (each_to (λ (z : Pair). Own z (lines_on (is_on_window z.old.window) ts)) (λ (z : Pair). ArePlainReplies (lines_on (is_on_window z.old.window) ts)) zs (λ z h. h.kinds) whole.each)) in
+      let table_told : part_text (is_on ws None) (lines_in ts) text ≡ lines_text (lines_on (is_on ws None) ts) ++ rest = ap (λ z. part_text (is_on ws None) z text) whole.lines ∙ ap (λ z. part_text (is_on z None) ls text) (sym e) ∙ table.found.text ∙ ap (λ z. lines_text z ++ rest) (sym whole.on_table) in
+      let tell : AllTell ts text = all_tell ws ts text (part_tells (is_on ws None) ts text rest kinds table_told) (each_window (λ v. Tell (is_on_window v) ts text) zs (each_to (λ (z : Pair). Own z (lines_on (is_on_window z.old.window) ts)) (λ (z : Pair). Tell (is_on_window z.old.window) ts text) zs (λ z h. part_tells (is_on_window z.old.window) ts text h.rest kinds (ap (λ l. part_text (is_on_window z.old.window) l text) whole.lines ∙ h.told)) whole.each)) in
       let size : length ts ≡ length ls = sym (length-map ts (λ (t : RepliedLine). t.line)) ∙ ap length whole.lines in
-      let on_table : us ≡ lines_on_table W ts = sym whole.on_table ∙ ap (λ z. lines_on_table z ts) (sym e) in
+      let on_table : us ≡ lines_on (is_on W None) ts = sym whole.on_table ∙ ap (λ z. lines_on (is_on z None) ts) (sym e) in
       all_found (before_all w zs) (record { table = newt; windows = map (λ (z : Pair). z.new) zs }) ls text ts (record {
         lines = whole.lines;
         kinds = kinds;
         good =
             record {
               table = subst (IsGoodOn (opening_of w)) on_table table.found.good;
-              windows = each_old (λ v. IsGoodOn (window_opening w.grants (length w.processors) v) (lines_on_window v.window ts)) zs (each_to (λ (z : Pair). Own z (lines_on_window z.old.window ts)) (λ (z : Pair). IsGoodOn (window_opening w.grants (length w.processors) z.old) (lines_on_window z.old.window ts)) zs (λ z h. h.good) whole.each);
+              windows = each_old (λ v. IsGoodOn (window_opening w.grants (length w.processors) v) (lines_on (is_on_window v.window) ts)) zs (each_to (λ (z : Pair). Own z (lines_on (is_on_window z.old.window) ts)) (λ (z : Pair). IsGoodOn (window_opening w.grants (length w.processors) z.old) (lines_on (is_on_window z.old.window) ts)) zs (λ z h. h.good) whole.each);
             };
         told = tells_text ts text tell ∙ ap (λ k. lines_text ts ++ behind_lines k text) size;
         behind = λ i. record { table = (table.behind ∙ ap (section_end w) on_table) i; windows = all_behind ts zs whole.each i };
       })
 
 -- What is found on each store is found of all.
-pub parts_found : (w newt : RunState) (olds news : List WindowState) (ls : List TraceLine) (text : List ℕ) (n : ℕ) → ArePlain ls → NumbersDiffer (windows_in olds) → HaveParts w.grants (length w.processors) ls text olds news → HasTablePart w newt (trace_lines_on_table (windows_in olds) ls) (part_text (is_on_table (windows_in olds)) ls text) n → (rs : List Reply) × AreFound (record { table = w; windows = olds }) ls text rs (behind_lines (length ls) text) × (record { table = newt; windows = news } ≡ stores_behind (record { table = w; windows = olds }) (lines_with_replies ls rs))
+pub parts_found : (w newt : Store) (olds news : List WindowState) (ls : List TraceLine) (text : List ℕ) (n : ℕ) → ArePlain ls → NumbersDiffer (windows_in olds) → HaveParts w.grants (length w.processors) ls text olds news → HasTablePart w newt (trace_lines_on (is_on (windows_in olds) None) ls) (part_text (is_on (windows_in olds) None) ls text) n → (rs : List Reply) × AreFound (record { table = w; windows = olds }) ls text rs (behind_lines (length ls) text) × (record { table = newt; windows = news } ≡ stores_behind (record { table = w; windows = olds }) (lines_with_replies ls rs))
 unfolding Found
 parts_found w newt olds news ls text n plain apart have table =
     let p = paired w.grants (length w.processors) ls text olds news plain have in
-    let whole = pairs_found w newt ls text plain p.pairs n (subst (λ z. NumbersDiffer (windows_in z)) (sym p.olds) apart) p.each (subst (λ z. HasTablePart w newt (trace_lines_on_table (windows_in z) ls) (part_text (is_on_table (windows_in z)) ls text) n) (sym p.olds) table) in
+    let whole = pairs_found w newt ls text plain p.pairs n (subst (λ z. NumbersDiffer (windows_in z)) (sym p.olds) apart) p.each (subst (λ z. HasTablePart w newt (trace_lines_on (is_on (windows_in z) None) ls) (part_text (is_on (windows_in z) None) ls text) n) (sym p.olds) table) in
     subst (λ (z : List WindowState × List WindowState). Found (record { table = w; windows = z.0 }) (record { table = newt; windows = z.1 }) ls text) (λ i. (p.olds i, p.news i)) whole
 
 -- ---- the parts from the whole
@@ -223,14 +222,14 @@ module _ (s : AllStores) (ls : List TraceLine) (text : List ℕ) (rs : List Repl
   unfolding ts
   tell = text_tells (lines_with_replies ls rs) text rest (found_plain ls rs plain h.kinds) h.text
 
-  pub table_has : HasNoSection (opening_of s.table) (trace_lines_on_table (windows_of s) ls) (part_text (is_on_table (windows_of s)) ls text) → ⊥
+  pub table_has : HasNoSection (opening_of s.table) (trace_lines_on (is_on (windows_of s) None) ls) (part_text (is_on (windows_of s) None) ls text) → ⊥
   unfolding ts
   table_has none =
-      let found = found_part (opening_of s.table) (is_on_table (windows_of s)) ts text tell kinds h.good.table in
-      let none' : HasNoSection (opening_of s.table) (filter (λ (l : TraceLine). is_on_table (windows_of s) l.act) (lines_in ts)) (part_text (is_on_table (windows_of s)) (lines_in ts) text) = subst (λ z. HasNoSection (opening_of s.table) (filter (λ (l : TraceLine). is_on_table (windows_of s) l.act) z) (part_text (is_on_table (windows_of s)) z text)) (sym is_lines) none in
+      let found = found_part (opening_of s.table) (is_on (windows_of s) None) ts text tell kinds h.good.table in
+      let none' : HasNoSection (opening_of s.table) (filter (λ (l : TraceLine). is_on (windows_of s) None l.act) (lines_in ts)) (part_text (is_on (windows_of s) None) (lines_in ts) text) = subst (λ z. HasNoSection (opening_of s.table) (filter (λ (l : TraceLine). is_on (windows_of s) None l.act) z) (part_text (is_on (windows_of s) None) z text)) (sym is_lines) none in
       none' found.0 found.1 found.2
 
-  window_has : (v : WindowState) → IsGoodOn (window_opening s.table.grants (length s.table.processors) v) (lines_on_window v.window ts) → HasNoPart s.table.grants (length s.table.processors) ls text v → ⊥
+  window_has : (v : WindowState) → IsGoodOn (window_opening s.table.grants (length s.table.processors) v) (lines_on (is_on_window v.window) ts) → HasNoPart s.table.grants (length s.table.processors) ls text v → ⊥
   unfolding ts
   window_has v good none =
       let o = window_opening s.table.grants (length s.table.processors) v in
@@ -240,4 +239,4 @@ module _ (s : AllStores) (ls : List TraceLine) (text : List ℕ) (rs : List Repl
 
   pub windows_have : AllByRecursion (λ (v : WindowState). HasNoPart s.table.grants (length s.table.processors) ls text v → ⊥) s.windows
   unfolding ts
-  windows_have = each_to (λ (v : WindowState). IsGoodOn (window_opening s.table.grants (length s.table.processors) v) (lines_on_window v.window ts)) (λ (v : WindowState). HasNoPart s.table.grants (length s.table.processors) ls text v → ⊥) s.windows window_has h.good.windows
+  windows_have = each_to (λ (v : WindowState). IsGoodOn (window_opening s.table.grants (length s.table.processors) v) (lines_on (is_on_window v.window) ts)) (λ (v : WindowState). HasNoPart s.table.grants (length s.table.processors) ls text v → ⊥) s.windows window_has h.good.windows

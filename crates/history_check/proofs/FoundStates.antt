@@ -13,8 +13,8 @@ use Rattle.entry_model.specs.declared.receipt.Receipt.{Receipt}
 use Rattle.entry_model.specs.History.{place, Regrouped, twice}
 use Rattle.entry_model.proofs.Regroup.{regrouped_back}
 use Rattle.run_model.specs.Histories.{receipts_by}
-use Rattle.run_model.specs.StoreSections.{StoreSection, made_in, closing_of}
-use Rattle.run_model.specs.GoodRun.{IsLegalTo}
+use Rattle.run_model.specs.Stores.{states_of}
+use Rattle.run_model.specs.Sections.{Section, made_in}
 use Rattle.run_model.proofs.LinesByProcessor.{file_listed}
 use Rattle.run_model.proofs.OneProcessor.{closing_size}
 use Rattle.run_model.proofs.SectionGood.{OnCpus, each_regrouped}
@@ -24,6 +24,7 @@ use Rattle.history_check.specs.PlacedSteps.{placed_step, FoundStep, with_states_
 use Rattle.history_check.proofs.ListedStates.{keys_rise, rise_by_keys}
 use Rattle.history_check.proofs.Permuted.{permuted, ascending_from}
 use Rattle.history_check.proofs.SectionFixed.{section_fixes, fixed_section}
+use Rattle.history_check.specs.FoundSection.{closing_of, IsLegalTo}
 
 -- ---- exchanges, and a function of each element
 swap_map : {X Y : Type 0} (f : X → Y) (xs : List X) (i j : ℕ) → map f (swap xs i j) ≡ swap (map f xs) i j
@@ -131,16 +132,16 @@ as_many : (rs : List Receipt) (ss : List State) → length ss ≡ length (map pl
 as_many rs ss e = e ∙ length-map rs placed_step
 
 -- A good section's states before are those found, and it closes on those that the steps end on.
-pub section_finds : (s : StoreSection) (listed b : List State) → OnCpus s → IsLegalTo s (closing_of s) → FindStates s.opening (map placed_step (receipts_by s.replied_lines)) listed b → (before_each (receipts_by s.replied_lines) ≡ listed) × (closing_of s ≡ b)
+pub section_finds : (s : Section) (listed b : List State) → OnCpus s → IsLegalTo s (closing_of s) → FindStates (states_of s.before) (map placed_step (receipts_by s.replied_lines)) listed b → (before_each (receipts_by s.replied_lines) ≡ listed) × (closing_of s ≡ b)
 unfolding states_in
 section_finds s listed b cpus good h =
     let rs = receipts_by s.replied_lines in
-    let o = ordering s.opening b rs listed h in
+    let o = ordering (states_of s.before) b rs listed h in
     let size : length listed ≡ length rs = as_many rs listed h.size in
     let ms = receipts_of o.order in
     let moved : Regrouped rs ms = permuted rs ms (of_order rs listed o.order size o.each_once) in
-    let all : Regrouped (made_in s) ms = twice (regrouped_back (file_listed (length s.processors) s.replied_lines cpus)) moved in
-    let fixed = section_fixes s (closing_of s) ms (closing_size s.opening (made_in s)) good all (ascending_from ms o.ascending) in
+    let all : Regrouped (made_in s) ms = twice (regrouped_back (file_listed (length s.before.processors) s.replied_lines cpus)) moved in
+    let fixed = section_fixes s (closing_of s) ms (closing_size (states_of s.before) (made_in s)) good all (ascending_from ms o.ascending) in
     let each : AllByRecursion HasState (listed_with rs listed) = same_have o.order (listed_with rs listed) (IsPermutation-sym (listed_with rs listed) o.order o.each_once) (each_has o.order (fixed.0 ∙ sym o.found)) in
     (ap before_each (sym (their_receipts rs listed size)) ∙ all_have (listed_with rs listed) each ∙ their_states rs listed size, fixed.1 ∙ sym o.ends)
 
@@ -149,16 +150,16 @@ within_of size [] h = tt
 within_of size (r ∷ rs) h = (h.0, within_of size rs h.1)
 
 -- Receipts on the states found are legal histories, which close on the states that the steps end on.
-pub found_section : (s : StoreSection) (listed b : List State) → OnCpus s → AreInTable (length s.opening) (map placed_step (receipts_by s.replied_lines)) → FindStates s.opening (map placed_step (receipts_by s.replied_lines)) listed b → before_each (receipts_by s.replied_lines) ≡ listed → IsLegalTo s (closing_of s) × (closing_of s ≡ b)
+pub found_section : (s : Section) (listed b : List State) → OnCpus s → AreInTable (length (states_of s.before)) (map placed_step (receipts_by s.replied_lines)) → FindStates (states_of s.before) (map placed_step (receipts_by s.replied_lines)) listed b → before_each (receipts_by s.replied_lines) ≡ listed → IsLegalTo s (closing_of s) × (closing_of s ≡ b)
 unfolding states_in
 found_section s listed b cpus within h before =
     let rs = receipts_by s.replied_lines in
-    let n = length s.opening in
-    let o = ordering s.opening b rs listed h in
+    let n = length (states_of s.before) in
+    let o = ordering (states_of s.before) b rs listed h in
     let size : length listed ≡ length rs = as_many rs listed h.size in
     let ms = receipts_of o.order in
     let moved : Regrouped rs ms = permuted rs ms (of_order rs listed o.order size o.each_once) in
-    let all : Regrouped ms (made_in s) = twice (regrouped_back moved) (file_listed (length s.processors) s.replied_lines cpus) in
+    let all : Regrouped ms (made_in s) = twice (regrouped_back moved) (file_listed (length s.before.processors) s.replied_lines cpus) in
     let each : AllByRecursion HasState o.order = same_have (listed_with rs listed) o.order o.each_once (each_has (listed_with rs listed) (ap before_each (their_receipts rs listed size) ∙ before ∙ sym (their_states rs listed size))) in
     let fixed = fixed_section s ms all (each_regrouped (λ (r : Receipt). r.entry < n) moved (within_of n rs within)) (all_have o.order each ∙ o.found) in
     (fixed.0, fixed.1 ∙ sym o.ends)

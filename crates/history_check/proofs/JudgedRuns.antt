@@ -7,7 +7,7 @@ use Rattle.tlb_model.specs.Processor.{Processor}
 use Rattle.trace_line.specs.declared.line.TraceLine.{TraceLine}
 use Rattle.trace_reply.specs.Replies.{lines_with_replies}
 use Rattle.hpt_resize.specs.TableMemory.{with_states}
-use Rattle.run_model.specs.RunState.{RunState}
+use Rattle.run_model.specs.Stores.{Store}
 use Rattle.run_model.specs.Sections.{section_end}
 use Rattle.history_check.specs.FoundSection.{Opening, opening_of, HasSection, HasNoSection, TellsSection}
 use Rattle.history_check.specs.StoreParts.{HasTablePart}
@@ -19,21 +19,21 @@ entries_few n order size high =
     omega (arith, size)
 
 -- The run with these states of its table, and these processors.
-abbrev pub run_with : RunState → List State → List Processor → RunState
+abbrev pub run_with : Store → List State → List Processor → Store
 run_with w states processors = record w { memory = with_states w.memory states; processors = processors }
 
-ends_with : (w : RunState) (ls : List TraceLine) (text : List ℕ) (n : ℕ) (states : List State) (processors : List Processor) (h : HasSection (opening_of w) ls text n states processors) → run_with w states processors ≡ section_end w (lines_with_replies ls h.replies)
+ends_with : (w : Store) (ls : List TraceLine) (text : List ℕ) (n : ℕ) (states : List State) (processors : List Processor) (h : HasSection (opening_of w) ls text n states processors) → run_with w states processors ≡ section_end w (lines_with_replies ls h.replies)
 unfolding section_end
 ends_with w ls text n states processors h = λ i. run_with w (sym h.closes i) (sym h.behind i)
 
-pub found_in_run : {E : Type 0} (found : Result (Option ℕ) E) (old new : RunState) (o : Opening) (lines : List TraceLine) (text : List ℕ) (states : List State) (processors : List Processor) → opening_of old ≡ o → new ≡ run_with old states processors → IfOk found (λ f. TellsSection o lines text f states processors) → IfOk found (λ f. IfSome f (λ n. HasTablePart old new lines text n))
+pub found_in_run : {E : Type 0} (found : Result (Option ℕ) E) (old new : Store) (o : Opening) (lines : List TraceLine) (text : List ℕ) (states : List State) (processors : List Processor) → opening_of old ≡ o → new ≡ run_with old states processors → IfOk found (λ f. TellsSection o lines text f states processors) → IfOk found (λ f. IfSome f (λ n. HasTablePart old new lines text n))
 found_in_run (Ok (Some n)) old new o lines text states processors is after h =
     let found : HasSection (opening_of old) lines text n states processors = subst (λ z. HasSection z lines text n states processors) (sym is) h.1 in
     record { replies = found.replies; found = found.found; behind = after ∙ ends_with old lines text n states processors found }
 found_in_run (Ok None) old new o lines text states processors is after h = tt
 found_in_run (Err e) old new o lines text states processors is after h = tt
 
-pub not_in_run : {E : Type 0} (found : Result (Option ℕ) E) (old : RunState) (o : Opening) (lines : List TraceLine) (text : List ℕ) (states : List State) (processors : List Processor) → opening_of old ≡ o → IfOk found (λ f. TellsSection o lines text f states processors) → IfOk found (λ f. IfNone f (HasNoSection (opening_of old) lines text))
+pub not_in_run : {E : Type 0} (found : Result (Option ℕ) E) (old : Store) (o : Opening) (lines : List TraceLine) (text : List ℕ) (states : List State) (processors : List Processor) → opening_of old ≡ o → IfOk found (λ f. TellsSection o lines text f states processors) → IfOk found (λ f. IfNone f (HasNoSection (opening_of old) lines text))
 not_in_run (Ok (Some n)) old o lines text states processors is h = tt
 not_in_run (Ok None) old o lines text states processors is h = subst (λ z. HasNoSection z lines text) (sym is) h
 not_in_run (Err e) old o lines text states processors is h = tt

@@ -11,9 +11,9 @@ use Rattle.trace_reply.specs.declared.reply.Reply.{Reply}
 use Rattle.trace_reply.specs.Replies.{RepliedLine, IsOfKind, lines_with_replies}
 use Rattle.reply_text.specs.Text.{reply_text, text_of}
 use Rattle.hpt_resize.specs.TableMemory.{opening_memory}
-use Rattle.run_model.specs.RunState.{opening_run}
+use Rattle.run_model.specs.Stores.{page_table}
 use Rattle.run_model.specs.Sections.{section_end}
-use Rattle.run_model.specs.SerialRun.{AllStores, opening_stores}
+use Rattle.run_model.specs.AllStores.{AllStores, opening_all}
 use Rattle.run_model.proofs.Each.{each_front, each_back}
 use Rattle.run_model.proofs.SerialGood.{quiet_kind, opening_processors}
 use Rattle.history_check.specs.declared.verdict.Verdict.TheVariants as verdicts
@@ -85,7 +85,7 @@ pub record AtSection (t : AcceptedTrace) (text : List ℕ) (k : ℕ) (w : AllSto
   pub count : k + quiet_count ns ≡ quiet_count t.lines
   pub few : length ns ≤ 2 ^ 17
 
-pub at_first : (t : AcceptedTrace) (text : List ℕ) → IsAccepted t → AtSection t text 0 (opening_stores t.config) t.lines text
+pub at_first : (t : AcceptedTrace) (text : List ℕ) → IsAccepted t → AtSection t text 0 (opening_all t.config) t.lines text
 at_first t text is = record {
   reached = reaches_first t text;
   plain = opening_stores_plain t is;
@@ -110,8 +110,8 @@ pub number_stays : (w : AllStores) (ts : List RepliedLine) → (stores_behind w 
 unfolding section_end
 number_stays w ts = refl
 
-pub first_number : (t : AcceptedTrace) → (opening_stores t.config).table.memory.table.number ≡ 0
-unfolding opening_run opening_memory
+pub first_number : (t : AcceptedTrace) → (opening_all t.config).table.memory.table.number ≡ 0
+unfolding page_table opening_memory
 first_number t = refl
 
 -- ---- a section and its quiet line
@@ -161,10 +161,10 @@ module _ (t : AcceptedTrace) (text : List ℕ) (k : ℕ) (w : AllStores) (ms : L
   last = let none : quiet_count ms ≡ 0 = quiet_plain_lines ms plain in omega (arith, none, h.count)
 
   -- What explains the whole text explains the rest, and the other way round.
-  from_whole : (rest : List ℕ) → Explains (opening_stores t.config) (lines_to (k + 1) t.lines) text rest → Explains w ms x rest
+  from_whole : (rest : List ℕ) → Explains (opening_all t.config) (lines_to (k + 1) t.lines) text rest → Explains w ms x rest
   from_whole rest e = subst (λ ls. Explains w ls x rest) (lines_all 0 ms plain) ((h.reached 1 rest).0 e)
 
-  to_whole : (rest : List ℕ) → Explains w ms x rest → Explains (opening_stores t.config) (lines_to (k + 1) t.lines) text rest
+  to_whole : (rest : List ℕ) → Explains w ms x rest → Explains (opening_all t.config) (lines_to (k + 1) t.lines) text rest
   to_whole rest e = (h.reached 1 rest).1 (subst (λ ls. Explains w ls x rest) (sym (lines_all 0 ms plain)) e)
 
   all_lines : lines_to (k + 1) t.lines ≡ t.lines
@@ -183,8 +183,8 @@ module _ (t : AcceptedTrace) (text : List ℕ) (k : ℕ) (w : AllStores) (ms : L
   -- It is found, and nothing follows.
   pub last_ends : (rs : List Reply) (rest : List ℕ) → AreFound w ms x rs rest → rest ≡ [] → IsVerdict t text verdicts.Good
   last_ends rs rest f none j low high = at (cases_Bool (nat_le j (section_count t))) where
-    whole : Explains (opening_stores t.config) t.lines text []
-    whole = subst (λ ls. Explains (opening_stores t.config) ls text []) all_lines (to_whole [] (last_in w ms x rs [] plain (subst (λ z. AreFound w ms x rs z) none f)))
+    whole : Explains (opening_all t.config) t.lines text []
+    whole = subst (λ ls. Explains (opening_all t.config) ls text []) all_lines (to_whole [] (last_in w ms x rs [] plain (subst (λ z. AreFound w ms x rs z) none f)))
 
     good : IsGoodText t text
     good = (whole.0, good_parts t whole.0 whole.1 whole.2, whole.3 ∙ append-nil (text_of t whole.0))
@@ -208,6 +208,6 @@ module _ (t : AcceptedTrace) (text : List ℕ) (k : ℕ) (w : AllStores) (ms : L
 
     ended : IsGoodText t text → ⊥
     ended g =
-        let whole : Explains (opening_stores t.config) t.lines text [] = good_explained t g.0 text [] g.1 (g.2 ∙ sym (append-nil (text_of t g.0))) in
-        let found = last_out w ms x [] plain (from_whole [] (subst (λ ls. Explains (opening_stores t.config) ls text []) (sym all_lines) whole)) in
+        let whole : Explains (opening_all t.config) t.lines text [] = good_explained t g.0 text [] g.1 (g.2 ∙ sym (append-nil (text_of t g.0))) in
+        let found = last_out w ms x [] plain (from_whole [] (subst (λ ls. Explains (opening_all t.config) ls text []) (sym all_lines) whole)) in
         more (found_once w ms x rs found.0 rest [] h.plain plain h.cpus f found.1).1

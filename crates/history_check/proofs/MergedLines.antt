@@ -1,4 +1,5 @@
 -- Lines with replies on each store are the parts of one list.
+use Rattle.std.specs.Prelude.{None}
 use Rattle.std.specs.Prelude.{filter, not, ◌==◌}
 use Rattle.std.specs.List.{AllByRecursion}
 use Rattle.std.proofs.Common.{◌≡◌, ℕ, List, [], ◌∷◌, Bool, true, false, ap, sym, ◌∙◌, refl, subst, ◌⊎◌, inl, inr, map}
@@ -8,7 +9,7 @@ use Rattle.trace_line.specs.declared.act.Act.{Act}
 use Rattle.trace_line.specs.declared.line.TraceLine.{TraceLine}
 use Rattle.trace_read.specs.Configuration.{NumbersDiffer}
 use Rattle.trace_reply.specs.Replies.{RepliedLine}
-use Rattle.run_model.specs.Windows.{is_on_window, is_on_table, lines_on_table, lines_on_window, trace_lines_on_table, trace_lines_on_window}
+use Rattle.run_model.specs.Stores.{is_on_window, is_on, lines_on, trace_lines_on}
 use Rattle.run_model.proofs.Each.{filter_yes, filter_no}
 use Rattle.run_model.proofs.StoreLines.{other_window}
 use Rattle.history_check.proofs.PartedTexts.{lines_in}
@@ -37,8 +38,8 @@ abbrev off_window : BusWindow → Act → Bool
 off_window w act = not (is_on_window w act)
 
 -- those on the page table of all windows are among those that the first hasn't
-table_rest : {A : Type 0} (act : A → Act) (w : BusWindow) (ws : List BusWindow) (xs : List A) → filter (λ x. is_on_table ws (act x)) (filter (λ x. off_window w (act x)) xs) ≡ filter (λ x. is_on_table (w ∷ ws) (act x)) xs
-table_rest act w ws xs = filter_in (λ x. off_window w (act x)) (λ x. is_on_table ws (act x)) (λ x. is_on_table (w ∷ ws) (act x)) xs (λ x q. let off = not_true (is_on_window w (act x)) q in rw off refl) (λ x q. let on = not_false (is_on_window w (act x)) q in rw on refl)
+table_rest : {A : Type 0} (act : A → Act) (w : BusWindow) (ws : List BusWindow) (xs : List A) → filter (λ x. is_on ws None (act x)) (filter (λ x. off_window w (act x)) xs) ≡ filter (λ x. is_on (w ∷ ws) None (act x)) xs
+table_rest act w ws xs = filter_in (λ x. off_window w (act x)) (λ x. is_on ws None (act x)) (λ x. is_on (w ∷ ws) None (act x)) xs (λ x q. let off = not_true (is_on_window w (act x)) q in rw off refl) (λ x q. let on = not_false (is_on_window w (act x)) q in rw on refl)
 
 differ : (a b : ℕ) → ¬ (a ≡ b) → b == a ≡ false
 differ a b apart = at (cases_Bool (b == a)) where
@@ -110,7 +111,7 @@ module _ {V : Type 0} (window : V → BusWindow) (G : V → List RepliedLine →
   -- The window's lines with replies that are good.
   pub record Piece (ls : List TraceLine) (v : V) : Type 0 where
     pub part : List RepliedLine
-    pub lines : lines_in part ≡ trace_lines_on_window (window v) ls
+    pub lines : lines_in part ≡ trace_lines_on (is_on_window (window v)) ls
     pub good : G v part
 
   abbrev windows : List V → List BusWindow
@@ -119,10 +120,10 @@ module _ {V : Type 0} (window : V → BusWindow) (G : V → List RepliedLine →
   pub record IsWhole (ls : List TraceLine) (table : List RepliedLine) (vs : List V) : Type 0 where
     pub all : List RepliedLine
     pub lines : lines_in all ≡ ls
-    pub on_table : lines_on_table (windows vs) all ≡ table
-    pub each : AllByRecursion (λ v. G v (lines_on_window (window v) all)) vs
+    pub on_table : lines_on (is_on (windows vs) None) all ≡ table
+    pub each : AllByRecursion (λ v. G v (lines_on (is_on_window (window v)) all)) vs
 
-  every_line : {A : Type 0} (act : A → Act) (xs : List A) → filter (λ x. is_on_table [] (act x)) xs ≡ xs
+  every_line : {A : Type 0} (act : A → Act) (xs : List A) → filter (λ x. is_on [] None (act x)) xs ≡ xs
   every_line act [] = refl
   every_line act (x ∷ xs) = ap (λ z. x ∷ z) (every_line act xs)
 
@@ -132,11 +133,11 @@ module _ {V : Type 0} (window : V → BusWindow) (G : V → List RepliedLine →
   fewer w ls (v ∷ vs) apart h = (record { part = h.0.part; lines = h.0.lines ∙ sym (window_rest (λ (l : TraceLine). l.act) w (window v) ls apart.0); good = h.0.good }, fewer w ls vs apart.1 h.1)
 
   -- what is good on the others is so of all lines
-  widened : (w : BusWindow) (ts : List RepliedLine) (vs : List V) → AllByRecursion (λ (later : BusWindow). ¬ (w.liobn ≡ later.liobn)) (windows vs) → AllByRecursion (λ v. G v (lines_on_window (window v) (filter (λ (t : RepliedLine). off_window w t.line.act) ts))) vs → AllByRecursion (λ v. G v (lines_on_window (window v) ts)) vs
+  widened : (w : BusWindow) (ts : List RepliedLine) (vs : List V) → AllByRecursion (λ (later : BusWindow). ¬ (w.liobn ≡ later.liobn)) (windows vs) → AllByRecursion (λ v. G v (lines_on (is_on_window (window v)) (filter (λ (t : RepliedLine). off_window w t.line.act) ts))) vs → AllByRecursion (λ v. G v (lines_on (is_on_window (window v)) ts)) vs
   widened w ts [] apart h = tt
   widened w ts (v ∷ vs) apart h = (subst (G v) (window_rest (λ (t : RepliedLine). t.line.act) w (window v) ts apart.0) h.0, widened w ts vs apart.1 h.1)
 
-  pub merge_all : (vs : List V) (ls : List TraceLine) (table : List RepliedLine) → NumbersDiffer (windows vs) → lines_in table ≡ trace_lines_on_table (windows vs) ls → AllByRecursion (Piece ls) vs → IsWhole ls table vs
+  pub merge_all : (vs : List V) (ls : List TraceLine) (table : List RepliedLine) → NumbersDiffer (windows vs) → lines_in table ≡ trace_lines_on (is_on (windows vs) None) ls → AllByRecursion (Piece ls) vs → IsWhole ls table vs
   merge_all [] ls table apart own h = record { all = table; lines = own ∙ every_line (λ (l : TraceLine). l.act) ls; on_table = every_line (λ (t : RepliedLine). t.line.act) table; each = tt }
   merge_all (v ∷ vs) ls table apart own h =
       let w = window v in
@@ -146,6 +147,6 @@ module _ {V : Type 0} (window : V → BusWindow) (G : V → List RepliedLine →
       record {
         all = m.all;
         lines = m.lines;
-        on_table = sym (table_rest (λ (t : RepliedLine). t.line.act) w (windows vs) m.all) ∙ ap (lines_on_table (windows vs)) m.no_part ∙ rest.on_table;
-        each = (subst (G v) (sym m.yes_part) h.0.good, widened w m.all vs apart.0 (subst (λ z. AllByRecursion (λ u. G u (lines_on_window (window u) z)) vs) (sym m.no_part) rest.each));
+        on_table = sym (table_rest (λ (t : RepliedLine). t.line.act) w (windows vs) m.all) ∙ ap (lines_on (is_on (windows vs) None)) m.no_part ∙ rest.on_table;
+        each = (subst (G v) (sym m.yes_part) h.0.good, widened w m.all vs apart.0 (subst (λ z. AllByRecursion (λ u. G u (lines_on (is_on_window (window u)) z)) vs) (sym m.no_part) rest.each));
       }

@@ -5,13 +5,12 @@ use Rattle.std.proofs.lemmas.Bool.{cases_Bool}
 use Rattle.frame_grants.specs.declared.grant.Grant.{Grant}
 use Rattle.tlb_model.specs.Processor.{new_processor}
 use Rattle.trace_line.specs.declared.line.TraceLine.{TraceLine}
-use Rattle.run_model.specs.GoodRun.{IsGoodTo}
 use Rattle.run_model.specs.Sections.{processors_after_lines}
-use Rattle.run_model.specs.SerialRun.{WindowState}
-use Rattle.run_model.specs.StoreSections.{closing_of}
-use Rattle.run_model.specs.Windows.{is_on_window, trace_lines_on_window}
-use Rattle.run_model.proofs.SectionGood.{alone_closes, alone_good}
-use Rattle.history_check.specs.FoundSection.{Opening, section_on, HasSection}
+use Rattle.run_model.specs.AllStores.{WindowState}
+use Rattle.run_model.specs.Stores.{is_on_window, trace_lines_on}
+use Rattle.history_check.proofs.GoodStores.{store_empty}
+use Rattle.run_model.proofs.SectionGood.{alone_closes}
+use Rattle.history_check.specs.FoundSection.{Opening, section_on, HasSection, IsGoodTo, closing_of}
 use Rattle.history_check.specs.FoundStores.{window_opening}
 use Rattle.history_check.specs.PartedText.{part_text}
 use Rattle.history_check.specs.StoreParts.{HasPart}
@@ -22,7 +21,7 @@ closes o = alone_closes (section_on o []) o.states tt refl
 empty_section : (o : Opening) (text : List ℕ) → HasSection o [] text 0 o.states (processors_after_lines 0 o.processors [])
 empty_section o text = record {
   replies = [];
-  found = record { kinds = tt; good = subst (IsGoodTo (section_on o [])) (sym (closes o)) (alone_good (section_on o []) o.states tt refl); text = refl };
+  found = record { kinds = tt; good = store_empty o; text = refl };
   closes = closes o;
   behind = refl;
 }
@@ -38,7 +37,7 @@ none_passes f (l ∷ ls) none = at (cases_Bool (f l)) none (λ e. none_passes f 
 pub unnamed_part : (grants : List Grant) (cpus : ℕ) (ls : List TraceLine) (text : List ℕ) (v : WindowState) → list_any (λ (l : TraceLine). is_on_window v.window l.act) ls ≡ false → HasPart grants cpus ls text v v
 unnamed_part grants cpus ls text v none =
     let o : Opening = window_opening grants cpus v in
-    let lines : trace_lines_on_window v.window ls ≡ [] = none_passes (λ (l : TraceLine). is_on_window v.window l.act) ls none in
+    let lines : trace_lines_on (is_on_window v.window) ls ≡ [] = none_passes (λ (l : TraceLine). is_on_window v.window l.act) ls none in
     record {
       window = refl;
       count = 0;

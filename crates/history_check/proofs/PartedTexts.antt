@@ -1,4 +1,5 @@
 -- Parts of a text, by the lines that they are of.
+use Rattle.std.specs.Prelude.{None}
 use Rattle.std.specs.Prelude.{◌==◌, filter}
 use Rattle.std.specs.List.{AllByRecursion}
 use Rattle.std.proofs.Common.{◌≡◌, ℕ, zero, suc, ◌+◌, ◌-◌, ◌≤◌, List, [], ◌∷◌, ◌++◌, Bool, true, false, ap, sym, ◌∙◌, refl, subst, ◌⊎◌, inl, inr, map, length, take, drop, arith, append_assoc, append-nil}
@@ -15,7 +16,7 @@ use Rattle.receipt_text.specs.Cuts.{lacks}
 use Rattle.receipt_text.specs.Receipts.{receipts_text}
 use Rattle.receipt_text.proofs.Bytes.{lacks_append, lacks_back, cut_at}
 use Rattle.receipt_text.proofs.ReadBack.{receipts_lack}
-use Rattle.run_model.specs.Windows.{is_on_window, is_on_table}
+use Rattle.run_model.specs.Stores.{is_on_window, is_on}
 use Rattle.history_check.specs.FoundSection.{lines_text}
 use Rattle.history_check.specs.PartedText.{first_told, behind_told, behind_lines, marked_lines, marked_text, part_text}
 use Rattle.history_check.proofs.LineMarks.{line_of}
@@ -202,10 +203,10 @@ part_tells f (t ∷ ts) text rest h e = at (cases_Bool (f t.line.act)) (λ z. pa
   at (inr q) go = ((λ on. absurd (let no : false ≡ true = sym q ∙ on in false≢true no)), go (rw q at e))
 
 -- ---- each line is on a store
-window_tells : (ws : List BusWindow) (t : RepliedLine) (ts : List RepliedLine) (text : List ℕ) → is_on_table ws t.line.act ≡ false → AllByRecursion (λ (w : BusWindow). Tell (is_on_window w) (t ∷ ts) text) ws → first_told text ≡ reply_text t.line t.reply
+window_tells : (ws : List BusWindow) (t : RepliedLine) (ts : List RepliedLine) (text : List ℕ) → is_on ws None t.line.act ≡ false → AllByRecursion (λ (w : BusWindow). Tell (is_on_window w) (t ∷ ts) text) ws → first_told text ≡ reply_text t.line t.reply
 window_tells [] t ts text off h = cc
 window_tells (w ∷ ws) t ts text off h = at (cases_Bool (is_on_window w t.line.act)) (λ z. window_tells ws t ts text z h.1) where
-  at : (is_on_window w t.line.act ≡ true) ⊎ (is_on_window w t.line.act ≡ false) → (is_on_table ws t.line.act ≡ false → first_told text ≡ reply_text t.line t.reply) → first_told text ≡ reply_text t.line t.reply
+  at : (is_on_window w t.line.act ≡ true) ⊎ (is_on_window w t.line.act ≡ false) → (is_on ws None t.line.act ≡ false → first_told text ≡ reply_text t.line t.reply) → first_told text ≡ reply_text t.line t.reply
   at (inl q) rest = h.0.0 q
   at (inr q) rest = rest (rw q at off)
 
@@ -213,9 +214,9 @@ tails_tell : (ws : List BusWindow) (t : RepliedLine) (ts : List RepliedLine) (te
 tails_tell [] t ts text h = tt
 tails_tell (w ∷ ws) t ts text h = (h.0.1, tails_tell ws t ts text h.1)
 
-pub all_tell : (ws : List BusWindow) (ts : List RepliedLine) (text : List ℕ) → Tell (is_on_table ws) ts text → AllByRecursion (λ (w : BusWindow). Tell (is_on_window w) ts text) ws → AllTell ts text
+pub all_tell : (ws : List BusWindow) (ts : List RepliedLine) (text : List ℕ) → Tell (is_on ws None) ts text → AllByRecursion (λ (w : BusWindow). Tell (is_on_window w) ts text) ws → AllTell ts text
 all_tell ws [] text h k = tt
-all_tell ws (t ∷ ts) text h k = (at (cases_Bool (is_on_table ws t.line.act)), all_tell ws ts (behind_told text) h.1 (tails_tell ws t ts text k)) where
-  at : (is_on_table ws t.line.act ≡ true) ⊎ (is_on_table ws t.line.act ≡ false) → first_told text ≡ reply_text t.line t.reply
+all_tell ws (t ∷ ts) text h k = (at (cases_Bool (is_on ws None t.line.act)), all_tell ws ts (behind_told text) h.1 (tails_tell ws t ts text k)) where
+  at : (is_on ws None t.line.act ≡ true) ⊎ (is_on ws None t.line.act ≡ false) → first_told text ≡ reply_text t.line t.reply
   at (inl on) = h.0 on
   at (inr off) = window_tells ws t ts text off k

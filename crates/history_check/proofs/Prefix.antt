@@ -7,14 +7,12 @@ use Rattle.trace_read.specs.Trace.{AcceptedTrace}
 use Rattle.trace_reply.specs.declared.reply.Reply.{Reply}
 use Rattle.trace_reply.specs.Replies.{RepliedLine, AreReplies, lines_with_replies}
 use Rattle.run_model.specs.Quiet.{QuietPart, cut, cut_before}
-use Rattle.run_model.specs.SerialRun.{AllStores, opening_stores}
-use Rattle.run_model.specs.StoreSections.{closing_of}
-use Rattle.run_model.specs.GoodRun.{IsGoodRun, IsGoodTo, IsGoodWindowSection}
-use Rattle.run_model.proofs.SectionGood.{alone_closes, alone_good}
-use Rattle.history_check.specs.FoundSection.{Opening, opening_of, section_on, IsGoodOn}
+use Rattle.run_model.specs.AllStores.{AllStores, opening_all}
+use Rattle.run_model.specs.GoodRun.{IsGoodRun}
+use Rattle.history_check.specs.FoundSection.{Opening, opening_of, section_on, IsGoodOn, closing_of, IsGoodTo, IsGoodPart}
 use Rattle.history_check.specs.FoundStores.{window_opening, window_part, AreGoodOn}
 use Rattle.history_check.specs.Verdict.{with_lines}
-use Rattle.history_check.proofs.GoodStores.{Parts, AllGood, next_stores, each_of_all, parts_good, good_parts}
+use Rattle.history_check.proofs.GoodStores.{Parts, AllGood, next_stores, each_of_all, store_empty, parts_good, good_parts}
 
 abbrev pub with_rest : Parts → List QuietPart → Parts
 with_rest x zs = (x.0, x.1 ++ zs)
@@ -30,12 +28,8 @@ pub cut_at : (xs : List RepliedLine) (q : RepliedLine) (ys : List RepliedLine) �
 cut_at [] q ys h = rw h refl
 cut_at (x ∷ xs) q ys h = ap (cut_before x) (cut_at xs q ys h) ∙ front_rest x (cut xs) ((q, (cut ys).0) ∷ (cut ys).1)
 
--- a section without lines is good
-store_empty : (o : Opening) → IsGoodOn o []
-store_empty o = let closes : closing_of (section_on o []) ≡ o.states = alone_closes (section_on o []) o.states tt refl in subst (IsGoodTo (section_on o [])) (sym closes) (alone_good (section_on o []) o.states tt refl)
-
 pub empty_good : (s : AllStores) → AreGoodOn s []
-empty_good s = record { table = store_empty (opening_of s.table); windows = each_of_all (λ v. IsGoodWindowSection (window_part s [] v)) s.windows (λ v. store_empty (window_opening s.table.grants (length s.table.processors) v)) }
+empty_good s = record { table = store_empty (opening_of s.table); windows = each_of_all (λ v. IsGoodPart (window_part s [] v)) s.windows (λ v. store_empty (window_opening s.table.grants (length s.table.processors) v)) }
 
 parts_front : (s : AllStores) (ts : List RepliedLine) (qs : List QuietPart) (q : RepliedLine) (us : List RepliedLine) (zs : List QuietPart) → AllGood s ts (qs ++ (q, us) ∷ zs) → AllGood s ts (qs ++ (q, []) ∷ [])
 parts_front s ts [] q us zs h = (h.0, h.1, empty_good (next_stores s ts q.line.act))
@@ -60,7 +54,7 @@ good_front t ls l ms rs r qs quiet same g =
     let y = cut (lines_with_replies ms qs) in
     let whole : cut (lines_with_replies (ls ++ l ∷ ms) (rs ++ r ∷ qs)) ≡ with_rest x ((q, y.0) ∷ y.1) = ap cut (lines_append ls (l ∷ ms) rs (r ∷ qs) same) ∙ cut_at (lines_with_replies ls rs) q (lines_with_replies ms qs) quiet in
     let front : cut (lines_with_replies (ls ++ l ∷ []) (rs ++ r ∷ [])) ≡ with_rest x ((q, []) ∷ []) = ap cut (lines_append ls (l ∷ []) rs (r ∷ []) same) ∙ cut_at (lines_with_replies ls rs) q [] quiet in
-    let o = opening_stores t.config in
+    let o = opening_all t.config in
     let all : AllGood o x.0 (x.1 ++ (q, y.0) ∷ y.1) = subst (λ (c : Parts). AllGood o c.0 c.1) whole (parts_good (with_lines t (ls ++ l ∷ ms)) (rs ++ r ∷ qs) g) in
     let some : AllGood o x.0 (x.1 ++ (q, []) ∷ []) = parts_front o x.0 x.1 q y.0 y.1 all in
     good_parts (with_lines t (ls ++ l ∷ [])) (rs ++ r ∷ []) (replies_front ls l ms rs r qs same g.kinds) (subst (λ (c : Parts). AllGood o c.0 c.1) (sym front) some)

@@ -7,22 +7,23 @@ use Rattle.entry_model.specs.declared.receipt.Receipt.{Receipt}
 use Rattle.entry_model.specs.Run.{state_at, IsRun}
 use Rattle.entry_model.proofs.Runs.{run-length}
 use Rattle.entry_model.specs.History.{IsLegal, history, place, pair_of, Regrouped}
-use Rattle.run_model.specs.StoreSections.{StoreSection, made_in, closing_of}
-use Rattle.run_model.specs.GoodRun.{IsLegalTo}
+use Rattle.run_model.specs.Stores.{states_of}
+use Rattle.run_model.specs.Sections.{Section, made_in}
 use Rattle.run_model.proofs.SectionGood.{closing_is, each_regrouped}
 use Rattle.receipt_text.specs.Receipts.{mark_of}
 use Rattle.history_check.specs.Replay.{before_each}
 use Rattle.history_check.specs.Steps.{step_op, is_unchanged, place_by, step_of, found_states, ending_states}
 use Rattle.history_check.proofs.Alike.{is_store_access, flag_of}
 use Rattle.history_check.proofs.Serialized.{Ascending, sorted_run, run_legal, run_fixes, fixed_run}
+use Rattle.history_check.specs.FoundSection.{closing_of, IsLegalTo}
 
 -- ---- a section
-pub section_fixes : (s : StoreSection) (closing : List State) (ms : List Receipt) → length closing ≡ length s.opening → IsLegalTo s closing → Regrouped (made_in s) ms → Ascending ms → (before_each ms ≡ found_states s.opening (map step_of ms)) × (closing ≡ ending_states s.opening (map step_of ms))
-section_fixes s closing ms size g same up = run_fixes s.opening closing ms (sorted_run s.opening closing (made_in s) ms same up size g.in_table g.legal)
+pub section_fixes : (s : Section) (closing : List State) (ms : List Receipt) → length closing ≡ length (states_of s.before) → IsLegalTo s closing → Regrouped (made_in s) ms → Ascending ms → (before_each ms ≡ found_states (states_of s.before) (map step_of ms)) × (closing ≡ ending_states (states_of s.before) (map step_of ms))
+section_fixes s closing ms size g same up = run_fixes (states_of s.before) closing ms (sorted_run (states_of s.before) closing (made_in s) ms same up size g.in_table g.legal)
 
-pub fixed_section : (s : StoreSection) (ms : List Receipt) → Regrouped ms (made_in s) → AllByRecursion (λ (r : Receipt). r.entry < length s.opening) ms → before_each ms ≡ found_states s.opening (map step_of ms) → IsLegalTo s (closing_of s) × (closing_of s ≡ ending_states s.opening (map step_of ms))
+pub fixed_section : (s : Section) (ms : List Receipt) → Regrouped ms (made_in s) → AllByRecursion (λ (r : Receipt). r.entry < length (states_of s.before)) ms → before_each ms ≡ found_states (states_of s.before) (map step_of ms) → IsLegalTo s (closing_of s) × (closing_of s ≡ ending_states (states_of s.before) (map step_of ms))
 fixed_section s ms same within found =
-    let a = s.opening in
+    let a = states_of s.before in
     let b = ending_states a (map step_of ms) in
     let run : IsRun a ms b = fixed_run a ms within found in
     let legal : (e : ℕ) → IsLegal (state_at a e) (history e (made_in s)) (state_at b e) = run_legal a b ms (made_in s) same run in

@@ -25,11 +25,11 @@ use Rattle.trace_line.specs.declared.act.Act.{Act}
 use Rattle.trace_line.specs.declared.act.Act.TheVariants as acts
 use Rattle.trace_read.specs.Trace.{AcceptedTrace, IsAccepted}
 use Rattle.trace_reply.specs.Replies.{RepliedLine, receipts_in}
-use Rattle.run_model.specs.RunState.{RunState, states_of, opening_run, run_resize, run_quiet_line}
+use Rattle.run_model.specs.Stores.{Store, states_of, page_table}
+use Rattle.run_model.specs.QuietLines.{run_resize, run_quiet_line}
 use Rattle.run_model.specs.Histories.{receipts_by}
 use Rattle.run_model.specs.Sections.{section_end}
-use Rattle.run_model.specs.StoreSections.{StoreSection, made_in, closing_of}
-use Rattle.run_model.specs.GoodRun.{IsLegalTo}
+use Rattle.run_model.specs.Sections.{Section, made_in}
 use Rattle.run_model.proofs.Each.{each_map, each_at, each_of_map, each_front, each_back}
 use Rattle.run_model.proofs.Memories.{IsAllowed, MemoryStands, memory_prepared, memory_committed, opening_stands}
 use Rattle.run_model.proofs.OpeningEntries.{each_opening}
@@ -40,6 +40,7 @@ use Rattle.run_model.proofs.SectionGood.{OnCpus, each_regrouped}
 use Rattle.entry_model.proofs.Regroup.{regrouped_back}
 use Rattle.history_check.proofs.TextMarks.{IsShort, AreShort}
 use Rattle.history_check.proofs.GoodStores.{each_pair}
+use Rattle.history_check.specs.FoundSection.{closing_of, IsLegalTo}
 
 abbrev pub IsLow : State → Type 0
 IsLow s = s.stamp < 2 ^ 32
@@ -47,7 +48,7 @@ IsLow s = s.stamp < 2 ^ 32
 abbrev pub LowStates : List State → Type 0
 LowStates states = AllByRecursion IsLow states
 
-pub record IsPlain (w : RunState) : Type 0 where
+pub record IsPlain (w : Store) : Type 0 where
   pub memory : MemoryStands w.memory
   pub high : w.memory.table.order ≤ 22
   pub low : LowStates (states_of w)
@@ -60,17 +61,17 @@ legal_low a b (r ∷ rs) h k =
     let rest = legal_low (after_of r) b rs h.1 (stamp_fits r.before r.op here) in
     ((here, rest.0), rest.1)
 
-pub small_table : (w : RunState) → IsPlain w → length (states_of w) ≤ 2 ^ 18
+pub small_table : (w : Store) → IsPlain w → length (states_of w) ≤ 2 ^ 18
 small_table w h =
     let size : length (states_of w) ≡ 2 ^ (w.memory.table.order - 4) = h.memory.size in
     let high : w.memory.table.order ≤ 22 = h.high in
     let less : w.memory.table.order - 4 ≤ 18 = omega arith in
     subst (λ n. n ≤ 2 ^ 18) (sym size) (pow_mono less)
 
-pub section_low : (s : StoreSection) (closing : List State) → length closing ≡ length s.opening → length s.opening ≤ 2 ^ 18 → LowStates s.opening → IsLegalTo s closing → AreShort (made_in s) × LowStates closing
+pub section_low : (s : Section) (closing : List State) → length closing ≡ length (states_of s.before) → length (states_of s.before) ≤ 2 ^ 18 → LowStates (states_of s.before) → IsLegalTo s closing → AreShort (made_in s) × LowStates closing
 section_low s closing size few low g =
-    let n = length s.opening in
-    let along : (e : ℕ) → e < n → AllByRecursion (λ (r : Receipt). IsLow r.before) (history e (made_in s)) × IsLow (state_at closing e) = λ e k. legal_low (state_at s.opening e) (state_at closing e) (history e (made_in s)) (g.legal e k) (each_at IsLow s.opening e (empty_state 0) (omega arith) low) in
+    let n = length (states_of s.before) in
+    let along : (e : ℕ) → e < n → AllByRecursion (λ (r : Receipt). IsLow r.before) (history e (made_in s)) × IsLow (state_at closing e) = λ e k. legal_low (state_at (states_of s.before) e) (state_at closing e) (history e (made_in s)) (g.legal e k) (each_at IsLow (states_of s.before) e (empty_state 0) (omega arith) low) in
     let stamps = each_from_histories (λ (r : Receipt). IsLow r.before) n (made_in s) g.in_table (λ e k. (along e k).0) in
     let both = each_pair (λ (r : Receipt). r.entry < n) (λ (r : Receipt). IsLow r.before) (made_in s) g.in_table stamps in (
       each_map (λ (r : Receipt). (r.entry < n) × IsLow r.before) IsShort (made_in s) (λ r x. record { entry = omega (arith, x.0); stamp = omega (arith, x.1) }) both,
@@ -85,16 +86,16 @@ short_lines : (ts : List RepliedLine) → AreShort (receipts_by ts) → ShortLin
 short_lines [] h = tt
 short_lines (t ∷ ts) h = (each_front IsShort (receipts_in t.reply) (receipts_by ts) h, short_lines ts (each_back IsShort (receipts_in t.reply) (receipts_by ts) h))
 
-closed_by : (w : RunState) (ts : List RepliedLine) → IsPlain w → length (states_of (section_end w ts)) ≡ length (states_of w) → LowStates (states_of (section_end w ts)) → IsPlain (section_end w ts)
+closed_by : (w : Store) (ts : List RepliedLine) → IsPlain w → length (states_of (section_end w ts)) ≡ length (states_of w) → LowStates (states_of (section_end w ts)) → IsPlain (section_end w ts)
 unfolding section_end
 closed_by w ts h size low = record { memory = record { limited = h.memory.limited; low = h.memory.low; size = size ∙ h.memory.size; allowed = h.memory.allowed }; high = h.high; low = low }
 
-pub closed_plain : (w : RunState) (ts : List RepliedLine) → IsPlain w → LowStates (states_of (section_end w ts)) → IsPlain (section_end w ts)
+pub closed_plain : (w : Store) (ts : List RepliedLine) → IsPlain w → LowStates (states_of (section_end w ts)) → IsPlain (section_end w ts)
 closed_plain w ts h low = closed_by w ts h (closed_size w ts) low
 
 -- The receipts of a good section on a small store with low stamps have marks.
-pub lines_short : (s : StoreSection) → OnCpus s → length s.opening ≤ 2 ^ 18 → LowStates s.opening → IsLegalTo s (closing_of s) → ShortLines s.replied_lines
-lines_short s within few low g = short_lines s.replied_lines (each_regrouped IsShort (regrouped_back (file_listed (length s.processors) s.replied_lines within)) (section_low s (closing_of s) (closing_size s.opening (made_in s)) few low g).0)
+pub lines_short : (s : Section) → OnCpus s → length (states_of s.before) ≤ 2 ^ 18 → LowStates (states_of s.before) → IsLegalTo s (closing_of s) → ShortLines s.replied_lines
+lines_short s within few low g = short_lines s.replied_lines (each_regrouped IsShort (regrouped_back (file_listed (length s.before.processors) s.replied_lines within)) (section_low s (closing_of s) (closing_size (states_of s.before) (made_in s)) few low g).0)
 
 -- ---- quiet lines
 abbrev CommitsLow : CommitOutcome → Type 0
@@ -132,7 +133,7 @@ prepared_low : (memory : TableMemory) (flags shift : ℕ) → memory.table.order
 unfolding prepare_result
 prepared_low memory flags shift o h = (o, h)
 
-resize_plain : (w : RunState) (call : Hcall) (args : List ℕ) → IsPlain w → IsPlain (run_resize w call args).1
+resize_plain : (w : Store) (call : Hcall) (args : List ℕ) → IsPlain w → IsPlain (run_resize w call args).1
 unfolding run_resize
 resize_plain w calls.Prepare args h =
     let next = prepared_low w.memory (slice_index args 0) (slice_index args 1) h.high h.low in
@@ -142,14 +143,14 @@ resize_plain w calls.Commit args h =
     record { memory = memory_committed w.memory (slice_index args 0) (slice_index args 1) h.memory; high = next.0; low = next.1 }
 resize_plain w other args h = h
 
-pub quiet_plain : (w : RunState) (act : Act) → IsPlain w → IsPlain (run_quiet_line w act).1
+pub quiet_plain : (w : Store) (act : Act) → IsPlain w → IsPlain (run_quiet_line w act).1
 unfolding run_quiet_line
 quiet_plain w (acts.Call number args spelt) h = resize_plain w (hcall_of number) args h
 quiet_plain w other h = h
 
 -- ---- the beginning
-pub opening_plain : (t : AcceptedTrace) → IsAccepted t → IsPlain (opening_run t.config)
-unfolding opening_run opening_memory
+pub opening_plain : (t : AcceptedTrace) → IsAccepted t → IsPlain (page_table t.config)
+unfolding page_table opening_memory
 opening_plain t is =
     let c = t.config in
     let below : c.order ≤ c.limit = is.configured.settings.within in

@@ -9,7 +9,6 @@ use Rattle.entry_model.specs.History.{pair_of}
 use Rattle.entry_model.specs.Run.{state_at}
 use Rattle.entry_model.specs.Fronts.{front_at, opening_fronts}
 use Rattle.run_model.specs.StoreContexts.{StoreContext, access_of}
-use Rattle.run_model.specs.StoreSections.{closing_of}
 use Rattle.tlb_model.specs.Processor.{Processor}
 use Rattle.trace_line.specs.declared.line.TraceLine.{TraceLine}
 use Rattle.trace_reply.specs.declared.reply.Reply.{Reply}
@@ -30,7 +29,7 @@ use Rattle.history_check.specs.ReplyMarks.{marks_in}
 use Rattle.history_check.specs.Replay.{before_each}
 use Rattle.history_check.specs.PlacedSteps.{PlacedStep, placed_step, placed_line, FindStates, AreInTable}
 use Rattle.history_check.specs.OrderedSteps.{numbered, numbered_by}
-use Rattle.history_check.specs.FoundSection.{ArePlain, AreOnProcessors, Opening, section_on, IsFound, HasSection, HasNoSection}
+use Rattle.history_check.specs.FoundSection.{ArePlain, AreOnProcessors, Opening, section_on, IsFound, HasSection, HasNoSection, closing_of}
 use Rattle.history_check.specs.LineReply.{StandsOn}
 use Rattle.history_check.specs.JudgedLines.{processors_behind, AllStand, AllInOrder, AreReplied, judged}
 use Rattle.history_check.specs.SectionMarks.{section_steps, HasItsMarks, ShowMarks, MarkEntries, ReadMarks, NoMarks}

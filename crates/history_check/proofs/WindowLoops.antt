@@ -9,8 +9,8 @@ use Rattle.trace_line.specs.declared.act.Act.{Act}
 use Rattle.trace_line.specs.declared.line.TraceLine.{TraceLine}
 use Rattle.entry_model.specs.State.{State}
 use Rattle.tlb_model.specs.Processor.{Processor}
-use Rattle.run_model.specs.SerialRun.{WindowState}
-use Rattle.run_model.specs.Windows.{is_on_window, trace_lines_on_window, opening_window}
+use Rattle.run_model.specs.AllStores.{WindowState}
+use Rattle.run_model.specs.Stores.{is_on_window, trace_lines_on, opening_window}
 use Rattle.history_check.specs.FoundSection.{HasSection, HasNoSection}
 use Rattle.history_check.specs.PartedText.{first_told, behind_told, marked_lines, marked_text, part_text}
 use Rattle.history_check.specs.FoundStores.{window_opening, windows_in}
@@ -71,15 +71,15 @@ module _ (grants : List Grant) (cpus : ℕ) (ls : List TraceLine) (text : List �
       at_index (λ (v : WindowState). HasNoPart grants cpus ls text v → ⊥) olds i d low each (subst (HasNoPart grants cpus ls text) (at ∙ same) none)
 
   -- a window's own lines and its own part of the text
-  pub part_is : (v u : WindowState) (own : List TraceLine) (told : List ℕ) (states : List State) → v ≡ u → own ≡ trace_lines_on_window v.window ls → told ≡ part_text (is_on_window v.window) ls text → (n : ℕ) × (later : List Processor) × HasSection (window_opening grants cpus v) own told n states later → HasPart grants cpus ls text u (record { window = v.window; states = states })
+  pub part_is : (v u : WindowState) (own : List TraceLine) (told : List ℕ) (states : List State) → v ≡ u → own ≡ trace_lines_on (is_on_window v.window) ls → told ≡ part_text (is_on_window v.window) ls text → (n : ℕ) × (later : List Processor) × HasSection (window_opening grants cpus v) own told n states later → HasPart grants cpus ls text u (record { window = v.window; states = states })
   part_is v u own told states same lines words h = record {
     window = ap (λ (z : WindowState). z.window) same;
     count = h.0;
     later = h.1;
-    found = subst (λ (z : WindowState). HasSection (window_opening grants cpus z) (trace_lines_on_window z.window ls) (part_text (is_on_window z.window) ls text) h.0 states h.1) same (subst (λ (z : List TraceLine × List ℕ). HasSection (window_opening grants cpus v) z.0 z.1 h.0 states h.1) (λ i. (lines i, words i)) h.2);
+    found = subst (λ (z : WindowState). HasSection (window_opening grants cpus z) (trace_lines_on (is_on_window z.window) ls) (part_text (is_on_window z.window) ls text) h.0 states h.1) same (subst (λ (z : List TraceLine × List ℕ). HasSection (window_opening grants cpus v) z.0 z.1 h.0 states h.1) (λ i. (lines i, words i)) h.2);
   }
 
-  pub part_is_not : (v u : WindowState) (own : List TraceLine) (told : List ℕ) → v ≡ u → own ≡ trace_lines_on_window v.window ls → told ≡ part_text (is_on_window v.window) ls text → HasNoSection (window_opening grants cpus v) own told → HasNoPart grants cpus ls text u
+  pub part_is_not : (v u : WindowState) (own : List TraceLine) (told : List ℕ) → v ≡ u → own ≡ trace_lines_on (is_on_window v.window) ls → told ≡ part_text (is_on_window v.window) ls text → HasNoSection (window_opening grants cpus v) own told → HasNoPart grants cpus ls text u
   part_is_not v u own told same lines words h = subst (HasNoPart grants cpus ls text) same (subst (λ (z : List TraceLine × List ℕ). HasNoSection (window_opening grants cpus v) z.0 z.1) (λ i. (lines i, words i)) h)
 
 -- ---- marked lines

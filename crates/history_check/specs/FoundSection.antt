@@ -8,11 +8,13 @@ use Rattle.trace_line.specs.Lines.{is_quiet}
 use Rattle.trace_reply.specs.declared.reply.Reply.{Reply}
 use Rattle.trace_reply.specs.Replies.{RepliedLine, AreReplies, lines_with_replies}
 use Rattle.reply_text.specs.Text.{reply_text}
-use Rattle.run_model.specs.RunState.{RunState, context_of, states_of}
-use Rattle.run_model.specs.StoreContexts.{StoreContext}
-use Rattle.run_model.specs.StoreSections.{StoreSection, closing_of}
-use Rattle.run_model.specs.Sections.{processors_after_lines}
-use Rattle.run_model.specs.GoodRun.{IsGoodTo}
+use Rattle.entry_model.specs.declared.receipt.Receipt.{Receipt}
+use Rattle.entry_model.specs.History.{IsLegal, history}
+use Rattle.entry_model.specs.Run.{state_at}
+use Rattle.run_model.specs.GoodRun.{EachLine, IsAccessLine, AreInOrder, CallsAreReplied}
+use Rattle.run_model.specs.Sections.{Section, made_in, processors_after_lines, states_behind}
+use Rattle.run_model.specs.StoreContexts.{StoreContext, access_of}
+use Rattle.run_model.specs.Stores.{Store, context_of, states_of, plain_store}
 
 -- ---- the lines of a section
 -- None of the lines is quiet.
@@ -36,25 +38,51 @@ pub record Opening : Type 0 where
   pub processors : List Processor
 
 -- That of the page table in a run that is so far.
-abbrev pub opening_of : RunState → Opening
+abbrev pub opening_of : Store → Opening
 opening_of w = record {
   context = context_of w;
   states = states_of w;
   processors = w.processors;
 }
 
--- The section that opens so, of these lines.
-abbrev pub section_on : Opening → List RepliedLine → StoreSection
+-- The section that opens so, of these lines, which no quiet line ends.
+abbrev pub section_on : Opening → List RepliedLine → Section
 section_on o ts = record {
-  context = o.context;
-  opening = o.states;
-  processors = o.processors;
+  before = plain_store o.context o.states o.processors;
   replied_lines = ts;
+  quiet = None;
 }
 
--- The section is good, and closes on the states that its receipts leave.
+-- The states that its receipts leave.
+abbrev pub closing_of : Section → List State
+closing_of s = states_behind s.before s.replied_lines
+
+-- Its receipts are legal where it closes on these states.
+pub record IsLegalTo (s : Section) (closing : List State) : Type 0 where
+  pub in_table : AllByRecursion (λ (r : Receipt). r.entry < length (states_of s.before)) (made_in s)
+  pub legal :
+      (entry : ℕ)
+      → entry < length (states_of s.before)
+      → IsLegal
+      (state_at (states_of s.before) entry)
+      (history entry (made_in s))
+      (state_at closing entry)
+
+-- The section is good where it closes on these states.
+abbrev pub IsGoodTo : Section → List State → Type 0
+IsGoodTo s closing =
+    IsLegalTo s closing
+    × AreInOrder s
+    × CallsAreReplied s
+    × EachLine (IsAccessLine (access_of (context_of s.before)) closing) s
+
+-- It is good, and closes on the states that its receipts leave.
+abbrev pub IsGoodPart : Section → Type 0
+IsGoodPart s = IsGoodTo s (closing_of s)
+
+-- The section of these lines is.
 abbrev pub IsGoodOn : Opening → List RepliedLine → Type 0
-IsGoodOn o ts = IsGoodTo (section_on o ts) (closing_of (section_on o ts))
+IsGoodOn o ts = IsGoodPart (section_on o ts)
 
 -- With these replies the lines are a good section of a store, and their text stands first in the given one, before the rest.
 pub record IsFound

@@ -1,4 +1,5 @@
 -- The lines of a section on all stores of a run, and where a text begins with good replies to them.
+use Rattle.std.specs.Prelude.{None}
 use Rattle.std.specs.Prelude.{◌≡◌, ℕ, List, ◌++◌, map, replicate, length}
 use Rattle.std.specs.List.{AllByRecursion}
 use Rattle.bus_window.specs.Windows.{BusWindow}
@@ -8,13 +9,13 @@ use Rattle.trace_line.specs.declared.act.Act.{Act}
 use Rattle.trace_line.specs.declared.line.TraceLine.{TraceLine}
 use Rattle.trace_reply.specs.declared.reply.Reply.{Reply}
 use Rattle.trace_reply.specs.Replies.{RepliedLine, AreReplies, lines_with_replies}
-use Rattle.run_model.specs.RunState.{run_quiet_line}
+use Rattle.run_model.specs.QuietLines.{run_quiet_line}
 use Rattle.run_model.specs.Sections.{section_end}
-use Rattle.run_model.specs.SerialRun.{WindowState, AllStores}
+use Rattle.run_model.specs.AllStores.{WindowState, AllStores}
 use Rattle.run_model.specs.StoreContexts.{window_context}
-use Rattle.run_model.specs.StoreSections.{StoreSection, closing_of}
-use Rattle.run_model.specs.Windows.{lines_on_table, lines_on_window}
-use Rattle.history_check.specs.FoundSection.{lines_text, Opening, opening_of, section_on, IsGoodOn}
+use Rattle.run_model.specs.Sections.{Section}
+use Rattle.run_model.specs.Stores.{lines_on, is_on, is_on_window}
+use Rattle.history_check.specs.FoundSection.{lines_text, Opening, opening_of, section_on, IsGoodOn, closing_of}
 
 -- ---- the stores
 -- The windows that have these states.
@@ -34,31 +35,31 @@ window_opening grants cpus v = record {
 }
 
 -- The section that these lines are on the page table.
-abbrev pub table_part : AllStores → List RepliedLine → StoreSection
-table_part s ts = section_on (opening_of s.table) (lines_on_table (windows_of s) ts)
+abbrev pub table_part : AllStores → List RepliedLine → Section
+table_part s ts = section_on (opening_of s.table) (lines_on (is_on (windows_of s) None) ts)
 
 -- The section that they are on a window.
-abbrev pub window_part : AllStores → List RepliedLine → WindowState → StoreSection
+abbrev pub window_part : AllStores → List RepliedLine → WindowState → Section
 window_part s ts v =
     section_on
     (window_opening s.table.grants (length s.table.processors) v)
-    (lines_on_window v.window ts)
+    (lines_on (is_on_window v.window) ts)
 
 -- The section is good on each store.
 pub record AreGoodOn (s : AllStores) (ts : List RepliedLine) : Type 0 where
-  pub table : IsGoodOn (opening_of s.table) (lines_on_table (windows_of s) ts)
+  pub table : IsGoodOn (opening_of s.table) (lines_on (is_on (windows_of s) None) ts)
   pub windows :
       AllByRecursion
       (λ (v : WindowState).
       IsGoodOn
       (window_opening s.table.grants (length s.table.processors) v)
-      (lines_on_window v.window ts))
+      (lines_on (is_on_window v.window) ts))
       s.windows
 
 -- What the run carries behind the section.
 abbrev pub stores_behind : AllStores → List RepliedLine → AllStores
 stores_behind s ts = record {
-  table = section_end s.table (lines_on_table (windows_of s) ts);
+  table = section_end s.table (lines_on (is_on (windows_of s) None) ts);
   windows =
       map
       (λ (v : WindowState). record v { states = closing_of (window_part s ts v) })

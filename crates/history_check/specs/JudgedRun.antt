@@ -1,16 +1,18 @@
 -- What the judge carries between two sections.
-use Rattle.std.specs.Prelude.{ℕ, List}
+use Rattle.std.specs.Prelude.{ℕ, List, None}
 use Rattle.tlb_model.specs.Processor.{Processor}
 use Rattle.papr_codes.specs.declared.calls.Hcall.{Hcall}
 use Rattle.partition.specs.PartitionState.{PartitionState}
 use Rattle.trace_reply.specs.declared.reply.Reply.{Reply}
-use Rattle.run_model.specs.RunState.{RunState, run_resize}
-use Rattle.run_model.specs.SerialRun.{WindowState, AllStores}
+use Rattle.run_model.specs.Stores.{Store}
+use Rattle.run_model.specs.QuietLines.{run_resize}
+use Rattle.run_model.specs.AllStores.{WindowState, AllStores}
 
 -- The run state of a partition and its processors.
-abbrev pub run_state_of : PartitionState → List Processor → RunState
+abbrev pub run_state_of : PartitionState → List Processor → Store
 run_state_of partition processors = record {
   grants = partition.granted.grants;
+  window = None;
   memory = partition.memory;
   processors = processors;
 }

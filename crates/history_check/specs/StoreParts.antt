@@ -6,10 +6,9 @@ use Rattle.tlb_model.specs.Processor.{Processor}
 use Rattle.trace_line.specs.declared.line.TraceLine.{TraceLine}
 use Rattle.trace_reply.specs.declared.reply.Reply.{Reply}
 use Rattle.trace_reply.specs.Replies.{lines_with_replies}
-use Rattle.run_model.specs.RunState.{RunState}
+use Rattle.run_model.specs.Stores.{Store, is_on_window, trace_lines_on}
 use Rattle.run_model.specs.Sections.{section_end}
-use Rattle.run_model.specs.Windows.{is_on_window, trace_lines_on_window}
-use Rattle.run_model.specs.SerialRun.{WindowState}
+use Rattle.run_model.specs.AllStores.{WindowState}
 use Rattle.history_check.specs.FoundSection.{opening_of, IsFound, HasSection, HasNoSection}
 use Rattle.history_check.specs.FoundStores.{window_opening}
 use Rattle.history_check.specs.PartedText.{part_text}
@@ -30,7 +29,7 @@ pub record HasPart
     pub found :
         HasSection
         (window_opening grants cpus old)
-        (trace_lines_on_window old.window ls)
+        (trace_lines_on (is_on_window old.window) ls)
         (part_text (is_on_window old.window) ls text)
         count
         new.states
@@ -41,7 +40,7 @@ abbrev pub HasNoPart : List Grant → ℕ → List TraceLine → List ℕ → Wi
 HasNoPart grants cpus ls text v =
     HasNoSection
     (window_opening grants cpus v)
-    (trace_lines_on_window v.window ls)
+    (trace_lines_on (is_on_window v.window) ls)
     (part_text (is_on_window v.window) ls text)
 
 -- ---- all windows
@@ -62,7 +61,7 @@ HaveNoParts grants cpus ls text vs =
 -- ---- the page table
 -- The lines have good replies on the page table, with which the text begins, and the run's table is then as behind them.
 pub record HasTablePart
-    (old new : RunState)
+    (old new : Store)
     (ls : List TraceLine)
     (text : List ℕ)
     (n : ℕ)

@@ -1,7 +1,7 @@
 ghost use Rattle.std.specs.Prelude.{◌≡◌, ◌≤◌, ◌<◌, ◌+◌, ◌-◌, ◌^◌, ◌++◌, ◌∷◌, ℕ, List, true, IfOk, IfSome, IfNone, OnOk};
 ghost use Rattle.trace_line.specs.Lines.{is_quiet};
 ghost use Rattle.reply_text.specs.Text.{reply_text};
-ghost use Rattle.run_model.specs.SerialRun.{opening_stores};
+ghost use Rattle.run_model.specs.AllStores.{opening_all};
 ghost use Rattle.history_check.specs.FoundSection.{ArePlain};
 ghost use Rattle.history_check.specs.FoundStores.{run_quiet_on};
 ghost use Rattle.history_check.specs.Verdict.{IsVerdict};
@@ -95,7 +95,7 @@ fn judge_sections(
     trace: &Trace,
     text: &[u8],
 ) -> Result<Verdict, AllocError>
-    requires opened { run.old ≡ opening_stores trace.now.config }
+    requires opened { run.old ≡ opening_all trace.now.config }
     ensures { IfOk result (λ verdict. IsVerdict trace.now text.now verdict) }
 {
     trace.keeps_limits();

@@ -7,9 +7,9 @@ ghost use Rattle.trace_line.specs.declared.line.TraceLine.{TraceLine};
 ghost use Rattle.trace_reply.specs.declared.reply.Reply.{Reply};
 ghost use Rattle.trace_reply.specs.Replies.{lines_with_replies};
 ghost use Rattle.tlb_model.specs.Processor.{without_cache};
-ghost use Rattle.run_model.specs.RunState.{shown_of};
-ghost use Rattle.run_model.specs.SerialRun.{opening_stores};
-ghost use Rattle.run_model.specs.Windows as windows_of;
+ghost use Rattle.run_model.specs.QuietLines.{shown_of};
+ghost use Rattle.run_model.specs.AllStores.{opening_all};
+ghost use Rattle.run_model.specs.Stores as run_stores;
 ghost use Rattle.history_check.specs.FoundSection.{ArePlain, AreOnProcessors, HasNoSection, opening_of};
 ghost use Rattle.history_check.specs.FoundStores.{AreFound, run_quiet_on, stores_behind, windows_in};
 ghost use Rattle.history_check.specs.JudgedRun.{resize_on, run_state_of};
@@ -42,7 +42,7 @@ pub struct JudgedRun {
 
 impl Model for JudgedRun {
     ghost use Rattle.partition.specs.PartitionState.{HasStates};
-    ghost use Rattle.run_model.specs.SerialRun.{AllStores};
+    ghost use Rattle.run_model.specs.AllStores.{AllStores};
     ghost use Rattle.trace_read.specs.Configuration.{NumbersDiffer};
     ghost use Rattle.history_check.specs.JudgedRun.{stores_of};
     ghost use Rattle.history_check.specs.FoundStores.{windows_in};
@@ -67,7 +67,7 @@ fn clear_caches(processors: &mut Vec<Processor>)
 /// Whether a line names one of the windows.
 fn is_on_any(windows: &[WindowEntries], act: &Act) -> bool
     ensures { result
-        ≡ list_any (λ (w : BusWindow). windows_of.is_on_window w act.now) (windows_in windows.now) }
+        ≡ list_any (λ (w : BusWindow). run_stores.is_on_window w act.now) (windows_in windows.now) }
 {
     for entries in windows {
         if is_on_window(&entries.window(), act) {
@@ -88,7 +88,7 @@ fn marks_of_table(
         (λ marks.
         marks.items
         ≡ map
-        (λ (l : TraceLine). windows_of.is_on_table (windows_in windows.now) l.act)
+        (λ (l : TraceLine). run_stores.is_on (windows_in windows.now) None l.act)
         lines.now) }
 {
     let mut marks = Vec::with_capacity(alloc, lines.len())?;
@@ -109,12 +109,12 @@ fn table_part(
         result
         (λ part.
         part.lines.items
-        ≡ windows_of.trace_lines_on_table (windows_in windows.now) lines.now) }
+        ≡ run_stores.trace_lines_on (run_stores.is_on (windows_in windows.now) None) lines.now) }
     ensures text { IfOk
         result
         (λ part.
         part.text.items
-        ≡ part_text (windows_of.is_on_table (windows_in windows.now)) lines.now text.now) }
+        ≡ part_text (run_stores.is_on (windows_in windows.now) None) lines.now text.now) }
 {
     let marks = marks_of_table(alloc, windows, lines)?;
     let part = marked_part(alloc, lines, text, marks.as_slice())?;
@@ -128,7 +128,7 @@ fn opening_windows(alloc: Global, windows: &[Window]) -> Result<Vec<WindowEntrie
         (λ opened.
         opened.items
         ≡ map
-        (λ (w : BusWindow). record { window = w; states = windows_of.opening_window })
+        (λ (w : BusWindow). record { window = w; states = run_stores.opening_window })
         windows.now) }
 {
     let mut opened = Vec::with_capacity(alloc, windows.len())?;
@@ -228,9 +228,9 @@ fn windows_found(
 
 impl JudgedRun {
     /// Before the first line of a trace of this configuration.
-    #[tactic(auto, unfolding(run_model::specs::RunState::opening_run))]
+    #[tactic(auto, unfolding(run_model::specs::Stores::page_table))]
     pub fn open(alloc: Global, config: &Config) -> Result<JudgedRun, AllocError>
-        ensures { IfOk result (λ run. run ≡ opening_stores config.now) }
+        ensures { IfOk result (λ run. run ≡ opening_all config.now) }
     {
         let partition = Partition::open(alloc, config)?;
         let processors = new_processors(alloc, config.cpus as usize)?;
@@ -302,7 +302,7 @@ impl JudgedRun {
     }
 
     /// The reply to a quiet line, as the run gives it.
-    #[tactic(auto, unfolding(run_model::specs::RunState::run_quiet_line, trace_line::specs::Lines::is_quiet))]
+    #[tactic(auto, unfolding(run_model::specs::QuietLines::run_quiet_line, trace_line::specs::Lines::is_quiet))]
     pub fn quiet(&mut self, alloc: Global, act: &Act) -> Result<Reply, AllocError>
         requires quiet { is_quiet act.now ≡ true }
         requires number { self.old.table.memory.table.number < 2 ^ 32 - 1 }
@@ -323,7 +323,7 @@ impl JudgedRun {
     }
 
     // The table, as a dump shows it.
-    #[tactic(auto, unfolding(run_model::specs::RunState::shown_of))]
+    #[tactic(auto, unfolding(run_model::specs::QuietLines::shown_of))]
     fn shown(&self, alloc: Global) -> Result<Shown, AllocError>
         ensures { IfOk result (λ shown. shown ≡ shown_of self.now.table.memory) }
     {
@@ -338,7 +338,7 @@ impl JudgedRun {
     }
 
     // One of the two resize calls. A committed resize clears each processor's cache.
-    #[tactic(auto, unfolding(run_model::specs::RunState::run_resize))]
+    #[tactic(auto, unfolding(run_model::specs::QuietLines::run_resize))]
     fn resize(&mut self, alloc: Global, hcall: Hcall, args: &[u64; 8]) -> Result<HReply, AllocError>
         requires number { self.old.table.memory.table.number < 2 ^ 32 - 1 }
         ensures reply { IfOk

@@ -1,7 +1,7 @@
 ghost use Rattle.std.specs.Prelude.{◌≡◌, ◌≤◌, ◌++◌, ◌∷◌, [], length, drop, map, if◌then◌else◌, IfOk, OnOk};
 ghost use Rattle.std.specs.List.{list_any};
 ghost use Rattle.trace_line.specs.declared.line.TraceLine.{TraceLine};
-ghost use Rattle.run_model.specs.Windows as windows_of;
+ghost use Rattle.run_model.specs.Stores as run_stores;
 ghost use Rattle.history_check.specs.PartedText.{first_told, behind_told, behind_lines, marked_lines, marked_text};
 
 use crate::reading::first_line;
@@ -45,7 +45,7 @@ pub fn lines_end(text: &[u8], count: usize) -> usize
 
 /// Whether a line names the window.
 pub fn is_on_window(window: &Window, act: &Act) -> bool
-    ensures { result ≡ windows_of.is_on_window window.now act.now }
+    ensures { result ≡ run_stores.is_on_window window.now act.now }
 {
     match act.bus() {
         None => false,
@@ -56,7 +56,7 @@ pub fn is_on_window(window: &Window, act: &Act) -> bool
 /// Whether one of the lines names the window.
 pub fn is_named(window: &Window, lines: &[TraceLine]) -> bool
     ensures { result
-        ≡ list_any (λ (l : TraceLine). windows_of.is_on_window window.now l.act) lines.now }
+        ≡ list_any (λ (l : TraceLine). run_stores.is_on_window window.now l.act) lines.now }
 {
     for line in lines {
         if is_on_window(window, &line.act) {
@@ -76,7 +76,7 @@ pub fn marks_of_window(
         result
         (λ marks.
         marks.items
-        ≡ map (λ (l : TraceLine). windows_of.is_on_window window.now l.act) lines.now) }
+        ≡ map (λ (l : TraceLine). run_stores.is_on_window window.now l.act) lines.now) }
 {
     let mut marks = Vec::with_capacity(alloc, lines.len())?;
     for line in lines {

@@ -1,6 +1,6 @@
 ghost use Rattle.std.specs.Prelude.{◌≡◌, ◌≤◌, ◌^◌, ℕ, List, true, false, length, IfOk};
 ghost use Rattle.tlb_model.specs.Processor.{Processor};
-ghost use Rattle.run_model.specs.Windows.{opening_window};
+ghost use Rattle.run_model.specs.Stores.{opening_window};
 ghost use Rattle.history_check.specs.FoundSection.{ArePlain, AreOnProcessors, HasSection, HasNoSection};
 ghost use Rattle.history_check.specs.FoundStores.{window_opening};
 ghost use Rattle.history_check.specs.StoreParts.{HasPart, HasNoPart};
@@ -31,7 +31,7 @@ pub struct WindowEntries {
 
 impl Model for WindowEntries {
     ghost use Rattle.std.specs.Prelude.{◌≤◌, ◌^◌, length};
-    ghost use Rattle.run_model.specs.SerialRun.{WindowState};
+    ghost use Rattle.run_model.specs.AllStores.{WindowState};
 
     ghost Value = { WindowState };
 
@@ -101,7 +101,7 @@ fn part_found(
 
 impl WindowEntries {
     /// The window before the first line: each of its entries is empty.
-    #[tactic(auto, unfolding(run_model::specs::Windows::opening_window))]
+    #[tactic(auto, unfolding(run_model::specs::Stores::opening_window))]
     pub fn new(alloc: Global, window: Window) -> Result<WindowEntries, AllocError>
         ensures { IfOk
             result

@@ -3,7 +3,7 @@ use Rattle.std.proofs.Common.{◌≡◌, ℕ, ◌<◌, List, map, length, sym, �
 use Rattle.pool_range.specs.Ranges.{IsPoolRange}
 use Rattle.hpt_pool.specs.Pool.{no_blocks}
 use Rattle.trace_line.specs.declared.line.TraceLine.{TraceLine}
-use Rattle.run_model.specs.RunState.{opening_run}
+use Rattle.run_model.specs.Stores.{page_table}
 use Rattle.lpar_set.specs.OpeningTables.{opening_place, with_opening}
 use Rattle.lpar_set.specs.SetTrace.{AcceptedSet, IsAcceptedSet, partition_at}
 use Rattle.lpar_set.specs.SetRun.{MemberState, with_pool, opening_set, set_replies}
@@ -17,7 +17,7 @@ use Rattle.lpar_set.proofs.OwnAddresses.{of_set}
 use Rattle.lpar_set.proofs.AloneTurns.{IsLike, IsRunning, RunsLike, turns_alone}
 
 -- ---- the beginning
-opens_alike : (s : AcceptedSet) (k : ℕ) → IsAcceptedSet s → k < length s.partitions → IsLike (opening_set s) k (opening_run (partition_at s k).trace.config)
+opens_alike : (s : AcceptedSet) (k : ℕ) → IsAcceptedSet s → k < length s.partitions → IsLike (opening_set s) k (page_table (partition_at s k).trace.config)
 opens_alike s k is within =
     let c = (partition_at s k).trace.config in
     let own_is = of_set s is k within in
@@ -32,7 +32,7 @@ opens_alike s k is within =
       pool = pool;
       place = place;
       other = 0;
-      is = subst (λ (m : MemberState). opening_run c ≡ moved (with_pool whole m) pool place 0) (sym over.is) (opens_like whole over.left c);
+      is = subst (λ (m : MemberState). page_table c ≡ moved (with_pool whole m) pool place 0) (sym over.is) (opens_like whole over.left c);
       alone = opens_alone c range configured.settings.at_least configured.room;
       order = alone_order c ∙ own_is.order ∙ sym (shared_order (no_blocks s.pool_base s.pool_order) s.partitions);
     }
@@ -46,7 +46,7 @@ opens_running s is = record {
 -- ---- the run
 pub runs_as_if_alone : (s : AcceptedSet) → IsAcceptedSet s → (k : ℕ) → k < length s.partitions → RunsAsIfAlone (partition_at s k).trace (served (replies_of k s.turns (set_replies s)))
 runs_as_if_alone s is k within =
-    let u = opening_run (partition_at s k).trace.config in
+    let u = page_table (partition_at s k).trace.config in
     let rs = served (replies_of k s.turns (set_replies s)) in
     let t = (partition_at s k).trace in
     let alike : RunsLike rs u t.lines = subst (λ (ls : List TraceLine). RunsLike rs u ls) (lines_are_turns s is k within) (turns_alone s k (opening_set s) u s.turns within (opens_running s is) is.turns (opens_alike s k is within)) in

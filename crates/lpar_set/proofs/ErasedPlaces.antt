@@ -1,6 +1,6 @@
 -- What a run assures doesn't hang on where dumps say that the table lies.
 use Rattle.std.proofs.Common.{◌≡◌, ℕ, List, [], ◌∷◌, true, false, Option, Some, None, map, refl, sym, subst, ap, ◌∙◌, ◌⊎◌, inl, inr}
-use Rattle.std.specs.Prelude.{◌<◌, length, option_map, MatchOption}
+use Rattle.std.specs.Prelude.{◌<◌, length, option_map, MatchOption, Bool}
 use Rattle.std.specs.List.{AllByRecursion}
 use Rattle.std.proofs.Math.Path.{transport, transport⁻¹}
 use Rattle.std.proofs.lemmas.Bool.{cases_Bool}
@@ -15,10 +15,10 @@ use Rattle.trace_line.specs.Lines.{is_quiet}
 use Rattle.trace_read.specs.Trace.{AcceptedTrace}
 use Rattle.trace_reply.specs.declared.reply.Reply.{Reply}
 use Rattle.trace_reply.specs.Replies.{RepliedLine, AreReplies, IsOfKind, lines_with_replies}
-use Rattle.run_model.specs.RunState.{RunState, opening_run, run_quiet_line, states_of}
+use Rattle.run_model.specs.Stores.{Store, page_table, states_of, is_on, lines_on}
+use Rattle.run_model.specs.QuietLines.{run_quiet_line}
 use Rattle.run_model.specs.Quiet.{QuietPart, cut, cut_before}
-use Rattle.run_model.specs.Sections.{Section, sections_from, sections_of, section_end}
-use Rattle.run_model.specs.Windows.{is_on_table, lines_on_table, table_lines}
+use Rattle.run_model.specs.Sections.{Section, sections_from, sections_of, section_of, section_end}
 use Rattle.run_model.specs.ShownStores.{ShowsChange, StoresAreShown, StaysShown, NoStoreIsLostIn, NoSetBitIsLostIn, ClearedBitsAreShown, carried_to, history_in, closing_state}
 use Rattle.run_model.specs.CommittedResizes.{commits_call, commits_by, is_committed, LeavesTable, ResizesKeepTranslations}
 use Rattle.run_model.specs.Landings.{AccessesLand, IsUnworn}
@@ -80,33 +80,21 @@ replies_erased [] rs = refl
 replies_erased (l ∷ ls) [] = refl
 replies_erased (l ∷ ls) (r ∷ rs) = ap (λ ts. erased_line (record { line = l; reply = r }) ∷ ts) (replies_erased ls rs)
 
--- Which lines are on the page table doesn't hang on the replies.
-on_table_erased : (ws : List BusWindow) (ts : List RepliedLine) → lines_on_table ws (map erased_line ts) ≡ map erased_line (lines_on_table ws ts)
-on_table_erased ws [] = refl
-on_table_erased ws (t ∷ ts) = at (cases_Bool (is_on_table ws t.line.act)) (on_table_erased ws ts) where
-  at : (is_on_table ws t.line.act ≡ true) ⊎ (is_on_table ws t.line.act ≡ false) → lines_on_table ws (map erased_line ts) ≡ map erased_line (lines_on_table ws ts) → lines_on_table ws (map erased_line (t ∷ ts)) ≡ map erased_line (lines_on_table ws (t ∷ ts))
-  at (inl q) rest = rw q (ap (λ us. erased_line t ∷ us) rest)
-  at (inr q) rest = rw q rest
-
-table_erased : (t : AcceptedTrace) (rs : List Reply) → AreReplies t.lines rs → cut (table_lines t (map without_place rs)) ≡ erased_cut (cut (table_lines t rs))
-table_erased t rs kinds =
-    let ws = t.config.windows in
-    let ts = lines_with_replies t.lines rs in
-    ap (λ us. cut (lines_on_table ws us)) (replies_erased t.lines rs)
-    ∙ ap cut (on_table_erased ws ts)
-    ∙ cut_erased (lines_on_table ws ts) (each_filter (λ (x : RepliedLine). IsOfKind x.line.act x.reply) (λ (x : RepliedLine). is_on_table ws x.line.act) ts (kinds_each t.lines rs kinds))
-
-from_erased : (w : RunState) (ts : List RepliedLine) (qs : List QuietPart) → sections_from w ts (map erased_part qs) ≡ map erased (sections_from w ts qs)
-from_erased w ts [] = refl
-from_erased w ts (q ∷ qs) =
-    let s : Section = record { before = w; replied_lines = ts; quiet = Some (erased_line q.0) } in
-    ap (λ ss. s ∷ ss) (from_erased (run_quiet_line (section_end w ts) q.0.line.act).1 q.1 qs)
+from_erased : (on : Act → Bool) (w : Store) (ts : List RepliedLine) (qs : List QuietPart) → sections_from on w ts (map erased_part qs) ≡ map erased (sections_from on w ts qs)
+from_erased on w ts [] = refl
+from_erased on w ts (q ∷ qs) = at (cases_Bool (on q.0.line.act)) (λ v. from_erased on v q.1 qs) where
+  at : (on q.0.line.act ≡ true) ⊎ (on q.0.line.act ≡ false) → ((v : Store) → sections_from on v q.1 (map erased_part qs) ≡ map erased (sections_from on v q.1 qs)) → sections_from on w ts (map erased_part (q ∷ qs)) ≡ map erased (sections_from on w ts (q ∷ qs))
+  at (inl here) rest = rw here (ap (λ ss. section_of on w ts (Some (erased_line q.0)) ∷ ss) (rest (run_quiet_line (section_end w (lines_on on ts)) q.0.line.act).1))
+  at (inr off) rest = rw off (ap (λ ss. section_of on w ts None ∷ ss) (rest (section_end w (lines_on on ts))))
 
 pub sections_erased : (t : AcceptedTrace) (rs : List Reply) → AreReplies t.lines rs → sections_of t (map without_place rs) ≡ map erased (sections_of t rs)
 sections_erased t rs kinds =
-    let w = opening_run t.config in
-    let c = cut (table_lines t rs) in
-    ap (λ (x : List RepliedLine × List QuietPart). sections_from w x.0 x.1) (table_erased t rs kinds) ∙ from_erased w c.0 c.1
+    let w = page_table t.config in
+    let on = is_on t.config.windows w.window in
+    let all = lines_with_replies t.lines rs in
+    ap (λ us. sections_from on w (cut us).0 (cut us).1) (replies_erased t.lines rs)
+    ∙ ap (λ (x : List RepliedLine × List QuietPart). sections_from on w x.0 x.1) (cut_erased all (kinds_each t.lines rs kinds))
+    ∙ from_erased on w (cut all).0 (cut all).1
 
 -- ---- what holds of them
 each_erased : (Q : Section → Type 0) → ((s : Section) → Q (erased s) ≡ Q s) → (ss : List Section) → AllByRecursion Q (map erased ss) ≡ AllByRecursion Q ss

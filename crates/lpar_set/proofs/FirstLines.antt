@@ -10,13 +10,14 @@ use Rattle.trace_line.specs.Lines.{IsTrace, IsSpelt, is_quiet, is_dump}
 use Rattle.trace_read.specs.Trace.{AcceptedTrace, IsAccepted}
 use Rattle.trace_reply.specs.declared.reply.Reply.{Reply}
 use Rattle.trace_reply.specs.Replies.{AreReplies}
-use Rattle.run_model.specs.RunState.{RunState, opening_run}
-use Rattle.run_model.specs.SerialRun.{run_line, replies_from, store_replies_from, serial_replies}
+use Rattle.run_model.specs.Stores.{Store, page_table, opening_store}
+use Rattle.run_model.specs.SerialRun.{run_on, replies_from, serial_replies}
 use Rattle.run_model.specs.Assurances.{Assures}
 use Rattle.run_model.proofs.GoodAssured.{serial_assures}
-use Rattle.run_model.proofs.SerialStores.{no_windows, opened}
-use Rattle.run_model.proofs.StoresGood.{serial_good}
+use Rattle.run_model.proofs.StoreSerial.{serial_good}
+use Rattle.run_model.proofs.TableNamed.{opening_table}
 use Rattle.lpar_set.specs.SetLaws.{is_no_mem, served, first_lines, without_place, RunsAsIfAlone}
+use Rattle.lpar_set.proofs.OneStore.{replies_on, table_alone}
 use Rattle.lpar_set.proofs.ErasedPlaces.{assured_like}
 
 -- ---- the limits of a trace
@@ -44,20 +45,20 @@ first_accepted n t is =
 
 -- ---- the replies
 -- Where there is no DMA window each line is on the page table, and the serial run is that of the table.
-serial_alone : (t : AcceptedTrace) → t.config.windows ≡ [] → serial_replies t ≡ replies_from (opening_run t.config) t.lines
+serial_alone : (t : AcceptedTrace) → t.config.windows ≡ [] → serial_replies t ≡ replies_on (page_table t.config) t.lines
 serial_alone t none =
-    let w = opening_run t.config in
-    ap (λ (ws : List BusWindow). store_replies_from (record { table = w; windows = map opened ws }) t.lines) none ∙ no_windows w t.lines
+    let c = t.config in
+    ap (λ (ws : List BusWindow). replies_from ws (page_table c ∷ map (opening_store c) ws) t.lines) none ∙ table_alone (page_table c) t.lines (opening_table t)
 
 -- The first lines have the first replies.
-first_replies : (w : RunState) (ls : List TraceLine) (n : ℕ) → replies_from w (take n ls) ≡ take n (replies_from w ls)
+first_replies : (w : Store) (ls : List TraceLine) (n : ℕ) → replies_on w (take n ls) ≡ take n (replies_on w ls)
 first_replies w ls zero = refl
 first_replies w [] (suc n) = refl
-first_replies w (l ∷ ls) (suc n) = ap (λ rs. (run_line w l).0 ∷ rs) (first_replies (run_line w l).1 ls n)
+first_replies w (l ∷ ls) (suc n) = ap (λ rs. (run_on w l).0 ∷ rs) (first_replies (run_on w l).1 ls n)
 
 -- They are those of the serial run.
-pub first_of_serial : (t : AcceptedTrace) (n : ℕ) → t.config.windows ≡ [] → replies_from (opening_run t.config) (take n t.lines) ≡ take n (serial_replies t)
-first_of_serial t n none = first_replies (opening_run t.config) t.lines n ∙ ap (take n) (sym (serial_alone t none))
+pub first_of_serial : (t : AcceptedTrace) (n : ℕ) → t.config.windows ≡ [] → replies_on (page_table t.config) (take n t.lines) ≡ take n (serial_replies t)
+first_of_serial t n none = first_replies (page_table t.config) t.lines n ∙ ap (take n) (sym (serial_alone t none))
 
 -- ---- the lines before the first H_NO_MEM
 -- The replies before it are those to the first lines.

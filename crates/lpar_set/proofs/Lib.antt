@@ -4,6 +4,7 @@ pub mod RunKept
 pub mod Openings
 pub mod SetKept
 pub mod ErasedPlaces
+pub mod OneStore
 pub mod FirstLines
 pub mod LineReplies
 pub mod LinesOfTurns

@@ -1,5 +1,5 @@
 -- One line of a run: its reply is of its kind, an access that is allowed lands by the grants, and the grants stay.
-use Rattle.std.proofs.Common.{◌≡◌, ℕ, List, true, false, Option, Some, None, refl, ◌⊎◌, inl, inr}
+use Rattle.std.proofs.Common.{◌≡◌, ℕ, List, true, false, Option, Some, None, refl, sym, subst, ◌⊎◌, inl, inr}
 use Rattle.std.proofs.lemmas.Bool.{cases_Bool}
 use Rattle.frame_grants.specs.declared.grant.Grant.{Grant}
 use Rattle.frame_grants.specs.declared.grant.Kind.{Kind}
@@ -25,9 +25,11 @@ use Rattle.trace_line.specs.declared.line.TraceLine.{TraceLine}
 use Rattle.trace_line.specs.Lines.{is_quiet}
 use Rattle.trace_reply.specs.declared.reply.Reply.{Reply}
 use Rattle.trace_reply.specs.Replies.{IsOfKind}
+use Rattle.run_model.proofs.TableNamed.{IsTable, table_is}
 use Rattle.run_model.specs.Processors.{processor_at}
-use Rattle.run_model.specs.RunState.{RunState, context_of, states_of, run_resize, run_quiet_line}
-use Rattle.run_model.specs.SerialRun.{current_line, result_by_line, result_by_segment, line_result, run_line}
+use Rattle.run_model.specs.Stores.{Store, context_of, states_of}
+use Rattle.run_model.specs.QuietLines.{run_resize, run_quiet_line}
+use Rattle.run_model.specs.SerialRun.{current_line, result_by_line, result_by_segment, line_result, run_on}
 use Rattle.run_model.specs.StoreContexts.{access_of, table_context}
 use Rattle.run_model.proofs.SerialGood.{quiet_kind}
 use Rattle.papr_codes.specs.declared.calls.Hcall.TheVariants as calls
@@ -91,26 +93,26 @@ busy_suits context p states acts.Dump q = cc
 
 -- ---- quiet lines
 -- No quiet line's reply is one of an access, and the grants stay.
-abbrev pub Leaves : List Grant → Reply × RunState → Type 0
+abbrev pub Leaves : List Grant → Reply × Store → Type 0
 Leaves grants x = IsGrantedReply grants x.0 × (x.1.grants ≡ grants)
 
-resize_leaves : (w : RunState) (call : Hcall) (args : List ℕ) → Leaves w.grants (run_resize w call args)
+resize_leaves : (w : Store) (call : Hcall) (args : List ℕ) → Leaves w.grants (run_resize w call args)
 unfolding run_resize
 resize_leaves w calls.Prepare args = (tt, refl)
 resize_leaves w calls.Commit args = (tt, refl)
 resize_leaves w other args = (tt, refl)
 
-quiet_leaves : (w : RunState) (act : Act) → Leaves w.grants (run_quiet_line w act)
+quiet_leaves : (w : Store) (act : Act) → Leaves w.grants (run_quiet_line w act)
 unfolding run_quiet_line
 quiet_leaves w (acts.Call number args spelt) = resize_leaves w (hcall_of number) args
 quiet_leaves w act = (tt, refl)
 
 -- ---- any line
-pub line_reply : (w : RunState) (l : TraceLine) → Suits w.grants l.act (run_line w l).0 × ((run_line w l).1.grants ≡ w.grants)
-unfolding run_line
-line_reply w l = at (cases_Bool (is_quiet l.act)) where
-  at : (is_quiet l.act ≡ true) ⊎ (is_quiet l.act ≡ false) → Suits w.grants l.act (run_line w l).0 × ((run_line w l).1.grants ≡ w.grants)
+pub line_reply : (w : Store) (l : TraceLine) → IsTable w → Suits w.grants l.act (run_on w l).0 × ((run_on w l).1.grants ≡ w.grants)
+unfolding run_on
+line_reply w l table = at (cases_Bool (is_quiet l.act)) where
+  at : (is_quiet l.act ≡ true) ⊎ (is_quiet l.act ≡ false) → Suits w.grants l.act (run_on w l).0 × ((run_on w l).1.grants ≡ w.grants)
   at (inl q) =
       let leaves = quiet_leaves w l.act in
       rw q ((quiet_kind w l.act q, leaves.0), leaves.1)
-  at (inr q) = rw q (busy_suits (access_of (context_of w)) (processor_at w.processors l.cpu) (states_of w) l.act q, refl)
+  at (inr q) = rw q (subst (λ set. Suits w.grants l.act (line_result set (processor_at w.processors l.cpu) (states_of w) l.act).0) (sym (table_is w table)) (busy_suits (access_of (context_of w)) (processor_at w.processors l.cpu) (states_of w) l.act q), refl)

@@ -18,8 +18,9 @@ use Rattle.trace_line.specs.declared.act.Act.{Act}
 use Rattle.trace_line.specs.declared.act.Act.TheVariants as acts
 use Rattle.trace_line.specs.declared.line.TraceLine.{TraceLine}
 use Rattle.trace_line.specs.Lines.{is_quiet}
-use Rattle.run_model.specs.RunState.{RunState, run_resize, run_quiet_line}
-use Rattle.run_model.specs.SerialRun.{run_line}
+use Rattle.run_model.specs.Stores.{Store}
+use Rattle.run_model.specs.QuietLines.{run_resize, run_quiet_line}
+use Rattle.run_model.specs.SerialRun.{run_on}
 use Rattle.lpar_set.proofs.BlocksApart.{AreHeld}
 use Rattle.lpar_set.proofs.CallBlocks.{memory_blocks}
 use Rattle.lpar_set.proofs.RoomAlone.{AllAre}
@@ -142,25 +143,25 @@ unfolding commit_result outcome_of_commit
 commit_own memory flags shift own = answered_own (commit_refusal flags shift memory.pending) memory.pending memory.pool memory.table own
 
 -- ---- each line
-resize_own : (w : RunState) (call : Hcall) (args : List ℕ) → OwnsAll w.memory → OwnsAll (run_resize w call args).1.memory
+resize_own : (w : Store) (call : Hcall) (args : List ℕ) → OwnsAll w.memory → OwnsAll (run_resize w call args).1.memory
 unfolding run_resize
 resize_own w calls.Prepare args own = prepare_own w.memory (slice_index args 0) (slice_index args 1) own
 resize_own w calls.Commit args own = commit_own w.memory (slice_index args 0) (slice_index args 1) own
 resize_own w other args own = own
 
-quiet_own : (w : RunState) (act : Act) → OwnsAll w.memory → OwnsAll (run_quiet_line w act).1.memory
+quiet_own : (w : Store) (act : Act) → OwnsAll w.memory → OwnsAll (run_quiet_line w act).1.memory
 unfolding run_quiet_line
 quiet_own w (acts.Call number args spelt) own = resize_own w (hcall_of number) args own
 quiet_own w other own = own
 
-line_own : (w : RunState) (l : TraceLine) → OwnsAll w.memory → OwnsAll (run_line w l).1.memory
-unfolding run_line
+line_own : (w : Store) (l : TraceLine) → OwnsAll w.memory → OwnsAll (run_on w l).1.memory
+unfolding run_on
 line_own w l own = at (cases_Bool (is_quiet l.act)) where
-  at : (is_quiet l.act ≡ true) ⊎ (is_quiet l.act ≡ false) → OwnsAll (run_line w l).1.memory
+  at : (is_quiet l.act ≡ true) ⊎ (is_quiet l.act ≡ false) → OwnsAll (run_on w l).1.memory
   at (inl quiet) = rw quiet (quiet_own w l.act own)
   at (inr loud) = rw loud own
 
-pub alone_keeps : (w : RunState) (l : TraceLine) → IsAlone w.memory → IsAlone (run_line w l).1.memory
+pub alone_keeps : (w : Store) (l : TraceLine) → IsAlone w.memory → IsAlone (run_on w l).1.memory
 alone_keeps w l alone =
     let kept = line_keeps_run w l alone.held in
     record {

@@ -6,7 +6,7 @@ use Rattle.pool_range.specs.Ranges.{IsPoolRange}
 use Rattle.hpt_pool.specs.Pool.{Block, PoolState, block_at, overlap, lowest_place, no_blocks}
 use Rattle.hpt_resize.specs.TableMemory.{opening_memory}
 use Rattle.trace_read.specs.Configuration.{Configuration}
-use Rattle.run_model.specs.RunState.{opening_run}
+use Rattle.run_model.specs.Stores.{page_table}
 use Rattle.lpar_set.specs.OpeningTables.{opening_place, with_opening}
 use Rattle.lpar_set.specs.SetTrace.{NumberedTrace, no_partition}
 use Rattle.lpar_set.specs.SetRun.{MemberState, with_pool, no_member, opening_table, opening_member, opening_pool, opening_members}
@@ -24,8 +24,8 @@ empty_room base size order range large small =
     let some : 0 < 2 ^ (size - order) = pow_pos (size - order) in
     some_place pool order 0 some (clear_fits pool order 0 range large small some (All-nil (λ (other : Block). overlap (block_at (base + 0 * 2 ^ order) order) other ≡ false)))
 
-pub opens_alone : (c : Configuration) → IsPoolRange c.granted.pool_base c.granted.pool_order → 18 ≤ c.order → c.order ≤ c.granted.pool_order → IsAlone (opening_run c).memory
-unfolding opening_run opening_memory
+pub opens_alone : (c : Configuration) → IsPoolRange c.granted.pool_base c.granted.pool_order → 18 ≤ c.order → c.order ≤ c.granted.pool_order → IsAlone (page_table c).memory
+unfolding page_table opening_memory
 opens_alone c range large small =
     let base = c.granted.pool_base in
     let size = c.granted.pool_order in
@@ -41,8 +41,8 @@ opens_alone c range large small =
 
 -- ---- beside others
 -- It opens over whatever the partitions before it left, and but for its place as alone.
-pub opens_like : (whole left : PoolState) (c : Configuration) → (let pool = no_blocks c.granted.pool_base c.granted.pool_order in opening_run c ≡ moved (with_pool whole (opening_member left c)) (with_opening pool c.order) (opening_place pool c.order) 0)
-unfolding opening_run opening_memory opening_table
+pub opens_like : (whole left : PoolState) (c : Configuration) → (let pool = no_blocks c.granted.pool_base c.granted.pool_order in page_table c ≡ moved (with_pool whole (opening_member left c)) (with_opening pool c.order) (opening_place pool c.order) 0)
+unfolding page_table opening_memory opening_table
 opens_like whole left c = refl
 
 -- A partition opens over this pool.
@@ -62,8 +62,8 @@ opening_count pool [] = refl
 opening_count pool (p ∷ ps) = ap suc (opening_count (with_opening pool p.trace.config.order) ps)
 
 -- ---- the size of the pool
-pub alone_order : (c : Configuration) → (opening_run c).memory.pool.order ≡ c.granted.pool_order
-unfolding opening_run opening_memory
+pub alone_order : (c : Configuration) → (page_table c).memory.pool.order ≡ c.granted.pool_order
+unfolding page_table opening_memory
 alone_order c = refl
 
 pub shared_order : (pool : PoolState) (ps : List NumberedTrace) → (opening_pool pool ps).order ≡ pool.order

@@ -14,13 +14,14 @@ use Rattle.hpt_resize.specs.TableMemory.{prepare_result, commit_result}
 use Rattle.trace_reply.specs.declared.reply.Reply.{Reply}
 use Rattle.trace_reply.specs.declared.reply.Reply.TheVariants as replies
 use Rattle.partition.proofs.Resizing.{reply_alone, prepare_is, commit_is}
-use Rattle.run_model.specs.RunState.{RunState, reply_of_code, after_prepare, after_commit}
+use Rattle.run_model.specs.Stores.{Store}
+use Rattle.run_model.specs.QuietLines.{reply_of_code, after_prepare, after_commit}
 use Rattle.lpar_set.specs.SetRun.{MemberState, with_pool}
 use Rattle.run_model.specs.HeldLines.{AllHold}
 use Rattle.run_model.proofs.Commits.{Moves, commit_moves, cleared, moved_hold}
 use Rattle.lpar_set.specs.BetweenLines.{IsBetweenLines}
 
-abbrev pub replied : Reply → RunState → Reply × RunState
+abbrev pub replied : Reply → Store → Reply × Store
 replied reply w = (reply, w)
 
 -- ---- prepare

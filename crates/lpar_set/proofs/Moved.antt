@@ -11,7 +11,8 @@ use Rattle.hpt_resize.specs.Resize.{Table, CommitOutcome, commit_refusal, carry_
 use Rattle.hpt_resize.specs.TableMemory.{TableMemory, commit_result}
 use Rattle.trace_line.specs.declared.line.TraceLine.{TraceLine}
 use Rattle.trace_reply.specs.declared.reply.Reply.{Reply}
-use Rattle.run_model.specs.RunState.{RunState, after_commit, shown_of}
+use Rattle.run_model.specs.Stores.{Store}
+use Rattle.run_model.specs.QuietLines.{after_commit, shown_of}
 use Rattle.run_model.specs.SerialRun.{with_result}
 use Rattle.lpar_set.specs.SetLaws.{without_place}
 use Rattle.trace_reply.specs.declared.reply.Reply.TheVariants as replies
@@ -35,26 +36,26 @@ moved_memory memory pool place other = record {
 }
 
 -- The run over that.
-abbrev pub moved : RunState → PoolState → ℕ → ℕ → RunState
+abbrev pub moved : Store → PoolState → ℕ → ℕ → Store
 moved v pool place other = record v { memory = moved_memory v.memory pool place other }
 
 -- ---- a line
 -- The second reply is the first but for the place in a dump, and what the run carries after it is the same but for the places.
-pub record IsLikeAfter (x y : Reply × RunState) : Type 0 where
+pub record IsLikeAfter (x y : Reply × Store) : Type 0 where
   pub reply : without_place y.0 ≡ without_place x.0
   pub pool : PoolState
   pub place : ℕ
   pub other : ℕ
   pub state : y.1 ≡ moved x.1 pool place other
 
-pub result_like : (v : RunState) (pool : PoolState) (place other : ℕ) (l : TraceLine) (x : Reply × List State) → IsLikeAfter (with_result v l x) (with_result (moved v pool place other) l x)
+pub result_like : (v : Store) (pool : PoolState) (place other : ℕ) (l : TraceLine) (x : Reply × List State) → IsLikeAfter (with_result v l x) (with_result (moved v pool place other) l x)
 result_like v pool place other l x = record { reply = refl; pool = pool; place = place; other = other; state = refl }
 
 -- An answer alone.
-pub answer_like : (v : RunState) (pool : PoolState) (place other : ℕ) (reply : Reply) → IsLikeAfter (reply, v) (reply, moved v pool place other)
+pub answer_like : (v : Store) (pool : PoolState) (place other : ℕ) (reply : Reply) → IsLikeAfter (reply, v) (reply, moved v pool place other)
 answer_like v pool place other reply = record { reply = refl; pool = pool; place = place; other = other; state = refl }
 
-pub dump_like : (v : RunState) (pool : PoolState) (place other : ℕ) → IsLikeAfter (replies.Dump (shown_of v.memory), v) (replies.Dump (shown_of (moved v pool place other).memory), moved v pool place other)
+pub dump_like : (v : Store) (pool : PoolState) (place other : ℕ) → IsLikeAfter (replies.Dump (shown_of v.memory), v) (replies.Dump (shown_of (moved v pool place other).memory), moved v pool place other)
 unfolding shown_of
 dump_like v pool place other = record { reply = refl; pool = pool; place = place; other = other; state = refl }
 
@@ -105,7 +106,7 @@ unfolding commit_result outcome_of_commit
 commit_like memory pool place other flags shift =
     rw (refusal_like flags shift memory.pending other) (answered_like memory memory.pending pool place other (commit_refusal flags shift memory.pending))
 
-pub committed_like : (v : RunState) (pool : PoolState) (place other : ℕ) (x y : Rc × TableMemory) → IsLikeMemory x y → IsLikeAfter (after_commit v x) (after_commit (moved v pool place other) y)
+pub committed_like : (v : Store) (pool : PoolState) (place other : ℕ) (x y : Rc × TableMemory) → IsLikeMemory x y → IsLikeAfter (after_commit v x) (after_commit (moved v pool place other) y)
 committed_like v pool place other x y like =
     subst (λ (z : Rc × TableMemory). IsLikeAfter (after_commit v x) (after_commit (moved v pool place other) z)) (sym like.same)
     (record { reply = refl; pool = like.pool; place = like.place; other = like.other; state = refl })

@@ -15,7 +15,7 @@ use Rattle.entry_model.specs.declared.access_reply.Outcome.{Outcome}
 use Rattle.entry_model.specs.declared.access_reply.Outcome.TheVariants.{At}
 use Rattle.trace_line.specs.declared.line.TraceLine.{TraceLine}
 use Rattle.trace_reply.specs.declared.reply.Reply.{Reply}
-use Rattle.run_model.specs.SerialRun.{run_line}
+use Rattle.run_model.specs.SerialRun.{run_on}
 use Rattle.lpar_set.specs.declared.turn.Turn.{Turn}
 use Rattle.lpar_set.specs.OpeningTables.{with_opening}
 use Rattle.lpar_set.specs.SetTrace.{NumberedTrace, AcceptedSet, IsAcceptedSet, IsOfSet, no_partition, partition_at, line_of}
@@ -56,8 +56,8 @@ opening_grants pool (p ∷ ps) = ap (λ gs. grants_in p ∷ gs) (opening_grants 
 -- No line changes them.
 pub grants_stay : (s : AcceptedSet) (w : SetState) (k : ℕ) (l : TraceLine) → HasGrants s w → HasGrants s (set_line w k l).1
 grants_stay s w k l has =
-    let after = (run_line (with_pool w.pool (member_at w k)) l).1 in
-    set_same grants_of w.members k no_member (without_pool after) (line_reply (with_pool w.pool (member_at w k)) l).1 ∙ has
+    let after = (run_on (with_pool w.pool (member_at w k)) l).1 in
+    set_same grants_of w.members k no_member (without_pool after) (line_reply (with_pool w.pool (member_at w k)) l refl).1 ∙ has
 
 pub member_grants : (s : AcceptedSet) (w : SetState) (k : ℕ) → HasGrants s w → (member_at w k).grants ≡ (partition_at s k).trace.config.granted.grants
 member_grants s w k has = at_map grants_of w.members k no_member ∙ ap (λ gs. get_or gs k []) has ∙ sym (at_map grants_in s.partitions k no_partition)
@@ -114,7 +114,7 @@ stays_at_home s is k inside other h = tt
 
 line_at_home : (s : AcceptedSet) → IsAcceptedSet s → (w : SetState) (k : ℕ) (l : TraceLine) → HasGrants s w → k < length s.partitions → StaysAtHome s k (set_line w k l).0
 line_at_home s is w k l has inside =
-    stays_at_home s is k inside (set_line w k l).0 (subst (λ gs. IsGrantedReply gs (set_line w k l).0) (member_grants s w k has) (line_reply (with_pool w.pool (member_at w k)) l).0.1)
+    stays_at_home s is k inside (set_line w k l).0 (subst (λ gs. IsGrantedReply gs (set_line w k l).0) (member_grants s w k has) (line_reply (with_pool w.pool (member_at w k)) l refl).0.1)
 
 all_at_home : (s : AcceptedSet) → IsAcceptedSet s → (w : SetState) (k : ℕ) (ts : List Turn) → HasGrants s w → k < length s.partitions → AllByRecursion (StaysAtHome s k) (replies_of k ts (replies_from s w ts))
 all_at_home s is w k [] has inside = tt

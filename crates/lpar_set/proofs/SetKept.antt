@@ -7,8 +7,8 @@ use Rattle.std.proofs.lemmas.Grind.{flat_map-append}
 use Rattle.pool_range.specs.Ranges.{IsPoolRange}
 use Rattle.hpt_pool.specs.Pool.{PoolState, IsPlaced, IsSound, no_blocks}
 use Rattle.trace_line.specs.declared.line.TraceLine.{TraceLine}
-use Rattle.run_model.specs.RunState.{RunState}
-use Rattle.run_model.specs.SerialRun.{run_line}
+use Rattle.run_model.specs.Stores.{Store}
+use Rattle.run_model.specs.SerialRun.{run_on}
 use Rattle.run_model.proofs.TableSizes.{IsSized, one_sized}
 use Rattle.lpar_set.specs.OpeningTables.{with_opening}
 use Rattle.lpar_set.specs.SetTrace.{NumberedTrace, AcceptedSet, IsAcceptedSet}
@@ -25,7 +25,7 @@ member_sized pool m is allowed = record {
   high = is.order_high;
 }
 
-sized_member : (w : RunState) → 18 ≤ w.memory.limit → IsSized w.memory → IsMember (without_pool w)
+sized_member : (w : Store) → 18 ≤ w.memory.limit → IsSized w.memory → IsMember (without_pool w)
 sized_member w low is = record {
   limit_low = low;
   limit_high = is.stands.limited;
@@ -60,14 +60,14 @@ own_allowed w k is inside = All-get_or HasAllowed w.members k no_member inside (
 
 -- ---- a line
 -- What the line leaves of the run of its partition.
-pub line_run : (w : SetState) (k : ℕ) (l : TraceLine) → IsSetState w → k < length w.members → KeepsRun (with_pool w.pool (member_at w k)) (run_line (with_pool w.pool (member_at w k)) l).1
+pub line_run : (w : SetState) (k : ℕ) (l : TraceLine) → IsSetState w → k < length w.members → KeepsRun (with_pool w.pool (member_at w k)) (run_on (with_pool w.pool (member_at w k)) l).1
 line_run w k l is inside = line_keeps_run (with_pool w.pool (member_at w k)) l (own_held w k is inside)
 
 pub line_keeps : (w : SetState) (k : ℕ) (l : TraceLine) → IsSetState w → k < length w.members → IsSetState (set_line w k l).1
 line_keeps w k l is inside =
     let m = member_at w k in
     let run = with_pool w.pool m in
-    let after = (run_line run l).1 in
+    let after = (run_on run l).1 in
     let low = held_blocks (take k w.members) in
     let high = held_blocks (drop (suc k) w.members) in
     let kept = line_run w k l is inside in
@@ -98,7 +98,7 @@ pub record Stays (w after : SetState) (k : ℕ) : Type 0 where
 pub pool_stays : (w : SetState) (k : ℕ) (l : TraceLine) → IsSetState w → k < length w.members → Stays w (set_line w k l).1 k
 pool_stays w k l is inside =
     let run = with_pool w.pool (member_at w k) in
-    let after = (run_line run l).1 in
+    let after = (run_on run l).1 in
     let kept = line_run w k l is inside in
     let own : member_at (set_line w k l).1 k ≡ without_pool after = get_or-set_same w.members k (without_pool after) no_member inside in
     record {

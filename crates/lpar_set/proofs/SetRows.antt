@@ -29,8 +29,8 @@ use Rattle.tlb_model.specs.Processor.{new_processor}
 use Rattle.trace_line.specs.Lines.{is_quiet}
 use Rattle.trace_reply.specs.declared.reply.Reply.{Reply}
 use Rattle.run_model.specs.LineReplies.{hcall_plan}
-use Rattle.run_model.specs.RunState.{reply_of_code, run_resize, run_quiet_line, shown_of}
-use Rattle.run_model.specs.SerialRun.{line_result, run_line}
+use Rattle.run_model.specs.QuietLines.{reply_of_code, run_resize, run_quiet_line, shown_of}
+use Rattle.run_model.specs.SerialRun.{line_result, run_on}
 use Rattle.reply_text.specs.Text.{head_text, code_text, entry_text, dump_head, table_text}
 use Rattle.authority_mask.specs.Authority.{row_says, key_rows}
 use Rattle.lpar_set.specs.OpeningTables.{HasRoomFor}
@@ -58,17 +58,17 @@ room_for_three h = h.1.1.0 refl
 -- ---- a pool that is full
 -- H_RESIZE_HPT_PREPARE of the first partition answers H_NO_MEM, since the second has the other block; and nothing changes.
 no_memory : (set_line opened 0 (prepares 10)).0 ≡ reply_of_code NoMem
-unfolding run_line is_quiet hcall_of row_of run_quiet_line run_resize prepare_result outcome_of_prepare lowest_place multiples
+unfolding run_on is_quiet hcall_of row_of run_quiet_line run_resize prepare_result outcome_of_prepare lowest_place multiples
 no_memory = refl
 
 nothing_changes : (set_line opened 0 (prepares 10)).1 ≡ opened
-unfolding run_line is_quiet hcall_of row_of run_quiet_line run_resize prepare_result outcome_of_prepare lowest_place multiples
+unfolding run_on is_quiet hcall_of row_of run_quiet_line run_resize prepare_result outcome_of_prepare lowest_place multiples
 nothing_changes = refl
 
 -- ---- a run
 -- The load of partition 5 lands in the storage that starts at 0x3000000000, and its dump shows its own table.
 both_run : set_text small_set (replies_from small_set opened small_set.turns) ≡ codes "2 5 0 slbmte ok\n5 6 0 slbmte ok\n2 7 0 H_ENTER 0 0x0 | 0x0.0.0.entered\n5 8 0 H_ENTER 0 0x0 | 0x0.0.0.entered\n5 9 0 load at 0x3000003234 walk | 0x0.1.0.at\n2 10 0 H_RESIZE_HPT_PREPARE -9\n5 11 dump table 0 order 18 place 0x1000040000 entries 1\n5  0x0 0x1001 0x3112 1\n"
-unfolding digits head_text code_text entry_text dump_head table_text run_line line_result run_quiet_line run_resize shown_of hcall_plan is_quiet hcall_of row_of plan_run trial_run candidates suits_grants h_enter_plan machine_range mte_refusal tests_of_words no_slots slots_after slot_of_words segment_of new_processor empty_cache cached_line same_page after_walk walk_calls group_of tag_of has_base permission rows row_says key_rows outcome_of prepare_result outcome_of_prepare lowest_place multiples
+unfolding digits head_text code_text entry_text dump_head table_text run_on line_result run_quiet_line run_resize shown_of hcall_plan is_quiet hcall_of row_of plan_run trial_run candidates suits_grants h_enter_plan machine_range mte_refusal tests_of_words no_slots slots_after slot_of_words segment_of new_processor empty_cache cached_line same_page after_walk walk_calls group_of tag_of has_base permission rows row_says key_rows outcome_of prepare_result outcome_of_prepare lowest_place multiples
 both_run = refl
 
 -- ---- the text

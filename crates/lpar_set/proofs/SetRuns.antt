@@ -19,8 +19,9 @@ use Rattle.trace_line.specs.declared.line.TraceLine.{TraceLine}
 use Rattle.trace_line.specs.Lines.{is_quiet}
 use Rattle.trace_reply.specs.declared.reply.Reply.{Reply}
 use Rattle.run_model.specs.Processors.{processor_at}
-use Rattle.run_model.specs.RunState.{RunState, context_of, states_of, run_resize, run_quiet_line}
-use Rattle.run_model.specs.SerialRun.{line_result, with_result, run_line}
+use Rattle.run_model.specs.Stores.{Store, context_of, states_of}
+use Rattle.run_model.specs.QuietLines.{run_resize, run_quiet_line}
+use Rattle.run_model.specs.SerialRun.{line_result, with_result, run_on}
 use Rattle.run_model.proofs.LinesByProcessor.{processors_size}
 use Rattle.run_model.proofs.SectionGood.{quiet_size}
 use Rattle.lpar_set.specs.declared.turn.Turn.{Turn}
@@ -45,30 +46,30 @@ committed_number memory flags shift =
     let after : CommitOutcome = outcome_of_commit flags shift memory.pending memory.pool memory.table in
     (commit_counts flags shift memory.pending after.pending memory.pool after.pool memory.table after.table (record { rc = after.rc; collision = after.collision }) memory.limit no_memory refl).at_most
 
-resized_number : (w : RunState) (call : Hcall) (args : List ℕ) → (run_resize w call args).1.memory.table.number ≤ w.memory.table.number + 1
+resized_number : (w : Store) (call : Hcall) (args : List ℕ) → (run_resize w call args).1.memory.table.number ≤ w.memory.table.number + 1
 unfolding run_resize
 resized_number w calls.Prepare args = let same = prepared_number w.memory (slice_index args 0) (slice_index args 1) in omega (arith, same)
 resized_number w calls.Commit args = committed_number w.memory (slice_index args 0) (slice_index args 1)
 resized_number w other args = omega arith
 
-quiet_number : (w : RunState) (act : Act) → (run_quiet_line w act).1.memory.table.number ≤ w.memory.table.number + 1
+quiet_number : (w : Store) (act : Act) → (run_quiet_line w act).1.memory.table.number ≤ w.memory.table.number + 1
 unfolding run_quiet_line
 quiet_number w (acts.Call number args spelt) = resized_number w (hcall_of number) args
 quiet_number w other = omega arith
 
 -- ---- what a line leaves of its partition's run
 -- It has as many processors, and its table's number rises by one at most.
-pub record Counts (w after : RunState) : Type 0 where
+pub record Counts (w after : Store) : Type 0 where
   pub cpus : length after.processors ≡ length w.processors
   pub number : after.memory.table.number ≤ w.memory.table.number + 1
 
-pub line_counts : (w : RunState) (l : TraceLine) → Counts w (run_line w l).1
-unfolding run_line
+pub line_counts : (w : Store) (l : TraceLine) → Counts w (run_on w l).1
+unfolding run_on
 line_counts w l = at (cases_Bool (is_quiet l.act)) where
   moved : (x : Reply × List State) → Counts w (with_result w l x).1
   moved x = record { cpus = processors_size w.processors (record { line = l; reply = x.0 }); number = omega arith }
 
-  at : (is_quiet l.act ≡ true) ⊎ (is_quiet l.act ≡ false) → Counts w (run_line w l).1
+  at : (is_quiet l.act ≡ true) ⊎ (is_quiet l.act ≡ false) → Counts w (run_on w l).1
   at (inl quiet) = rw quiet (record { cpus = quiet_size w l.act; number = quiet_number w l.act })
   at (inr loud) = rw loud (moved (line_result (context_of w) (processor_at w.processors l.cpu) (states_of w) l.act))
 
@@ -96,7 +97,7 @@ put_in P members k j m inside own other = at (cases_Bool (eqb j k)) where
 pub line_ready : (s : AcceptedSet) (w : SetState) (n k : ℕ) (l : TraceLine) → k < length w.members → IsReady s w n → IsReady s (set_line w k l).1 (n + 1)
 line_ready s w n k l inside ready =
     let run = with_pool w.pool (member_at w k) in
-    let new = without_pool (run_line run l).1 in
+    let new = without_pool (run_on run l).1 in
     let counts = line_counts run l in
     record {
       count = length-set w.members k new ∙ ready.count;

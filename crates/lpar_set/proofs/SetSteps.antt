@@ -7,8 +7,8 @@ use Rattle.hpt_resize.specs.Pending.{PendingTable}
 use Rattle.hpt_resize.specs.Resize.{IsHeld}
 use Rattle.trace_line.specs.declared.line.TraceLine.{TraceLine}
 use Rattle.trace_reply.specs.declared.reply.Reply.{Reply}
-use Rattle.run_model.specs.RunState.{RunState}
-use Rattle.run_model.specs.SerialRun.{run_line}
+use Rattle.run_model.specs.Stores.{Store}
+use Rattle.run_model.specs.SerialRun.{run_on}
 use Rattle.lpar_set.specs.SetRun.{MemberState, SetState, with_pool, no_member, member_at, with_member, set_line, opening_pool, opening_members, opening_set}
 use Rattle.lpar_set.specs.SetTrace.{NumberedTrace, AcceptedSet, IsAcceptedSet}
 use Rattle.lpar_set.specs.SetStates.{pending_blocks, IsSetState}
@@ -38,8 +38,8 @@ with_parts w k pool m = record { pool = pool; members = slice_set w.members k m 
 abbrev pub in_set : Reply → SetState → Reply × SetState
 in_set r w = (r, w)
 
-pub set_moved : (w : SetState) (k : ℕ) (m m' : MemberState) (pool' : PoolState) (l : TraceLine) (r : Reply) → m ≡ member_at w k → replied r (with_pool pool' m') ≡ run_line (with_pool w.pool m) l → in_set r (with_parts w k pool' m') ≡ set_line w k l
-set_moved w k m m' pool' l r is moved = ap (λ (x : Reply × RunState). in_set x.0 (with_member w k x.1)) (moved ∙ ap (λ (n : MemberState). run_line (with_pool w.pool n) l) is)
+pub set_moved : (w : SetState) (k : ℕ) (m m' : MemberState) (pool' : PoolState) (l : TraceLine) (r : Reply) → m ≡ member_at w k → replied r (with_pool pool' m') ≡ run_on (with_pool w.pool m) l → in_set r (with_parts w k pool' m') ≡ set_line w k l
+set_moved w k m m' pool' l r is moved = ap (λ (x : Reply × Store). in_set x.0 (with_member w k x.1)) (moved ∙ ap (λ (n : MemberState). run_on (with_pool w.pool n) l) is)
 
 -- Where nothing changes.
 pub same_parts : (w : SetState) (k : ℕ) (m m' : MemberState) (pool' : PoolState) → m ≡ member_at w k → m' ≡ m → pool' ≡ w.pool → with_parts w k pool' m' ≡ w
@@ -47,7 +47,7 @@ same_parts w k m m' pool' is same same_pool =
     let members : slice_set w.members k m' ≡ w.members = ap (slice_set w.members k) (same ∙ is) ∙ set-get_or w.members k no_member in
     λ i. record { pool = same_pool i; members = members i }
 
-pub still_set : {E : Type 0} (result : Result Unit E) (w : SetState) (k : ℕ) (m m' : MemberState) (pool' : PoolState) (l : TraceLine) (r : Reply) → IsSetState w → k < length w.members → m ≡ member_at w k → OnOk result (replied r (with_pool pool' m') ≡ run_line (with_pool w.pool m) l) → OnErr result (m' ≡ m) → OnErr result (pool' ≡ w.pool) → IsSetState (with_parts w k pool' m')
+pub still_set : {E : Type 0} (result : Result Unit E) (w : SetState) (k : ℕ) (m m' : MemberState) (pool' : PoolState) (l : TraceLine) (r : Reply) → IsSetState w → k < length w.members → m ≡ member_at w k → OnOk result (replied r (with_pool pool' m') ≡ run_on (with_pool w.pool m) l) → OnErr result (m' ≡ m) → OnErr result (pool' ≡ w.pool) → IsSetState (with_parts w k pool' m')
 still_set (Ok x) w k m m' pool' l r between inside is moved same same_pool = subst IsSetState (sym (ap (λ (x : Reply × SetState). x.1) (set_moved w k m m' pool' l r is moved))) (line_keeps w k l between inside)
 still_set (Err e) w k m m' pool' l r between inside is moved same same_pool = subst IsSetState (sym (same_parts w k m m' pool' is same same_pool)) between
 

@@ -16,7 +16,7 @@ reply_count s w (t ∷ ts) = ap suc (reply_count s (set_line w t.partition (line
 
 -- ---- of the kinds of the turns
 line_kind : (s : AcceptedSet) (w : SetState) (t : Turn) → IsOfKind (line_of s t).act (set_line w t.partition (line_of s t)).0
-line_kind s w t = (line_reply (with_pool w.pool (member_at w t.partition)) (line_of s t)).0.0
+line_kind s w t = (line_reply (with_pool w.pool (member_at w t.partition)) (line_of s t) refl).0.0
 
 turn_kinds : (s : AcceptedSet) (k : ℕ) (w : SetState) (ts : List Turn) → AreReplies (map (line_of s) (turns_of k ts)) (replies_of k ts (replies_from s w ts))
 turn_kinds s k w [] = tt

@@ -9,8 +9,8 @@ use Rattle.tlb_model.specs.Processor.{Processor, new_processor}
 use Rattle.trace_line.specs.declared.line.TraceLine.{TraceLine}
 use Rattle.trace_read.specs.Configuration.{Configuration}
 use Rattle.trace_reply.specs.declared.reply.Reply.{Reply}
-use Rattle.run_model.specs.RunState.{RunState}
-use Rattle.run_model.specs.SerialRun.{run_line}
+use Rattle.run_model.specs.Stores.{Store}
+use Rattle.run_model.specs.SerialRun.{run_on}
 use Rattle.lpar_set.specs.declared.turn.Turn.{Turn}
 use Rattle.lpar_set.specs.OpeningTables.{opening_place, with_opening}
 use Rattle.lpar_set.specs.SetTrace.{NumberedTrace, AcceptedSet, line_of}
@@ -30,15 +30,16 @@ pub record SetState : Type 0 where
 
 -- ---- a partition and the pool
 -- What a run of the partition carries, if the pool is its.
-abbrev pub with_pool : PoolState → MemberState → RunState
+abbrev pub with_pool : PoolState → MemberState → Store
 with_pool pool m = record {
   grants = m.grants;
+  window = None;
   memory = record { limit = m.limit; pool = pool; pending = m.pending; table = m.table };
   processors = m.processors;
 }
 
 -- The same without the pool.
-abbrev pub without_pool : RunState → MemberState
+abbrev pub without_pool : Store → MemberState
 without_pool w = record {
   grants = w.grants;
   limit = w.memory.limit;
@@ -101,7 +102,7 @@ abbrev pub member_at : SetState → ℕ → MemberState
 member_at w k = slice_index_or w.members k no_member
 
 -- The set after a line of one partition: the pool and that partition are as the line leaves them, and each other partition stays.
-abbrev pub with_member : SetState → ℕ → RunState → SetState
+abbrev pub with_member : SetState → ℕ → Store → SetState
 with_member w k after = record {
   pool = after.memory.pool;
   members = slice_set w.members k (without_pool after);
@@ -110,7 +111,7 @@ with_member w k after = record {
 -- The reply to a line of one partition, and the set after it.
 abbrev pub set_line : SetState → ℕ → TraceLine → Reply × SetState
 set_line w k l =
-    let x = run_line (with_pool w.pool (member_at w k)) l in
+    let x = run_on (with_pool w.pool (member_at w k)) l in
     (x.0, with_member w k x.1)
 
 -- ---- all lines

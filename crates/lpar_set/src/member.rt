@@ -4,9 +4,9 @@ ghost use Rattle.hpt_resize.specs.Resize.{IsHeld};
 ghost use Rattle.hpt_resize.specs.TableMemory.{prepare_result, commit_result};
 ghost use Rattle.trace_line.specs.Lines.{is_quiet};
 ghost use Rattle.trace_reply.specs.Places.{reply_in};
-ghost use Rattle.run_model.specs.RunState.{run_quiet_line, run_resize, after_prepare, after_commit, shown_of, is_success};
+ghost use Rattle.run_model.specs.QuietLines.{run_quiet_line, run_resize, after_prepare, after_commit, shown_of, is_success};
 ghost use Rattle.tlb_model.specs.Processor.{without_cache};
-ghost use Rattle.run_model.specs.SerialRun.{run_line};
+ghost use Rattle.run_model.specs.SerialRun.{run_on};
 ghost use Rattle.lpar_set.specs.OpeningTables.{with_opening};
 ghost use Rattle.lpar_set.specs.SetRun.{with_pool, opening_member};
 
@@ -92,7 +92,7 @@ impl Member {
 
     /// Runs a line. Its reply takes the place. Where memory ends, which it can at quiet lines alone, the
     /// partition and the pool stay.
-    #[tactic(auto, unfolding(run_model::specs::SerialRun::run_line))]
+    #[tactic(auto, unfolding(run_model::specs::SerialRun::run_on))]
     pub fn line(
         &mut self,
         alloc: Global,
@@ -109,7 +109,7 @@ impl Member {
         ensures reply { OnOk
             result
             ((reply_in place.new, with_pool pool.new self.new)
-            ≡ run_line (with_pool pool.old self.old) line.now) }
+            ≡ run_on (with_pool pool.old self.old) line.now) }
         ensures memory { OnErr result (is_quiet line.now.act ≡ true) }
         ensures same { OnErr result (self.new ≡ self.old) }
         ensures same_pool { OnErr result (pool.new ≡ pool.old) }
@@ -123,12 +123,12 @@ impl Member {
     }
 
     // A line that isn't quiet, by its processor. It leaves the pool.
-    #[tactic(auto, unfolding(run_model::specs::SerialRun::run_line))]
+    #[tactic(auto, unfolding(run_model::specs::SerialRun::run_on))]
     fn run(&mut self, pool: &Pool, line: &TraceLine, place: &mut ReplyPlace)
         requires not_quiet { is_quiet line.now.act ≡ false }
         requires cpu { line.now.cpu < length self.old.processors }
         ensures reply { (reply_in place.new, with_pool pool.now self.new)
-            ≡ run_line (with_pool pool.now self.old) line.now }
+            ≡ run_on (with_pool pool.now self.old) line.now }
     {
         let order = self.current.order;
         let alloc = *self.current.states.allocator();
@@ -141,7 +141,7 @@ impl Member {
 
     // A quiet line.
     #[inline(never)]
-    #[tactic(auto, unfolding(run_model::specs::RunState::run_quiet_line, trace_line::specs::Lines::is_quiet))]
+    #[tactic(auto, unfolding(run_model::specs::QuietLines::run_quiet_line, trace_line::specs::Lines::is_quiet))]
     fn quiet(
         &mut self,
         alloc: Global,
@@ -173,7 +173,7 @@ impl Member {
     }
 
     // The table, as a dump shows it, whatever the pool.
-    #[tactic(auto, unfolding(run_model::specs::RunState::shown_of))]
+    #[tactic(auto, unfolding(run_model::specs::QuietLines::shown_of))]
     fn shown(&self, alloc: Global) -> Result<Shown, AllocError>
         ensures { IfOk
             result
@@ -189,7 +189,7 @@ impl Member {
     }
 
     // One of the two resize calls.
-    #[tactic(auto, unfolding(run_model::specs::RunState::run_resize))]
+    #[tactic(auto, unfolding(run_model::specs::QuietLines::run_resize))]
     fn resize(
         &mut self,
         alloc: Global,

@@ -22,7 +22,7 @@ use Rattle.trace_read.proofs.TakenLines.{line_taken}
 use Rattle.trace_reply.specs.ShownTable.{valid_from}
 use Rattle.entry_model.specs.State.{State}
 use Rattle.run_model.specs.OpeningAgain.{image_entry, entry_line_words, memory_after, with_image_entry}
-use Rattle.run_model.specs.RunState.{shown_of}
+use Rattle.run_model.specs.QuietLines.{shown_of}
 use Rattle.run_model.specs.Laws.{ImagesOpenAgain}
 use Rattle.run_model.proofs.TableSizes.{small_index, serial_sized}
 use Rattle.papr_top.specs.ImageLines.{with_lfs, bytes_again, reading_after, ImageLinesOpenAgain}

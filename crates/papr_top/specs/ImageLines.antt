@@ -18,7 +18,7 @@ use Rattle.entry_model.specs.State.{State}
 use Rattle.entry_model.specs.Reply.{words_of}
 use Rattle.entry_model.specs.Run.{state_at}
 use Rattle.run_model.specs.OpeningAgain.{image_entry, memory_after, opening_states, with_image_entry}
-use Rattle.run_model.specs.RunState.{shown_of}
+use Rattle.run_model.specs.QuietLines.{shown_of}
 
 -- ---- the bytes
 -- Lines, each with its LF.

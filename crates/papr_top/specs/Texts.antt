@@ -5,8 +5,8 @@ use Rattle.trace_read.specs.Trace.{AcceptedTrace, IsAccepted}
 use Rattle.trace_reply.specs.declared.reply.Reply.{Reply}
 use Rattle.trace_reply.specs.Replies.{RepliedLine, lines_with_replies}
 use Rattle.trace_reply.specs.declared.shown.Shown.{Shown}
-use Rattle.run_model.specs.RunState.{shown_of}
-use Rattle.run_model.specs.SerialRun.{serial_replies, opening_stores, stores_after_lines}
+use Rattle.run_model.specs.QuietLines.{shown_of}
+use Rattle.run_model.specs.SerialRun.{serial_replies, table_after}
 use Rattle.run_model.specs.GoodRun.{IsGoodRun}
 use Rattle.run_model.specs.Assurances.{Assures}
 use Rattle.run_model.specs.BusyCalls.{PutIsNotBusy}
@@ -43,7 +43,7 @@ pub record IsParallelText (t : AcceptedTrace) (text : List ℕ) : Type 0 where
 -- The table at the end of the serial run.
 abbrev pub table_at_end : AcceptedTrace → Shown
 table_at_end t =
-    shown_of (stores_after_lines (opening_stores t.config) t.lines).table.memory
+    shown_of (table_after t.config t.lines).memory
 
 -- The summary of the serial run of a trace, with the valid entries of the table at its end.
 unfoldable pub drill_text : AcceptedTrace → List ℕ

@@ -17,10 +17,9 @@ use Rattle.run_model.specs.Landings.{AccessesLand, IsUnworn}
 use Rattle.run_model.specs.Laws.{HasOneProcessor}
 use Rattle.run_model.specs.MaskedAccesses.{SetsZero, MasksRefuse, NoneIsMasked}
 use Rattle.run_model.specs.RefusedCalls.{RefusedLinesLeave, RefusedWindowLinesLeave, RefusedQuietLinesLeave}
-use Rattle.run_model.specs.Sections.{sections_of}
+use Rattle.run_model.specs.Sections.{sections_of, window_sections}
 use Rattle.run_model.specs.SerialRun.{serial_replies}
 use Rattle.run_model.specs.ShownStores.{NoStoreIsLostIn, NoSetBitIsLostIn, ClearedBitsAreShown}
-use Rattle.run_model.specs.Windows.{window_sections}
 use Rattle.history_check.specs.declared.verdict.Verdict.TheVariants.{Good}
 use Rattle.history_check.specs.Verdict.{IsVerdict}
 use Rattle.reply_text.specs.Text.{text_of}

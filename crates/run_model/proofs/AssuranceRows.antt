@@ -20,7 +20,7 @@ use Rattle.entry_model.specs.declared.receipt.Receipt.{Receipt}
 use Rattle.entry_model.specs.Receipt.{receipt_of}
 use Rattle.entry_model.specs.Reply.{entered_state, has_base}
 use Rattle.hpt_resize.specs.Rehash.{carried_page, target_of}
-use Rattle.run_model.specs.RunState.{reply_of_code}
+use Rattle.run_model.specs.QuietLines.{reply_of_code}
 use Rattle.run_model.specs.Histories.{closing_states}
 use Rattle.run_model.specs.Sections.{Section, section_end}
 use Rattle.run_model.specs.ShownStores.{clears, stores, shows_changed, ShowsChange, StoresAreShown, carried_to, StaysShown}
@@ -116,6 +116,7 @@ section : ℕ → ℕ → List State → Section
 section order number states = record {
   before = record {
     grants = [];
+    window = None;
     memory = record {
       limit = 22;
       pool = record { base = 0x1000000000; order = 20; taken = [] };

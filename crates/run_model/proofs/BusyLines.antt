@@ -27,12 +27,12 @@ use Rattle.trace_read.specs.Trace.{AcceptedTrace, IsAccepted}
 use Rattle.trace_reply.specs.declared.reply.Reply.{Reply}
 use Rattle.trace_reply.specs.declared.reply.Reply.TheVariants as replies
 use Rattle.trace_reply.specs.Replies.{RepliedLine, lines_with_replies}
-use Rattle.run_model.specs.StoreContexts.{StoreContext, window_context}
+use Rattle.run_model.specs.QuietLines.{reply_of_code, run_quiet_line}
+use Rattle.run_model.specs.SerialRun.{line_result, with_result, run_on, run_line, replies_from, serial_replies}
+use Rattle.run_model.specs.StoreContexts.{StoreContext}
+use Rattle.run_model.specs.Stores.{Store, context_of, states_of, opening_stores, is_on}
 use Rattle.run_model.specs.LineReplies.{put_plan, hcall_plan, IsCallReply}
 use Rattle.run_model.specs.Processors.{processor_at}
-use Rattle.run_model.specs.RunState.{RunState, context_of, states_of, run_quiet_line}
-use Rattle.run_model.specs.Windows.{is_on_window}
-use Rattle.run_model.specs.SerialRun.{line_result, with_result, run_line, WindowState, run_on_window, beside_window, run_on_windows, AllStores, opening_stores, run_on_table, run_store_line, store_replies_from, serial_replies}
 use Rattle.run_model.specs.GoodRun.{IsGoodRun}
 use Rattle.run_model.specs.BusyCalls.{IsBusyWhereTaken, BusyWhereTaken, IsNotBusy, PutIsNotBusy}
 use Rattle.run_model.proofs.CallLines.{each_call}
@@ -90,36 +90,30 @@ unfolding line_result
 line_alone context p states (acts.Call number args spelt) = call_alone context (hcall_of number) args states
 line_alone context p states other = tt
 
-on_table_alone : (w : RunState) (l : TraceLine) → PutIsNotBusy l.act (run_line w l).0
-unfolding run_line
-on_table_alone w l =
+on_store_alone : (w : Store) (l : TraceLine) → PutIsNotBusy l.act (run_on w l).0
+unfolding run_on
+on_store_alone w l =
     let own = line_result (context_of w) (processor_at w.processors l.cpu) (states_of w) l.act in
-    cond_both (is_quiet l.act) (run_quiet_line w l.act) (with_result w l own) (λ (x : Reply × RunState). PutIsNotBusy l.act x.0) (λ quiet. (quiet_line l.act (run_quiet_line w l.act).0 quiet).1) (λ _. line_alone (context_of w) (processor_at w.processors l.cpu) (states_of w) l.act)
+    cond_both (is_quiet l.act) (run_quiet_line w l.act) (with_result w l own) (λ (x : Reply × Store). PutIsNotBusy l.act x.0) (λ quiet. (quiet_line l.act (run_quiet_line w l.act).0 quiet).1) (λ _. line_alone (context_of w) (processor_at w.processors l.cpu) (states_of w) l.act)
 
--- The reply, where the line is on a window.
-abbrev OnWindows : Act → Option (Reply × List WindowState) → Type 0
-OnWindows act o = IfSome o (λ x. PutIsNotBusy act x.0)
+-- Where no store has the line, it is H_FUNCTION.
+function_alone : (call : Hcall) → IsNotBusy call rc.Function
+function_alone calls.PutTce = λ e. let clash : rc.Function ≡ rc.Busy = e in cc
+function_alone other = tt
 
-beside_alone : (v : WindowState) (act : Act) (o : Option (Reply × List WindowState)) → OnWindows act o → OnWindows act (beside_window v o)
-beside_alone v act None h = tt
-beside_alone v act (Some x) h = h
+none_alone : (act : Act) → PutIsNotBusy act (reply_of_code rc.Function)
+none_alone (acts.Call number args spelt) = function_alone (hcall_of number)
+none_alone act = tt
 
-on_windows_alone : (grants : List Grant) (vs : List WindowState) (act : Act) → OnWindows act (run_on_windows grants vs act)
-on_windows_alone grants [] act = tt
-on_windows_alone grants (v ∷ vs) act =
-    let x = run_on_window grants v act in
-    cond_both (is_on_window v.window act) (Some (x.0, x.1 ∷ vs)) (beside_window v (run_on_windows grants vs act)) (OnWindows act) (λ _. line_alone (window_context grants v.window) new_processor v.states act) (λ _. beside_alone v act (run_on_windows grants vs act) (on_windows_alone grants vs act))
+any_alone : (ws : List BusWindow) (ss : List Store) (l : TraceLine) → PutIsNotBusy l.act (run_line ws ss l).0
+any_alone ws [] l = none_alone l.act
+any_alone ws (s ∷ ss) l =
+    let x = run_on s l in
+    cond_both (is_on ws s.window l.act) (x.0, x.1 ∷ ss) ((run_line ws ss l).0, s ∷ (run_line ws ss l).1) (λ (y : Reply × List Store). PutIsNotBusy l.act y.0) (λ _. on_store_alone s l) (λ _. any_alone ws ss l)
 
-store_alone : (s : AllStores) (l : TraceLine) → PutIsNotBusy l.act (run_store_line s l).0
-unfolding run_store_line
-store_alone s l = at (run_on_windows s.table.grants s.windows l.act) (on_windows_alone s.table.grants s.windows l.act) where
-  at : (o : Option (Reply × List WindowState)) → OnWindows l.act o → PutIsNotBusy l.act (option_map_or (λ (x : Reply × List WindowState). (x.0, record s { windows = x.1 })) o (run_on_table s l)).0
-  at None h = on_table_alone s.table l
-  at (Some x) h = h
-
-all_alone : (s : AllStores) (ls : List TraceLine) → AllByRecursion (λ (x : RepliedLine). PutIsNotBusy x.line.act x.reply) (lines_with_replies ls (store_replies_from s ls))
-all_alone s [] = tt
-all_alone s (l ∷ ls) = (store_alone s l, all_alone (run_store_line s l).1 ls)
+all_alone : (ws : List BusWindow) (ss : List Store) (ls : List TraceLine) → AllByRecursion (λ (x : RepliedLine). PutIsNotBusy x.line.act x.reply) (lines_with_replies ls (replies_from ws ss ls))
+all_alone ws ss [] = tt
+all_alone ws ss (l ∷ ls) = (any_alone ws ss l, all_alone ws (run_line ws ss l).1 ls)
 
 pub serial_puts_are_not_busy : (t : AcceptedTrace) → IsAccepted t → AllByRecursion (λ (x : RepliedLine). PutIsNotBusy x.line.act x.reply) (lines_with_replies t.lines (serial_replies t))
-serial_puts_are_not_busy t is = all_alone (opening_stores t.config) t.lines
+serial_puts_are_not_busy t is = all_alone t.config.windows (opening_stores t.config) t.lines

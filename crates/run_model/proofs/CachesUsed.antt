@@ -30,11 +30,12 @@ use Rattle.trace_reply.specs.Replies.{RepliedLine, receipts_in}
 use Rattle.run_model.specs.StoreContexts.{access_of}
 use Rattle.run_model.specs.Processors.{processor_at, processor_after, gone_line_of}
 use Rattle.run_model.specs.LineReplies.{IsReplyToAccess}
-use Rattle.run_model.specs.RunState.{context_of, states_of}
+use Rattle.run_model.specs.Stores.{context_of, states_of}
 use Rattle.run_model.specs.Histories.{lines_of_processor, Event, made, InOrder, gone_events, events_by}
-use Rattle.run_model.specs.Sections.{Section, section_end, sections_of}
-use Rattle.run_model.specs.GoodRun.{IsGoodRun, opening_states, AreInOrder, EachLineOfProcessor, IsAccessLine, AccessesAreReplied}
+use Rattle.run_model.specs.Sections.{Section, closing, sections_of}
+use Rattle.run_model.specs.GoodRun.{IsGoodRun, IsGoodSection, AreInOrder, EachLineOfProcessor, IsAccessLine, AccessesAreReplied}
 use Rattle.run_model.specs.CachedAccesses.{IsByCurrentLine, UsesLine, line_in, UsesItsCache, AccessesUseCaches}
+use Rattle.run_model.proofs.Each.{each_map}
 use Rattle.run_model.proofs.OneProcessor.{first_events, left_high, left_rest, receipts_rest, pair_stamp}
 use Rattle.trace_line.specs.declared.act.Act.TheVariants as acts
 use Rattle.trace_reply.specs.declared.reply.Reply.TheVariants as replies
@@ -111,11 +112,13 @@ lines_use context states p (t ∷ ts) h order =
 
 -- ---- sections
 section_uses : (s : Section) → AreInOrder s → AccessesAreReplied s → AccessesUseCaches s
-section_uses s order replied = λ cpu. lines_use (access_of (context_of s.before)) (states_of (section_end s.before s.replied_lines)) (processor_at s.before.processors cpu) (lines_of_processor cpu s.replied_lines) (replied cpu) (λ e. (pair_of (state_at (opening_states s) e), order cpu e))
+section_uses s order replied = λ cpu. lines_use (access_of (context_of s.before)) (states_of (closing s)) (processor_at s.before.processors cpu) (lines_of_processor cpu s.replied_lines) (replied cpu) (λ e. (pair_of (state_at (states_of s.before) e), order cpu e))
 
 sections_use : (ss : List Section) → AllByRecursion AreInOrder ss → AllByRecursion AccessesAreReplied ss → AllByRecursion AccessesUseCaches ss
 sections_use [] order replied = tt
 sections_use (s ∷ ss) order replied = (section_uses s order.0 replied.0, sections_use ss order.1 replied.1)
 
 pub accesses_use_caches : (t : AcceptedTrace) (rs : List Reply) → IsGoodRun t rs → AllByRecursion AccessesUseCaches (sections_of t rs)
-accesses_use_caches t rs good = sections_use (sections_of t rs) good.in_order good.accesses
+accesses_use_caches t rs good =
+    let ss = sections_of t rs in
+    sections_use ss (each_map IsGoodSection AreInOrder ss (λ s h. h.in_order) good.stores.0) (each_map IsGoodSection AccessesAreReplied ss (λ s h. h.accesses) good.stores.0)

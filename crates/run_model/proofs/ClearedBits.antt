@@ -1,6 +1,6 @@
 -- The reply that clears a change bit shows it.
 use Rattle.std.specs.Prelude.{bit_or, nat_lt, slice_index, flat_map, if◌then◌else◌}
-use Rattle.std.proofs.Common.{◌≡◌, ℕ, List, [], ◌∷◌, Bool, true, false, ap, sym, ◌∙◌, refl, ◌⊎◌, inl, inr, map, Option, Some, None}
+use Rattle.std.proofs.Common.{◌≡◌, ℕ, List, [], ◌∷◌, Bool, true, false, ap, sym, ◌∙◌, refl, subst, ◌⊎◌, inl, inr, map, Option, Some, None}
 use Rattle.std.specs.List.{AllByRecursion}
 use Rattle.std.proofs.lemmas.Bool.{cases_Bool, cond_both, eq-eqb}
 use Rattle.std.proofs.lemmas.Nat.{and_or_self}
@@ -29,14 +29,16 @@ use Rattle.trace_line.specs.declared.act.Act.{Act}
 use Rattle.trace_read.specs.Trace.{AcceptedTrace}
 use Rattle.trace_reply.specs.declared.reply.Reply.{Reply}
 use Rattle.trace_reply.specs.Replies.{RepliedLine}
-use Rattle.run_model.specs.StoreContexts.{access_of, table_context}
-use Rattle.run_model.specs.Processors.{processor_after}
+use Rattle.run_model.proofs.TableNamed.{IsTable, table_is, all_table}
+use Rattle.run_model.specs.StoreContexts.{StoreContext, access_of, table_context}
+use Rattle.run_model.specs.Processors.{processor_after, processor_at}
+use Rattle.run_model.specs.Histories.{lines_of_processor}
 use Rattle.run_model.specs.LineReplies.{hcall_plan, IsCallReply}
-use Rattle.run_model.specs.RunState.{context_of}
+use Rattle.run_model.specs.Stores.{context_of}
 use Rattle.run_model.specs.Sections.{Section, sections_of}
-use Rattle.run_model.specs.GoodRun.{EachLineOfProcessor, CallsAreReplied, IsGoodRun}
+use Rattle.run_model.specs.GoodRun.{EachLineOfProcessor, CallsAreReplied, IsGoodSection, IsGoodRun}
 use Rattle.run_model.specs.ShownStores.{clears_by, ShowsWhatItClears, ShowsClearedBits, ClearedBitsAreShown}
-use Rattle.run_model.proofs.Each.{each_map}
+use Rattle.run_model.proofs.Each.{each_map, each_both}
 use Rattle.papr_codes.specs.declared.calls.Hcall.TheVariants as calls
 use Rattle.papr_codes.specs.declared.codes.Rc.TheVariants as rc
 use Rattle.entry_model.specs.declared.operation.Answer.TheVariants as answers
@@ -162,8 +164,8 @@ lines_show : (set : AccessContext) (p : Processor) (ts : List RepliedLine) → E
 lines_show set p [] h = tt
 lines_show set p (t ∷ ts) h = (line_shows set t.line.act t.reply h.0, lines_show set (processor_after p t.line.act t.reply) ts h.1)
 
-section_shows : (s : Section) → CallsAreReplied s → ClearedBitsAreShown s
-section_shows s h = λ cpu. lines_show (access_of (context_of s.before)) _ _ (h cpu)
+section_shows : (s : Section) → IsTable s.before → CallsAreReplied s → ClearedBitsAreShown s
+section_shows s table h = λ cpu. lines_show (access_of (context_of s.before)) _ _ (subst (λ set. EachLineOfProcessor (λ q t. IsCallReply set t.line.act t.reply) (processor_at s.before.processors cpu) (lines_of_processor cpu s.replied_lines)) (table_is s.before table) (h cpu))
 
 pub cleared_are_shown : (t : AcceptedTrace) (rs : List Reply) → IsGoodRun t rs → AllByRecursion ClearedBitsAreShown (sections_of t rs)
-cleared_are_shown t rs good = each_map CallsAreReplied ClearedBitsAreShown (sections_of t rs) section_shows good.calls
+cleared_are_shown t rs good = each_map (λ (s : Section). IsTable s.before × CallsAreReplied s) ClearedBitsAreShown (sections_of t rs) (λ s h. section_shows s h.0 h.1) (each_both (λ (s : Section). IsTable s.before) CallsAreReplied (sections_of t rs) (all_table t rs) (each_map IsGoodSection CallsAreReplied (sections_of t rs) (λ s h. h.calls) good.stores.0))

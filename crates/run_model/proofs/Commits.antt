@@ -10,7 +10,7 @@ use Rattle.hpt_resize.specs.Pending.{PendingTable}
 use Rattle.hpt_resize.specs.TableMemory.{TableMemory, commit_result}
 use Rattle.hpt_resize.specs.Resize.{Table, CommitOutcome, commit_refusal, carry_outcome, complete_outcome, answer_outcome, outcome_of_commit}
 use Rattle.tlb_model.specs.Processor.{Processor, without_cache}
-use Rattle.run_model.specs.RunState.{is_success}
+use Rattle.run_model.specs.QuietLines.{is_success}
 use Rattle.run_model.specs.HeldLines.{AllHold}
 use Rattle.run_model.proofs.HeldLines.{none_hold}
 

@@ -85,3 +85,12 @@ filter_yes f x xs e = rw e refl
 
 pub filter_no : {A : Type 0} (f : A → Bool) (x : A) (xs : List A) → f x ≡ false → filter f (x ∷ xs) ≡ filter f xs
 filter_no f x xs e = rw e refl
+
+-- Facts of a list and of its image.
+pub over_map : {A B : Type 0} (P : A → Type 0) (Q : B → Type 0) (f : A → B) (xs : List A) → ((x : A) → P x → Q (f x)) → AllByRecursion P xs → AllByRecursion Q (map f xs)
+over_map P Q f [] g h = tt
+over_map P Q f (x ∷ xs) g h = (g x h.0, over_map P Q f xs g h.1)
+
+pub under_map : {A B : Type 0} (P : A → Type 0) (Q : B → Type 0) (f : A → B) (xs : List A) → ((x : A) → Q (f x) → P x) → AllByRecursion Q (map f xs) → AllByRecursion P xs
+under_map P Q f [] g h = tt
+under_map P Q f (x ∷ xs) g h = (g x h.0, under_map P Q f xs g h.1)

@@ -37,15 +37,16 @@ use Rattle.trace_line.specs.declared.act.Act.{Act}
 use Rattle.trace_line.specs.declared.line.TraceLine.{TraceLine}
 use Rattle.trace_line.specs.Lines.{is_quiet}
 use Rattle.trace_reply.specs.declared.reply.Reply.{Reply}
+use Rattle.run_model.proofs.TableNamed.{IsTable, table_is}
 use Rattle.run_model.specs.StoreContexts.{access_of, table_context}
 use Rattle.run_model.specs.EnteredEntries.{CanBeEntered}
 use Rattle.run_model.specs.Laws.{EntriesCanBeEntered}
 use Rattle.run_model.specs.LineReplies.{hcall_plan}
 use Rattle.run_model.specs.Processors.{processor_at}
-use Rattle.run_model.specs.RunState.{RunState, context_of, states_of, opening_run, run_resize, run_quiet_line}
-use Rattle.run_model.specs.Windows.{trace_lines_on_table}
-use Rattle.run_model.proofs.SerialStores.{opened_after}
-use Rattle.run_model.specs.SerialRun.{current_line, result_by_line, result_by_segment, line_result, with_result, run_line, state_after_lines}
+use Rattle.run_model.specs.Stores.{Store, context_of, states_of, page_table, trace_lines_on, is_on}
+use Rattle.run_model.specs.QuietLines.{run_resize, run_quiet_line}
+use Rattle.run_model.proofs.FirstStore.{first_after}
+use Rattle.run_model.specs.SerialRun.{current_line, result_by_line, result_by_segment, line_result, with_result, run_on, table_after}
 use Rattle.run_model.proofs.Each.{each_map, each_at, each_set}
 use Rattle.run_model.proofs.OpeningEntries.{each_opening}
 use Rattle.run_model.proofs.LowStampRuns.{opening_grants}
@@ -135,47 +136,48 @@ result_kept set p states acts.Dump h = h
 
 -- ---- runs
 -- The grants are these, and each state is kept.
-record IsKeptRun (grants : List Grant) (w : RunState) : Type 0 where
+record IsKeptRun (grants : List Grant) (w : Store) : Type 0 where
   same : w.grants ≡ grants
+  table : IsTable w
   states : AreKept grants (states_of w)
 
-resize_kept : (grants : List Grant) (w : RunState) (call : Hcall) (args : List ℕ) → IsKeptRun grants w → IsKeptRun grants (run_resize w call args).1
+resize_kept : (grants : List Grant) (w : Store) (call : Hcall) (args : List ℕ) → IsKeptRun grants w → IsKeptRun grants (run_resize w call args).1
 unfolding run_resize
 resize_kept grants w calls.Prepare args h =
     let table = prepare_table w.memory (slice_index args 0) (slice_index args 1) in
-    record { same = h.same; states = subst (λ t. AreKept grants t.states) (sym table) h.states }
+    record { same = h.same; table = h.table; states = subst (λ t. AreKept grants t.states) (sym table) h.states }
 resize_kept grants w calls.Commit args h =
-    record { same = h.same; states = committed_each (IsKept grants) (empty_kept grants) (λ s k. k) w.memory (slice_index args 0) (slice_index args 1) h.states }
+    record { same = h.same; table = h.table; states = committed_each (IsKept grants) (empty_kept grants) (λ s k. k) w.memory (slice_index args 0) (slice_index args 1) h.states }
 resize_kept grants w other args h = h
 
-quiet_kept : (grants : List Grant) (w : RunState) (act : Act) → IsKeptRun grants w → IsKeptRun grants (run_quiet_line w act).1
+quiet_kept : (grants : List Grant) (w : Store) (act : Act) → IsKeptRun grants w → IsKeptRun grants (run_quiet_line w act).1
 unfolding run_quiet_line
 quiet_kept grants w (acts.Call number args spelt) h = resize_kept grants w (hcall_of number) args h
 quiet_kept grants w other h = h
 
-plain_kept : (grants : List Grant) (w : RunState) (l : TraceLine) → IsKeptRun grants w → IsKeptRun grants (with_result w l (line_result (context_of w) (processor_at w.processors l.cpu) (states_of w) l.act)).1
+plain_kept : (grants : List Grant) (w : Store) (l : TraceLine) → IsKeptRun grants w → IsKeptRun grants (with_result w l (line_result (context_of w) (processor_at w.processors l.cpu) (states_of w) l.act)).1
 plain_kept grants w l h =
     let own : AreKept w.grants (states_of w) = subst (λ g. AreKept g (states_of w)) (sym h.same) h.states in
-    record { same = h.same; states = subst (λ g. AreKept g (line_result (context_of w) (processor_at w.processors l.cpu) (states_of w) l.act).1) h.same (result_kept (access_of (context_of w)) (processor_at w.processors l.cpu) (states_of w) l.act own) }
+    record { same = h.same; table = h.table; states = subst (λ g. AreKept g (line_result (context_of w) (processor_at w.processors l.cpu) (states_of w) l.act).1) h.same (subst (λ set. AreKept w.grants (line_result set (processor_at w.processors l.cpu) (states_of w) l.act).1) (sym (table_is w h.table)) (result_kept (access_of (context_of w)) (processor_at w.processors l.cpu) (states_of w) l.act own)) }
 
-one_kept : (grants : List Grant) (w : RunState) (l : TraceLine) → IsKeptRun grants w → IsKeptRun grants (run_line w l).1
-unfolding run_line
+one_kept : (grants : List Grant) (w : Store) (l : TraceLine) → IsKeptRun grants w → IsKeptRun grants (run_on w l).1
+unfolding run_on
 one_kept grants w l h = at (cases_Bool (is_quiet l.act)) where
-  at : (is_quiet l.act ≡ true) ⊎ (is_quiet l.act ≡ false) → IsKeptRun grants (run_line w l).1
+  at : (is_quiet l.act ≡ true) ⊎ (is_quiet l.act ≡ false) → IsKeptRun grants (run_on w l).1
   at (inl q) = rw q (quiet_kept grants w l.act h)
   at (inr q) = rw q (plain_kept grants w l h)
-
-all_kept : (grants : List Grant) (w : RunState) (ls : List TraceLine) → IsKeptRun grants w → IsKeptRun grants (state_after_lines w ls)
-all_kept grants w [] h = h
-all_kept grants w (l ∷ ls) h = all_kept grants (run_line w l).1 ls (one_kept grants w l h)
 
 -- ---- the beginning
 -- What opens is what H_ENTER makes of an empty entry, but for the stamp.
 entered_kept : (order : ℕ) (grants : List Grant) (e : ImageEntry) → IsOpeningEntry order grants e → IsKept grants (entered_state e.dword0 e.dword1)
 entered_kept order grants e h = reply_kept grants (empty_state 0) (ops.Enter e.dword0 e.dword1) (stored_parts grants e.dword0 e.dword1 h.stored) (empty_kept grants)
 
-opening_kept : (c : Configuration) → AreOpeningEntries c.order c.granted.grants c.entries → IsKeptRun c.granted.grants (opening_run c)
-opening_kept c is = record { same = opening_grants c; states = each_opening (IsKept c.granted.grants) c (empty_kept c.granted.grants) (entered_kept c.order c.granted.grants) is }
+opening_is : (c : Configuration) → IsTable (page_table c)
+unfolding page_table
+opening_is c = refl
+
+opening_kept : (c : Configuration) → AreOpeningEntries c.order c.granted.grants c.entries → IsKeptRun c.granted.grants (page_table c)
+opening_kept c is = record { same = opening_grants c; table = opening_is c; states = each_opening (IsKept c.granted.grants) c (empty_kept c.granted.grants) (entered_kept c.order c.granted.grants) is }
 
 can_be_entered : (grants : List Grant) (s : State) → IsKept grants s → CanBeEntered grants s
 can_be_entered grants s h = record { canonical = h.1; stored = λ valid. stored_whole grants s.dword0 s.dword1 (h.0 valid) }
@@ -183,6 +185,6 @@ can_be_entered grants s h = record { canonical = h.1; stored = λ valid. stored_
 pub entries_can_be_entered : EntriesCanBeEntered
 entries_can_be_entered t lines is =
     let grants = t.config.granted.grants in
-    let own = trace_lines_on_table t.config.windows lines in
-    let run = all_kept grants (opening_run t.config) own (opening_kept t.config is.entries) in
-    subst (λ w. AllByRecursion (CanBeEntered grants) (states_of w)) (sym (opened_after t lines)) (each_map (IsKept grants) (CanBeEntered grants) (states_of (state_after_lines (opening_run t.config) own)) (can_be_entered grants) run.states)
+    let after = table_after t.config lines in
+    let kept = first_after (IsKeptRun grants) t.config lines (one_kept grants) (opening_kept t.config is.entries) in
+    each_map (IsKept grants) (CanBeEntered grants) (states_of after) (can_be_entered grants) kept.states

@@ -5,7 +5,7 @@ use Rattle.std.proofs.Common.{List}
 use Rattle.run_model.specs.SerialRun.{serial_replies}
 use Rattle.run_model.specs.GoodRun.{IsGoodRun}
 use Rattle.run_model.specs.Assurances.{Assures}
-use Rattle.run_model.proofs.StoresGood.{serial_good}
+use Rattle.run_model.proofs.StoreSerial.{serial_good}
 use Rattle.run_model.proofs.AllSafe.{accesses_land}
 use Rattle.run_model.proofs.WindowsSafe.{all_unworn, devices_land}
 use Rattle.run_model.proofs.ClearedBits.{cleared_are_shown}

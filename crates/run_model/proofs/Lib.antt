@@ -4,6 +4,7 @@ pub mod Commits
 pub mod LinesByProcessor
 pub mod LineReceipts
 pub mod StoreLines
+pub mod TableNamed
 pub mod Undisturbed
 pub mod SectionGood
 pub mod WindowCalls
@@ -11,14 +12,15 @@ pub mod OneReply
 pub mod CachesHold
 pub mod SerialReplies
 pub mod Memories
-pub mod SerialUndisturbed
 pub mod SerialGood
+pub mod StoreSerial
+pub mod WindowLines
 pub mod ParallelGood
 pub mod SerialParallel
 pub mod OneProcessor
-pub mod WindowStands
-pub mod SerialStores
-pub mod StoresGood
+pub mod OneGoodRun
+pub mod SideBySide
+mod FirstStore
 pub mod CachesUsed
 pub mod Resized
 pub mod SectionChain

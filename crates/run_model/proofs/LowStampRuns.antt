@@ -23,7 +23,9 @@ use Rattle.trace_read.specs.Configuration.{Configuration, IsOpeningEntry, AreOpe
 use Rattle.trace_line.specs.declared.act.Act.{Act}
 use Rattle.trace_reply.specs.declared.reply.Reply.{Reply}
 use Rattle.trace_reply.specs.Replies.{RepliedLine}
-use Rattle.run_model.specs.RunState.{RunState, states_of, opening_run, run_resize, run_quiet_line}
+use Rattle.run_model.proofs.TableNamed.{IsTable, quiet_window}
+use Rattle.run_model.specs.Stores.{Store, states_of, page_table}
+use Rattle.run_model.specs.QuietLines.{run_resize, run_quiet_line}
 use Rattle.run_model.specs.Sections.{processors_after_lines, section_end}
 use Rattle.run_model.specs.Landings.{IsUnworn}
 use Rattle.run_model.proofs.LowStamps.{IsLowStamp, empty_low_stamp}
@@ -39,11 +41,12 @@ abbrev pub AreLowStamp : GrantedMemory → ℕ → List State → Type 0
 AreLowStamp granted n states = AllByRecursion (IsLowStamp granted.grants n) states
 
 -- The memory that is granted stays, and so does the number of processors; the stamps are low, and cached lines stand in their groups.
-pub record IsLowStampRunState (granted : GrantedMemory) (n cpus : ℕ) (w : RunState) : Type 0 where
+pub record IsLowStampRun (granted : GrantedMemory) (n cpus : ℕ) (w : Store) : Type 0 where
   pub grants : w.grants ≡ granted.grants
   pub processors : length w.processors ≡ cpus
   pub states : AreLowStamp granted n (states_of w)
   pub placed : AllPlaced w
+  pub table : IsTable w
 
 -- ---- a committed resize
 restamped_low_stamp : (grants : List Grant) (n : ℕ) (s : State) → IsLowStamp grants n s → IsLowStamp grants n (at_stamp_0 s)
@@ -110,10 +113,10 @@ prepared_fine limit flags shift pending pool = cond_both (not (is_prepare_reques
 
 -- ---- quiet lines
 -- The reply is safe, and the stamps stay low.
-abbrev KeepsLowStamp : GrantedMemory → ℕ → Reply × RunState → Type 0
+abbrev KeepsLowStamp : GrantedMemory → ℕ → Reply × Store → Type 0
 KeepsLowStamp granted n x = IsUnworn x.0 × (x.1.grants ≡ granted.grants) × AreLowStamp granted n (states_of x.1)
 
-resize_keeps : (granted : GrantedMemory) (n : ℕ) (w : RunState) (call : Hcall) (args : List ℕ) → w.grants ≡ granted.grants → AreLowStamp granted n (states_of w) → KeepsLowStamp granted n (run_resize w call args)
+resize_keeps : (granted : GrantedMemory) (n : ℕ) (w : Store) (call : Hcall) (args : List ℕ) → w.grants ≡ granted.grants → AreLowStamp granted n (states_of w) → KeepsLowStamp granted n (run_resize w call args)
 unfolding run_resize prepare_result commit_result
 resize_keeps granted n w calls.Prepare args g h = (prepared_fine w.memory.limit (slice_index args 0) (slice_index args 1) w.memory.pending w.memory.pool, g, h)
 resize_keeps granted n w calls.Commit args g h =
@@ -121,37 +124,37 @@ resize_keeps granted n w calls.Commit args g h =
     (done.code, g, done.states)
 resize_keeps granted n w other args g h = ((λ e. cc), g, h)
 
-quiet_keeps : (granted : GrantedMemory) (n : ℕ) (w : RunState) (act : Act) → w.grants ≡ granted.grants → AreLowStamp granted n (states_of w) → KeepsLowStamp granted n (run_quiet_line w act)
+quiet_keeps : (granted : GrantedMemory) (n : ℕ) (w : Store) (act : Act) → w.grants ≡ granted.grants → AreLowStamp granted n (states_of w) → KeepsLowStamp granted n (run_quiet_line w act)
 unfolding run_quiet_line
 quiet_keeps granted n w (acts.Call number args spelt) g h = resize_keeps granted n w (hcall_of number) args g h
 quiet_keeps granted n w other g h = (tt, g, h)
 
-pub quiet_safe : (granted : GrantedMemory) (n cpus : ℕ) (w : RunState) (act : Act) → IsLowStampRunState granted n cpus w → IsUnworn (run_quiet_line w act).0 × IsLowStampRunState granted n cpus (run_quiet_line w act).1
+pub quiet_safe : (granted : GrantedMemory) (n cpus : ℕ) (w : Store) (act : Act) → IsLowStampRun granted n cpus w → IsUnworn (run_quiet_line w act).0 × IsLowStampRun granted n cpus (run_quiet_line w act).1
 quiet_safe granted n cpus w act h =
     let kept = quiet_keeps granted n w act h.grants h.states in
-    (kept.0, record { grants = kept.1; processors = quiet_size w act ∙ h.processors; states = kept.2; placed = quiet_placed w act h.placed })
+    (kept.0, record { grants = kept.1; processors = quiet_size w act ∙ h.processors; states = kept.2; placed = quiet_placed w act h.placed; table = quiet_window w act ∙ h.table })
 
 -- ---- the ends of sections
-processors_by_size : (cpu : ℕ) (processors : List Processor) (ts : List RepliedLine) → length (processors_after_lines cpu processors ts) ≡ length processors
+pub processors_by_size : (cpu : ℕ) (processors : List Processor) (ts : List RepliedLine) → length (processors_after_lines cpu processors ts) ≡ length processors
 processors_by_size cpu [] ts = refl
 processors_by_size cpu (s ∷ ss) ts = ap suc (processors_by_size (suc cpu) ss ts)
 
-pub closed_run_state : (granted : GrantedMemory) (n m cpus : ℕ) (w : RunState) (ts : List RepliedLine) → IsLowStampRunState granted n cpus w → AreLowStamp granted m (states_of (section_end w ts)) → AllByRecursion (ProcessorPlaced w.memory.table.order) (processors_after_lines 0 w.processors ts) → IsLowStampRunState granted m cpus (section_end w ts)
+pub closed_run_state : (granted : GrantedMemory) (n m cpus : ℕ) (w : Store) (ts : List RepliedLine) → IsLowStampRun granted n cpus w → AreLowStamp granted m (states_of (section_end w ts)) → AllByRecursion (ProcessorPlaced w.memory.table.order) (processors_after_lines 0 w.processors ts) → IsLowStampRun granted m cpus (section_end w ts)
 unfolding section_end
-closed_run_state granted n m cpus w ts h states placed = record { grants = h.grants; processors = processors_by_size 0 w.processors ts ∙ h.processors; states = states; placed = placed }
+closed_run_state granted n m cpus w ts h states placed = record { grants = h.grants; processors = processors_by_size 0 w.processors ts ∙ h.processors; states = states; placed = placed; table = h.table }
 
 -- ---- the beginning
 -- An entry that is valid at first has stamp 0, and a granted page.
 entered_low_stamp : (order : ℕ) (grants : List Grant) (e : ImageEntry) → IsOpeningEntry order grants e → IsLowStamp grants 1 (entered_state e.dword0 e.dword1)
 entered_low_stamp order grants e h = record { low = omega arith; granted = entered_granted grants e.dword0 e.dword1 h.stored }
 
-pub opening_states : (c : Configuration) → AreOpeningEntries c.order c.granted.grants c.entries → AreLowStamp c.granted 1 (states_of (opening_run c))
+pub opening_states : (c : Configuration) → AreOpeningEntries c.order c.granted.grants c.entries → AreLowStamp c.granted 1 (states_of (page_table c))
 opening_states c = each_opening (IsLowStamp c.granted.grants 1) c (empty_low_stamp c.granted.grants 1) (entered_low_stamp c.order c.granted.grants)
 
-pub opening_placed : (c : Configuration) → AllPlaced (opening_run c)
-unfolding opening_run
+pub opening_placed : (c : Configuration) → AllPlaced (page_table c)
+unfolding page_table
 opening_placed c = all_new_placed _ c.cpus
 
-pub opening_grants : (c : Configuration) → (opening_run c).grants ≡ c.granted.grants
-unfolding opening_run
+pub opening_grants : (c : Configuration) → (page_table c).grants ≡ c.granted.grants
+unfolding page_table
 opening_grants c = refl

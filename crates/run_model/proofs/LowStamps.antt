@@ -16,9 +16,9 @@ use Rattle.entry_model.proofs.Regroup.{sort_regroups, regrouped_back}
 use Rattle.entry_model.proofs.PlanBounds.{EntersOnly, NoneWorn}
 use Rattle.hpt_walk.proofs.Granted.{IsGranted, IsGrantedWords, reply_granted, empty_granted}
 use Rattle.trace_reply.specs.Replies.{RepliedLine}
-use Rattle.run_model.specs.RunState.{RunState, states_of}
-use Rattle.run_model.specs.Histories.{closing_from, closing_states}
-use Rattle.run_model.specs.Sections.{receipts_made, section_end}
+use Rattle.run_model.specs.Stores.{Store, states_of}
+use Rattle.run_model.specs.Histories.{closing_from, closing_states, receipts_from_processor}
+use Rattle.run_model.specs.Sections.{section_end}
 use Rattle.run_model.proofs.Each.{each_map, each_filter, each_at, each_under}
 use Rattle.run_model.proofs.SectionGood.{each_regrouped}
 
@@ -96,9 +96,9 @@ pub closing_size : (states : List State) (rs : List Receipt) → length (closing
 unfolding closing_states
 closing_size states rs = closing_from_size 0 states rs
 
-pub closed_size : (w : RunState) (ts : List RepliedLine) → length (states_of (section_end w ts)) ≡ length (states_of w)
+pub closed_size : (w : Store) (ts : List RepliedLine) → length (states_of (section_end w ts)) ≡ length (states_of w)
 unfolding section_end
-closed_size w ts = closing_size (states_of w) (receipts_made w ts)
+closed_size w ts = closing_size (states_of w) (receipts_from_processor (length w.processors) 0 ts)
 
 -- What operations keep of the states that histories open on is so of each state before a receipt, and of those that they close on.
 pub states_kept : (E : Op → Type 0) (Q : ℕ → State → Type 0) (n m : ℕ) (a b : List State) (rs : List Receipt) → IsKeptBy E Q → Q n (empty_state 0) → AllByRecursion (Q n) a → AllByRecursion (λ (r : Receipt). r.entry < length a) rs → ((e : ℕ) → e < length a → IsLegal (state_at a e) (history e rs) (state_at b e)) → length b ≡ length a → AllByRecursion (λ (r : Receipt). E r.op) rs → n + weight rs ≤ m → AllByRecursion (λ (r : Receipt). Q m r.before) rs × AllByRecursion (Q m) b

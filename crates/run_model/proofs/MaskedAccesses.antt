@@ -1,6 +1,6 @@
 -- Accesses that a mask refuses, and runs whose masks are 0.
 use Rattle.std.proofs.Common.{◌≡◌, ℕ, suc, List, [], ◌∷◌, Bool, true, false, map, replicate, zero, refl, subst, arith, Some, None}
-use Rattle.std.specs.Prelude.{if◌then◌else◌}
+use Rattle.std.specs.Prelude.{if◌then◌else◌, Option}
 use Rattle.std.specs.List.{AllByRecursion}
 use Rattle.authority_mask.specs.Authority.{no_masks}
 use Rattle.authority_mask.specs.declared.masks.MaskName.TheVariants.{Amr, Iamr}
@@ -17,6 +17,7 @@ use Rattle.trace_line.specs.declared.act.Act.{Act}
 use Rattle.trace_line.specs.declared.act.Act.TheVariants as acts
 use Rattle.trace_line.specs.declared.line.TraceLine.{TraceLine}
 use Rattle.trace_line.specs.Lines.{is_quiet}
+use Rattle.trace_read.specs.Configuration.{Configuration}
 use Rattle.trace_read.specs.Trace.{AcceptedTrace}
 use Rattle.trace_reply.specs.declared.reply.Reply.{Reply}
 use Rattle.trace_reply.specs.declared.reply.Reply.TheVariants as replies
@@ -24,14 +25,14 @@ use Rattle.trace_reply.specs.Replies.{RepliedLine, lines_with_replies}
 use Rattle.run_model.specs.StoreContexts.{access_of}
 use Rattle.run_model.specs.Processors.{processor_at, processor_after}
 use Rattle.run_model.specs.LineReplies.{IsReplyToAccess}
-use Rattle.run_model.specs.RunState.{RunState, context_of, states_of, opening_run, run_quiet_line, run_resize}
+use Rattle.run_model.specs.Stores.{Store, context_of, states_of, page_table, is_on}
+use Rattle.run_model.specs.QuietLines.{run_quiet_line, run_resize}
 use Rattle.run_model.specs.Histories.{lines_of_processor}
 use Rattle.run_model.specs.Quiet.{QuietPart, cut}
-use Rattle.run_model.specs.Windows.{is_on_table, table_lines}
-use Rattle.run_model.specs.Sections.{Section, section_end, processor_after_lines, sections_from, sections_of}
-use Rattle.run_model.specs.GoodRun.{EachLineOfProcessor, IsAccessLine, AccessesAreReplied, IsGoodRun}
+use Rattle.run_model.specs.Sections.{Section, closing, section_end, after_quiet, quiet_on, section_of, processor_after_lines, sections_from, sections_of}
+use Rattle.run_model.specs.GoodRun.{EachLineOfProcessor, IsAccessLine, AccessesAreReplied, IsGoodSection, IsGoodRun}
 use Rattle.run_model.specs.MaskedAccesses.{IsMaskedByItsEntry, MasksRefuse, SetsZero, HasNoMasked, IsUnmasked, NoneIsMasked}
-use Rattle.run_model.proofs.Each.{each_at, each_filter}
+use Rattle.run_model.proofs.Each.{each_at, each_filter, each_map}
 use Rattle.run_model.proofs.ProcessorLists.{after_each}
 
 -- ---- accesses
@@ -45,14 +46,14 @@ lines_masked context states p (t ∷ ts) h =
     (line_masked context p t.line.act t.reply h.0.reply, lines_masked context states (processor_after p t.line.act t.reply) ts h.1)
 
 section_masked : (s : Section) → AccessesAreReplied s → MasksRefuse s
-section_masked s replied = λ cpu. lines_masked (access_of (context_of s.before)) (states_of (section_end s.before s.replied_lines)) (processor_at s.before.processors cpu) (lines_of_processor cpu s.replied_lines) (replied cpu)
+section_masked s replied = λ cpu. lines_masked (access_of (context_of s.before)) (states_of (closing s)) (processor_at s.before.processors cpu) (lines_of_processor cpu s.replied_lines) (replied cpu)
 
 sections_masked : (ss : List Section) → AllByRecursion AccessesAreReplied ss → AllByRecursion MasksRefuse ss
 sections_masked [] replied = tt
 sections_masked (s ∷ ss) replied = (section_masked s replied.0, sections_masked ss replied.1)
 
 pub masks_refuse : (t : AcceptedTrace) (rs : List Reply) → IsGoodRun t rs → AllByRecursion MasksRefuse (sections_of t rs)
-masks_refuse t rs good = sections_masked (sections_of t rs) good.accesses
+masks_refuse t rs good = sections_masked (sections_of t rs) (each_map IsGoodSection AccessesAreReplied (sections_of t rs) (λ s h. h.accesses) good.stores.0)
 
 -- ---- lines that set no mask but to 0
 abbrev IsZeroLine : RepliedLine → Type 0
@@ -103,7 +104,7 @@ lines_unmasked context states p (t ∷ ts) h zeros replied =
     ((record { masks = h; answers = no_masked context p t.line.act t.reply h replied.0.reply }, rest.0), rest.1)
 
 -- ---- sections
-abbrev HaveZeroMasks : RunState → Type 0
+abbrev HaveZeroMasks : Store → Type 0
 HaveZeroMasks w = AllByRecursion HasZeroMasks w.processors
 
 new_zero : HasZeroMasks new_processor
@@ -114,12 +115,12 @@ all_new_zero : (count : ℕ) → AllByRecursion HasZeroMasks (replicate count ne
 all_new_zero zero = tt
 all_new_zero (suc count) = (new_zero, all_new_zero count)
 
-section_unmasked : (s : Section) → HaveZeroMasks s.before → AreZeroLines s.replied_lines → AccessesAreReplied s → NoneIsMasked s × HaveZeroMasks (section_end s.before s.replied_lines)
+section_unmasked : (s : Section) → HaveZeroMasks s.before → AreZeroLines s.replied_lines → AccessesAreReplied s → NoneIsMasked s × HaveZeroMasks (closing s)
 unfolding section_end
 section_unmasked s h zeros replied = (λ cpu. (one cpu).0, after_each HasZeroMasks 0 s.before.processors s.replied_lines (λ k within. subst (λ n. HasZeroMasks (processor_after_lines (processor_at s.before.processors k) (lines_of_processor n s.replied_lines))) (omega arith) (one k).1)) where
   one : (cpu : ℕ) → EachLineOfProcessor IsUnmasked (processor_at s.before.processors cpu) (lines_of_processor cpu s.replied_lines) × HasZeroMasks (processor_after_lines (processor_at s.before.processors cpu) (lines_of_processor cpu s.replied_lines))
   one cpu =
-      lines_unmasked (access_of (context_of s.before)) (states_of (section_end s.before s.replied_lines)) (processor_at s.before.processors cpu) (lines_of_processor cpu s.replied_lines)
+      lines_unmasked (access_of (context_of s.before)) (states_of (closing s)) (processor_at s.before.processors cpu) (lines_of_processor cpu s.replied_lines)
       (each_at HasZeroMasks s.before.processors cpu new_processor new_zero h)
       (each_filter IsZeroLine _ s.replied_lines zeros)
       (replied cpu)
@@ -132,27 +133,33 @@ committed_zero : (done : Bool) (ps : List Processor) → AllByRecursion HasZeroM
 committed_zero true ps h = all_cleared ps h
 committed_zero false ps h = h
 
-resized_zero : (w : RunState) (call : Hcall) (args : List ℕ) → HaveZeroMasks w → HaveZeroMasks (run_resize w call args).1
+resized_zero : (w : Store) (call : Hcall) (args : List ℕ) → HaveZeroMasks w → HaveZeroMasks (run_resize w call args).1
 unfolding run_resize
 resized_zero w calls.Prepare args h = h
 resized_zero w calls.Commit args h = committed_zero _ w.processors h
 resized_zero w other args h = h
 
-quiet_zero : (w : RunState) (act : Act) → HaveZeroMasks w → HaveZeroMasks (run_quiet_line w act).1
+quiet_zero : (w : Store) (act : Act) → HaveZeroMasks w → HaveZeroMasks (run_quiet_line w act).1
 unfolding run_quiet_line
 quiet_zero w (acts.Call number args spelt) h = resized_zero w (hcall_of number) args h
 quiet_zero w other h = h
 
-sections_unmasked : (w : RunState) (ts : List RepliedLine) (qs : List QuietPart) → HaveZeroMasks w → IsZeroCut (ts, qs) → AllByRecursion AccessesAreReplied (sections_from w ts qs) → AllByRecursion NoneIsMasked (sections_from w ts qs)
-sections_unmasked w ts [] h zeros replied = ((section_unmasked (record { before = w; replied_lines = ts; quiet = None }) h zeros.0 replied.0).0, tt)
-sections_unmasked w ts (q ∷ qs) h zeros replied =
-    let here = section_unmasked (record { before = w; replied_lines = ts; quiet = Some q.0 }) h zeros.0 replied.0 in
-    let after = run_quiet_line (section_end w ts) q.0.line.act in
-    (here.0, sections_unmasked after.1 q.1 qs (quiet_zero (section_end w ts) q.0.line.act here.1) (zeros.1.0, zeros.1.1) replied.1)
+left_zero : (s : Store) (quiet : Option RepliedLine) → HaveZeroMasks s → HaveZeroMasks (after_quiet s quiet)
+left_zero s None h = h
+left_zero s (Some q) h = quiet_zero s q.line.act h
+
+sections_unmasked : (on : Act → Bool) (s : Store) (ts : List RepliedLine) (qs : List QuietPart) → HaveZeroMasks s → IsZeroCut (ts, qs) → AllByRecursion IsGoodSection (sections_from on s ts qs) → AllByRecursion NoneIsMasked (sections_from on s ts qs)
+sections_unmasked on s ts [] h zeros good = ((section_unmasked (section_of on s ts None) h (each_filter IsZeroLine _ ts zeros.0) good.0.accesses).0, tt)
+sections_unmasked on s ts (q ∷ qs) h zeros good =
+    let x = section_of on s ts (quiet_on on q.0) in
+    let here = section_unmasked x h (each_filter IsZeroLine _ ts zeros.0) good.0.accesses in
+    (here.0, sections_unmasked on (after_quiet (closing x) x.quiet) q.1 qs (left_zero (closing x) x.quiet here.1) (zeros.1.0, zeros.1.1) good.1)
+
+opening_zero : (c : Configuration) → HaveZeroMasks (page_table c)
+unfolding page_table
+opening_zero c = all_new_zero c.cpus
 
 pub zero_masks_refuse : (t : AcceptedTrace) (rs : List Reply) → AllByRecursion (λ (l : TraceLine). SetsZero l.act) t.lines → IsGoodRun t rs → AllByRecursion NoneIsMasked (sections_of t rs)
-unfolding opening_run
 zero_masks_refuse t rs zeros good =
-    let ts = table_lines t rs in
-    let on = λ (x : RepliedLine). is_on_table t.config.windows x.line.act in
-    sections_unmasked (opening_run t.config) (cut ts).0 (cut ts).1 (all_new_zero t.config.cpus) (cut_zero ts (each_filter IsZeroLine on (lines_with_replies t.lines rs) (replied_zero t.lines rs zeros))) good.accesses
+    let all = lines_with_replies t.lines rs in
+    sections_unmasked (is_on t.config.windows (page_table t.config).window) (page_table t.config) (cut all).0 (cut all).1 (opening_zero t.config) (cut_zero all (replied_zero t.lines rs zeros)) good.stores.0

@@ -14,26 +14,28 @@ use Rattle.entry_model.specs.History.{IsLegal, history, by_place, put_in, preced
 use Rattle.entry_model.proofs.Regroup.{history_regrouped, regrouped_back}
 use Rattle.entry_model.proofs.Sorted.{rises, flag, place_same}
 use Rattle.entry_model.proofs.RunHistory.{run_chain}
-use Rattle.run_model.specs.StoreContexts.{StoreContext, access_of}
-use Rattle.run_model.specs.StoreSections.{StoreSection, made_in, closing_of}
-use Rattle.run_model.specs.Quiet.{cut, cut_before}
 use Rattle.tlb_model.specs.Processor.{Processor}
+use Rattle.trace_line.specs.declared.act.Act.{Act}
+use Rattle.run_model.specs.GoodRun.{IsAccessLine, IsGoodSection}
+use Rattle.run_model.specs.Histories.{lines_of_processor, receipts_by, closing_states, closing_from, Event, made, gone, InOrder, gone_events, events_by}
+use Rattle.run_model.specs.Laws.{HasOneProcessor}
+use Rattle.run_model.specs.LineReplies.{IsCallReply}
+use Rattle.run_model.specs.Processors.{processor_at, processor_after, processors_after, gone_line_of}
+use Rattle.run_model.specs.Quiet.{QuietPart, cut, cut_before}
+use Rattle.run_model.specs.QuietLines.{run_quiet_line}
+use Rattle.run_model.specs.Sections.{Section, made_in, closing, section_end, after_quiet, quiet_on, section_of, sections_from}
+use Rattle.run_model.specs.StoreContexts.{StoreContext, access_of}
+use Rattle.run_model.specs.Stores.{Store, context_of, states_of}
+use Rattle.run_model.proofs.Each.{each_filter}
+use Rattle.run_model.proofs.LinesByProcessor.{Cpus, InFileOrder, own_yes, processor_own, cpus_after, file_lines, file_listed}
+use Rattle.run_model.proofs.SectionGood.{each_regrouped, AllCpus, OnCpus, RunsAlone, QuietMeets, Stands, behind, closes, on_cpus, after_size, processors_on_size}
+use Rattle.run_model.proofs.Undisturbed.{AreUndisturbed}
 use Rattle.trace_line.specs.declared.line.TraceLine.{TraceLine}
 use Rattle.trace_line.specs.Lines.{is_quiet}
 use Rattle.trace_read.specs.Trace.{AcceptedTrace}
 use Rattle.trace_reply.specs.declared.reply.Reply.{Reply}
 use Rattle.trace_reply.specs.Replies.{RepliedLine, receipts_in, lines_with_replies}
-use Rattle.run_model.specs.Processors.{processor_at, processor_after, processors_after, gone_line_of}
-use Rattle.run_model.specs.LineReplies.{IsCallReply}
-use Rattle.run_model.specs.RunState.{RunState, context_of, states_of, run_quiet_line}
-use Rattle.run_model.specs.Histories.{lines_of_processor, receipts_by, closing_states, closing_from, Event, made, gone, InOrder, gone_events, events_by}
 use Rattle.entry_model.specs.Fronts.{pair_beyond}
-use Rattle.run_model.specs.Sections.{Section, receipts_made, section_end, sections_from, sections_of, table_section}
-use Rattle.run_model.specs.GoodRun.{IsGoodRun, AreLegal, AreInOrder, CallsAreReplied, IsAccessLine, AccessesAreReplied, QuietIsReplied, IsGoodTo, IsGoodSection}
-use Rattle.run_model.specs.Laws.{HasOneProcessor}
-use Rattle.run_model.proofs.Undisturbed.{AreUndisturbed, Stands, state_behind}
-use Rattle.run_model.proofs.SectionGood.{closed_is, each_regrouped, AllCpus, OnCpus, RunsAlone, quiet_size, processors_on_size}
-use Rattle.run_model.proofs.LinesByProcessor.{Cpus, InFileOrder, own_yes, processor_own, cpus_after, file_lines, file_listed}
 
 -- ---- receipts of one entry and one processor, in its order
 abbrev pub Rising : ℕ → List Receipt → Type 0
@@ -211,38 +213,42 @@ pub closing_size : (a : List State) (rs : List Receipt) → length (closing_stat
 unfolding closing_states
 closing_size a rs = closing_from_size 0 a rs
 
-pub section_alone : (c : ℕ) (s : StoreSection) → OneCpu c s.replied_lines → OnCpus s → IsGoodTo s (closing_of s) → RunsAlone s (closing_of s)
+pub section_alone : (c : ℕ) (s : Section) → OneCpu c s.replied_lines → OnCpus s → IsGoodSection s → RunsAlone s (closing_states (states_of s.before) (made_in s))
+unfolding section_end
 section_alone c s one within h =
-    let a = s.opening in
-    let b = closing_of s in
+    let set = context_of s.before in
+    let ps = s.before.processors in
+    let a = states_of s.before in
+    let b = closing_states a (made_in s) in
     let ts = s.replied_lines in
     let rs = receipts_by ts in
-    let back = regrouped_back (file_listed (length s.processors) ts within) in
-    let order : (e : ℕ) → InOrder e (pair_of (state_at a e)) (events_by (processor_at s.processors c) ts) = λ e. subst (λ l. InOrder e (pair_of (state_at a e)) (events_by (processor_at s.processors c) l)) (own_all c ts one) (h.1 c e) in
-    let sorted : (e : ℕ) → history e rs ≡ of_entry e rs = λ e. sorted_is (pair_of (state_at a e)) (of_entry e rs) (replied_lines_rising e (pair_of (state_at a e)) (processor_at s.processors c) ts (order e)) in
-    let legal : (e : ℕ) → e < length a → IsLegal (state_at a e) (of_entry e rs) (state_at b e) = λ e k. subst (λ l. IsLegal (state_at a e) l (state_at b e)) (sorted e) (history_regrouped e (state_at a e) (state_at b e) (made_in s) rs back (h.0.legal e k)) in
-    let run : IsRun a rs b = chain_run a b rs (closing_size a (made_in s)) (each_regrouped (λ (r : Receipt). r.entry < length a) back h.0.in_table) legal in
-    replied_lines_stand s.context c s.processors a b ts one within run (λ e. (pair_of (state_at a e), order e)) (file_lines (λ processor t. IsCallReply s.context t.line.act t.reply) s.processors ts within h.2) (file_lines (IsAccessLine (access_of s.context) b) s.processors ts within h.3)
-
-section_stands : (c : ℕ) (w : RunState) (ts : List RepliedLine) (quiet : Option RepliedLine) → OneCpu c ts → Cpus (length w.processors) ts → IsGoodSection (record { before = w; replied_lines = ts; quiet = quiet }) → AreUndisturbed (context_of w) w.processors (states_of w) ts (closing_states (states_of w) (receipts_made w ts))
-unfolding section_end
-section_stands c w ts quiet one within h = section_alone c (table_section w ts) one within (h.0, h.1, h.2, h.3)
+    let back = regrouped_back (file_listed (length ps) ts within) in
+    let order : (e : ℕ) → InOrder e (pair_of (state_at a e)) (events_by (processor_at ps c) ts) = λ e. subst (λ l. InOrder e (pair_of (state_at a e)) (events_by (processor_at ps c) l)) (own_all c ts one) (h.in_order c e) in
+    let sorted : (e : ℕ) → history e rs ≡ of_entry e rs = λ e. sorted_is (pair_of (state_at a e)) (of_entry e rs) (replied_lines_rising e (pair_of (state_at a e)) (processor_at ps c) ts (order e)) in
+    let legal : (e : ℕ) → e < length a → IsLegal (state_at a e) (of_entry e rs) (state_at b e) = λ e k. subst (λ l. IsLegal (state_at a e) l (state_at b e)) (sorted e) (history_regrouped e (state_at a e) (state_at b e) (made_in s) rs back (h.legal.legal e k)) in
+    let run : IsRun a rs b = chain_run a b rs (closing_size a (made_in s)) (each_regrouped (λ (r : Receipt). r.entry < length a) back h.legal.in_table) legal in
+    replied_lines_stand set c ps a b ts one within run (λ e. (pair_of (state_at a e), order e)) (file_lines (λ processor t. IsCallReply set t.line.act t.reply) ps ts within h.calls) (file_lines (IsAccessLine (access_of set) b) ps ts within h.accesses)
 
 -- every section has this processor
-abbrev pub AllOne : ℕ → List RepliedLine → List (RepliedLine × List RepliedLine) → Type 0
-AllOne c ts qs = OneCpu c ts × AllByRecursion (λ (q : RepliedLine × List RepliedLine). OneCpu c q.1) qs
+abbrev pub AllOne : ℕ → List RepliedLine → List QuietPart → Type 0
+AllOne c ts qs = OneCpu c ts × AllByRecursion (λ (q : QuietPart). OneCpu c q.1) qs
 
-pub sections_stand : (n c : ℕ) (w : RunState) (ts : List RepliedLine) (qs : List (RepliedLine × List RepliedLine)) → length w.processors ≡ n → AllCpus n ts qs → AllOne c ts qs → AllByRecursion IsGoodSection (sections_from w ts qs) → Stands w ts qs
-sections_stand n c w ts [] size cpus one h = (closing_states (states_of w) (receipts_made w ts), section_stands c w ts None one.0 (subst (λ k. Cpus k ts) (sym size) cpus.0) h.0)
-sections_stand n c w ts (q ∷ qs) size cpus one h =
-    let b = closing_states (states_of w) (receipts_made w ts) in
-    let within : Cpus (length w.processors) ts = subst (λ k. Cpus k ts) (sym size) cpus.0 in
-    let here = section_stands c w ts (Some q.0) one.0 within h.0 in
-    let e : section_end w ts ≡ state_behind w ts b = closed_is w ts b within here in
-    let size' : length (run_quiet_line (state_behind w ts b) q.0.line.act).1.processors ≡ n = quiet_size (state_behind w ts b) q.0.line.act ∙ processors_on_size w.processors ts ∙ size in
-    let rest : AllByRecursion IsGoodSection (sections_from (run_quiet_line (state_behind w ts b) q.0.line.act).1 q.1 qs) = subst (λ v. AllByRecursion IsGoodSection (sections_from (run_quiet_line v q.0.line.act).1 q.1 qs)) e h.1 in
-    let said : q.0.reply ≡ (run_quiet_line (state_behind w ts b) q.0.line.act).0 = subst (λ v. q.0.reply ≡ (run_quiet_line v q.0.line.act).0) e h.0.4 in
-    (b, here, said, sections_stand n c (run_quiet_line (state_behind w ts b) q.0.line.act).1 q.1 qs size' (cpus.1.0, cpus.1.1) (one.1.0, one.1.1) rest)
+-- Good sections of one processor run alone, one after the other.
+pub sections_stand : (on : Act → Bool) (n c : ℕ) (s : Store) (ts : List RepliedLine) (qs : List QuietPart) → length s.processors ≡ n → AllCpus n ts qs → AllOne c ts qs → AllByRecursion IsGoodSection (sections_from on s ts qs) → Stands on s ts qs
+sections_stand on n c s ts [] size cpus one h =
+    let x = section_of on s ts None in
+    (closing_states (states_of s) (made_in x), section_alone c x (each_filter (λ (t : RepliedLine). t.line.cpu ≡ c) (λ (t : RepliedLine). on t.line.act) ts one.0) (on_cpus on n s ts None size cpus.0) h.0)
+sections_stand on n c s ts (q ∷ qs) size cpus one h =
+    let x = section_of on s ts (quiet_on on q.0) in
+    let b = closing_states (states_of s) (made_in x) in
+    let within : OnCpus x = on_cpus on n s ts x.quiet size cpus.0 in
+    let here = section_alone c x (each_filter (λ (t : RepliedLine). t.line.cpu ≡ c) (λ (t : RepliedLine). on t.line.act) ts one.0) within h.0 in
+    let e : closing x ≡ behind x b = closes x b within here in
+    let v = after_quiet (behind x b) x.quiet in
+    let size' : length v.processors ≡ n = after_size (behind x b) x.quiet ∙ processors_on_size s.processors x.replied_lines ∙ size in
+    let rest : AllByRecursion IsGoodSection (sections_from on v q.1 qs) = subst (λ u. AllByRecursion IsGoodSection (sections_from on (after_quiet u x.quiet) q.1 qs)) e h.1 in
+    let said : QuietMeets x b = subst (λ u. IfSome x.quiet (λ z. z.reply ≡ (run_quiet_line u z.line.act).0)) e h.0.quiet in
+    (b, here, said, sections_stand on n c v q.1 qs size' (cpus.1.0, cpus.1.1) (one.1.0, one.1.1) rest)
 
 -- ---- a trace
 front_one : (c : ℕ) (t : RepliedLine) (x : List RepliedLine × List (RepliedLine × List RepliedLine)) → (is_quiet t.line.act ≡ false → t.line.cpu ≡ c) → AllOne c x.0 x.1 → AllOne c (cut_before t x).0 (cut_before t x).1
@@ -263,10 +269,3 @@ pub lines_of_one : (c : ℕ) (ls : List TraceLine) (rs : List Reply) → HasOneP
 lines_of_one c [] rs h = tt
 lines_of_one c (l ∷ ls) [] h = tt
 lines_of_one c (l ∷ ls) (r ∷ rs) h = (h.0, lines_of_one c ls rs h.1)
-
--- the parts of one section together
-pub together : (t : AcceptedTrace) (rs : List Reply) → IsGoodRun t rs → AllByRecursion IsGoodSection (sections_of t rs)
-together t rs g = zip (sections_of t rs) g.legal g.in_order g.calls g.accesses g.quiets where
-  zip : (ss : List Section) → AllByRecursion AreLegal ss → AllByRecursion AreInOrder ss → AllByRecursion CallsAreReplied ss → AllByRecursion AccessesAreReplied ss → AllByRecursion QuietIsReplied ss → AllByRecursion IsGoodSection ss
-  zip [] a b c d e = tt
-  zip (s ∷ ss) a b c d e = ((a.0, b.0, c.0, d.0, e.0), zip ss a.1 b.1 c.1 d.1 e.1)

@@ -1,5 +1,5 @@
--- On a table that nobody else changes a line has one reply, and it is the serial run's.
-use Rattle.std.specs.Prelude.{IfSome, ◌==◌}
+-- On a store that nobody else changes a line has one reply, and so its lines have one run.
+use Rattle.std.specs.Prelude.{IfSome, ◌==◌, Bool}
 use Rattle.std.proofs.Common.{◌≡◌, ◌<◌, List, [], ◌∷◌, true, false, ap, sym, ◌∙◌, refl, subst, ◌⊎◌, inl, inr, Option, Some, None, arith}
 use Rattle.std.specs.List.{AllByRecursion}
 use Rattle.std.proofs.lemmas.Bool.{cases_Bool, eq-eqb, eqb-true, and_parts}
@@ -31,13 +31,16 @@ use Rattle.trace_reply.specs.declared.reply.Reply.{Reply}
 use Rattle.trace_reply.specs.Replies.{RepliedLine, receipts_in, AreReplies, lines_with_replies}
 use Rattle.run_model.specs.Processors.{processor_at, processors_after, gone_line_of}
 use Rattle.run_model.specs.LineReplies.{hcall_plan, IsCallReply, IsReplyToAccess}
-use Rattle.run_model.specs.RunState.{RunState, context_of, states_of, run_quiet_line}
 use Rattle.hpt_resize.specs.TableMemory.{with_states}
-use Rattle.run_model.specs.SerialRun.{is_current, current_line, access_result, result_by_line, result_by_segment, call_result, line_result, with_result, run_line, replies_from}
+use Rattle.run_model.specs.Quiet.{QuietPart, cut, cut_before}
+use Rattle.run_model.specs.QuietLines.{run_quiet_line}
+use Rattle.run_model.specs.SerialRun.{is_current, current_line, access_result, result_by_line, result_by_segment, call_result, line_result}
+use Rattle.run_model.specs.Stores.{Store, context_of, states_of, lines_on}
+use Rattle.run_model.proofs.Each.{filter_yes, filter_no}
+use Rattle.run_model.proofs.SectionGood.{Stands}
+use Rattle.run_model.proofs.Undisturbed.{IsUndisturbed}
 use Rattle.run_model.proofs.WindowCalls.{device_is}
 use Rattle.run_model.specs.StoreContexts.{StoreContext, access_of}
-use Rattle.run_model.proofs.Undisturbed.{IsUndisturbed, state_behind, Stands}
-use Rattle.run_model.specs.Quiet.{cut, cut_before}
 use Rattle.trace_line.specs.declared.act.Act.TheVariants as acts
 use Rattle.trace_reply.specs.declared.reply.Reply.TheVariants as replies
 
@@ -127,48 +130,81 @@ replied_line_is set processor a b t q h = line_is set processor t.line.act t.rep
 
 -- ---- all lines
 -- The state of the run after a line that isn't quiet.
-abbrev pub next : RunState → RepliedLine → List State → RunState
+abbrev pub next : Store → RepliedLine → List State → Store
 next w t mid = record w { memory = with_states w.memory mid; processors = processors_after w.processors t }
 
-rest_stands : (w : RunState) (t : RepliedLine) (ts : List RepliedLine) (qs : List (RepliedLine × List RepliedLine)) → Stands w (t ∷ ts) qs → (mid : List State) × IsUndisturbed (context_of w) (processor_at w.processors t.line.cpu) (states_of w) t mid × Stands (next w t mid) ts qs
-rest_stands w t ts [] h = (h.1.0, h.1.1, (h.0, h.1.2))
-rest_stands w t ts (q ∷ qs) h = (h.1.0, h.1.1, (h.0, h.1.2, h.2, h.3))
+-- The first line of a section, which is on the store or not.
+rest_on : (on : Act → Bool) (s : Store) (t : RepliedLine) (ts : List RepliedLine) (qs : List QuietPart) → on t.line.act ≡ true → Stands on s (t ∷ ts) qs → (mid : List State) × IsUndisturbed (context_of s) (processor_at s.processors t.line.cpu) (states_of s) t mid × Stands on (next s t mid) ts qs
+rest_on on s t ts [] here h = let k = rw here at h in (k.1.0, k.1.1, (k.0, k.1.2))
+rest_on on s t ts (q ∷ qs) here h = let k = rw here at h in (k.1.0, k.1.1, (k.0, k.1.2, k.2, k.3))
 
--- What the first line, quiet or not, leaves to prove.
-abbrev Replied : RunState → List TraceLine → List Reply → Type 0
-Replied w ls rs = Stands w (cut (lines_with_replies ls rs)).0 (cut (lines_with_replies ls rs)).1
+rest_off : (on : Act → Bool) (s : Store) (t : RepliedLine) (ts : List RepliedLine) (qs : List QuietPart) → on t.line.act ≡ false → Stands on s (t ∷ ts) qs → Stands on s ts qs
+rest_off on s t ts [] off h = rw off at h
+rest_off on s t ts (q ∷ qs) off h = rw off at h
 
-quiet_line : (w : RunState) (l : TraceLine) (r : Reply) (x : List RepliedLine × List (RepliedLine × List RepliedLine)) → is_quiet l.act ≡ true → Stands w (cut_before (record { line = l; reply = r }) x).0 (cut_before (record { line = l; reply = r }) x).1 → (r ≡ (run_quiet_line w l.act).0) × Stands (run_quiet_line w l.act).1 x.0 x.1
-quiet_line w l r x q h =
-    let t : RepliedLine = record { line = l; reply = r } in
-    let e : cut_before t x ≡ ([], (t, x.0) ∷ x.1) = rw q refl in
-    let h' : Stands w [] ((t, x.0) ∷ x.1) = subst (λ (z : List RepliedLine × List (RepliedLine × List RepliedLine)). Stands w z.0 z.1) e h in
-    subst (λ b. (r ≡ (run_quiet_line (state_behind w [] b) l.act).0) × Stands (run_quiet_line (state_behind w [] b) l.act).1 x.0 x.1) h'.1 (h'.2, h'.3)
+-- The lines behind a quiet line, which is on the store or not.
+behind_on : (on : Act → Bool) (s : Store) (t : RepliedLine) (x : List RepliedLine × List QuietPart) → on t.line.act ≡ true → Stands on s [] ((t, x.0) ∷ x.1) → (t.reply ≡ (run_quiet_line s t.line.act).0) × Stands on (run_quiet_line s t.line.act).1 x.0 x.1
+behind_on on s t x here h =
+    let k = rw here at h in
+    subst (λ b. (t.reply ≡ (run_quiet_line (record s { memory = with_states s.memory b }) t.line.act).0) × Stands on (run_quiet_line (record s { memory = with_states s.memory b }) t.line.act).1 x.0 x.1) k.1 (k.2, k.3)
 
-other_line : (w : RunState) (l : TraceLine) (r : Reply) (x : List RepliedLine × List (RepliedLine × List RepliedLine)) → is_quiet l.act ≡ false → Stands w (cut_before (record { line = l; reply = r }) x).0 (cut_before (record { line = l; reply = r }) x).1 → (mid : List State) × ((r, mid) ≡ line_result (context_of w) (processor_at w.processors l.cpu) (states_of w) l.act) × Stands (next w (record { line = l; reply = r }) mid) x.0 x.1
-other_line w l r x q h =
-    let t : RepliedLine = record { line = l; reply = r } in
-    let e : cut_before t x ≡ (t ∷ x.0, x.1) = rw q refl in
-    let h' : Stands w (t ∷ x.0) x.1 = subst (λ (z : List RepliedLine × List (RepliedLine × List RepliedLine)). Stands w z.0 z.1) e h in
-    let k = rest_stands w t x.0 x.1 h' in
-    (k.0, replied_line_is (context_of w) (processor_at w.processors l.cpu) (states_of w) k.0 t q k.1, k.2)
+behind_off : (on : Act → Bool) (s : Store) (t : RepliedLine) (x : List RepliedLine × List QuietPart) → on t.line.act ≡ false → Stands on s [] ((t, x.0) ∷ x.1) → Stands on s x.0 x.1
+behind_off on s t x off h =
+    let k = rw off at h in
+    subst (λ b. Stands on (record s { memory = with_states s.memory b }) x.0 x.1) k.1 k.3
 
-one_more : (w : RunState) (l : TraceLine) (ls : List TraceLine) (r : Reply) (rs : List Reply) → Stands w (cut_before (record { line = l; reply = r }) (cut (lines_with_replies ls rs))).0 (cut_before (record { line = l; reply = r }) (cut (lines_with_replies ls rs))).1 → ((v : RunState) → Replied v ls rs → rs ≡ replies_from v ls) → r ∷ rs ≡ replies_from w (l ∷ ls)
-unfolding run_line
-one_more w l ls r rs h rest = at (cases_Bool (is_quiet l.act)) where
-  at : (is_quiet l.act ≡ true) ⊎ (is_quiet l.act ≡ false) → r ∷ rs ≡ replies_from w (l ∷ ls)
-  at (inl q) =
-      let p = quiet_line w l r (cut (lines_with_replies ls rs)) q h in
-      rw q (λ i. p.0 i ∷ rest (run_quiet_line w l.act).1 p.1 i)
-  at (inr q) =
-      let p = other_line w l r (cut (lines_with_replies ls rs)) q h in
-      let x = with_result w l (r, p.0) in
-      let e : x ≡ with_result w l (line_result (context_of w) (processor_at w.processors l.cpu) (states_of w) l.act) = ap (with_result w l) p.1 in
-      rw q ((λ i. x.0 ∷ rest x.1 p.2 i) ∙ ap (λ (z : Reply × RunState). z.0 ∷ replies_from z.1 ls) e)
+abbrev pub Cut : (Act → Bool) → Store → List RepliedLine → Type 0
+Cut on s ts = Stands on s (cut ts).0 (cut ts).1
 
--- The replies of lines that run with nobody else at the table are the serial run's.
-pub replies_are : (w : RunState) (ls : List TraceLine) (rs : List Reply) → AreReplies ls rs → Replied w ls rs → rs ≡ replies_from w ls
-replies_are w [] [] k h = refl
-replies_are w [] (r ∷ rs) k h = absurd k
-replies_are w (l ∷ ls) [] k h = absurd k
-replies_are w (l ∷ ls) (r ∷ rs) k h = one_more w l ls r rs h (λ v. replies_are v ls rs k.1)
+-- ---- one run
+-- Two runs that stand alike on a store have the same lines there.
+module _ (on : Act → Bool) (l : TraceLine) (r q : Reply) (ts us : List RepliedLine) where
+  abbrev one : RepliedLine
+  one = record { line = l; reply = r }
+
+  abbrev other : RepliedLine
+  other = record { line = l; reply = q }
+
+  off_both : on l.act ≡ false → lines_on on ts ≡ lines_on on us → lines_on on (one ∷ ts) ≡ lines_on on (other ∷ us)
+  off_both off e = filter_no (λ (z : RepliedLine). on z.line.act) one ts off ∙ e ∙ sym (filter_no (λ (z : RepliedLine). on z.line.act) other us off)
+
+  on_both : on l.act ≡ true → r ≡ q → lines_on on ts ≡ lines_on on us → lines_on on (one ∷ ts) ≡ lines_on on (other ∷ us)
+  on_both here f e =
+      let heads : one ∷ lines_on on ts ≡ other ∷ lines_on on us = λ i. record { line = l; reply = f i } ∷ e i in
+      filter_yes (λ (z : RepliedLine). on z.line.act) one ts here ∙ heads ∙ sym (filter_yes (λ (z : RepliedLine). on z.line.act) other us here)
+
+  abbrev Rest : Type 0
+  Rest = (v : Store) → Cut on v ts → Cut on v us → lines_on on ts ≡ lines_on on us
+
+  same_first : (s : Store) → Stands on s (cut_before one (cut ts)).0 (cut_before one (cut ts)).1 → Stands on s (cut_before other (cut us)).0 (cut_before other (cut us)).1 → Rest → lines_on on (one ∷ ts) ≡ lines_on on (other ∷ us)
+  same_first s h m rest = at (cases_Bool (is_quiet l.act)) (cases_Bool (on l.act)) where
+    at : (is_quiet l.act ≡ true) ⊎ (is_quiet l.act ≡ false) → (on l.act ≡ true) ⊎ (on l.act ≡ false) → lines_on on (one ∷ ts) ≡ lines_on on (other ∷ us)
+    at (inl quiet) (inl here) =
+        let a : Stands on s [] ((one, (cut ts).0) ∷ (cut ts).1) = rw quiet at h in
+        let b : Stands on s [] ((other, (cut us).0) ∷ (cut us).1) = rw quiet at m in
+        let j = behind_on on s one (cut ts) here a in
+        let k = behind_on on s other (cut us) here b in
+        on_both here (j.0 ∙ sym k.0) (rest (run_quiet_line s l.act).1 j.1 k.1)
+    at (inl quiet) (inr off) =
+        let a : Stands on s [] ((one, (cut ts).0) ∷ (cut ts).1) = rw quiet at h in
+        let b : Stands on s [] ((other, (cut us).0) ∷ (cut us).1) = rw quiet at m in
+        off_both off (rest s (behind_off on s one (cut ts) off a) (behind_off on s other (cut us) off b))
+    at (inr plain) (inl here) =
+        let a : Stands on s (one ∷ (cut ts).0) (cut ts).1 = rw plain at h in
+        let b : Stands on s (other ∷ (cut us).0) (cut us).1 = rw plain at m in
+        let j = rest_on on s one (cut ts).0 (cut ts).1 here a in
+        let k = rest_on on s other (cut us).0 (cut us).1 here b in
+        let p = processor_at s.processors l.cpu in
+        let same : (r, j.0) ≡ (q, k.0) = replied_line_is (context_of s) p (states_of s) j.0 one plain j.1 ∙ sym (replied_line_is (context_of s) p (states_of s) k.0 other plain k.1) in
+        let e : next s one j.0 ≡ next s other k.0 = ap (λ (z : Reply × List State). next s (record { line = l; reply = z.0 }) z.1) same in
+        on_both here (ap (λ (z : Reply × List State). z.0) same) (rest (next s other k.0) (subst (λ v. Cut on v ts) e j.2) k.2)
+    at (inr plain) (inr off) =
+        let a : Stands on s (one ∷ (cut ts).0) (cut ts).1 = rw plain at h in
+        let b : Stands on s (other ∷ (cut us).0) (cut us).1 = rw plain at m in
+        off_both off (rest s (rest_off on s one (cut ts).0 (cut ts).1 off a) (rest_off on s other (cut us).0 (cut us).1 off b))
+
+pub same_lines : (on : Act → Bool) (s : Store) (ls : List TraceLine) (rs qs : List Reply) → AreReplies ls rs → AreReplies ls qs → Cut on s (lines_with_replies ls rs) → Cut on s (lines_with_replies ls qs) → lines_on on (lines_with_replies ls rs) ≡ lines_on on (lines_with_replies ls qs)
+same_lines on s [] rs qs j k h m = refl
+same_lines on s (l ∷ ls) [] qs j k h m = absurd j
+same_lines on s (l ∷ ls) (r ∷ rs) [] j k h m = absurd k
+same_lines on s (l ∷ ls) (r ∷ rs) (q ∷ qs) j k h m = same_first on l r q (lines_with_replies ls rs) (lines_with_replies ls qs) s h m (λ v. same_lines on v ls rs qs j.1 k.1)

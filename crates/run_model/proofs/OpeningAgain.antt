@@ -26,7 +26,8 @@ use Rattle.run_model.specs.EnteredEntries.{CanBeEntered}
 use Rattle.run_model.specs.Laws.{ImagesOpenAgain}
 use Rattle.run_model.specs.OpeningAgain.{image_entry, memory_after, opening_states, with_image_entry}
 use Rattle.trace_reply.specs.ShownTable.{valid_from}
-use Rattle.run_model.specs.RunState.{opening_run, shown_of}
+use Rattle.run_model.specs.Stores.{page_table}
+use Rattle.run_model.specs.QuietLines.{shown_of}
 use Rattle.run_model.proofs.EnteredEntries.{entries_can_be_entered}
 use Rattle.run_model.proofs.ReadAgain.{line_read}
 use Rattle.run_model.proofs.TableSizes.{small_index, serial_sized}
@@ -87,14 +88,14 @@ digits_back grants layout w digits stored held =
 -- One more entry takes its place, and leaves the others.
 module _ (c : Configuration) (e : ImageEntry) where
   now_there : e.index < entry_count c.order → state_at (opening_states (with_image_entry c e)) e.index ≡ entered_state e.dword0 e.dword1
-  unfolding opening_run opening_memory
+  unfolding page_table opening_memory
   now_there inside =
       let states = with_entries (empty_states c.order) c.entries in
       ap (λ (ss : List State). state_at ss e.index) (entries-more (empty_states c.order) c.entries e)
       ∙ get_or-set_same states e.index (entered_state e.dword0 e.dword1) (empty_state 0) (subst (λ n. e.index < n) (sym (opening-length c.order c.entries)) inside)
 
   as_before : (other : ℕ) → other ≢ e.index → state_at (opening_states (with_image_entry c e)) other ≡ state_at (opening_states c) other
-  unfolding opening_run opening_memory
+  unfolding page_table opening_memory
   as_before other apart =
       let states = with_entries (empty_states c.order) c.entries in
       ap (λ (ss : List State). state_at ss other) (entries-more (empty_states c.order) c.entries e)

@@ -6,7 +6,7 @@ use Rattle.entry_model.specs.State.{State, empty_state}
 use Rattle.entry_model.specs.Run.{state_at}
 use Rattle.hpt_resize.specs.TableMemory.{opening_memory, empty_states}
 use Rattle.run_model.specs.OpeningAgain.{image_entry, opening_states, with_image_entry}
-use Rattle.run_model.specs.RunState.{opening_run}
+use Rattle.run_model.specs.Stores.{page_table}
 
 -- It has R and C set.
 one_entry : Configuration
@@ -42,13 +42,13 @@ two_entries : Configuration
 two_entries = with_image_entry one_entry (image_entry 0x2F reached)
 
 its_state : state_at (opening_states two_entries) 0x2F ≡ record reached { stamp = 0 }
-unfolding opening_run opening_memory empty_states one_entry two_entries reached
+unfolding page_table opening_memory empty_states one_entry two_entries reached
 its_state = refl
 
 the_other : state_at (opening_states two_entries) 0x20 ≡ record { valid = true; dword0 = 0x1001; dword1 = 0x3012; referenced = true; changed = true; stamp = 0 }
-unfolding opening_run opening_memory empty_states one_entry two_entries reached
+unfolding page_table opening_memory empty_states one_entry two_entries reached
 the_other = refl
 
 no_entry : state_at (opening_states two_entries) 0x21 ≡ empty_state 0
-unfolding opening_run opening_memory empty_states one_entry two_entries reached
+unfolding page_table opening_memory empty_states one_entry two_entries reached
 no_entry = refl

@@ -12,7 +12,7 @@ use Rattle.entry_model.specs.Reply.{entered_state}
 use Rattle.hpt_walk.proofs.Granted.{IsGranted, reply_granted, empty_granted}
 use Rattle.hpt_resize.specs.TableMemory.{opening_memory, empty_states, with_entries}
 use Rattle.hpt_resize.proofs.OpeningStates.{with_entry}
-use Rattle.run_model.specs.RunState.{states_of, opening_run}
+use Rattle.run_model.specs.Stores.{states_of, page_table}
 use Rattle.run_model.proofs.Each.{each_map, each_set, each_replicate}
 use Rattle.run_model.proofs.SafeReplies.{suited_granted}
 use Rattle.entry_model.specs.declared.operation.Op.TheVariants as ops
@@ -21,8 +21,8 @@ each_with_entries : (P : State → Type 0) (states : List State) (es : List Imag
 each_with_entries P states [] h k = h
 each_with_entries P states (e ∷ es) h k = each_with_entries P (with_entry states e) es (each_set P states e.index (entered_state e.dword0 e.dword1) k.0 h) k.1
 
-pub each_opening : (P : State → Type 0) (c : Configuration) → P (empty_state 0) → ((e : ImageEntry) → IsOpeningEntry c.order c.granted.grants e → P (entered_state e.dword0 e.dword1)) → AreOpeningEntries c.order c.granted.grants c.entries → AllByRecursion P (states_of (opening_run c))
-unfolding opening_run opening_memory empty_states
+pub each_opening : (P : State → Type 0) (c : Configuration) → P (empty_state 0) → ((e : ImageEntry) → IsOpeningEntry c.order c.granted.grants e → P (entered_state e.dword0 e.dword1)) → AreOpeningEntries c.order c.granted.grants c.entries → AllByRecursion P (states_of (page_table c))
+unfolding page_table opening_memory empty_states
 each_opening P c empty entered is =
     each_with_entries P (empty_states c.order) c.entries (each_replicate P (entry_count c.order) (empty_state 0) empty)
     (each_map (IsOpeningEntry c.order c.granted.grants) (λ (e : ImageEntry). P (entered_state e.dword0 e.dword1)) c.entries entered is.each)

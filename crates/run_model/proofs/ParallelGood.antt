@@ -1,5 +1,5 @@
 -- A run in which each processor works on its own is a good run.
-use Rattle.std.specs.Prelude.{IfSome, ◌==◌, max}
+use Rattle.std.specs.Prelude.{IfSome, Bool, ◌==◌, max}
 use Rattle.std.proofs.Common.{◌≡◌, ℕ, zero, suc, ◌<◌, ◌≤◌, List, [], ◌∷◌, ◌++◌, true, false, ap, sym, ◌∙◌, subst, ◌⊎◌, inl, inr, map, length, arith, Option, Some, None, eqb, append_assoc}
 use Rattle.std.specs.List.{AllByRecursion}
 use Rattle.std.proofs.lemmas.Bool.{cond_both, cases_Bool, eqb-true, eqb-false}
@@ -10,29 +10,26 @@ use Rattle.entry_model.specs.declared.receipt.Receipt.{Receipt}
 use Rattle.entry_model.specs.Receipt.{after_of}
 use Rattle.entry_model.specs.Run.{state_at}
 use Rattle.entry_model.specs.CachedLines.{AllLater}
-use Rattle.entry_model.specs.History.{pair_of}
+use Rattle.entry_model.specs.History.{IsLegal, history, pair_of}
 use Rattle.entry_model.specs.Fronts.{front_at, opening_fronts, fronts_after, KeepsFronts, IsGone, pair_beyond}
 use Rattle.entry_model.proofs.FrontLaws.{keeps_below}
-use Rattle.run_model.specs.StoreContexts.{StoreContext, access_of}
-use Rattle.run_model.specs.StoreSections.{StoreSection, made_in, closing_of}
-use Rattle.run_model.specs.Windows.{table_lines, opening_window, window_section, window_sections_from, window_sections}
-use Rattle.run_model.specs.Quiet.{cut}
-use Rattle.bus_window.specs.Windows.{BusWindow}
-use Rattle.frame_grants.specs.declared.grant.Grant.{Grant}
 use Rattle.tlb_model.specs.Processor.{Processor}
 use Rattle.trace_read.specs.Trace.{AcceptedTrace}
 use Rattle.trace_reply.specs.declared.reply.Reply.{Reply}
 use Rattle.trace_reply.specs.Replies.{RepliedLine, AreReplies, receipts_in, lines_with_replies}
-use Rattle.run_model.specs.Processors.{processor_at, processor_after, gone_line_of}
-use Rattle.run_model.specs.LineReplies.{IsCallReply}
-use Rattle.run_model.specs.RunState.{RunState, states_of, opening_run, run_quiet_line}
+use Rattle.trace_line.specs.declared.act.Act.{Act}
+use Rattle.run_model.specs.GoodRun.{EachLineOfProcessor, IsAccessLine, IsGoodSection, IsGoodOn, IsGoodRun}
 use Rattle.run_model.specs.Histories.{lines_of_processor, Event, made, InOrder, gone_events, events_by}
-use Rattle.run_model.specs.Sections.{section_end, table_section, sections_from, section_end_on}
-use Rattle.run_model.specs.GoodRun.{IsGoodRun, EachLineOfProcessor, IsAccessLine, IsGoodTo, IsGoodSection, IsGoodWindowSection}
-use Rattle.run_model.specs.ParallelRun.{Works, RunsApart, RunsParallel, WindowRunsParallel, WindowRuns, IsParallel}
+use Rattle.run_model.specs.LineReplies.{IsCallReply}
+use Rattle.run_model.specs.ParallelRun.{Works, RunsApart, RunsParallel, IsParallelOn, IsParallel}
+use Rattle.run_model.specs.Processors.{processor_at, processor_after, gone_line_of}
+use Rattle.run_model.specs.Quiet.{QuietPart, cut}
+use Rattle.run_model.specs.QuietLines.{run_quiet_line}
+use Rattle.run_model.specs.Sections.{Section, made_in, closing, closing_on, section_end, after_quiet, quiet_on, section_of, sections_from}
+use Rattle.run_model.specs.StoreContexts.{StoreContext, access_of}
+use Rattle.run_model.specs.Stores.{Store, context_of, states_of, opening_stores, is_on}
 use Rattle.run_model.proofs.Each.{each_map}
 use Rattle.run_model.proofs.SectionGood.{closing_is, stamp_pair}
-use Rattle.run_model.proofs.SerialGood.{good_of}
 
 -- ---- fronts
 -- each receipt is of an entry that has a front
@@ -122,47 +119,37 @@ opening_front [] e = omega arith
 opening_front (s ∷ a) zero = omega arith
 opening_front (s ∷ a) (suc e) = opening_front a e
 
-pub apart_good : (s : StoreSection) (b : List State) → RunsApart s b → IsGoodTo s b
-apart_good s b h =
-    let f = opening_fronts s.opening in (
-      record { in_table = h.closed.in_table; legal = h.closed.legal },
-      λ cpu k. work_order s.context k (pair_of (state_at s.opening k)) f (h.fronts cpu) (processor_at s.processors cpu) (lines_of_processor cpu s.replied_lines) (h.work cpu) (opening_front s.opening k),
-      λ cpu. work_calls s.context f (h.fronts cpu) (processor_at s.processors cpu) (lines_of_processor cpu s.replied_lines) (h.work cpu),
-      λ cpu. work_reaches s.context f (h.fronts cpu) b (processor_at s.processors cpu) (lines_of_processor cpu s.replied_lines) (h.work cpu) (h.closed.gone cpu),
-    )
-
-pub apart_closes : (s : StoreSection) (b : List State) → RunsApart s b → closing_of s ≡ b
-apart_closes s b h = closing_is s.opening b (made_in s) h.closed.size h.closed.legal
-
--- ---- a section of the page table
-joined_is : (w : RunState) (ts : List RepliedLine) (b : List State) → RunsApart (table_section w ts) b → section_end w ts ≡ section_end_on w ts b
+closes : (s : Section) (b : List State) → RunsApart s b → closing s ≡ closing_on s b
 unfolding section_end
-joined_is w ts b h = ap (section_end_on w ts) (apart_closes (table_section w ts) b h)
+closes s b h = ap (closing_on s) (closing_is (states_of s.before) b (made_in s) h.closed.size h.closed.legal)
 
-section_parallel : (w : RunState) (ts : List RepliedLine) (quiet : Option RepliedLine) (b : List State) → RunsApart (table_section w ts) b → IfSome quiet (λ q. q.reply ≡ (run_quiet_line (section_end_on w ts b) q.line.act).0) → IsGoodSection (record { before = w; replied_lines = ts; quiet = quiet })
-section_parallel w ts quiet b h q =
-    let e : section_end_on w ts b ≡ section_end w ts = sym (joined_is w ts b h) in
-    let g : IsGoodTo (table_section w ts) (states_of (section_end w ts)) = subst (λ (v : RunState). IsGoodTo (table_section w ts) (states_of v)) e (apart_good (table_section w ts) b h) in
-    (g.0, g.1, g.2, g.3, subst (λ v. IfSome quiet (λ q. q.reply ≡ (run_quiet_line v q.line.act).0)) e q)
+-- What works apart is good.
+section_parallel : (s : Section) (b : List State) → RunsApart s b → IsGoodSection s
+section_parallel s b h =
+    let set = context_of s.before in
+    let ps = s.before.processors in
+    let a = states_of s.before in
+    let f = opening_fronts a in
+    let e : closing_on s b ≡ closing s = sym (closes s b h) in
+    record {
+      legal = record {
+        in_table = h.closed.in_table;
+        legal = λ k low. subst (λ (v : Store). IsLegal (state_at a k) (history k (made_in s)) (state_at (states_of v) k)) e (h.closed.legal k low);
+      };
+      in_order = λ cpu k. work_order set k (pair_of (state_at a k)) f (h.fronts cpu) (processor_at ps cpu) (lines_of_processor cpu s.replied_lines) (h.work cpu) (opening_front a k);
+      calls = λ cpu. work_calls set f (h.fronts cpu) (processor_at ps cpu) (lines_of_processor cpu s.replied_lines) (h.work cpu);
+      accesses = λ cpu. subst (λ (v : Store). EachLineOfProcessor (IsAccessLine (access_of set) (states_of v)) (processor_at ps cpu) (lines_of_processor cpu s.replied_lines)) e (work_reaches set f (h.fronts cpu) b (processor_at ps cpu) (lines_of_processor cpu s.replied_lines) (h.work cpu) (h.closed.gone cpu));
+      quiet = subst (λ v. IfSome s.quiet (λ q. q.reply ≡ (run_quiet_line v q.line.act).0)) e h.quiet;
+    }
 
 -- ---- all sections
-sections_parallel : (w : RunState) (ts : List RepliedLine) (qs : List (RepliedLine × List RepliedLine)) → RunsParallel w ts qs → AllByRecursion IsGoodSection (sections_from w ts qs)
-sections_parallel w ts [] h = (section_parallel w ts None h.0 h.1 tt, tt)
-sections_parallel w ts (q ∷ qs) h =
-    (section_parallel w ts (Some q.0) h.0 h.1 h.2, subst (λ v. AllByRecursion IsGoodSection (sections_from (run_quiet_line v q.0.line.act).1 q.1 qs)) (sym (joined_is w ts h.0 h.1)) (sections_parallel (run_quiet_line (section_end_on w ts h.0) q.0.line.act).1 q.1 qs h.3))
-
--- ---- the sections of a window
-windows_parallel : (grants : List Grant) (cpus : ℕ) (w : BusWindow) (opening : List State) (ts : List RepliedLine) (qs : List (RepliedLine × List RepliedLine)) → WindowRunsParallel grants cpus w opening ts qs → AllByRecursion IsGoodWindowSection (window_sections_from grants cpus w opening ts qs)
-windows_parallel grants cpus w opening ts [] h =
-    let s = window_section grants cpus w opening ts in
-    (subst (IsGoodTo s) (sym (apart_closes s h.0 h.1)) (apart_good s h.0 h.1), tt)
-windows_parallel grants cpus w opening ts (q ∷ qs) h =
-    let s = window_section grants cpus w opening ts in
-    let closes : h.0 ≡ closing_of s = sym (apart_closes s h.0 h.1) in
-    (subst (IsGoodTo s) closes (apart_good s h.0 h.1), subst (λ x. AllByRecursion IsGoodWindowSection (window_sections_from grants cpus w x q.1 qs)) closes (windows_parallel grants cpus w h.0 q.1 qs h.2))
+sections_parallel : (on : Act → Bool) (s : Store) (ts : List RepliedLine) (qs : List QuietPart) → RunsParallel on s ts qs → AllByRecursion IsGoodSection (sections_from on s ts qs)
+sections_parallel on s ts [] h = (section_parallel (section_of on s ts None) h.0 h.1, tt)
+sections_parallel on s ts (q ∷ qs) h =
+    let x = section_of on s ts (quiet_on on q.0) in
+    (section_parallel x h.0 h.1, subst (λ v. AllByRecursion IsGoodSection (sections_from on (after_quiet v x.quiet) q.1 qs)) (sym (closes x h.0 h.1)) (sections_parallel on (after_quiet (closing_on x h.0) x.quiet) q.1 qs h.2))
 
 pub parallel_good : (t : AcceptedTrace) (rs : List Reply) → AreReplies t.lines rs → IsParallel t rs → IsGoodRun t rs
 parallel_good t rs kinds h =
-    let c = cut (table_lines t rs) in
-    let d = cut (lines_with_replies t.lines rs) in
-    good_of t rs kinds (sections_parallel (opening_run t.config) c.0 c.1 h.table) (each_map (WindowRuns t rs) (λ w. AllByRecursion IsGoodWindowSection (window_sections t rs w)) t.config.windows (λ w k. windows_parallel t.config.granted.grants t.config.cpus w opening_window d.0 d.1 k) h.windows)
+    let c = cut (lines_with_replies t.lines rs) in
+    record { kinds = kinds; stores = each_map (IsParallelOn t rs) (IsGoodOn t rs) (opening_stores t.config) (λ s k. sections_parallel (is_on t.config.windows s.window) s c.0 c.1 k) h }

@@ -12,9 +12,9 @@ use Rattle.h_update.specs.Single.{h_read_plan}
 use Rattle.tlb_model.specs.Processor.{new_processor}
 use Rattle.trace_line.specs.declared.act.Act.TheVariants.{Call}
 use Rattle.run_model.specs.LineReplies.{hcall_plan}
-use Rattle.run_model.specs.Sections.{receipts_made}
+use Rattle.run_model.specs.Histories.{receipts_from_processor}
 use Rattle.trace_reply.specs.Replies.{RepliedLine}
-use Rattle.run_model.specs.RunState.{context_of, states_of}
+use Rattle.run_model.specs.Stores.{context_of, states_of}
 use Rattle.run_model.specs.ParallelRun.{WorksLine}
 use Rattle.run_model.proofs.SmallPartition.{small}
 use Rattle.entry_model.specs.declared.operation.Op.TheVariants as ops
@@ -65,6 +65,6 @@ unfolding pair_of
 no_earlier_read later h = let no : 4 ≤ 0 = h.keeps.0 in omega arith
 
 -- The receipts are listed by processor, and the history has them in the order in which they were made.
-history_of_both : history 0 (receipts_made (small 2) (reading present (0x1001 ∷ 0x3012 ∷ []) ∷ entering ∷ [])) ≡ entered ∷ read present ∷ []
+history_of_both : history 0 (receipts_from_processor 2 0 (reading present (0x1001 ∷ 0x3012 ∷ []) ∷ entering ∷ [])) ≡ entered ∷ read present ∷ []
 unfolding place pair_of state_eq
 history_of_both = refl

@@ -44,7 +44,8 @@ use Rattle.hpt_resize.specs.TableMemory.{TableMemory, commit_result}
 use Rattle.run_model.specs.StoreContexts.{access_of}
 use Rattle.run_model.specs.Processors.{processor_at, processor_after}
 use Rattle.run_model.specs.LineReplies.{IsReplyToAccess}
-use Rattle.run_model.specs.RunState.{RunState, context_of, run_resize, run_quiet_line}
+use Rattle.run_model.specs.Stores.{Store, context_of}
+use Rattle.run_model.specs.QuietLines.{run_resize, run_quiet_line}
 use Rattle.run_model.specs.Histories.{lines_of_processor, receipts_by}
 use Rattle.run_model.specs.Sections.{processor_after_lines, processors_after_lines}
 use Rattle.run_model.specs.GoodRun.{EachLineOfProcessor, IsAccessLine}
@@ -191,14 +192,14 @@ lines_land granted set b p (t ∷ ts) apart same placed low h =
     ((here.0, rest.0), rest.1)
 
 -- ---- all processors
-abbrev pub AllPlaced : RunState → Type 0
+abbrev pub AllPlaced : Store → Type 0
 AllPlaced w = AllByRecursion (ProcessorPlaced w.memory.table.order) w.processors
 
 pub empty_placed : (order : ℕ) → ProcessorPlaced order new_processor
 unfolding new_processor
 empty_placed order = all_empty (StandsInItsGroup order)
 
-pub section_lands : (granted : GrantedMemory) (w : RunState) (b : List State) (ts : List RepliedLine) → AreApart granted → w.grants ≡ granted.grants → AllPlaced w → FromLowStamp granted.grants top (receipts_by ts) → ((cpu : ℕ) → EachLineOfProcessor (IsAccessLine (access_of (context_of w)) b) (processor_at w.processors cpu) (lines_of_processor cpu ts)) → ((cpu : ℕ) → EachLineOfProcessor (λ p t. LandsByItsEntry granted w.memory.table.order p t.line.act t.reply) (processor_at w.processors cpu) (lines_of_processor cpu ts)) × AllByRecursion (ProcessorPlaced w.memory.table.order) (processors_after_lines 0 w.processors ts)
+pub section_lands : (granted : GrantedMemory) (w : Store) (b : List State) (ts : List RepliedLine) → AreApart granted → w.grants ≡ granted.grants → AllPlaced w → FromLowStamp granted.grants top (receipts_by ts) → ((cpu : ℕ) → EachLineOfProcessor (IsAccessLine (access_of (context_of w)) b) (processor_at w.processors cpu) (lines_of_processor cpu ts)) → ((cpu : ℕ) → EachLineOfProcessor (λ p t. LandsByItsEntry granted w.memory.table.order p t.line.act t.reply) (processor_at w.processors cpu) (lines_of_processor cpu ts)) × AllByRecursion (ProcessorPlaced w.memory.table.order) (processors_after_lines 0 w.processors ts)
 section_lands granted w b ts apart same placed low h = (λ cpu. (one cpu).0, after_each (ProcessorPlaced w.memory.table.order) 0 w.processors ts (λ k within. subst (λ n. ProcessorPlaced w.memory.table.order (processor_after_lines (processor_at w.processors k) (lines_of_processor n ts))) (omega arith) (one k).1)) where
   one : (cpu : ℕ) → EachLineOfProcessor (λ p t. LandsByItsEntry granted w.memory.table.order p t.line.act t.reply) (processor_at w.processors cpu) (lines_of_processor cpu ts) × ProcessorPlaced w.memory.table.order (processor_after_lines (processor_at w.processors cpu) (lines_of_processor cpu ts))
   one cpu =
@@ -211,17 +212,17 @@ section_lands granted w b ts apart same placed low h = (λ cpu. (one cpu).0, aft
 cleared_placed : (order : ℕ) (ps : List Processor) → AllByRecursion (ProcessorPlaced order) (map without_cache ps)
 cleared_placed order ps = each_of_map (ProcessorPlaced order) without_cache ps (λ p. all_empty (StandsInItsGroup order))
 
-committed_placed : (done : Bool) (w : RunState) (memory : TableMemory) → Moves done w.memory.table memory.table → AllPlaced w → AllByRecursion (ProcessorPlaced memory.table.order) (if done then map without_cache w.processors else w.processors)
+committed_placed : (done : Bool) (w : Store) (memory : TableMemory) → Moves done w.memory.table memory.table → AllPlaced w → AllByRecursion (ProcessorPlaced memory.table.order) (if done then map without_cache w.processors else w.processors)
 committed_placed true w memory moves h = cleared_placed memory.table.order w.processors
 committed_placed false w memory moves h = subst (λ n. AllByRecursion (ProcessorPlaced n) w.processors) (sym (ap (λ t. t.order) moves)) h
 
-resize_placed : (w : RunState) (call : Hcall) (args : List ℕ) → AllPlaced w → AllPlaced (run_resize w call args).1
+resize_placed : (w : Store) (call : Hcall) (args : List ℕ) → AllPlaced w → AllPlaced (run_resize w call args).1
 unfolding run_resize
 resize_placed w calls.Prepare args h = subst (λ n. AllByRecursion (ProcessorPlaced n) w.processors) (sym (ap (λ t. t.order) (prepare_table w.memory _ _))) h
 resize_placed w calls.Commit args h = committed_placed _ w (commit_result w.memory _ _).1 (memory_moves w.memory _ _) h
 resize_placed w other args h = h
 
-pub quiet_placed : (w : RunState) (act : Act) → AllPlaced w → AllPlaced (run_quiet_line w act).1
+pub quiet_placed : (w : Store) (act : Act) → AllPlaced w → AllPlaced (run_quiet_line w act).1
 unfolding run_quiet_line
 quiet_placed w (acts.Call number args spelt) h = resize_placed w (hcall_of number) args h
 quiet_placed w other h = h

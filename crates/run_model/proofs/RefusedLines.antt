@@ -39,12 +39,14 @@ use Rattle.trace_line.specs.declared.act.Act.{Act}
 use Rattle.trace_read.specs.Trace.{AcceptedTrace, IsAccepted}
 use Rattle.trace_reply.specs.declared.reply.Reply.{Reply}
 use Rattle.trace_reply.specs.Replies.{RepliedLine}
-use Rattle.run_model.specs.StoreContexts.{access_of, table_context}
-use Rattle.run_model.specs.Processors.{processor_after, slots_or}
+use Rattle.run_model.proofs.TableNamed.{IsTable, table_is, all_table}
+use Rattle.run_model.specs.StoreContexts.{StoreContext, access_of, table_context}
+use Rattle.run_model.specs.Processors.{processor_after, processor_at, slots_or}
+use Rattle.run_model.specs.Histories.{lines_of_processor}
 use Rattle.run_model.specs.LineReplies.{IsCallReply, IsReplyToAccess}
-use Rattle.run_model.specs.RunState.{context_of, states_of}
-use Rattle.run_model.specs.Sections.{Section, section_end, sections_of}
-use Rattle.run_model.specs.GoodRun.{EachLineOfProcessor, IsAccessLine, CallsAreReplied, AccessesAreReplied, IsGoodRun}
+use Rattle.run_model.specs.Stores.{context_of, states_of}
+use Rattle.run_model.specs.Sections.{Section, closing, section_end, sections_of}
+use Rattle.run_model.specs.GoodRun.{EachLineOfProcessor, IsAccessLine, CallsAreReplied, AccessesAreReplied, IsGoodSection, IsGoodRun}
 use Rattle.run_model.specs.Landings.{Lands, LandsByItsEntry, AccessesLand}
 use Rattle.run_model.specs.RefusedCalls.{ends_at, is_refused, LeavesEntry, LeavesAll, RefusedLinesLeave, cache_without}
 use Rattle.run_model.proofs.AllSafe.{accesses_land}
@@ -208,17 +210,17 @@ lines_leave granted context b p [] calls accesses lands = tt
 lines_leave granted context b p (t ∷ ts) calls accesses lands =
     (line_leaves granted context p t.line.act t.reply calls.0 accesses.0.reply lands.0, lines_leave granted context b (processor_after p t.line.act t.reply) ts calls.1 accesses.1 lands.1)
 
-section_leaves : (granted : GrantedMemory) (s : Section) → CallsAreReplied s → AccessesAreReplied s → AccessesLand granted s → RefusedLinesLeave s
+section_leaves : (granted : GrantedMemory) (s : Section) → IsTable s.before → CallsAreReplied s → AccessesAreReplied s → AccessesLand granted s → RefusedLinesLeave s
 unfolding section_end
-section_leaves granted s calls accesses lands = record {
-  lines = λ cpu. lines_leave granted (access_of (context_of s.before)) (states_of (section_end s.before s.replied_lines)) _ _ (calls cpu) (accesses cpu) (lands cpu);
+section_leaves granted s table calls accesses lands = record {
+  lines = λ cpu. lines_leave granted (access_of (context_of s.before)) (states_of (closing s)) _ _ (subst (λ set. EachLineOfProcessor (λ q t. IsCallReply set t.line.act t.reply) (processor_at s.before.processors cpu) (lines_of_processor cpu s.replied_lines)) (table_is s.before table) (calls cpu)) (accesses cpu) (lands cpu);
   grants = refl;
   memory = refl;
 }
 
-sections_leave : (granted : GrantedMemory) (ss : List Section) → AllByRecursion CallsAreReplied ss → AllByRecursion AccessesAreReplied ss → AllByRecursion (AccessesLand granted) ss → AllByRecursion RefusedLinesLeave ss
-sections_leave granted [] calls accesses lands = tt
-sections_leave granted (s ∷ ss) calls accesses lands = (section_leaves granted s calls.0 accesses.0 lands.0, sections_leave granted ss calls.1 accesses.1 lands.1)
+sections_leave : (granted : GrantedMemory) (ss : List Section) → AllByRecursion (λ (s : Section). IsTable s.before) ss → AllByRecursion IsGoodSection ss → AllByRecursion (AccessesLand granted) ss → AllByRecursion RefusedLinesLeave ss
+sections_leave granted [] table good lands = tt
+sections_leave granted (s ∷ ss) table good lands = (section_leaves granted s table.0 good.0.calls good.0.accesses lands.0, sections_leave granted ss table.1 good.1 lands.1)
 
 pub refused_lines_leave : (t : AcceptedTrace) (rs : List Reply) → IsAccepted t → IsGoodRun t rs → AllByRecursion RefusedLinesLeave (sections_of t rs)
-refused_lines_leave t rs is good = sections_leave t.config.granted (sections_of t rs) good.calls good.accesses (accesses_land t rs is good)
+refused_lines_leave t rs is good = sections_leave t.config.granted (sections_of t rs) (all_table t rs) good.stores.0 (accesses_land t rs is good)

@@ -15,12 +15,12 @@ use Rattle.hpt_resize.specs.TableMemory.{TableMemory, prepare_result, commit_res
 use Rattle.trace_line.specs.declared.act.Act.{Act}
 use Rattle.trace_read.specs.Trace.{AcceptedTrace}
 use Rattle.trace_reply.specs.declared.reply.Reply.{Reply}
-use Rattle.trace_reply.specs.Replies.{RepliedLine}
-use Rattle.run_model.specs.RunState.{RunState, is_success, opening_run, run_resize, run_quiet_line}
-use Rattle.run_model.specs.Quiet.{cut}
-use Rattle.run_model.specs.Windows.{table_lines}
-use Rattle.run_model.specs.Sections.{section_end, sections_from, sections_of}
-use Rattle.run_model.specs.GoodRun.{QuietIsReplied, IsGoodRun}
+use Rattle.trace_reply.specs.Replies.{RepliedLine, lines_with_replies}
+use Rattle.run_model.specs.Stores.{Store, page_table, is_on}
+use Rattle.run_model.specs.QuietLines.{is_success, run_resize, run_quiet_line}
+use Rattle.run_model.specs.Quiet.{QuietPart, cut}
+use Rattle.run_model.specs.Sections.{closing, after_quiet, quiet_on, section_of, sections_from, sections_of}
+use Rattle.run_model.specs.GoodRun.{IsGoodSection, IsGoodRun}
 use Rattle.run_model.specs.RefusedCalls.{is_refusal, is_refused, drops_pending, memory_left, FoundNone, LeavesRun, RefusedQuietLinesLeave}
 use Rattle.papr_codes.specs.declared.calls.Hcall.TheVariants as calls
 use Rattle.papr_codes.specs.declared.codes.Rc.TheVariants as rc
@@ -109,7 +109,7 @@ not_success rc.Success h = cc
 not_success other h = refl
 
 -- ---- quiet lines
-resize_leaves : (w : RunState) (number : ℕ) (args : List ℕ) (spelt : Bool) (h : Hcall) → hcall_of number ≡ h → is_refused (acts.Call number args spelt) (run_resize w h args).0 ≡ true → LeavesRun (acts.Call number args spelt) (run_resize w h args).0 w (run_resize w h args).1
+resize_leaves : (w : Store) (number : ℕ) (args : List ℕ) (spelt : Bool) (h : Hcall) → hcall_of number ≡ h → is_refused (acts.Call number args spelt) (run_resize w h args).0 ≡ true → LeavesRun (acts.Call number args spelt) (run_resize w h args).0 w (run_resize w h args).1
 unfolding run_resize
 resize_leaves w number args spelt calls.Prepare e refused = record {
   left = rw e (ap (λ (memory : TableMemory). record w { memory = memory }) (prepare_leaves w.memory (slice_index args 0) (slice_index args 1) refused));
@@ -121,7 +121,7 @@ resize_leaves w number args spelt calls.Commit e refused = record {
 }
 resize_leaves w number args spelt other e refused = record { left = rw e refl; another = rw e tt }
 
-quiet_leaves : (w : RunState) (act : Act) → is_refused act (run_quiet_line w act).0 ≡ true → LeavesRun act (run_quiet_line w act).0 w (run_quiet_line w act).1
+quiet_leaves : (w : Store) (act : Act) → is_refused act (run_quiet_line w act).0 ≡ true → LeavesRun act (run_quiet_line w act).0 w (run_quiet_line w act).1
 unfolding run_quiet_line
 quiet_leaves w (acts.Call number args spelt) refused = resize_leaves w number args spelt (hcall_of number) refl refused
 quiet_leaves w (acts.Access want ea user) refused = absurd (false≢true refused)
@@ -132,16 +132,23 @@ quiet_leaves w (acts.SetMask name value) refused = absurd (false≢true refused)
 quiet_leaves w acts.Dump refused = absurd (false≢true refused)
 
 -- ---- a run
-replied_leaves : (w : RunState) (q : RepliedLine) → q.reply ≡ (run_quiet_line w q.line.act).0 → is_refused q.line.act q.reply ≡ true → LeavesRun q.line.act q.reply w (run_quiet_line w q.line.act).1
+replied_leaves : (w : Store) (q : RepliedLine) → q.reply ≡ (run_quiet_line w q.line.act).0 → is_refused q.line.act q.reply ≡ true → LeavesRun q.line.act q.reply w (run_quiet_line w q.line.act).1
 replied_leaves w q said = subst (λ r. is_refused q.line.act r ≡ true → LeavesRun q.line.act r w (run_quiet_line w q.line.act).1) (sym said) (quiet_leaves w q.line.act)
 
-sections_leave : (w : RunState) (ts : List RepliedLine) (qs : List (RepliedLine × List RepliedLine)) → AllByRecursion QuietIsReplied (sections_from w ts qs) → RefusedQuietLinesLeave (sections_from w ts qs)
-sections_leave w ts [] said = tt
-sections_leave w ts (q ∷ []) said = (replied_leaves (section_end w ts) q.0 said.0, tt)
-sections_leave w ts (q ∷ p ∷ qs) said =
-    (replied_leaves (section_end w ts) q.0 said.0, sections_leave (run_quiet_line (section_end w ts) q.0.line.act).1 q.1 (p ∷ qs) said.1)
+opens_on_rest : (s : Store) (quiet : Option RepliedLine) → IfSome quiet (λ q. q.reply ≡ (run_quiet_line s q.line.act).0) → IfSome quiet (λ q. is_refused q.line.act q.reply ≡ true → LeavesRun q.line.act q.reply s (after_quiet s quiet))
+opens_on_rest s None said = tt
+opens_on_rest s (Some q) said = replied_leaves s q said
+
+sections_leave : (on : Act → Bool) (s : Store) (ts : List RepliedLine) (qs : List QuietPart) → AllByRecursion IsGoodSection (sections_from on s ts qs) → RefusedQuietLinesLeave (sections_from on s ts qs)
+sections_leave on s ts [] good = tt
+sections_leave on s ts (q ∷ []) good =
+    let x = section_of on s ts (quiet_on on q.0) in
+    (opens_on_rest (closing x) x.quiet good.0.quiet, tt)
+sections_leave on s ts (q ∷ p ∷ qs) good =
+    let x = section_of on s ts (quiet_on on q.0) in
+    (opens_on_rest (closing x) x.quiet good.0.quiet, sections_leave on (after_quiet (closing x) x.quiet) q.1 (p ∷ qs) good.1)
 
 pub refused_resizes_leave : (t : AcceptedTrace) (rs : List Reply) → IsGoodRun t rs → RefusedQuietLinesLeave (sections_of t rs)
 refused_resizes_leave t rs good =
-    let c = cut (table_lines t rs) in
-    sections_leave (opening_run t.config) c.0 c.1 good.quiets
+    let c = cut (lines_with_replies t.lines rs) in
+    sections_leave (is_on t.config.windows (page_table t.config).window) (page_table t.config) c.0 c.1 good.stores.0

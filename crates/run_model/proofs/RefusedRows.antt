@@ -33,8 +33,9 @@ use Rattle.trace_reply.specs.declared.reply.Reply.{Reply}
 use Rattle.trace_reply.specs.Replies.{receipts_in}
 use Rattle.run_model.specs.BusyCalls.{BusyWhereTaken}
 use Rattle.run_model.specs.LineReplies.{put_plan, hcall_plan}
-use Rattle.run_model.specs.RunState.{RunState, reply_of_code, run_resize, run_quiet_line}
-use Rattle.run_model.specs.SerialRun.{device_by_window, line_result, run_line}
+use Rattle.run_model.specs.Stores.{Store}
+use Rattle.run_model.specs.QuietLines.{reply_of_code, run_resize, run_quiet_line}
+use Rattle.run_model.specs.SerialRun.{device_by_window, line_result, run_on}
 use Rattle.run_model.specs.RefusedCalls.{is_refused, keeps_removals_by, LeavesEntry, run_left, DropsAnother}
 use Rattle.run_model.proofs.SmallPartition.{small, memory_of, calls}
 use Rattle.entry_model.specs.declared.operation.Op.TheVariants as ops
@@ -44,23 +45,23 @@ use Rattle.trace_reply.specs.declared.reply.Reply.TheVariants as replies
 entry : State
 entry = record { valid = true; dword0 = 0x1001; dword1 = 0x3012; referenced = false; changed = false; stamp = 1 }
 
-with_entry : RunState
+with_entry : Store
 with_entry = record (small 1) { memory = memory_of (entry ∷ replicate 15 (empty_state 0)) }
 
 reply_to : TraceLine → Reply
-reply_to l = (run_line with_entry l).0
+reply_to l = (run_on with_entry l).0
 
 -- ---- H_ENTER of a taken entry
 enter : TraceLine
 enter = calls 5 0x08 (0x8000000000 ∷ 0 ∷ 0x1001 ∷ 0x3012 ∷ [])
 
 enter_is_refused : is_refused enter.act (reply_to enter) ≡ true
-unfolding enter reply_to with_entry entry run_line line_result hcall_plan is_quiet hcall_of row_of plan_run trial_run candidates suits_grants h_enter_plan machine_range new_processor
+unfolding enter reply_to with_entry entry run_on line_result hcall_plan is_quiet hcall_of row_of plan_run trial_run candidates suits_grants h_enter_plan machine_range new_processor
 enter_is_refused = refl
 
 -- All that the run carries stands.
-enter_leaves : (run_line with_entry enter).1 ≡ with_entry
-unfolding enter with_entry entry run_line line_result hcall_plan is_quiet hcall_of row_of plan_run trial_run candidates suits_grants h_enter_plan machine_range new_processor
+enter_leaves : (run_on with_entry enter).1 ≡ with_entry
+unfolding enter with_entry entry run_on line_result hcall_plan is_quiet hcall_of row_of plan_run trial_run candidates suits_grants h_enter_plan machine_range new_processor
 enter_leaves = refl
 
 -- ---- a device, and H_PUT_TCE, where there is no window
@@ -68,26 +69,26 @@ device : TraceLine
 device = record { number = 5; cpu = 0; act = Device true 1 0x5008 }
 
 device_finds_no_window : reply_to device ≡ replies.Device no_window_reply
-unfolding device reply_to with_entry entry run_line line_result is_quiet new_processor
+unfolding device reply_to with_entry entry run_on line_result is_quiet new_processor
 device_finds_no_window = refl
 
 device_is_refused : is_refused device.act (reply_to device) ≡ true
-unfolding device reply_to with_entry entry run_line line_result is_quiet new_processor
+unfolding device reply_to with_entry entry run_on line_result is_quiet new_processor
 device_is_refused = refl
 
 put : TraceLine
 put = calls 5 0x20 (1 ∷ 0x5000 ∷ 0x3001 ∷ [])
 
 put_finds_no_window : reply_to put ≡ reply_of_code Parameter
-unfolding put reply_to with_entry entry run_line line_result hcall_plan is_quiet hcall_of row_of plan_run trial_run new_processor
+unfolding put reply_to with_entry entry run_on line_result hcall_plan is_quiet hcall_of row_of plan_run trial_run new_processor
 put_finds_no_window = refl
 
-put_leaves : (run_line with_entry put).1 ≡ with_entry
-unfolding put with_entry entry run_line line_result hcall_plan is_quiet hcall_of row_of plan_run trial_run new_processor
+put_leaves : (run_on with_entry put).1 ≡ with_entry
+unfolding put with_entry entry run_on line_result hcall_plan is_quiet hcall_of row_of plan_run trial_run new_processor
 put_leaves = refl
 
 put_keeps_no_removals : keeps_removals_by put.act (reply_to put) ≡ false
-unfolding put reply_to with_entry entry run_line line_result hcall_plan is_quiet hcall_of row_of plan_run trial_run new_processor
+unfolding put reply_to with_entry entry run_on line_result hcall_plan is_quiet hcall_of row_of plan_run trial_run new_processor
 put_keeps_no_removals = refl
 
 -- ---- H_PUT_TCE on a window, while another call enters a TCE
@@ -169,11 +170,11 @@ not_found : Receipt
 not_found = receipt_of 1 (empty_state 0) (ops.Remove (record { avpn = None; andcond = None }))
 
 bulk_remove_is_refused : is_refused bulk_remove.act (reply_to bulk_remove) ≡ true
-unfolding bulk_remove reply_to with_entry entry run_line line_result hcall_plan is_quiet hcall_of row_of plan_run trial_run h_bulk_remove_plan bulk_calls bulk_told asked_by new_processor
+unfolding bulk_remove reply_to with_entry entry run_on line_result hcall_plan is_quiet hcall_of row_of plan_run trial_run h_bulk_remove_plan bulk_calls bulk_told asked_by new_processor
 bulk_remove_is_refused = refl
 
 removals_are_kept : keeps_removals_by bulk_remove.act (reply_to bulk_remove) ≡ true
-unfolding bulk_remove reply_to with_entry entry run_line line_result hcall_plan is_quiet hcall_of row_of plan_run trial_run h_bulk_remove_plan bulk_calls bulk_told asked_by new_processor
+unfolding bulk_remove reply_to with_entry entry run_on line_result hcall_plan is_quiet hcall_of row_of plan_run trial_run h_bulk_remove_plan bulk_calls bulk_told asked_by new_processor
 removals_are_kept = refl
 
 -- The pair behind the removed one leaves its entry, and the removed entry is empty.
@@ -192,7 +193,7 @@ no_removal_elsewhere h = let clash : false ≡ true = ap (λ (s : State). s.vali
 
 -- ---- H_RESIZE_HPT_PREPARE that finds no block
 -- A table of order 19 is pending in the pool, which has no room for one of order 20.
-with_pending : RunState
+with_pending : Store
 with_pending = record with_entry {
   memory = record (memory_of []) {
     pool = record { base = 0x1000000000; order = 20; taken = block_at 0x1000000000 18 ∷ block_at 0x1000080000 19 ∷ [] };

@@ -7,7 +7,6 @@ use Rattle.bus_window.specs.Windows.{BusWindow, entry_at}
 use Rattle.dma_window.specs.Devices.{IsDeviceReplyBy}
 use Rattle.frame_grants.specs.declared.grant.Grant.{Grant}
 use Rattle.papr_codes.specs.Hcalls.{hcall_of}
-use Rattle.entry_model.specs.State.{State}
 use Rattle.entry_model.specs.Reply.{reply_of}
 use Rattle.entry_model.specs.Trial.{IsTrial, call}
 use Rattle.entry_model.specs.declared.device_reply.DeviceReply.{DeviceReply}
@@ -23,12 +22,12 @@ use Rattle.trace_reply.specs.Replies.{RepliedLine, receipts_in, lines_with_repli
 use Rattle.run_model.specs.Processors.{processor_after}
 use Rattle.run_model.specs.Quiet.{QuietPart, cut}
 use Rattle.run_model.specs.StoreContexts.{StoreContext}
-use Rattle.run_model.specs.StoreSections.{closing_of}
+use Rattle.run_model.specs.GoodRun.{EachLineOfProcessor, IsGoodSection, IsGoodOn, IsGoodRun}
+use Rattle.run_model.specs.Sections.{closing, after_quiet, quiet_on, section_of, sections_from, window_sections}
+use Rattle.run_model.specs.Stores.{Store, context_of, opening_store, is_on, lines_on}
 use Rattle.run_model.specs.LineReplies.{IsDeviceLine, IsCallReply}
-use Rattle.run_model.specs.Windows.{is_on_window, lines_on_window, opening_window, window_section, window_sections_from, window_sections}
-use Rattle.run_model.specs.GoodRun.{EachLineOfProcessor, IsGoodWindowSection, IsGoodRun}
 use Rattle.run_model.specs.RefusedCalls.{is_refused, LeavesEntry, LeavesAll, RefusedWindowLinesLeave}
-use Rattle.run_model.proofs.Each.{each_map, each_filter, each_passes}
+use Rattle.run_model.proofs.Each.{each_map, each_filter, each_passes, under_map}
 use Rattle.run_model.proofs.CallLines.{IsWindowAct, on_window_act}
 use Rattle.run_model.proofs.Refusals.{hcall_leaves}
 
@@ -57,21 +56,27 @@ line_leaves context p (acts.Access want ea user) reply is told refused = absurd 
 line_leaves context p (acts.SlbMte rb rs) reply is told refused = absurd is
 line_leaves context p act reply is told refused = absurd (false≢true refused)
 
-lines_leave : (context : StoreContext) (w : BusWindow) (p : Processor) (ts : List RepliedLine) → AllByRecursion (λ (t : RepliedLine). is_on_window w t.line.act ≡ true) ts → EachLineOfProcessor (λ q t. IsCallReply context t.line.act t.reply) p ts → EachLineOfProcessor (λ q t. is_refused t.line.act t.reply ≡ true → LeavesAll q t.line.act t.reply) p ts
-lines_leave context w p [] on told = tt
-lines_leave context w p (t ∷ ts) on told = (line_leaves context p t.line.act t.reply (on_window_act w t.line.act on.0) told.0, lines_leave context w (processor_after p t.line.act t.reply) ts on.1 told.1)
+lines_leave : (context : StoreContext) (p : Processor) (ts : List RepliedLine) → AllByRecursion (λ (t : RepliedLine). IsWindowAct t.line.act) ts → EachLineOfProcessor (λ q t. IsCallReply context t.line.act t.reply) p ts → EachLineOfProcessor (λ q t. is_refused t.line.act t.reply ≡ true → LeavesAll q t.line.act t.reply) p ts
+lines_leave context p [] on told = tt
+lines_leave context p (t ∷ ts) on told = (line_leaves context p t.line.act t.reply on.0 told.0, lines_leave context (processor_after p t.line.act t.reply) ts on.1 told.1)
 
 -- ---- sections
-section_leaves : (grants : List Grant) (cpus : ℕ) (w : BusWindow) (opening : List State) (ts : List RepliedLine) → IsGoodWindowSection (window_section grants cpus w opening ts) → RefusedWindowLinesLeave (window_section grants cpus w opening ts)
-section_leaves grants cpus w opening ts good = λ cpu.
-    let on = each_passes (λ (t : RepliedLine). is_on_window w t.line.act) ts in
-    lines_leave (window_section grants cpus w opening ts).context w _ _ (each_filter (λ (t : RepliedLine). is_on_window w t.line.act ≡ true) (λ (t : RepliedLine). t.line.cpu == cpu) (lines_on_window w ts) on) (good.2 cpu)
+-- The lines on the store are such as windows have.
+abbrev OfWindow : (Act → Bool) → Type 0
+OfWindow on = (act : Act) → on act ≡ true → IsWindowAct act
 
-sections_leave : (grants : List Grant) (cpus : ℕ) (w : BusWindow) (opening : List State) (ts : List RepliedLine) (qs : List QuietPart) → AllByRecursion IsGoodWindowSection (window_sections_from grants cpus w opening ts qs) → AllByRecursion RefusedWindowLinesLeave (window_sections_from grants cpus w opening ts qs)
-sections_leave grants cpus w opening ts [] good = (section_leaves grants cpus w opening ts good.0, tt)
-sections_leave grants cpus w opening ts (q ∷ qs) good = (section_leaves grants cpus w opening ts good.0, sections_leave grants cpus w (closing_of (window_section grants cpus w opening ts)) q.1 qs good.1)
+section_leaves : (on : Act → Bool) (s : Store) (ts : List RepliedLine) (quiet : Option RepliedLine) → OfWindow on → IsGoodSection (section_of on s ts quiet) → RefusedWindowLinesLeave (section_of on s ts quiet)
+section_leaves on s ts quiet of good = λ cpu.
+    let here = each_map (λ (t : RepliedLine). on t.line.act ≡ true) (λ (t : RepliedLine). IsWindowAct t.line.act) (lines_on on ts) (λ t. of t.line.act) (each_passes (λ (t : RepliedLine). on t.line.act) ts) in
+    lines_leave (context_of s) _ _ (each_filter (λ (t : RepliedLine). IsWindowAct t.line.act) (λ (t : RepliedLine). t.line.cpu == cpu) (lines_on on ts) here) (good.calls cpu)
+
+sections_leave : (on : Act → Bool) (s : Store) (ts : List RepliedLine) (qs : List QuietPart) → OfWindow on → AllByRecursion IsGoodSection (sections_from on s ts qs) → AllByRecursion RefusedWindowLinesLeave (sections_from on s ts qs)
+sections_leave on s ts [] of good = (section_leaves on s ts None of good.0, tt)
+sections_leave on s ts (q ∷ qs) of good =
+    let x = section_of on s ts (quiet_on on q.0) in
+    (section_leaves on s ts x.quiet of good.0, sections_leave on (after_quiet (closing x) x.quiet) q.1 qs of good.1)
 
 pub refused_window_lines_leave : (t : AcceptedTrace) (rs : List Reply) → IsGoodRun t rs → AllByRecursion (λ (w : BusWindow). AllByRecursion RefusedWindowLinesLeave (window_sections t rs w)) t.config.windows
 refused_window_lines_leave t rs good =
     let c = cut (lines_with_replies t.lines rs) in
-    each_map (λ (w : BusWindow). AllByRecursion IsGoodWindowSection (window_sections t rs w)) (λ (w : BusWindow). AllByRecursion RefusedWindowLinesLeave (window_sections t rs w)) t.config.windows (λ w h. sections_leave t.config.granted.grants t.config.cpus w opening_window c.0 c.1 h) good.windows
+    under_map (λ (w : BusWindow). AllByRecursion RefusedWindowLinesLeave (window_sections t rs w)) (IsGoodOn t rs) (opening_store t.config) t.config.windows (λ w h. sections_leave (is_on t.config.windows (Some w)) (opening_store t.config w) c.0 c.1 (on_window_act w) h) good.stores.1

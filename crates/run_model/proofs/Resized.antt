@@ -18,7 +18,8 @@ use Rattle.hpt_resize.specs.TableMemory.{TableMemory, commit_result}
 use Rattle.hpt_resize.proofs.Groups.{carried_is, page_goes, target_page}
 use Rattle.hpt_resize.proofs.Rehashed.{rehashed_placed, source_in_table, source_of}
 use Rattle.trace_line.specs.declared.act.Act.{Act}
-use Rattle.run_model.specs.RunState.{RunState, is_success, run_resize, run_quiet_line}
+use Rattle.run_model.specs.Stores.{Store}
+use Rattle.run_model.specs.QuietLines.{is_success, run_resize, run_quiet_line}
 use Rattle.run_model.specs.CommittedResizes.{commits_call, commits_by}
 use Rattle.hpt_resize.specs.Translations.{KeepsTranslations}
 use Rattle.run_model.proofs.Memories.{MemoryStands, memory_prepared, prepare_table, memory_committed}
@@ -70,10 +71,10 @@ pub record IsAfter (outcome_of_commit : Bool) (old new : TableMemory) : Type 0 w
   pub stands : MemoryStands new
   pub moves : Moves outcome_of_commit old.table new.table
 
-same_after : (memory : TableMemory) → MemoryStands memory → IsAfter false memory memory
+pub same_after : (memory : TableMemory) → MemoryStands memory → IsAfter false memory memory
 same_after memory h = record { stands = h; moves = refl }
 
-resize_after : (w : RunState) (call : Hcall) (args : List ℕ) → MemoryStands w.memory → IsAfter (commits_call call (run_resize w call args).0) w.memory (run_resize w call args).1.memory
+resize_after : (w : Store) (call : Hcall) (args : List ℕ) → MemoryStands w.memory → IsAfter (commits_call call (run_resize w call args).0) w.memory (run_resize w call args).1.memory
 unfolding run_resize
 resize_after w calls.Prepare args h = record { stands = memory_prepared w.memory (slice_index args 0) (slice_index args 1) h; moves = prepare_table w.memory (slice_index args 0) (slice_index args 1) }
 resize_after w calls.Commit args h = record { stands = memory_committed w.memory (slice_index args 0) (slice_index args 1) h; moves = memory_moves w.memory (slice_index args 0) (slice_index args 1) }
@@ -88,7 +89,7 @@ resize_after w calls.PutTce args h = same_after w.memory h
 resize_after w calls.BulkRemove args h = same_after w.memory h
 resize_after w (calls.Other number) args h = same_after w.memory h
 
-pub quiet_after : (w : RunState) (act : Act) → MemoryStands w.memory → IsAfter (commits_by act (run_quiet_line w act).0) w.memory (run_quiet_line w act).1.memory
+pub quiet_after : (w : Store) (act : Act) → MemoryStands w.memory → IsAfter (commits_by act (run_quiet_line w act).0) w.memory (run_quiet_line w act).1.memory
 unfolding run_quiet_line
 quiet_after w (acts.Call number args spelt) h = resize_after w (hcall_of number) args h
 quiet_after w (acts.Access want ea user) h = same_after w.memory h

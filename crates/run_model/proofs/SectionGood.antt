@@ -16,23 +16,25 @@ use Rattle.entry_model.proofs.RunFollows.{run_follows}
 use Rattle.entry_model.proofs.LineLaws.{run_leaves}
 use Rattle.entry_model.proofs.Regroup.{history_regrouped}
 use Rattle.entry_model.proofs.RunHistory.{run_history, own_state, other_state}
-use Rattle.run_model.specs.StoreContexts.{StoreContext, access_of}
-use Rattle.run_model.specs.StoreSections.{StoreSection, made_in, closing_of}
 use Rattle.tlb_model.specs.Processor.{Processor, without_cache}
 use Rattle.papr_codes.specs.Hcalls.{hcall_of}
 use Rattle.papr_codes.specs.declared.calls.Hcall.{Hcall}
 use Rattle.trace_line.specs.declared.act.Act.{Act}
 use Rattle.trace_reply.specs.Replies.{RepliedLine, receipts_in}
-use Rattle.run_model.specs.Processors.{processor_at, processor_after, processors_after, gone_line_of}
-use Rattle.run_model.specs.LineReplies.{IsCallReply}
-use Rattle.run_model.specs.RunState.{RunState, context_of, states_of, run_resize, run_quiet_line}
 use Rattle.hpt_resize.specs.TableMemory.{with_states}
-use Rattle.run_model.specs.Histories.{lines_of_processor, receipts_by, closing_from, closing_states, Event, made, InOrder, gone_events, events_by}
 use Rattle.entry_model.specs.Fronts.{pair_beyond}
-use Rattle.run_model.specs.Sections.{receipts_made, section_end, table_section, processors_after_lines, sections_from}
-use Rattle.run_model.specs.GoodRun.{IsAccessLine, IsGoodTo, IsGoodSection}
-use Rattle.run_model.proofs.Undisturbed.{AreUndisturbed, Stands, state_behind, processors_on}
+use Rattle.run_model.specs.GoodRun.{EachLineOfProcessor, IsAccessLine, IsGoodSection}
+use Rattle.run_model.specs.Histories.{lines_of_processor, receipts_by, closing_from, closing_states, Event, made, InOrder, gone_events, events_by}
+use Rattle.run_model.specs.LineReplies.{IsCallReply}
+use Rattle.run_model.specs.Processors.{processor_at, processor_after, processors_after, gone_line_of}
+use Rattle.run_model.specs.Quiet.{QuietPart}
+use Rattle.run_model.specs.QuietLines.{run_resize, run_quiet_line}
+use Rattle.run_model.specs.Sections.{Section, made_in, closing, section_end, after_quiet, quiet_on, section_of, processors_after_lines, sections_from}
+use Rattle.run_model.specs.StoreContexts.{StoreContext, access_of}
+use Rattle.run_model.specs.Stores.{Store, context_of, states_of}
+use Rattle.run_model.proofs.Each.{each_filter}
 use Rattle.run_model.proofs.LinesByProcessor.{Cpus, InFileOrder, own_yes, own_no, processor_own, processor_other, processors_size, cpus_after, own_lines, own_processors, file_listed}
+use Rattle.run_model.proofs.Undisturbed.{AreUndisturbed, processors_on}
 use Rattle.papr_codes.specs.declared.calls.Hcall.TheVariants as calls
 use Rattle.trace_line.specs.declared.act.Act.TheVariants as acts
 
@@ -151,86 +153,99 @@ replied_lines_reaches set processors a b (t ∷ ts) h = (record { reply = h.1.ac
 
 -- ---- a section
 -- With nobody else at the store its lines lead to these states.
-abbrev pub RunsAlone : StoreSection → List State → Type 0
-RunsAlone s b = AreUndisturbed s.context s.processors s.opening s.replied_lines b
+abbrev pub RunsAlone : Section → List State → Type 0
+RunsAlone s b = AreUndisturbed (context_of s.before) s.before.processors (states_of s.before) s.replied_lines b
 
 -- Each line has one of its processors.
-abbrev pub OnCpus : StoreSection → Type 0
-OnCpus s = Cpus (length s.processors) s.replied_lines
+abbrev pub OnCpus : Section → Type 0
+OnCpus s = Cpus (length s.before.processors) s.replied_lines
 
-pub alone_run : (s : StoreSection) (b : List State) → RunsAlone s b → IsRun s.opening (receipts_by s.replied_lines) b
-alone_run s b h = replied_lines_run s.context s.processors s.opening b s.replied_lines h
+-- The store behind it.
+abbrev pub behind : Section → List State → Store
+behind s b = record s.before { memory = with_states s.before.memory b; processors = processors_on s.before.processors s.replied_lines }
 
-pub section_legal : (s : StoreSection) (b : List State) → OnCpus s → RunsAlone s b → (e : ℕ) → IsLegal (state_at s.opening e) (history e (made_in s)) (state_at b e)
-section_legal s b within h e = history_regrouped e _ _ (receipts_by s.replied_lines) (made_in s) (file_listed (length s.processors) s.replied_lines within) (run_history e s.opening b (receipts_by s.replied_lines) (alone_run s b h))
+-- The quiet line has the reply of that store.
+abbrev pub QuietMeets : Section → List State → Type 0
+QuietMeets s b = IfSome s.quiet (λ q. q.reply ≡ (run_quiet_line (behind s b) q.line.act).0)
 
-pub alone_closes : (s : StoreSection) (b : List State) → OnCpus s → RunsAlone s b → closing_of s ≡ b
-alone_closes s b within h = closing_is s.opening b (made_in s) (run-length s.opening b (receipts_by s.replied_lines) (alone_run s b h)) (λ e k. section_legal s b within h e)
+pub alone_run : (s : Section) (b : List State) → RunsAlone s b → IsRun (states_of s.before) (receipts_by s.replied_lines) b
+alone_run s b h = replied_lines_run (context_of s.before) s.before.processors (states_of s.before) b s.replied_lines h
 
-pub alone_good : (s : StoreSection) (b : List State) → OnCpus s → RunsAlone s b → IsGoodTo s b
-alone_good s b within h = (
-  record { in_table = each_regrouped (λ (r : Receipt). r.entry < length s.opening) (file_listed (length s.processors) s.replied_lines within) (within_run s.opening b (receipts_by s.replied_lines) (alone_run s b h)); legal = λ k low. section_legal s b within h k },
-  λ cpu k. replied_lines_in_order s.context cpu k (pair_of (state_at s.opening k)) s.processors s.opening b s.replied_lines within h (omega arith),
-  λ cpu. own_lines (λ processor t. IsCallReply s.context t.line.act t.reply) s.processors s.replied_lines cpu within (replied_lines_calls s.context s.processors s.opening b s.replied_lines h),
-  λ cpu. own_lines (IsAccessLine (access_of s.context) b) s.processors s.replied_lines cpu within (replied_lines_reaches s.context s.processors s.opening b s.replied_lines h),
-)
+pub section_legal : (s : Section) (b : List State) → OnCpus s → RunsAlone s b → (e : ℕ) → IsLegal (state_at (states_of s.before) e) (history e (made_in s)) (state_at b e)
+section_legal s b within h e = history_regrouped e _ _ (receipts_by s.replied_lines) (made_in s) (file_listed (length s.before.processors) s.replied_lines within) (run_history e (states_of s.before) b (receipts_by s.replied_lines) (alone_run s b h))
 
--- ---- a section of the page table
-pub closed_is : (w : RunState) (ts : List RepliedLine) (b : List State) → Cpus (length w.processors) ts → AreUndisturbed (context_of w) w.processors (states_of w) ts b → section_end w ts ≡ state_behind w ts b
+pub alone_closes : (s : Section) (b : List State) → OnCpus s → RunsAlone s b → closing_states (states_of s.before) (made_in s) ≡ b
+alone_closes s b within h = closing_is (states_of s.before) b (made_in s) (run-length (states_of s.before) b (receipts_by s.replied_lines) (alone_run s b h)) (λ e k. section_legal s b within h e)
+
+pub closes : (s : Section) (b : List State) → OnCpus s → RunsAlone s b → closing s ≡ behind s b
 unfolding section_end
-closed_is w ts b within h =
-    let states : closing_states (states_of w) (receipts_made w ts) ≡ b = alone_closes (table_section w ts) b within h in
-    let processors : processors_after_lines 0 w.processors ts ≡ processors_on w.processors ts = own_processors w.processors ts within in
-    λ i. record w { memory = with_states w.memory (states i); processors = processors i }
+closes s b within h =
+    let states : closing_states (states_of s.before) (made_in s) ≡ b = alone_closes s b within h in
+    let processors : processors_after_lines 0 s.before.processors s.replied_lines ≡ processors_on s.before.processors s.replied_lines = own_processors s.before.processors s.replied_lines within in
+    λ i. record s.before { memory = with_states s.before.memory (states i); processors = processors i }
 
-pub section_good : (w : RunState) (ts : List RepliedLine) (quiet : Option RepliedLine) (b : List State) → Cpus (length w.processors) ts → AreUndisturbed (context_of w) w.processors (states_of w) ts b → IfSome quiet (λ q. q.reply ≡ (run_quiet_line (state_behind w ts b) q.line.act).0) → IsGoodSection (record { before = w; replied_lines = ts; quiet = quiet })
-section_good w ts quiet b within h q =
-    let e : state_behind w ts b ≡ section_end w ts = sym (closed_is w ts b within h) in
-    let g : IsGoodTo (table_section w ts) (states_of (section_end w ts)) = subst (λ (v : RunState). IsGoodTo (table_section w ts) (states_of v)) e (alone_good (table_section w ts) b within h) in
-    (g.0, g.1, g.2, g.3, subst (λ v. IfSome quiet (λ q. q.reply ≡ (run_quiet_line v q.line.act).0)) e q)
+-- What runs alone is good.
+pub section_good : (s : Section) (b : List State) → OnCpus s → RunsAlone s b → QuietMeets s b → IsGoodSection s
+section_good s b within h q =
+    let set = context_of s.before in
+    let ps = s.before.processors in
+    let a = states_of s.before in
+    let ts = s.replied_lines in
+    let e : behind s b ≡ closing s = sym (closes s b within h) in
+    record {
+      legal = record {
+        in_table = each_regrouped (λ (r : Receipt). r.entry < length a) (file_listed (length ps) ts within) (within_run a b (receipts_by ts) (alone_run s b h));
+        legal = λ k low. subst (λ (v : Store). IsLegal (state_at a k) (history k (made_in s)) (state_at (states_of v) k)) e (section_legal s b within h k);
+      };
+      in_order = λ cpu k. replied_lines_in_order set cpu k (pair_of (state_at a k)) ps a b ts within h (omega arith);
+      calls = λ cpu. own_lines (λ processor t. IsCallReply set t.line.act t.reply) ps ts cpu within (replied_lines_calls set ps a b ts h);
+      accesses = λ cpu. subst (λ (v : Store). EachLineOfProcessor (IsAccessLine (access_of set) (states_of v)) (processor_at ps cpu) (lines_of_processor cpu ts)) e (own_lines (IsAccessLine (access_of set) b) ps ts cpu within (replied_lines_reaches set ps a b ts h));
+      quiet = subst (λ v. IfSome s.quiet (λ q. q.reply ≡ (run_quiet_line v q.line.act).0)) e q;
+    }
 
 -- ---- all sections
+-- Each section's lines run alone, from the store behind the one before it, and each quiet line has its reply.
+abbrev pub Stands : (Act → Bool) → Store → List RepliedLine → List QuietPart → Type 0
+Stands on s ts [] = (b : List State) × RunsAlone (section_of on s ts None) b
+Stands on s ts (q ∷ qs) =
+    let x = section_of on s ts (quiet_on on q.0) in
+    (b : List State) × RunsAlone x b × QuietMeets x b × Stands on (after_quiet (behind x b) x.quiet) q.1 qs
+
 pub processors_on_size : (processors : List Processor) (ts : List RepliedLine) → length (processors_on processors ts) ≡ length processors
 processors_on_size processors [] = refl
 processors_on_size processors (t ∷ ts) = processors_on_size (processors_after processors t) ts ∙ processors_size processors t
 
-committed_size : (w : RunState) (b : Bool) → length (if b then map without_cache w.processors else w.processors) ≡ length w.processors
-committed_size w true = length-map w.processors without_cache
-committed_size w false = refl
+committed_size : (s : Store) (b : Bool) → length (if b then map without_cache s.processors else s.processors) ≡ length s.processors
+committed_size s true = length-map s.processors without_cache
+committed_size s false = refl
 
-resize_size : (w : RunState) (call : Hcall) (args : List ℕ) → length (run_resize w call args).1.processors ≡ length w.processors
+resize_size : (s : Store) (call : Hcall) (args : List ℕ) → length (run_resize s call args).1.processors ≡ length s.processors
 unfolding run_resize
-resize_size w calls.Prepare args = refl
-resize_size w calls.Commit args = committed_size w _
-resize_size w calls.Enter args = refl
-resize_size w calls.Remove args = refl
-resize_size w calls.Read args = refl
-resize_size w calls.ClearMod args = refl
-resize_size w calls.ClearRef args = refl
-resize_size w calls.Protect args = refl
-resize_size w calls.GetTce args = refl
-resize_size w calls.PutTce args = refl
-resize_size w calls.BulkRemove args = refl
-resize_size w (calls.Other number) args = refl
+resize_size s calls.Prepare args = refl
+resize_size s calls.Commit args = committed_size s _
+resize_size s other args = refl
 
-pub quiet_size : (w : RunState) (act : Act) → length (run_quiet_line w act).1.processors ≡ length w.processors
+pub quiet_size : (s : Store) (act : Act) → length (run_quiet_line s act).1.processors ≡ length s.processors
 unfolding run_quiet_line
-quiet_size w (acts.Call number args spelt) = resize_size w (hcall_of number) args
-quiet_size w (acts.Access want ea user) = refl
-quiet_size w (acts.Device write liobn ioba) = refl
-quiet_size w (acts.SlbMte rb rs) = refl
-quiet_size w acts.SlbClear = refl
-quiet_size w (acts.SetMask name value) = refl
-quiet_size w acts.Dump = refl
+quiet_size s (acts.Call number args spelt) = resize_size s (hcall_of number) args
+quiet_size s other = refl
 
--- each line of each section has one of n processors
-abbrev pub AllCpus : ℕ → List RepliedLine → List (RepliedLine × List RepliedLine) → Type 0
-AllCpus n ts qs = Cpus n ts × AllByRecursion (λ (q : RepliedLine × List RepliedLine). Cpus n q.1) qs
+pub after_size : (s : Store) (quiet : Option RepliedLine) → length (after_quiet s quiet).processors ≡ length s.processors
+after_size s None = refl
+after_size s (Some q) = quiet_size s q.line.act
 
-pub sections_good : (n : ℕ) (w : RunState) (ts : List RepliedLine) (qs : List (RepliedLine × List RepliedLine)) → length w.processors ≡ n → AllCpus n ts qs → Stands w ts qs → AllByRecursion IsGoodSection (sections_from w ts qs)
-sections_good n w ts [] size cpus h = (section_good w ts None h.0 (subst (λ k. Cpus k ts) (sym size) cpus.0) h.1 tt, tt)
-sections_good n w ts (q ∷ qs) size cpus h =
-    let within : Cpus (length w.processors) ts = subst (λ k. Cpus k ts) (sym size) cpus.0 in
-    let v = (run_quiet_line (state_behind w ts h.0) q.0.line.act).1 in
-    let size' : length v.processors ≡ n = quiet_size (state_behind w ts h.0) q.0.line.act ∙ processors_on_size w.processors ts ∙ size in
-    (section_good w ts (Some q.0) h.0 within h.1 h.2, subst (λ v. AllByRecursion IsGoodSection (sections_from (run_quiet_line v q.0.line.act).1 q.1 qs)) (sym (closed_is w ts h.0 within h.1)) (sections_good n v q.1 qs size' (cpus.1.0, cpus.1.1) h.3))
+-- Each line of each section has one of n processors.
+abbrev pub AllCpus : ℕ → List RepliedLine → List QuietPart → Type 0
+AllCpus n ts qs = Cpus n ts × AllByRecursion (λ (q : QuietPart). Cpus n q.1) qs
+
+pub on_cpus : (on : Act → Bool) (n : ℕ) (s : Store) (ts : List RepliedLine) (quiet : Option RepliedLine) → length s.processors ≡ n → Cpus n ts → OnCpus (section_of on s ts quiet)
+on_cpus on n s ts quiet size h = each_filter (λ (t : RepliedLine). t.line.cpu < length s.processors) (λ (t : RepliedLine). on t.line.act) ts (subst (λ k. Cpus k ts) (sym size) h)
+
+pub sections_good : (on : Act → Bool) (n : ℕ) (s : Store) (ts : List RepliedLine) (qs : List QuietPart) → length s.processors ≡ n → AllCpus n ts qs → Stands on s ts qs → AllByRecursion IsGoodSection (sections_from on s ts qs)
+sections_good on n s ts [] size cpus h = (section_good (section_of on s ts None) h.0 (on_cpus on n s ts None size cpus.0) h.1 tt, tt)
+sections_good on n s ts (q ∷ qs) size cpus h =
+    let x = section_of on s ts (quiet_on on q.0) in
+    let within : OnCpus x = on_cpus on n s ts x.quiet size cpus.0 in
+    let v = after_quiet (behind x h.0) x.quiet in
+    let size' : length v.processors ≡ n = after_size (behind x h.0) x.quiet ∙ processors_on_size s.processors x.replied_lines ∙ size in
+    (section_good x h.0 within h.1 h.2, subst (λ v. AllByRecursion IsGoodSection (sections_from on (after_quiet v x.quiet) q.1 qs)) (sym (closes x h.0 within h.1)) (sections_good on n v q.1 qs size' (cpus.1.0, cpus.1.1) h.3))

@@ -33,9 +33,10 @@ use Rattle.run_model.specs.GoodRun.{IsAccessLine}
 use Rattle.run_model.specs.Histories.{made, gone, closing_states, events_by}
 use Rattle.run_model.specs.Processors.{gone_line_of}
 use Rattle.run_model.specs.Quiet.{cut}
-use Rattle.run_model.specs.Sections.{Section, section_end, sections_from, receipts_made}
+use Rattle.run_model.specs.Sections.{Section, made_in, closing, section_end, section_of, sections_from}
 use Rattle.trace_reply.specs.Replies.{RepliedLine}
-use Rattle.run_model.specs.RunState.{reply_of_code, context_of, run_quiet_line, run_resize, shown_of}
+use Rattle.run_model.specs.QuietLines.{reply_of_code, run_quiet_line, run_resize, shown_of}
+use Rattle.run_model.specs.Stores.{context_of, is_on}
 use Rattle.run_model.proofs.SmallPartition.{small}
 use Rattle.entry_model.specs.declared.operation.Op.TheVariants as ops
 use Rattle.trace_reply.specs.declared.reply.Reply.TheVariants as replies
@@ -93,15 +94,15 @@ replied_lines =
     ∷ []
 
 opened : List Section
-opened = let c = cut replied_lines in sections_from (small 2) c.0 c.1
+opened = let c = cut replied_lines in sections_from (is_on [] None) (small 2) c.0 c.1
 
 -- The receipts are listed by processor.
-by_processor : receipts_made (small 2) (cut replied_lines).0 ≡ entered ∷ reached (at_stamp 2) ∷ protected ∷ []
+by_processor : made_in (section_of (is_on [] None) (small 2) (cut replied_lines).0 None) ≡ entered ∷ reached (at_stamp 2) ∷ protected ∷ []
 unfolding replied_lines replied_line hcall walk resize dump is_quiet hcall_of row_of entered protected reached
 by_processor = refl
 
 -- It has the reply of the closing states.
-dump_is_replied : (run_quiet_line (section_end (small 2) (cut replied_lines).0) Dump).0 ≡ dump.reply
+dump_is_replied : (run_quiet_line (closing (section_of (is_on [] None) (small 2) (cut replied_lines).0 None)) Dump).0 ≡ dump.reply
 unfolding replied_lines replied_line hcall walk resize dump is_quiet hcall_of row_of entered protected reached at_stamp with_r section_end closing_states place pair_of state_eq has_base permission rows row_says key_rows run_quiet_line shown_of
 dump_is_replied = refl
 

@@ -1,4 +1,4 @@
--- Kinds of replies, the beginning, and what good sections make of a run.
+-- Kinds of replies, and the processors of lines.
 use Rattle.std.specs.Prelude.{Bool}
 use Rattle.std.proofs.Common.{◌≡◌, ℕ, ◌<◌, List, [], ◌∷◌, true, false, ◌⊎◌, inl, inr, length, Option, Some, None}
 use Rattle.std.specs.List.{AllByRecursion}
@@ -17,23 +17,17 @@ use Rattle.tlb_model.specs.Processor.{Processor, new_processor}
 use Rattle.trace_line.specs.declared.act.Act.{Act}
 use Rattle.trace_line.specs.declared.line.TraceLine.{TraceLine}
 use Rattle.trace_line.specs.Lines.{is_quiet}
-use Rattle.trace_read.specs.Trace.{AcceptedTrace, IsAccepted}
+use Rattle.trace_read.specs.Trace.{AcceptedTrace}
 use Rattle.trace_reply.specs.declared.reply.Reply.{Reply}
 use Rattle.trace_reply.specs.Replies.{RepliedLine, IsOfKind, AreReplies, lines_with_replies}
 use Rattle.run_model.specs.Processors.{processor_at}
-use Rattle.run_model.specs.RunState.{RunState, context_of, states_of, opening_run, run_resize, run_quiet_line}
+use Rattle.run_model.specs.Stores.{Store, context_of, states_of, page_table}
+use Rattle.run_model.specs.QuietLines.{run_resize, run_quiet_line}
 use Rattle.bus_window.specs.Windows.{BusWindow, entry_at}
 use Rattle.frame_grants.specs.declared.grant.Grant.{Grant}
 use Rattle.run_model.specs.StoreContexts.{StoreContext, access_of}
-use Rattle.run_model.specs.SerialRun.{current_line, result_by_line, result_by_segment, device_by_entry, device_by_window, line_result, run_line}
+use Rattle.run_model.specs.SerialRun.{current_line, result_by_line, result_by_segment, device_by_entry, device_by_window, line_result, run_on}
 use Rattle.run_model.specs.Quiet.{cut, cut_before}
-use Rattle.run_model.specs.Windows.{window_sections}
-use Rattle.run_model.specs.Sections.{sections_of}
-use Rattle.run_model.specs.GoodRun.{AreLegal, AreInOrder, CallsAreReplied, AccessesAreReplied, QuietIsReplied, IsGoodRun, IsGoodSection, IsGoodWindowSection}
-use Rattle.run_model.proofs.Each.{each_map, each_replicate}
-use Rattle.run_model.proofs.Memories.{opening_stands}
-use Rattle.run_model.proofs.CachesHold.{empty_fresh}
-use Rattle.run_model.proofs.SerialUndisturbed.{SoundRunState}
 use Rattle.run_model.proofs.LinesByProcessor.{Cpus}
 use Rattle.run_model.proofs.SectionGood.{AllCpus}
 use Rattle.papr_codes.specs.declared.calls.Hcall.TheVariants as calls
@@ -66,7 +60,7 @@ on_kind set processor states (acts.Device write liobn ioba) q = device_kind set.
 on_kind set processor states (acts.SetMask name value) q = tt
 on_kind set processor states acts.Dump q = cc
 
-resize_kind : (w : RunState) (call : Hcall) (number : ℕ) (args : List ℕ) (spelt : Bool) → IsOfKind (acts.Call number args spelt) (run_resize w call args).0
+resize_kind : (w : Store) (call : Hcall) (number : ℕ) (args : List ℕ) (spelt : Bool) → IsOfKind (acts.Call number args spelt) (run_resize w call args).0
 unfolding run_resize
 resize_kind w calls.Prepare number args spelt = tt
 resize_kind w calls.Commit number args spelt = tt
@@ -81,7 +75,7 @@ resize_kind w calls.PutTce number args spelt = tt
 resize_kind w calls.BulkRemove number args spelt = tt
 resize_kind w (calls.Other other) number args spelt = tt
 
-pub quiet_kind : (w : RunState) (act : Act) → is_quiet act ≡ true → IsOfKind act (run_quiet_line w act).0
+pub quiet_kind : (w : Store) (act : Act) → is_quiet act ≡ true → IsOfKind act (run_quiet_line w act).0
 unfolding run_quiet_line is_quiet
 quiet_kind w (acts.Call number args spelt) q = resize_kind w (hcall_of number) number args spelt
 quiet_kind w acts.Dump q = tt
@@ -91,36 +85,17 @@ quiet_kind w (acts.SlbMte rb rs) q = cc
 quiet_kind w acts.SlbClear q = cc
 quiet_kind w (acts.SetMask name value) q = cc
 
-pub one_kind : (w : RunState) (l : TraceLine) → IsOfKind l.act (run_line w l).0
-unfolding run_line
+pub one_kind : (w : Store) (l : TraceLine) → IsOfKind l.act (run_on w l).0
+unfolding run_on
 one_kind w l = at (cases_Bool (is_quiet l.act)) where
-  at : (is_quiet l.act ≡ true) ⊎ (is_quiet l.act ≡ false) → IsOfKind l.act (run_line w l).0
+  at : (is_quiet l.act ≡ true) ⊎ (is_quiet l.act ≡ false) → IsOfKind l.act (run_on w l).0
   at (inl q) = rw q (quiet_kind w l.act q)
   at (inr q) = rw q (on_kind (context_of w) (processor_at w.processors l.cpu) (states_of w) l.act q)
 
 -- ---- the beginning
-pub opening_sound : (t : AcceptedTrace) → IsAccepted t → SoundRunState (opening_run t.config)
-unfolding opening_run
-opening_sound t is =
-    let c = t.config in
-    let memory = opening_stands c.limit c.order c.granted.pool_base c.granted.pool_order c.entries is.configured.settings.at_most is.configured.settings.at_least in
-    record { lines = record { size = memory.size; low = memory.low; fresh = each_replicate _ c.cpus new_processor (empty_fresh _) }; memory = memory }
-
-pub opening_processors : (t : AcceptedTrace) → length (opening_run t.config).processors ≡ t.config.cpus
-unfolding opening_run
+pub opening_processors : (t : AcceptedTrace) → length (page_table t.config).processors ≡ t.config.cpus
+unfolding page_table
 opening_processors t = length-replicate t.config.cpus new_processor
-
--- ---- the parts
-pub good_of : (t : AcceptedTrace) (rs : List Reply) → AreReplies t.lines rs → AllByRecursion IsGoodSection (sections_of t rs) → AllByRecursion (λ (w : BusWindow). AllByRecursion IsGoodWindowSection (window_sections t rs w)) t.config.windows → IsGoodRun t rs
-good_of t rs kinds all windows = record {
-  kinds = kinds;
-  legal = each_map IsGoodSection AreLegal (sections_of t rs) (λ s h. h.0) all;
-  in_order = each_map IsGoodSection AreInOrder (sections_of t rs) (λ s h. h.1) all;
-  calls = each_map IsGoodSection CallsAreReplied (sections_of t rs) (λ s h. h.2) all;
-  accesses = each_map IsGoodSection AccessesAreReplied (sections_of t rs) (λ s h. h.3) all;
-  quiets = each_map IsGoodSection QuietIsReplied (sections_of t rs) (λ s h. h.4) all;
-  windows = windows;
-}
 
 -- ---- processors
 front_cpus : (n : ℕ) (t : RepliedLine) (x : List RepliedLine × List (RepliedLine × List RepliedLine)) → t.line.cpu < n → AllCpus n x.0 x.1 → AllCpus n (cut_before t x).0 (cut_before t x).1

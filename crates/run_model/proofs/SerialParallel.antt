@@ -16,19 +16,25 @@ use Rattle.entry_model.specs.Fronts.{front_at, opening_fronts, fronts_after, Are
 use Rattle.entry_model.proofs.RunFollows.{run_follows}
 use Rattle.entry_model.proofs.FrontLaws.{below_self, below_on, lower_keeps}
 use Rattle.entry_model.proofs.LineLaws.{run_leaves, run_past}
-use Rattle.run_model.specs.StoreContexts.{StoreContext}
-use Rattle.run_model.specs.StoreSections.{StoreSection}
 use Rattle.tlb_model.specs.Processor.{Processor}
-use Rattle.trace_reply.specs.Replies.{RepliedLine, receipts_in}
-use Rattle.run_model.specs.Processors.{processor_at, processor_after, processors_after, gone_line_of}
-use Rattle.run_model.specs.RunState.{RunState, run_quiet_line}
-use Rattle.hpt_resize.specs.TableMemory.{with_states}
+use Rattle.trace_line.specs.declared.act.Act.{Act}
+use Rattle.trace_read.specs.Trace.{AcceptedTrace, IsAccepted}
+use Rattle.trace_reply.specs.Replies.{RepliedLine, receipts_in, lines_with_replies}
 use Rattle.run_model.specs.Histories.{lines_of_processor, receipts_by}
-use Rattle.run_model.specs.Sections.{section_end_on, table_section}
-use Rattle.run_model.proofs.Undisturbed.{IsUndisturbed, AreUndisturbed, Stands, state_behind}
-use Rattle.run_model.specs.ParallelRun.{WorksLine, Works, IsClosed, RunsApart, RunsParallel}
+use Rattle.run_model.specs.ParallelRun.{WorksLine, Works, IsClosed, RunsApart, RunsParallel, IsParallelOn, IsParallel}
+use Rattle.run_model.specs.Processors.{processor_at, processor_after, processors_after, gone_line_of}
+use Rattle.run_model.specs.Quiet.{QuietPart, cut}
+use Rattle.run_model.specs.QuietLines.{run_quiet_line}
+use Rattle.run_model.specs.Sections.{Section, closing_on, after_quiet, quiet_on, section_of}
+use Rattle.run_model.specs.SerialRun.{serial_replies}
+use Rattle.run_model.specs.StoreContexts.{StoreContext}
+use Rattle.run_model.specs.Stores.{Store, context_of, states_of, opening_stores, is_on}
+use Rattle.run_model.proofs.Each.{each_map}
 use Rattle.run_model.proofs.LinesByProcessor.{Cpus, own_yes, own_no, processor_own, processor_other, cpus_after, own_processors, file_listed}
-use Rattle.run_model.proofs.SectionGood.{AllCpus, OnCpus, RunsAlone, alone_run, within_run, each_regrouped, section_legal, follows_pair, stamp_pair, quiet_size, processors_on_size}
+use Rattle.run_model.proofs.SectionGood.{AllCpus, OnCpus, RunsAlone, QuietMeets, Stands, behind, alone_run, within_run, each_regrouped, section_legal, follows_pair, stamp_pair, on_cpus, after_size, processors_on_size}
+use Rattle.run_model.proofs.StoreSerial.{RunsHere, each_runs, serial_cpus}
+use Rattle.run_model.proofs.Undisturbed.{IsUndisturbed, AreUndisturbed}
+use Rattle.hpt_resize.specs.TableMemory.{with_states}
 
 -- ---- the fronts of states
 front_of : (a : List State) (e : ℕ) → front_at (opening_fronts a) e ≡ pair_of (state_at a e)
@@ -121,35 +127,43 @@ works_below set cpu f processors a b (t ∷ ts) within h below = at (cases_Bool 
       subst (λ us. WorksBelow set f (processor_at processors cpu) us b) (sym (own_no cpu t ts other)) later
 
 -- ---- a section
-all_work : (s : StoreSection) (b : List State) → OnCpus s → RunsAlone s b → (cpu : ℕ) → WorksBelow s.context (opening_fronts s.opening) (processor_at s.processors cpu) (lines_of_processor cpu s.replied_lines) b
-all_work s b within h cpu = works_below s.context cpu (opening_fronts s.opening) s.processors s.opening b s.replied_lines within h (below_self (opening_fronts s.opening))
+all_work : (s : Section) (b : List State) → OnCpus s → RunsAlone s b → (cpu : ℕ) → WorksBelow (context_of s.before) (opening_fronts (states_of s.before)) (processor_at s.before.processors cpu) (lines_of_processor cpu s.replied_lines) b
+all_work s b within h cpu = works_below (context_of s.before) cpu (opening_fronts (states_of s.before)) s.before.processors (states_of s.before) b s.replied_lines within h (below_self (opening_fronts (states_of s.before)))
 
-closes : (s : StoreSection) (b : List State) (within : OnCpus s) (h : RunsAlone s b) → IsClosed s (λ cpu. (all_work s b within h cpu).0) b
-closes s b within h =
-    let run : IsRun s.opening (receipts_by s.replied_lines) b = alone_run s b h in
+closed : (s : Section) (b : List State) (within : OnCpus s) (h : RunsAlone s b) → IsClosed s (λ cpu. (all_work s b within h cpu).0) b
+closed s b within h =
+    let a = states_of s.before in
+    let run : IsRun a (receipts_by s.replied_lines) b = alone_run s b h in
     record {
-      size = run-length s.opening b (receipts_by s.replied_lines) run;
-      in_table = each_regrouped (λ (r : Receipt). r.entry < length s.opening) (file_listed (length s.processors) s.replied_lines within) (within_run s.opening b (receipts_by s.replied_lines) run);
+      size = run-length a b (receipts_by s.replied_lines) run;
+      in_table = each_regrouped (λ (r : Receipt). r.entry < length a) (file_listed (length s.before.processors) s.replied_lines within) (within_run a b (receipts_by s.replied_lines) run);
       legal = λ e k. section_legal s b within h e;
       gone = λ cpu line gone. by_gone (all_work s b within h cpu).0 b line (all_work s b within h cpu).2 gone;
     }
 
-pub alone_apart : (s : StoreSection) (b : List State) → OnCpus s → RunsAlone s b → RunsApart s b
-alone_apart s b within h = record {
+behind_is : (s : Section) (b : List State) → OnCpus s → behind s b ≡ closing_on s b
+behind_is s b within = ap (λ ps. record s.before { memory = with_states s.before.memory b; processors = ps }) (sym (own_processors s.before.processors s.replied_lines within))
+
+apart : (s : Section) (b : List State) → OnCpus s → RunsAlone s b → QuietMeets s b → RunsApart s b
+apart s b within h q = record {
   fronts = λ cpu. (all_work s b within h cpu).0;
   work = λ cpu. (all_work s b within h cpu).1;
-  closed = closes s b within h;
+  closed = closed s b within h;
+  quiet = subst (λ v. IfSome s.quiet (λ q. q.reply ≡ (run_quiet_line v q.line.act).0)) (behind_is s b within) q;
 }
 
-joined_memory : (w : RunState) (ts : List RepliedLine) (b : List State) → Cpus (length w.processors) ts → state_behind w ts b ≡ section_end_on w ts b
-joined_memory w ts b within = ap (λ processors. record w { memory = with_states w.memory b; processors = processors }) (sym (own_processors w.processors ts within))
-
 -- ---- all sections
-pub sections_apart : (n : ℕ) (w : RunState) (ts : List RepliedLine) (qs : List (RepliedLine × List RepliedLine)) → length w.processors ≡ n → AllCpus n ts qs → Stands w ts qs → RunsParallel w ts qs
-sections_apart n w ts [] size cpus h = (h.0, alone_apart (table_section w ts) h.0 (subst (λ k. Cpus k ts) (sym size) cpus.0) h.1)
-sections_apart n w ts (q ∷ qs) size cpus h =
-    let within : Cpus (length w.processors) ts = subst (λ k. Cpus k ts) (sym size) cpus.0 in
-    let v = (run_quiet_line (state_behind w ts h.0) q.0.line.act).1 in
-    let size' : length v.processors ≡ n = quiet_size (state_behind w ts h.0) q.0.line.act ∙ processors_on_size w.processors ts ∙ size in
-    let e = joined_memory w ts h.0 within in
-    (h.0, alone_apart (table_section w ts) h.0 within h.1, subst (λ u. q.0.reply ≡ (run_quiet_line u q.0.line.act).0) e h.2, subst (λ u. RunsParallel (run_quiet_line u q.0.line.act).1 q.1 qs) e (sections_apart n v q.1 qs size' (cpus.1.0, cpus.1.1) h.3))
+pub stands_apart : (on : Act → Bool) (n : ℕ) (s : Store) (ts : List RepliedLine) (qs : List QuietPart) → length s.processors ≡ n → AllCpus n ts qs → Stands on s ts qs → RunsParallel on s ts qs
+stands_apart on n s ts [] size cpus h = (h.0, apart (section_of on s ts None) h.0 (on_cpus on n s ts None size cpus.0) h.1 tt)
+stands_apart on n s ts (q ∷ qs) size cpus h =
+    let x = section_of on s ts (quiet_on on q.0) in
+    let within : OnCpus x = on_cpus on n s ts x.quiet size cpus.0 in
+    let v = after_quiet (behind x h.0) x.quiet in
+    let size' : length v.processors ≡ n = after_size (behind x h.0) x.quiet ∙ processors_on_size s.processors x.replied_lines ∙ size in
+    (h.0, apart x h.0 within h.1 h.2, subst (λ v. RunsParallel on (after_quiet v x.quiet) q.1 qs) (behind_is x h.0 within) (stands_apart on n v q.1 qs size' (cpus.1.0, cpus.1.1) h.3))
+
+-- ---- the serial run
+pub serial_parallel : (t : AcceptedTrace) → IsAccepted t → IsParallel t (serial_replies t)
+serial_parallel t is =
+    let c = cut (lines_with_replies t.lines (serial_replies t)) in
+    each_map (RunsHere t) (IsParallelOn t (serial_replies t)) (opening_stores t.config) (λ s h. stands_apart (is_on t.config.windows s.window) t.config.cpus s c.0 c.1 h.1 (serial_cpus t is) h.0) (each_runs t is)

@@ -7,7 +7,7 @@ use Rattle.hpt_resize.specs.TableMemory.{TableMemory}
 use Rattle.tlb_model.specs.Processor.{new_processor}
 use Rattle.trace_line.specs.declared.line.TraceLine.{TraceLine}
 use Rattle.trace_line.specs.declared.act.Act.TheVariants.{Call, Access, SlbMte}
-use Rattle.run_model.specs.RunState.{RunState}
+use Rattle.run_model.specs.Stores.{Store}
 
 -- A table with these states, and a pool of four blocks of 2 ^ 18 bytes.
 abbrev pub memory_of : List State → TableMemory
@@ -19,9 +19,10 @@ memory_of states = record {
 }
 
 -- So many processors, 1 GB of main storage and 64 KB of a device.
-abbrev pub small : ℕ → RunState
+abbrev pub small : ℕ → Store
 small cpus = record {
   grants = record { logical = 0; machine = 0x2000000000; length = 0x40000000; kind = Ram } ∷ record { logical = 0x40000000; machine = 0x3000000000; length = 0x10000; kind = Io } ∷ [];
+  window = None;
   memory = memory_of (replicate 16 (empty_state 0));
   processors = replicate cpus new_processor;
 }

@@ -10,11 +10,12 @@ use Rattle.hpt_resize.specs.Rehash.{target_at}
 use Rattle.hpt_resize.specs.Resize.{Table}
 use Rattle.trace_read.specs.Trace.{AcceptedTrace, IsAccepted}
 use Rattle.trace_reply.specs.declared.reply.Reply.{Reply}
-use Rattle.run_model.specs.RunState.{states_of}
-use Rattle.run_model.specs.Sections.{Section, section_end, sections_of}
-use Rattle.run_model.specs.GoodRun.{IsGoodRun, AreLegal}
+use Rattle.run_model.specs.Stores.{states_of}
+use Rattle.run_model.specs.Sections.{Section, closing, sections_of}
+use Rattle.run_model.specs.GoodRun.{IsGoodRun, IsGoodSection, AreLegal}
 use Rattle.run_model.specs.ShownStores.{history_in, closing_state, has_table_of, carried_to, ShowsChange, StaysShown, NoStoreIsLostIn, NoSetBitIsLostIn}
 use Rattle.run_model.specs.CommittedResizes.{is_committed}
+use Rattle.run_model.proofs.Each.{each_map}
 use Rattle.run_model.proofs.Resized.{Moves, IsAfter, resized_at}
 use Rattle.run_model.proofs.SectionChain.{AreChained, chained_rest, chained, closed_order, same_number, other_number}
 use Rattle.run_model.proofs.Stores.{IsDirty, shows, stores_shown}
@@ -31,7 +32,7 @@ dirty_in_table states entry d = at (cases_lt entry (length states)) where
       absurd (cc)
 
 -- Where the entry is carried, its C is set there.
-carried_dirty : (s next : Section) (entry target : ℕ) (committed : Bool) → 18 ≤ next.before.memory.table.order → Moves committed (section_end s.before s.replied_lines).memory.table next.before.memory.table → carried_to s next entry ≡ Some target → IsDirty (closing_state s entry) → IsDirty (state_at (states_of next.before) target)
+carried_dirty : (s next : Section) (entry target : ℕ) (committed : Bool) → 18 ≤ next.before.memory.table.order → Moves committed (closing s).memory.table next.before.memory.table → carried_to s next entry ≡ Some target → IsDirty (closing_state s entry) → IsDirty (state_at (states_of next.before) target)
 carried_dirty s next entry target false low same to d =
     let stays : has_table_of s next ≡ true = same_number s next same in
     let here : Some entry ≡ Some target = rw stays at to in
@@ -39,13 +40,13 @@ carried_dirty s next entry target false low same to d =
     subst (λ k. IsDirty (state_at (states_of next.before) k)) one (subst (λ (table : Table). IsDirty (state_at table.states entry)) (sym same) d)
 carried_dirty s next entry target true low r to d =
     let moves : has_table_of s next ≡ false = other_number s next r in
-    let goes : target_at s.before.memory.table.order next.before.memory.table.order (states_of (section_end s.before s.replied_lines)) entry ≡ Some target = rw moves at to in
+    let goes : target_at s.before.memory.table.order next.before.memory.table.order (states_of (closing s)) entry ≡ Some target = rw moves at to in
     let order = closed_order s.before s.replied_lines in
-    let there = resized_at (section_end s.before s.replied_lines).memory.table next.before.memory.table entry target low r (ap (λ n. target_at n next.before.memory.table.order (states_of (section_end s.before s.replied_lines)) entry) order ∙ goes) in
+    let there = resized_at (closing s).memory.table next.before.memory.table entry target low r (ap (λ n. target_at n next.before.memory.table.order (states_of (closing s)) entry) order ∙ goes) in
     subst IsDirty (sym there) (record { valid = d.valid; changed = d.changed })
 
 -- ---- section by section
-one_shown : (s next : Section) (entry : ℕ) (rest : List Section) (committed : Bool) → IsAfter committed (section_end s.before s.replied_lines).memory next.before.memory → AreLegal next → ((target : ℕ) → IsDirty (closing_state next target) → StaysShown next target rest) → IsDirty (closing_state s entry) → StaysShown s entry (next ∷ rest)
+one_shown : (s next : Section) (entry : ℕ) (rest : List Section) (committed : Bool) → IsAfter committed (closing s).memory next.before.memory → AreLegal next → ((target : ℕ) → IsDirty (closing_state next target) → StaysShown next target rest) → IsDirty (closing_state s entry) → StaysShown s entry (next ∷ rest)
 one_shown s next entry rest committed after legal more d = at (carried_to s next entry) refl where
   at : (o : Option ℕ) → carried_to s next entry ≡ o → MatchOption o (Unit {0}) (λ target. ShowsChange (history_in next target) (closing_state next target) (StaysShown next target rest))
   at None to = tt
@@ -66,7 +67,7 @@ none_lost (s ∷ rest) h legal = (
 
 -- In a good run every store that succeeds shows in a change bit until a reply reports or clears it.
 pub no_store_is_lost : (t : AcceptedTrace) (rs : List Reply) → IsAccepted t → IsGoodRun t rs → NoStoreIsLostIn (sections_of t rs)
-no_store_is_lost t rs is good = none_lost (sections_of t rs) (chained t rs is good) good.legal
+no_store_is_lost t rs is good = none_lost (sections_of t rs) (chained t rs is good) (each_map IsGoodSection AreLegal (sections_of t rs) (λ s h. h.legal) good.stores.0)
 
 -- ---- bits that are set already
 none_unset : (ss : List Section) → AreChained ss → AllByRecursion AreLegal ss → NoSetBitIsLostIn ss
@@ -77,4 +78,4 @@ none_unset (s ∷ rest) h legal = (λ entry valid changed. shown entry (record {
 
 -- In a good run every change bit that is set when a section begins shows until a reply reports or clears it.
 pub no_set_bit_is_lost : (t : AcceptedTrace) (rs : List Reply) → IsAccepted t → IsGoodRun t rs → NoSetBitIsLostIn (sections_of t rs)
-no_set_bit_is_lost t rs is good = none_unset (sections_of t rs) (chained t rs is good) good.legal
+no_set_bit_is_lost t rs is good = none_unset (sections_of t rs) (chained t rs is good) (each_map IsGoodSection AreLegal (sections_of t rs) (λ s h. h.legal) good.stores.0)

@@ -14,7 +14,10 @@ use Rattle.entry_model.specs.declared.receipt.Receipt.{Receipt}
 use Rattle.entry_model.specs.declared.line.Line.{Line}
 use Rattle.entry_model.specs.Receipt.{is_no_match, after_of}
 use Rattle.entry_model.specs.Run.{states_after}
-use Rattle.entry_model.specs.Trial.{Call, Plan, plan_run, receipt_at, trial_run}
+use Rattle.entry_model.specs.declared.operation.Op.TheVariants.{Read}
+use Rattle.frame_grants.specs.declared.grant.Grant.{Grant}
+use Rattle.bus_window.specs.Windows.{BusWindow, entry_at}
+use Rattle.entry_model.specs.Trial.{Call, call, Plan, plan_run, receipt_at, trial_run}
 use Rattle.hpt_resize.specs.declared.carry.Collision.{Collision}
 use Rattle.hpt_resize.specs.Rehash.{collision_of}
 use Rattle.hpt_resize.specs.Pending.{PendingTable}
@@ -31,14 +34,14 @@ use Rattle.trace_line.specs.declared.act.Act.{Act}
 use Rattle.trace_line.specs.declared.line.TraceLine.{TraceLine}
 use Rattle.trace_line.specs.Lines.{is_quiet}
 use Rattle.trace_read.specs.Trace.{AcceptedTrace, IsAccepted}
-use Rattle.run_model.specs.StoreContexts.{access_of, table_context}
+use Rattle.run_model.specs.StoreContexts.{StoreContext, access_of, table_context}
 use Rattle.run_model.specs.LineReplies.{hcall_plan}
 use Rattle.run_model.specs.Processors.{processor_at}
-use Rattle.run_model.specs.RunState.{RunState, context_of, states_of, opening_run, run_resize, run_quiet_line}
+use Rattle.run_model.specs.Stores.{Store, context_of, states_of, page_table, trace_lines_on, is_on}
+use Rattle.run_model.specs.QuietLines.{run_resize, run_quiet_line}
 use Rattle.run_model.specs.OpeningAgain.{memory_after}
-use Rattle.run_model.specs.Windows.{trace_lines_on_table}
-use Rattle.run_model.proofs.SerialStores.{opened_after}
-use Rattle.run_model.specs.SerialRun.{current_line, result_by_line, result_by_segment, line_result, run_line, state_after_lines}
+use Rattle.run_model.proofs.FirstStore.{first_after}
+use Rattle.run_model.specs.SerialRun.{current_line, result_by_line, result_by_segment, device_by_entry, device_by_window, line_result, run_on}
 use Rattle.run_model.proofs.Memories.{IsAllowed, MemoryStands, memory_prepared, prepare_table, memory_committed, opening_stands}
 use Rattle.papr_codes.specs.declared.calls.Hcall.TheVariants as calls
 use Rattle.trace_line.specs.declared.act.Act.TheVariants as acts
@@ -78,13 +81,21 @@ segment_length : (set : AccessContext) (p : Processor) (states : List State) (a 
 segment_length set p states a None = refl
 segment_length set p states a (Some seg) = line_length set states seg a (current_line states (cached_line p.cache seg.page))
 
-result_length : (set : AccessContext) (p : Processor) (states : List State) (act : Act) → length (line_result (table_context set) p states act).1 ≡ length states
+entry_length : (grants : List Grant) (ioba : ℕ) (write : Bool) (states : List State) (entry : Option ℕ) → length (device_by_entry grants ioba write states entry).1 ≡ length states
+entry_length grants ioba write states None = refl
+entry_length grants ioba write states (Some entry) = trial_length _ states (call Read entry ∷ [])
+
+device_length : (grants : List Grant) (window : Option BusWindow) (ioba : ℕ) (write : Bool) (states : List State) → length (device_by_window grants window ioba write states).1 ≡ length states
+device_length grants None ioba write states = refl
+device_length grants (Some w) ioba write states = entry_length grants ioba write states (entry_at w ioba)
+
+result_length : (set : StoreContext) (p : Processor) (states : List State) (act : Act) → length (line_result set p states act).1 ≡ length states
 unfolding line_result
-result_length set p states (acts.Call number args spelt) = plan_length (hcall_plan (table_context set) (hcall_of number) args) states
-result_length set p states (acts.Access want ea user) = segment_length set p states (request want ea user p.masks) (segment_of p.slots ea)
+result_length set p states (acts.Call number args spelt) = plan_length (hcall_plan set (hcall_of number) args) states
+result_length set p states (acts.Access want ea user) = segment_length (access_of set) p states (request want ea user p.masks) (segment_of p.slots ea)
 result_length set p states (acts.SlbMte rb rs) = refl
 result_length set p states acts.SlbClear = refl
-result_length set p states (acts.Device write liobn ioba) = refl
+result_length set p states (acts.Device write liobn ioba) = device_length set.grants set.window ioba write states
 result_length set p states (acts.SetMask name value) = refl
 result_length set p states acts.Dump = refl
 
@@ -111,7 +122,7 @@ committed_high : (memory : TableMemory) (flags shift : ℕ) → IsSized memory �
 unfolding commit_result outcome_of_commit
 committed_high memory flags shift h = answered_high (commit_refusal flags shift memory.pending) memory.pending memory.pool memory.table h.stands.allowed h.high
 
-resize_sized : (w : RunState) (call : Hcall) (args : List ℕ) → IsSized w.memory → IsSized (run_resize w call args).1.memory
+resize_sized : (w : Store) (call : Hcall) (args : List ℕ) → IsSized w.memory → IsSized (run_resize w call args).1.memory
 unfolding run_resize
 resize_sized w calls.Prepare args h =
     record { stands = memory_prepared w.memory (slice_index args 0) (slice_index args 1) h.stands; high = subst (λ (t : Table). t.order ≤ 22) (sym (prepare_table w.memory (slice_index args 0) (slice_index args 1))) h.high }
@@ -119,29 +130,25 @@ resize_sized w calls.Commit args h =
     record { stands = memory_committed w.memory (slice_index args 0) (slice_index args 1) h.stands; high = committed_high w.memory (slice_index args 0) (slice_index args 1) h }
 resize_sized w other args h = h
 
-quiet_sized : (w : RunState) (act : Act) → IsSized w.memory → IsSized (run_quiet_line w act).1.memory
+quiet_sized : (w : Store) (act : Act) → IsSized w.memory → IsSized (run_quiet_line w act).1.memory
 unfolding run_quiet_line
 quiet_sized w (acts.Call number args spelt) h = resize_sized w (hcall_of number) args h
 quiet_sized w other h = h
 
 -- ---- all lines
-pub one_sized : (w : RunState) (l : TraceLine) → IsSized w.memory → IsSized (run_line w l).1.memory
-unfolding run_line
+pub one_sized : (w : Store) (l : TraceLine) → IsSized w.memory → IsSized (run_on w l).1.memory
+unfolding run_on
 one_sized w l h = at (cases_Bool (is_quiet l.act)) where
-  at : (is_quiet l.act ≡ true) ⊎ (is_quiet l.act ≡ false) → IsSized (run_line w l).1.memory
+  at : (is_quiet l.act ≡ true) ⊎ (is_quiet l.act ≡ false) → IsSized (run_on w l).1.memory
   at (inl q) = rw q (quiet_sized w l.act h)
-  at (inr q) = rw q (same_size w.memory _ (result_length (access_of (context_of w)) (processor_at w.processors l.cpu) (states_of w) l.act) h)
+  at (inr q) = rw q (same_size w.memory _ (result_length (context_of w) (processor_at w.processors l.cpu) (states_of w) l.act) h)
 
-all_sized : (w : RunState) (ls : List TraceLine) → IsSized w.memory → IsSized (state_after_lines w ls).memory
-all_sized w [] h = h
-all_sized w (l ∷ ls) h = all_sized (run_line w l).1 ls (one_sized w l h)
-
-opening_sized : (t : AcceptedTrace) → IsAccepted t → IsSized (opening_run t.config).memory
-unfolding opening_run opening_memory
+opening_sized : (t : AcceptedTrace) → IsAccepted t → IsSized (page_table t.config).memory
+unfolding page_table opening_memory
 opening_sized t is =
     let c = t.config in
     let settings = is.configured.settings in
     record { stands = opening_stands c.limit c.order c.granted.pool_base c.granted.pool_order c.entries settings.at_most settings.at_least; high = let below : c.order ≤ c.limit = settings.within in let most : c.limit ≤ 22 = settings.at_most in omega arith }
 
 pub serial_sized : (t : AcceptedTrace) (ls : List TraceLine) → IsAccepted t → IsSized (memory_after t ls)
-serial_sized t ls is = subst (λ (w : RunState). IsSized w.memory) (sym (opened_after t ls)) (all_sized (opening_run t.config) (trace_lines_on_table t.config.windows ls) (opening_sized t is))
+serial_sized t ls is = first_after (λ (s : Store). IsSized s.memory) t.config ls one_sized (opening_sized t is)

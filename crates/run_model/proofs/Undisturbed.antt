@@ -7,7 +7,8 @@ use Rattle.tlb_model.specs.Processor.{Processor}
 use Rattle.trace_reply.specs.Replies.{RepliedLine, receipts_in}
 use Rattle.run_model.specs.Processors.{processor_at, processors_after, gone_line_of}
 use Rattle.run_model.specs.LineReplies.{IsCallReply, IsReplyToAccess}
-use Rattle.run_model.specs.RunState.{RunState, context_of, states_of, run_quiet_line}
+use Rattle.run_model.specs.Stores.{Store, context_of, states_of}
+use Rattle.run_model.specs.QuietLines.{run_quiet_line}
 use Rattle.hpt_resize.specs.TableMemory.{with_states}
 
 -- A line that isn't quiet, from these states to those.
@@ -24,12 +25,3 @@ AreUndisturbed set processors a (t ∷ ts) b = (mid : List State) × IsUndisturb
 abbrev pub processors_on : List Processor → List RepliedLine → List Processor
 processors_on processors [] = processors
 processors_on processors (t ∷ ts) = processors_on (processors_after processors t) ts
-
--- The state of the run after a section with these closing states.
-abbrev pub state_behind : RunState → List RepliedLine → List State → RunState
-state_behind w ts b = record w { memory = with_states w.memory b; processors = processors_on w.processors ts }
-
--- Sections, one after the other.
-abbrev pub Stands : RunState → List RepliedLine → List (RepliedLine × List RepliedLine) → Type 0
-Stands w ts [] = (b : List State) × AreUndisturbed (context_of w) w.processors (states_of w) ts b
-Stands w ts (q ∷ qs) = (b : List State) × AreUndisturbed (context_of w) w.processors (states_of w) ts b × (q.0.reply ≡ (run_quiet_line (state_behind w ts b) q.0.line.act).0) × Stands (run_quiet_line (state_behind w ts b) q.0.line.act).1 q.1 qs

@@ -1,5 +1,6 @@
 -- In a good run no entry is worn, of the page table or of a window, and each access of a device lands by its TCE.
 use Rattle.std.proofs.Common.{◌≡◌, ℕ, ◌+◌, ◌*◌, ◌^◌, ◌<◌, ◌≤◌, List, [], ◌∷◌, Bool, true, false, sym, ap, ◌∙◌, refl, subst, ◌⊎◌, inl, inr, length, Option, Some, None, arith}
+use Rattle.std.specs.Prelude.{IfSome}
 use Rattle.std.specs.List.{AllByRecursion}
 use Rattle.std.proofs.lemmas.Bool.{cases_Bool, false≢true, true≢false}
 use Rattle.std.proofs.lemmas.List.{length-replicate}
@@ -29,26 +30,30 @@ use Rattle.trace_line.specs.Lines.{is_quiet}
 use Rattle.trace_line.specs.declared.act.Act.{Act}
 use Rattle.trace_line.specs.declared.act.Act.TheVariants as acts
 use Rattle.trace_line.specs.declared.line.TraceLine.{TraceLine}
+use Rattle.trace_read.specs.Configuration.{Configuration}
 use Rattle.trace_read.specs.Trace.{AcceptedTrace, IsAccepted}
 use Rattle.trace_reply.specs.declared.reply.Reply.{Reply}
 use Rattle.trace_reply.specs.declared.reply.Reply.TheVariants as replies
 use Rattle.trace_reply.specs.Replies.{RepliedLine, AreReplies, receipts_in, lines_with_replies}
-use Rattle.run_model.specs.Histories.{receipts_by}
 use Rattle.run_model.specs.Quiet.{QuietPart, cut}
-use Rattle.run_model.specs.StoreContexts.{table_context, window_context}
-use Rattle.run_model.specs.StoreSections.{made_in, closing_of}
-use Rattle.run_model.specs.LineReplies.{IsCallReply}
-use Rattle.run_model.specs.Windows.{is_on_window, lines_on_window, table_lines, opening_window, window_section, window_sections_from, window_sections}
-use Rattle.run_model.specs.GoodRun.{IsGoodWindowSection, IsGoodRun}
+use Rattle.run_model.specs.GoodRun.{IsGoodSection, IsGoodOn, IsGoodRun}
+use Rattle.run_model.specs.Histories.{receipts_by, receipts_from_processor}
+use Rattle.run_model.specs.LineReplies.{IsDeviceLine, IsCallReply}
+use Rattle.run_model.specs.Sections.{made_in, closing, section_end, after_quiet, quiet_on, section_of, sections_from}
+use Rattle.run_model.specs.StoreContexts.{StoreContext, window_context}
+use Rattle.run_model.specs.Stores.{Store, context_of, states_of, page_table, opening_window, opening_store, opening_stores, is_on_window, is_on, lines_on}
 use Rattle.run_model.specs.Landings.{IsUnworn}
 use Rattle.run_model.specs.DeviceLandings.{DeviceLandsBy, DeviceLands}
-use Rattle.run_model.proofs.Each.{each_map, each_both, each_filter, each_passes, each_replicate, each_where, filter_length}
+use Rattle.run_model.proofs.AllSafe.{IsLine, InSections, section_joined, line_count, cut_in, cut_out, cut_count, replied_lines_count, replied_lines_lines, table_unworn}
+use Rattle.run_model.proofs.CallLines.{on_window_act, AllQuiet, cut_quiet, each_of_section, good_calls}
+use Rattle.run_model.proofs.Each.{each_map, each_both, each_filter, each_passes, each_replicate, each_where, filter_length, over_map, under_map}
+use Rattle.run_model.proofs.LowStampRuns.{processors_by_size}
+use Rattle.run_model.proofs.StoreLines.{HoldsOn, HoldOn, on_all_stores, opening_has, quiet_off_window}
+use Rattle.run_model.proofs.TableNamed.{opening_table}
 use Rattle.run_model.proofs.LineReceipts.{each_receipt, receipts_of_each, weight_by_lines}
 use Rattle.run_model.proofs.LinesByProcessor.{Cpus, file_listed}
 use Rattle.run_model.proofs.SectionGood.{each_regrouped}
 use Rattle.run_model.proofs.LowStamps.{top, fine_below, closing_size, states_kept}
-use Rattle.run_model.proofs.AllSafe.{IsLine, InSections, line_count, cut_in, cut_out, cut_count, replied_lines_count, replied_lines_lines, table_unworn}
-use Rattle.run_model.proofs.CallLines.{on_window_act, cut_quiet, each_of_section, table_calls, HoldsOn, window_joined, each_on_stores}
 use Rattle.run_model.proofs.RamBytes.{byte_is_ram}
 use Rattle.run_model.proofs.WindowStates.{HasTce, IsTceState, empty_tce, TceOp, tce_kept, IsTceLine, tce_line}
 
@@ -120,49 +125,76 @@ lines_tce granted w [] on told = tt
 lines_tce granted w (t ∷ ts) on told = (tce_line granted.grants w t.line.act t.reply (on_window_act w t.line.act on.0) told.0, lines_tce granted w ts on.1 told.1)
 
 -- ---- a section of a window
-section_safe : (granted : GrantedMemory) (cpus : ℕ) (w : BusWindow) (n m : ℕ) (opening : List State) (ts : List RepliedLine) → AreApart granted → AllByRecursion (IsTceState granted.grants n) opening → AllByRecursion (IsLine cpus) ts → n + 32 * length ts ≤ m → m ≤ top → IsGoodWindowSection (window_section granted.grants cpus w opening ts) → AllByRecursion (IsSafeLine granted) (lines_on_window w ts) × AllByRecursion (IsTceState granted.grants m) (closing_of (window_section granted.grants cpus w opening ts))
-section_safe granted cpus w n m opening ts apart first lines low high good =
-    let s = window_section granted.grants cpus w opening ts in
+-- A window of this memory: each of its entries has a TCE of granted storage, and a low stamp.
+record IsTceStore (granted : GrantedMemory) (cpus : ℕ) (w : BusWindow) (n : ℕ) (s : Store) : Type 0 where
+  context : context_of s ≡ window_context granted.grants w
+  processors : length s.processors ≡ cpus
+  states : AllByRecursion (IsTceState granted.grants n) (states_of s)
+
+closed_tces : (granted : GrantedMemory) (cpus : ℕ) (w : BusWindow) (n m : ℕ) (s : Store) (ts : List RepliedLine) → IsTceStore granted cpus w n s → AllByRecursion (IsTceState granted.grants m) (states_of (section_end s ts)) → IsTceStore granted cpus w m (section_end s ts)
+unfolding section_end
+closed_tces granted cpus w n m s ts h states = record { context = h.context; processors = processors_by_size 0 s.processors ts ∙ h.processors; states = states }
+
+end_size : (s : Store) (ts : List RepliedLine) → length (states_of (section_end s ts)) ≡ length (states_of s)
+unfolding section_end
+end_size s ts = closing_size (states_of s) (receipts_from_processor (length s.processors) 0 ts)
+
+section_safe : (granted : GrantedMemory) (cpus : ℕ) (ws : List BusWindow) (w : BusWindow) (n m : ℕ) (s : Store) (ts : List RepliedLine) (quiet : Option RepliedLine) → AreApart granted → IsTceStore granted cpus w n s → AllByRecursion (IsLine cpus) ts → n + 32 * length ts ≤ m → m ≤ top → IsGoodSection (section_of (is_on ws (Some w)) s ts quiet) → AllByRecursion (IsSafeLine granted) (lines_on (is_on ws (Some w)) ts) × IsTceStore granted cpus w m (closing (section_of (is_on ws (Some w)) s ts quiet))
+section_safe granted cpus ws w n m s ts quiet apart first lines low high good =
     let on = λ (t : RepliedLine). is_on_window w t.line.act in
-    let us = lines_on_window w ts in
-    let within : Cpus (length s.processors) us = subst (λ k. Cpus k us) (sym (length-replicate cpus new_processor)) (each_filter (λ (t : RepliedLine). t.line.cpu < cpus) on ts (each_map (IsLine cpus) (λ (t : RepliedLine). t.line.cpu < cpus) ts (λ t h. h.0) lines)) in
-    let told : AllByRecursion (λ (t : RepliedLine). IsCallReply s.context t.line.act t.reply) us = each_of_section (λ (t : RepliedLine). IsCallReply s.context t.line.act t.reply) s good.2 in
+    let x = section_of (is_on ws (Some w)) s ts quiet in
+    let us = x.replied_lines in
+    let within : Cpus (length s.processors) us = subst (λ k. Cpus k us) (sym first.processors) (each_filter (λ (t : RepliedLine). t.line.cpu < cpus) on ts (each_map (IsLine cpus) (λ (t : RepliedLine). t.line.cpu < cpus) ts (λ t h. h.0) lines)) in
+    let told : AllByRecursion (λ (t : RepliedLine). IsCallReply (window_context granted.grants w) t.line.act t.reply) us = subst (λ set. AllByRecursion (λ (t : RepliedLine). IsCallReply set t.line.act t.reply) us) first.context (each_of_section (λ (t : RepliedLine). IsCallReply (context_of s) t.line.act t.reply) x good.calls) in
     let made : AllByRecursion (λ (t : RepliedLine). IsTceLine granted.grants t.reply) us = lines_tce granted w us (each_passes on ts) told in
-    let listed : Regrouped (receipts_by us) (made_in s) = file_listed (length s.processors) us within in
-    let same : weight (receipts_by us) ≡ weight (made_in s) = weight_regrouped listed in
+    let listed : Regrouped (receipts_by us) (made_in x) = file_listed (length s.processors) us within in
+    let same : weight (receipts_by us) ≡ weight (made_in x) = weight_regrouped listed in
     let few : weight (receipts_by us) ≤ 32 * length us = weight_by_lines us (each_map (λ (t : RepliedLine). IsTceLine granted.grants t.reply) (λ (t : RepliedLine). weight (receipts_in t.reply) ≤ 32) us (λ t h. h.few) made) in
     let ops : AllByRecursion (λ (r : Receipt). TceOp granted.grants r.op) (receipts_by us) = each_receipt (λ (r : Receipt). TceOp granted.grants r.op) us (each_map (λ (t : RepliedLine). IsTceLine granted.grants t.reply) (λ (t : RepliedLine). AllByRecursion (λ (r : Receipt). TceOp granted.grants r.op) (receipts_in t.reply)) us (λ t h. h.made) made) in
-    let all = states_kept (TceOp granted.grants) (IsTceState granted.grants) n m opening (closing_of s) (made_in s) (tce_kept granted.grants) (empty_tce granted.grants n) first good.0.in_table good.0.legal (closing_size opening (made_in s)) (each_regrouped (λ (r : Receipt). TceOp granted.grants r.op) listed ops) (omega (arith, filter_length on ts)) in
+    let all = states_kept (TceOp granted.grants) (IsTceState granted.grants) n m (states_of s) (states_of (closing x)) (made_in x) (tce_kept granted.grants) (empty_tce granted.grants n) first.states good.legal.in_table good.legal.legal (end_size s us) (each_regrouped (λ (r : Receipt). TceOp granted.grants r.op) listed ops) (omega (arith, filter_length on ts)) in
     let back : FromTces granted m (receipts_by us) = each_regrouped (λ (r : Receipt). IsTceState granted.grants m r.before) (regrouped_back listed) all.0 in
-    (lines_safe granted w m us apart high made told (receipts_of_each (λ (r : Receipt). IsTceState granted.grants m r.before) us back), all.1)
+    (lines_safe granted w m us apart high made told (receipts_of_each (λ (r : Receipt). IsTceState granted.grants m r.before) us back), closed_tces granted cpus w n m s us first all.1)
 
 -- ---- all sections of a window
-sections_safe : (granted : GrantedMemory) (cpus : ℕ) (w : BusWindow) (n : ℕ) (opening : List State) (ts : List RepliedLine) (qs : List QuietPart) → AreApart granted → AllByRecursion (IsTceState granted.grants n) opening → InSections (IsLine cpus) ts qs → AllByRecursion (λ (q : QuietPart). is_quiet q.0.line.act ≡ true) qs → n + 32 * line_count ts qs ≤ top → AllByRecursion IsGoodWindowSection (window_sections_from granted.grants cpus w opening ts qs) → InSections (HoldsOn w (IsSafeLine granted)) ts qs
-sections_safe granted cpus w n opening ts [] apart first lines quiet low good =
-    let only = section_safe granted cpus w n (n + 32 * length ts) opening ts apart first lines.0 (omega arith) low good.0 in
+quiet_left : (ws : List BusWindow) (w : BusWindow) (q : RepliedLine) → is_quiet q.line.act ≡ true → quiet_on (is_on ws (Some w)) q ≡ None
+quiet_left ws w q e = rw (quiet_off_window w q.line.act e) refl
+
+sections_safe : (granted : GrantedMemory) (cpus : ℕ) (ws : List BusWindow) (w : BusWindow) (n : ℕ) (s : Store) (ts : List RepliedLine) (qs : List QuietPart) → AreApart granted → IsTceStore granted cpus w n s → InSections (IsLine cpus) ts qs → AllQuiet qs → n + 32 * line_count ts qs ≤ top → AllByRecursion IsGoodSection (sections_from (is_on ws (Some w)) s ts qs) → InSections (HoldsOn (is_on ws (Some w)) (IsSafeLine granted)) ts qs
+sections_safe granted cpus ws w n s ts [] apart first lines quiet low good =
+    let only = section_safe granted cpus ws w n (n + 32 * length ts) s ts None apart first lines.0 (omega arith) low good.0 in
     (each_where (IsSafeLine granted) (λ (t : RepliedLine). is_on_window w t.line.act) ts only.0, tt)
-sections_safe granted cpus w n opening ts (q ∷ qs) apart first lines quiet low good =
+sections_safe granted cpus ws w n s ts (q ∷ qs) apart first lines quiet low good =
+    let on = is_on ws (Some w) in
     let m = n + 32 * length ts in
-    let here = section_safe granted cpus w n m opening ts apart first lines.0 (omega arith) (omega arith) good.0 in
-    let rest = sections_safe granted cpus w m (closing_of (window_section granted.grants cpus w opening ts)) q.1 qs apart here.1 (lines.1.0.1, lines.1.1) quiet.1 (omega arith) good.1 in
-    window_joined (IsSafeLine granted) w ts q.0 q.1 qs quiet.0 here.0 rest
+    let x = section_of on s ts (quiet_on on q.0) in
+    let none : x.quiet ≡ None = quiet_left ws w q.0 quiet.0 in
+    let here = section_safe granted cpus ws w n m s ts x.quiet apart first lines.0 (omega arith) (omega arith) good.0 in
+    let next : IsTceStore granted cpus w m (after_quiet (closing x) x.quiet) = subst (λ o. IsTceStore granted cpus w m (after_quiet (closing x) o)) (sym none) here.1 in
+    let rest = sections_safe granted cpus ws w m (after_quiet (closing x) x.quiet) q.1 qs apart next (lines.1.0.1, lines.1.1) quiet.1 (omega arith) good.1 in
+    section_joined (IsSafeLine granted) on ts q qs (subst (λ (o : Option RepliedLine). IfSome o (IsSafeLine granted)) (sym none) tt) here.0 rest
 
-opening_tces : (grants : List Grant) → AllByRecursion (IsTceState grants 1) opening_window
+opening_tces : (c : Configuration) (w : BusWindow) → IsTceStore c.granted c.cpus w 1 (opening_store c w)
 unfolding opening_window
-opening_tces grants = each_replicate (IsTceState grants 1) (entry_count 18) (empty_state 0) (empty_tce grants 1)
+opening_tces c w = record {
+  context = refl;
+  processors = length-replicate c.cpus new_processor;
+  states = each_replicate (IsTceState c.granted.grants 1) (entry_count 18) (empty_state 0) (empty_tce c.granted.grants 1);
+}
 
-window_safe : (t : AcceptedTrace) (rs : List Reply) (w : BusWindow) → IsAccepted t → IsGoodRun t rs → AllByRecursion IsGoodWindowSection (window_sections t rs w) → AllByRecursion (HoldsOn w (IsSafeLine t.config.granted)) (lines_with_replies t.lines rs)
+window_safe : (t : AcceptedTrace) (rs : List Reply) (w : BusWindow) → IsAccepted t → IsGoodRun t rs → IsGoodOn t rs (opening_store t.config w) → HoldOn (IsSafeLine t.config.granted) t.config.windows (lines_with_replies t.lines rs) (opening_store t.config w)
 window_safe t rs w is good sections =
     let all = lines_with_replies t.lines rs in
     let few : length t.lines ≤ 2 ^ 17 = is.lines.few in
     let low : 1 + 32 * line_count (cut all).0 (cut all).1 ≤ top = omega (arith, cut_count all, replied_lines_count t.lines rs) in
-    cut_out (HoldsOn w (IsSafeLine t.config.granted)) all (sections_safe t.config.granted t.config.cpus w 1 opening_window (cut all).0 (cut all).1 is.sound.apart (opening_tces t.config.granted.grants) (cut_in (IsLine t.config.cpus) all (replied_lines_lines t.config.cpus t.lines rs is.lines.on_cpus good.kinds)) (cut_quiet all) low sections)
+    cut_out (HoldsOn (is_on t.config.windows (Some w)) (IsSafeLine t.config.granted)) all (sections_safe t.config.granted t.config.cpus t.config.windows w 1 (opening_store t.config w) (cut all).0 (cut all).1 is.sound.apart (opening_tces t.config w) (cut_in (IsLine t.config.cpus) all (replied_lines_lines t.config.cpus t.lines rs is.lines.on_cpus good.kinds)) (cut_quiet all) low sections)
 
 -- ---- the page table
 -- A device finds no window there.
-table_lands : (granted : GrantedMemory) (context : AccessContext) (act : Act) (reply : Reply) → IsCallReply (table_context context) act reply → DeviceLands granted act reply
-table_lands granted context (acts.Device write liobn ioba) reply is = subst (DeviceLands granted (acts.Device write liobn ioba)) (sym is) tt
-table_lands granted context act reply is = tt
+table_lands : (granted : GrantedMemory) (context : StoreContext) (act : Act) (reply : Reply) → context.window ≡ None → IsCallReply context act reply → DeviceLands granted act reply
+table_lands granted context (acts.Device write liobn ioba) reply none is =
+    let told : IsDeviceLine context.grants None write ioba reply = subst (λ o. IsDeviceLine context.grants o write ioba reply) none is in
+    subst (DeviceLands granted (acts.Device write liobn ioba)) (sym told) tt
+table_lands granted context act reply none is = tt
 
 quiet_lands : (granted : GrantedMemory) (act : Act) (reply : Reply) → is_quiet act ≡ true → DeviceLands granted act reply
 unfolding is_quiet
@@ -173,8 +205,14 @@ quiet_lands granted act reply quiet = tt
 all_safe : (t : AcceptedTrace) (rs : List Reply) → IsAccepted t → IsGoodRun t rs → AllByRecursion (IsSafeLine t.config.granted) (lines_with_replies t.lines rs)
 all_safe t rs is good =
     let granted = t.config.granted in
-    let landings = table_calls (λ (x : RepliedLine). DeviceLands granted x.line.act x.reply) t rs (λ context x. table_lands granted context x.line.act x.reply) (λ x. quiet_lands granted x.line.act x.reply) good in
-    each_on_stores (IsSafeLine granted) t rs (each_both (λ (x : RepliedLine). IsUnworn x.reply) (λ (x : RepliedLine). DeviceLands granted x.line.act x.reply) (table_lines t rs) (table_unworn t rs is good) landings) (λ w h. window_safe t rs w is good h) good
+    let ws = t.config.windows in
+    let all = lines_with_replies t.lines rs in
+    let first = page_table t.config in
+    let on = is_on ws first.window in
+    let landings = good_calls (λ (x : RepliedLine). DeviceLands granted x.line.act x.reply) t rs None first (opening_table t) (λ context x none. table_lands granted context x.line.act x.reply none) (λ x. quiet_lands granted x.line.act x.reply) good.stores.0 in
+    let table = each_map (λ (x : RepliedLine). HoldsOn on (λ (y : RepliedLine). IsUnworn y.reply) x × HoldsOn on (λ (y : RepliedLine). DeviceLands granted y.line.act y.reply) x) (HoldsOn on (IsSafeLine granted)) all (λ x h here. (h.0 here, h.1 here)) (each_both (HoldsOn on (λ (y : RepliedLine). IsUnworn y.reply)) (HoldsOn on (λ (y : RepliedLine). DeviceLands granted y.line.act y.reply)) all (table_unworn t rs is good) landings) in
+    on_all_stores (IsSafeLine granted) ws (opening_stores t.config) all (opening_has t.config)
+    (table, over_map (λ w. IsGoodOn t rs (opening_store t.config w)) (HoldOn (IsSafeLine granted) ws all) (opening_store t.config) ws (λ w h. window_safe t rs w is good h) (under_map (λ w. IsGoodOn t rs (opening_store t.config w)) (IsGoodOn t rs) (opening_store t.config) ws (λ w h. h) good.stores.1))
 
 reply_of_each : (ls : List TraceLine) (rs : List Reply) → AreReplies ls rs → AllByRecursion (λ (x : RepliedLine). IsUnworn x.reply) (lines_with_replies ls rs) → AllByRecursion IsUnworn rs
 reply_of_each [] [] kinds h = tt

@@ -13,8 +13,8 @@ use Rattle.tlb_model.specs.Cache.{cached_line}
 use Rattle.tlb_model.specs.Processor.{Processor}
 use Rattle.trace_line.specs.declared.act.Act.{Act}
 use Rattle.trace_reply.specs.declared.reply.Reply.{Reply}
-use Rattle.run_model.specs.RunState.{states_of}
-use Rattle.run_model.specs.Sections.{Section, section_end}
+use Rattle.run_model.specs.Stores.{states_of}
+use Rattle.run_model.specs.Sections.{Section, closing}
 use Rattle.run_model.specs.GoodRun.{EachLine}
 use Rattle.trace_line.specs.declared.act.Act.TheVariants as acts
 use Rattle.trace_reply.specs.declared.reply.Reply.TheVariants as replies
@@ -56,7 +56,7 @@ abbrev pub AccessesUseCaches : Section → Type 0
 AccessesUseCaches s =
     EachLine
     (λ p t. UsesItsCache
-    (states_of (section_end s.before s.replied_lines))
+    (states_of (closing s))
     p
     t.line.act
     t.reply)

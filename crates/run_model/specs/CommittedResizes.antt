@@ -6,8 +6,8 @@ use Rattle.hpt_resize.specs.Resize.{Table}
 use Rattle.trace_line.specs.declared.act.Act.{Act}
 use Rattle.trace_reply.specs.declared.reply.Reply.{Reply}
 use Rattle.trace_reply.specs.Replies.{RepliedLine}
-use Rattle.run_model.specs.RunState.{is_success}
-use Rattle.run_model.specs.Sections.{Section, section_end}
+use Rattle.run_model.specs.QuietLines.{is_success}
+use Rattle.run_model.specs.Sections.{Section, closing}
 use Rattle.run_model.specs.ShownStores.{has_table_of}
 use Rattle.hpt_resize.specs.Translations.{KeepsTranslations}
 use Rattle.papr_codes.specs.declared.calls.Hcall.TheVariants as calls
@@ -33,7 +33,7 @@ is_committed (Some q) = commits_by q.line.act q.reply
 -- ---- tables
 -- The table that a section closes on.
 abbrev pub closing_table : Section → Table
-closing_table s = (section_end s.before s.replied_lines).memory.table
+closing_table s = (closing s).memory.table
 
 -- What a quiet line leaves of the table: another one exactly where it is a commit that succeeded, which then has the translations; and else the same.
 pub record LeavesTable (s next : Section) : Type 0 where

@@ -15,7 +15,7 @@ use Rattle.hpt_walk.specs.Laws.{WasOfPage}
 use Rattle.tlb_model.specs.Processor.{Processor}
 use Rattle.trace_line.specs.declared.act.Act.{Act}
 use Rattle.trace_reply.specs.declared.reply.Reply.{Reply}
-use Rattle.run_model.specs.RunState.{context_of}
+use Rattle.run_model.specs.Stores.{context_of}
 use Rattle.run_model.specs.Sections.{Section}
 use Rattle.run_model.specs.GoodRun.{EachLine}
 use Rattle.trace_line.specs.declared.act.Act.TheVariants as acts

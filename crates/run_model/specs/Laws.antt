@@ -1,5 +1,5 @@
 -- The laws of runs: the serial run is a good one, and what follows of a run from its being good.
-use Rattle.std.specs.Prelude.{◌≡◌, ℕ, ◌<◌, false, List, Contains, Some}
+use Rattle.std.specs.Prelude.{◌≡◌, ℕ, ◌<◌, ◌↔◌, false, List, Contains, Some}
 use Rattle.std.specs.List.{AllByRecursion}
 use Rattle.table_image.specs.declared.entry.ImageEntry.{ImageEntry}
 use Rattle.table_image.specs.declared.layout.Layout.{Layout}
@@ -15,13 +15,14 @@ use Rattle.trace_reply.specs.Replies.{RepliedLine, AreReplies, lines_with_replie
 use Rattle.bus_window.specs.Windows.{BusWindow}
 use Rattle.run_model.specs.BusyCalls.{BusyWhereTaken, PutIsNotBusy}
 use Rattle.run_model.specs.DeviceLandings.{DeviceLands}
-use Rattle.run_model.specs.Windows.{window_sections}
 use Rattle.run_model.specs.EnteredEntries.{CanBeEntered}
 use Rattle.run_model.specs.OpeningAgain.{IsOpenedAgain, entry_line_words, memory_after}
-use Rattle.run_model.specs.RunState.{states_of, shown_of}
-use Rattle.run_model.specs.Sections.{sections_of}
-use Rattle.run_model.specs.SerialRun.{serial_replies, opening_stores, stores_after_lines}
+use Rattle.run_model.specs.Stores.{states_of}
+use Rattle.run_model.specs.QuietLines.{shown_of}
+use Rattle.run_model.specs.Sections.{sections_of, window_sections}
+use Rattle.run_model.specs.SerialRun.{serial_replies, table_after}
 use Rattle.run_model.specs.GoodRun.{IsGoodRun}
+use Rattle.run_model.specs.SideBySide.{IsGoodSideBySide}
 use Rattle.run_model.specs.ShownStores.{NoStoreIsLostIn, NoSetBitIsLostIn, ClearedBitsAreShown}
 use Rattle.run_model.specs.CommittedResizes.{ResizesKeepTranslations}
 use Rattle.run_model.specs.Landings.{AccessesLand, IsUnworn}
@@ -46,6 +47,10 @@ ParallelIsGood =
 -- The serial run of an accepted trace is such a run: a processor that nobody disturbs keeps all that is promised.
 abbrev pub SerialIsParallel : Type 0
 SerialIsParallel = (t : AcceptedTrace) → IsAccepted t → IsParallel t (serial_replies t)
+
+-- A run is good store by store exactly where it is good section by section.
+abbrev pub GoodSideBySide : Type 0
+GoodSideBySide = (t : AcceptedTrace) (rs : List Reply) → IsGoodRun t rs ↔ IsGoodSideBySide t rs
 
 -- ---- one processor
 -- All run lines but quiet ones have this processor.
@@ -195,7 +200,7 @@ EntriesCanBeEntered =
     → IsAccepted t
     → AllByRecursion
     (CanBeEntered t.config.granted.grants)
-    (states_of (stores_after_lines (opening_stores t.config) lines).table)
+    (states_of (table_after t.config lines))
 
 -- What a layout holds of a table can be opened again: each valid entry of each table that a serial run reaches, written by its index and its digits, behind `entry` lines of lower indices, in a trace whose opening table has the order of that table, and whose grants are the same.
 abbrev pub ImagesOpenAgain : Type 0

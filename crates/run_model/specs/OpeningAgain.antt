@@ -12,8 +12,8 @@ use Rattle.entry_model.specs.State.{State}
 use Rattle.entry_model.specs.Reply.{words_of}
 use Rattle.entry_model.specs.Run.{state_at}
 use Rattle.hpt_resize.specs.TableMemory.{TableMemory}
-use Rattle.run_model.specs.RunState.{states_of, opening_run}
-use Rattle.run_model.specs.SerialRun.{opening_stores, stores_after_lines}
+use Rattle.run_model.specs.Stores.{states_of, page_table}
+use Rattle.run_model.specs.SerialRun.{table_after}
 
 -- The words of an `entry` line: the layout, the index, and the digits as an image writes them.
 abbrev pub entry_line_words : Layout → ℕ → List ℕ → List (List ℕ)
@@ -31,7 +31,7 @@ with_image_entry c e = record c { entries = c.entries ++ e ∷ [] }
 
 -- The states of the table that opens on a configuration.
 abbrev pub opening_states : Configuration → List State
-opening_states c = states_of (opening_run c)
+opening_states c = states_of (page_table c)
 
 -- The line is accepted behind these configuration lines, and adds the entry. The table that opens then has the entry's state at stamp 0: its doublewords, R and C; every other entry opens as without the line.
 pub record IsOpenedAgain
@@ -49,4 +49,4 @@ pub record IsOpenedAgain
 
 -- The memory of tables after these lines of the serial run of an accepted trace's configuration.
 abbrev pub memory_after : AcceptedTrace → List TraceLine → TableMemory
-memory_after t lines = (stores_after_lines (opening_stores t.config) lines).table.memory
+memory_after t lines = (table_after t.config lines).memory

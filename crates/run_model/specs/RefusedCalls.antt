@@ -19,10 +19,9 @@ use Rattle.trace_line.specs.declared.act.Act.{Act}
 use Rattle.trace_reply.specs.declared.reply.Reply.{Reply}
 use Rattle.trace_reply.specs.Replies.{receipts_in}
 use Rattle.run_model.specs.Processors.{processor_after, gone_line_of}
-use Rattle.run_model.specs.RunState.{RunState, states_of}
-use Rattle.run_model.specs.Sections.{Section, section_end}
-use Rattle.run_model.specs.GoodRun.{EachLine, EachLineOf}
-use Rattle.run_model.specs.StoreSections.{StoreSection}
+use Rattle.run_model.specs.Stores.{Store, states_of}
+use Rattle.run_model.specs.Sections.{Section, closing}
+use Rattle.run_model.specs.GoodRun.{EachLine}
 use Rattle.papr_codes.specs.declared.calls.Hcall.TheVariants as calls
 use Rattle.papr_codes.specs.declared.codes.Rc.TheVariants as rc
 use Rattle.entry_model.specs.declared.access_reply.Outcome.TheVariants as outcomes
@@ -102,15 +101,15 @@ pub record RefusedLinesLeave (s : Section) : Type 0 where
       EachLine
       (λ p t. is_refused t.line.act t.reply ≡ true → LeavesAll p t.line.act t.reply)
       s
-  pub grants : (section_end s.before s.replied_lines).grants ≡ s.before.grants
+  pub grants : (closing s).grants ≡ s.before.grants
   pub memory :
-      (section_end s.before s.replied_lines).memory
-      ≡ with_states s.before.memory (states_of (section_end s.before s.replied_lines))
+      (closing s).memory
+      ≡ with_states s.before.memory (states_of (closing s))
 
 -- Each refused line on a window leaves so what it names.
-abbrev pub RefusedWindowLinesLeave : StoreSection → Type 0
+abbrev pub RefusedWindowLinesLeave : Section → Type 0
 RefusedWindowLinesLeave s =
-    EachLineOf (λ p t. is_refused t.line.act t.reply ≡ true → LeavesAll p t.line.act t.reply) s
+    EachLine (λ p t. is_refused t.line.act t.reply ≡ true → LeavesAll p t.line.act t.reply) s
 
 -- ---- resize calls
 -- A prepare that answers H_NO_MEM and a commit that answers H_PTEG_FULL have dropped the pending table.
@@ -132,7 +131,7 @@ memory_left true memory = without_pending memory
 memory_left false memory = memory
 
 -- What a refused quiet line leaves of all that the run carries.
-abbrev pub run_left : Act → Reply → RunState → RunState
+abbrev pub run_left : Act → Reply → Store → Store
 run_left (acts.Call number args spelt) (replies.Hcall h) w =
     record w { memory = memory_left (drops_pending (hcall_of number) h.rc) w.memory }
 run_left act reply w = w
@@ -144,13 +143,13 @@ FoundNone calls.Prepare rc.NoMem args memory =
 FoundNone call code args memory = Unit {0}
 
 -- The same of a line: a table that it drops for want of memory is of another order.
-abbrev pub DropsAnother : Act → Reply → RunState → Type 0
+abbrev pub DropsAnother : Act → Reply → Store → Type 0
 DropsAnother (acts.Call number args spelt) (replies.Hcall h) w =
     FoundNone (hcall_of number) h.rc args w.memory
 DropsAnother act reply w = Unit {0}
 
 -- What the run carries before a refused quiet line, and after it.
-pub record LeavesRun (act : Act) (reply : Reply) (old new : RunState) : Type 0 where
+pub record LeavesRun (act : Act) (reply : Reply) (old new : Store) : Type 0 where
   pub left : new ≡ run_left act reply old
   pub another : DropsAnother act reply old
 
@@ -160,7 +159,7 @@ OpensOnRest s next =
     IfSome
     s.quiet
     (λ q. is_refused q.line.act q.reply ≡ true
-    → LeavesRun q.line.act q.reply (section_end s.before s.replied_lines) next.before)
+    → LeavesRun q.line.act q.reply (closing s) next.before)
 
 -- So does each.
 abbrev pub RefusedQuietLinesLeave : List Section → Type 0

@@ -1,6 +1,5 @@
 -- The serial run: the replies to the lines of a trace, one line after the other.
-use Rattle.std.specs.Prelude.{ℕ, ◌==◌, ◌&&◌, Bool, true, List, [], ◌∷◌, map, Option, Some, None, is_none, if◌then◌else◌}
-use Rattle.std.specs.Option.{option_map_or}
+use Rattle.std.specs.Prelude.{ℕ, ◌==◌, ◌&&◌, Bool, true, List, [], ◌∷◌, Option, Some, None, is_none, if◌then◌else◌}
 use Rattle.bus_window.specs.Windows.{BusWindow, entry_at}
 use Rattle.dma_window.specs.Devices.{outcome_of as device_outcome}
 use Rattle.frame_grants.specs.declared.grant.Grant.{Grant}
@@ -23,21 +22,22 @@ use Rattle.slb_model.specs.Buffer.{segment_of}
 use Rattle.hpt_walk.specs.Walk.{walk_calls}
 use Rattle.hpt_walk.specs.Access.{AccessContext, outcome_of, hit_calls, no_segment_reply, request, mode_for}
 use Rattle.hpt_walk.specs.declared.request.Request.{Request}
-use Rattle.tlb_model.specs.Processor.{Processor, new_processor}
-use Rattle.run_model.specs.StoreContexts.{StoreContext, access_of, window_context}
-use Rattle.run_model.specs.Windows.{is_on_window, opening_window}
 use Rattle.trace_line.specs.declared.act.Act.{Act}
 use Rattle.trace_line.specs.declared.line.TraceLine.{TraceLine}
 use Rattle.trace_line.specs.Lines.{is_quiet}
 use Rattle.trace_read.specs.Configuration.{Configuration}
 use Rattle.trace_read.specs.Trace.{AcceptedTrace}
 use Rattle.trace_reply.specs.declared.reply.Reply.{Reply}
-use Rattle.run_model.specs.Processors.{processor_at, processors_after}
-use Rattle.run_model.specs.LineReplies.{hcall_plan}
-use Rattle.run_model.specs.RunState.{RunState, context_of, states_of, opening_run, run_quiet_line}
 use Rattle.hpt_resize.specs.TableMemory.{with_states}
 use Rattle.trace_line.specs.declared.act.Act.TheVariants as acts
 use Rattle.trace_reply.specs.declared.reply.Reply.TheVariants as replies
+use Rattle.tlb_model.specs.Processor.{Processor}
+use Rattle.run_model.specs.LineReplies.{hcall_plan}
+use Rattle.run_model.specs.Processors.{processor_at, processors_after}
+use Rattle.run_model.specs.QuietLines.{reply_of_code, run_quiet_line}
+use Rattle.run_model.specs.StoreContexts.{StoreContext, access_of}
+use Rattle.run_model.specs.Stores.{Store, context_of, states_of, page_table, opening_stores, is_on}
+use Rattle.papr_codes.specs.declared.codes.Rc.TheVariants as rc
 
 -- ---- accesses
 -- The entry is valid at the line's stamp.
@@ -117,101 +117,55 @@ line_result context p states (acts.SlbMte rb rs) =
 line_result context p states (acts.SetMask name value) = (replies.MaskSet, states)
 line_result context p states other = (replies.Segment true, states)
 
--- The reply, and what the run carries after it: these states, and the line's processor.
-abbrev pub with_result : RunState → TraceLine → Reply × List State → Reply × RunState
-with_result w l x =
-    let processors = processors_after w.processors (record { line = l; reply = x.0 }) in
-    (x.0, record w { memory = with_states w.memory x.1; processors = processors })
+-- The reply, and the store after it: these states, and the line's processor.
+abbrev pub with_result : Store → TraceLine → Reply × List State → Reply × Store
+with_result s l x =
+    let processors = processors_after s.processors (record { line = l; reply = x.0 }) in
+    (x.0, record s { memory = with_states s.memory x.1; processors = processors })
 
--- The reply to a line on the page table, and what the run carries after it.
-unfoldable pub run_line : RunState → TraceLine → Reply × RunState
-run_line w l =
+-- The reply to a line on a store, and the store after it.
+unfoldable pub run_on : Store → TraceLine → Reply × Store
+run_on s l =
     if is_quiet l.act
-    then run_quiet_line w l.act
+    then run_quiet_line s l.act
     else
     with_result
-    w
+    s
     l
-    (line_result (context_of w) (processor_at w.processors l.cpu) (states_of w) l.act)
-
--- The replies to lines on the page table, one after the other.
-abbrev pub replies_from : RunState → List TraceLine → List Reply
-replies_from w [] = []
-replies_from w (l ∷ ls) = (run_line w l).0 ∷ replies_from (run_line w l).1 ls
-
--- What the run carries after these lines on the page table.
-abbrev pub state_after_lines : RunState → List TraceLine → RunState
-state_after_lines w [] = w
-state_after_lines w (l ∷ ls) = state_after_lines (run_line w l).1 ls
-
--- ---- the windows
--- A window, and the states of its entries.
-pub record WindowState : Type 0 where
-  pub window : BusWindow
-  pub states : List State
-
--- The reply, and what the window has after it.
-abbrev pub with_window : WindowState → Reply × List State → Reply × WindowState
-with_window v x = (x.0, record v { states = x.1 })
-
--- The reply to a line on a window.
-abbrev pub run_on_window : List Grant → WindowState → Act → Reply × WindowState
-run_on_window grants v act =
-    with_window v (line_result (window_context grants v.window) new_processor v.states act)
-
--- A window before those that a line was run on, if it was run on one of them.
-abbrev pub beside_window :
-    WindowState → Option (Reply × List WindowState) → Option (Reply × List WindowState)
-beside_window v None = None
-beside_window v (Some x) = Some (x.0, v ∷ x.1)
-
--- The reply to a line on the window that it names, and what the windows have after it. None where it names none of them.
-abbrev pub run_on_windows :
-    List Grant → List WindowState → Act → Option (Reply × List WindowState)
-run_on_windows grants [] act = None
-run_on_windows grants (v ∷ vs) act =
-    if is_on_window v.window act
-    then
-    (let x = run_on_window grants v act in Some (x.0, x.1 ∷ vs))
-    else beside_window v (run_on_windows grants vs act)
+    (line_result (context_of s) (processor_at s.processors l.cpu) (states_of s) l.act)
 
 -- ---- all stores
--- All that a run carries from line to line: the page table with its processors, and the windows.
-pub record AllStores : Type 0 where
-  pub table : RunState
-  pub windows : List WindowState
-
--- At first all entries of the windows are empty.
-abbrev pub opening_stores : Configuration → AllStores
-opening_stores c = record {
-  table = opening_run c;
-  windows =
-      map (λ (w : BusWindow). record { window = w; states = opening_window }) c.windows;
-}
-
--- The reply to a line on the page table, with the windows as they are.
-abbrev pub run_on_table : AllStores → TraceLine → Reply × AllStores
-run_on_table s l = let x = run_line s.table l in (x.0, record s { table = x.1 })
-
--- The reply to a line, on the window that it names or else on the page table, and what the run carries after it.
-unfoldable pub run_store_line : AllStores → TraceLine → Reply × AllStores
-run_store_line s l =
-    option_map_or
-    (λ (x : Reply × List WindowState). (x.0, record s { windows = x.1 }))
-    (run_on_windows s.table.grants s.windows l.act)
-    (run_on_table s l)
+-- The reply to a line, and the stores after it: it acts on the store that it is on, and leaves the others. Where it is on none, which can't be, H_FUNCTION.
+abbrev pub run_line : List BusWindow → List Store → TraceLine → Reply × List Store
+run_line ws [] l = (reply_of_code rc.Function, [])
+run_line ws (s ∷ ss) l =
+    if is_on ws s.window l.act
+    then
+    (let x = run_on s l in (x.0, x.1 ∷ ss))
+    else
+    (let x = run_line ws ss l in (x.0, s ∷ x.1))
 
 -- The replies to lines, one after the other.
-abbrev pub store_replies_from : AllStores → List TraceLine → List Reply
-store_replies_from s [] = []
-store_replies_from s (l ∷ ls) =
-    (run_store_line s l).0 ∷ store_replies_from (run_store_line s l).1 ls
+abbrev pub replies_from : List BusWindow → List Store → List TraceLine → List Reply
+replies_from ws ss [] = []
+replies_from ws ss (l ∷ ls) =
+    let x = run_line ws ss l in x.0 ∷ replies_from ws x.1 ls
 
--- What the run carries after these lines.
-abbrev pub stores_after_lines : AllStores → List TraceLine → AllStores
-stores_after_lines s [] = s
-stores_after_lines s (l ∷ ls) = stores_after_lines (run_store_line s l).1 ls
+-- The stores after these lines.
+abbrev pub stores_after : List BusWindow → List Store → List TraceLine → List Store
+stores_after ws ss [] = ss
+stores_after ws ss (l ∷ ls) = stores_after ws (run_line ws ss l).1 ls
 
 -- The replies of the serial run.
 abbrev pub serial_replies : AcceptedTrace → List Reply
-serial_replies t = store_replies_from (opening_stores t.config) t.lines
+serial_replies t = replies_from t.config.windows (opening_stores t.config) t.lines
+
+-- The first of the stores: the page table. The given one where there is none, which can't be.
+abbrev pub first_store : Store → List Store → Store
+first_store s [] = s
+first_store s (x ∷ xs) = x
+
+-- The page table after these lines of the serial run of a configuration.
+abbrev pub table_after : Configuration → List TraceLine → Store
+table_after c lines =
+    first_store (page_table c) (stores_after c.windows (opening_stores c) lines)

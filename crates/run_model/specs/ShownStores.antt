@@ -16,8 +16,8 @@ use Rattle.h_update.specs.Bulk.{pairs_show}
 use Rattle.hpt_resize.specs.Rehash.{target_at}
 use Rattle.trace_line.specs.declared.act.Act.{Act}
 use Rattle.trace_reply.specs.declared.reply.Reply.{Reply}
-use Rattle.run_model.specs.RunState.{states_of}
-use Rattle.run_model.specs.Sections.{Section, receipts_made, section_end}
+use Rattle.run_model.specs.Stores.{states_of}
+use Rattle.run_model.specs.Sections.{Section, made_in, closing}
 use Rattle.run_model.specs.GoodRun.{EachLine}
 use Rattle.papr_codes.specs.declared.calls.Hcall.TheVariants as calls
 use Rattle.entry_model.specs.declared.operation.Answer.TheVariants as answers
@@ -55,11 +55,11 @@ ShowsChange (r ∷ rs) last after =
 
 -- The history of an entry in a section.
 abbrev pub history_in : Section → ℕ → List Receipt
-history_in s entry = history entry (receipts_made s.before s.replied_lines)
+history_in s entry = history entry (made_in s)
 
 -- The state that the entry closes on.
 abbrev pub closing_state : Section → ℕ → State
-closing_state s entry = state_at (states_of (section_end s.before s.replied_lines)) entry
+closing_state s entry = state_at (states_of (closing s)) entry
 
 -- ---- the reply that clears
 -- The words show C of an entry: H_REMOVE's in doubleword 1, the second of them, H_CLEAR_MOD's in the one word, H_BULK_REMOVE's in a pair of the entry.
@@ -97,7 +97,7 @@ carried_to old new entry =
     else target_at
     old.before.memory.table.order
     new.before.memory.table.order
-    (states_of (section_end old.before old.replied_lines))
+    (states_of (closing old))
     entry
 
 -- C of this entry is set when these sections begin, and is shown from there on: through each section, and then at the place to which a committed resize carried the entry. One that a resize drops is dropped by that call's reply.

@@ -1,6 +1,6 @@
 //! Laws of the runs of a trace. Each function does nothing, and its contract is the law.
 
-ghost use Rattle.run_model.specs.Laws.{SerialIsGood, ParallelIsGood, SerialIsParallel, SerialIsTheOneGoodRun, NoStoreIsLost, NoSetBitIsLost, ClearingRepliesShow, ResizesKeepBoltedPages, AccessesLandByTheirEntries, DevicesLandByTheirTces, CachedLinesAreCurrentOrGone, MasksRefuseExactlyWhere, ZeroMasksRefuseNothing, NoEntryIsWorn, PutsAreBusyWhereTaken, SerialPutsAreNotBusy, RefusedLinesChangeNothing, RefusedWindowLinesChangeNothing, RefusedResizesChangeNothing, EntriesCanBeEntered, ImagesOpenAgain};
+ghost use Rattle.run_model.specs.Laws.{SerialIsGood, ParallelIsGood, SerialIsParallel, GoodSideBySide, SerialIsTheOneGoodRun, NoStoreIsLost, NoSetBitIsLost, ClearingRepliesShow, ResizesKeepBoltedPages, AccessesLandByTheirEntries, DevicesLandByTheirTces, CachedLinesAreCurrentOrGone, MasksRefuseExactlyWhere, ZeroMasksRefuseNothing, NoEntryIsWorn, PutsAreBusyWhereTaken, SerialPutsAreNotBusy, RefusedLinesChangeNothing, RefusedWindowLinesChangeNothing, RefusedResizesChangeNothing, EntriesCanBeEntered, ImagesOpenAgain};
 
 /// The serial run of a trace is a good run.
 pub fn serial_is_good()
@@ -16,6 +16,11 @@ pub fn parallel_is_good()
 /// The serial run of a trace is one in which each processor works on its own.
 pub fn serial_is_parallel()
     ensures { SerialIsParallel }
+{}
+
+/// A run is good store by store exactly where it is good section by section, with all stores side by side.
+pub fn good_side_by_side()
+    ensures { GoodSideBySide }
 {}
 
 /// A trace of one processor has one good run, the serial one.

@@ -14,8 +14,8 @@ mod surroundings;
 pub use calls::{make_call, make_device_access};
 pub use laws::{
     accesses_land_by_their_entries, cached_lines_are_current_or_gone, clearing_replies_show,
-    devices_land_by_their_tces, images_open_again, masks_refuse_exactly_where, no_entry_is_worn,
-    no_set_bit_is_lost, no_store_is_lost, one_good_run, parallel_is_good,
+    devices_land_by_their_tces, good_side_by_side, images_open_again, masks_refuse_exactly_where,
+    no_entry_is_worn, no_set_bit_is_lost, no_store_is_lost, one_good_run, parallel_is_good,
     puts_are_busy_where_taken, reached_entries_can_be_entered, refused_lines_change_nothing,
     refused_resizes_change_nothing, refused_window_lines_change_nothing, resizes_keep_bolted_pages,
     serial_is_good, serial_is_parallel, serial_puts_are_not_busy, zero_masks_refuse_nothing,

@@ -1,4 +1,5 @@
 -- What the parallel run of an accepted trace is and assures.
+use Rattle.std.specs.Prelude.{None}
 use Rattle.std.specs.List.{AllByRecursion}
 use Rattle.std.proofs.Common.{◌≡◌, ℕ, List, [], ◌∷◌, length, map, refl, sym, subst, Result, Ok, Err, IfOk, String, Global, string_bytes}
 use Rattle.trace_line.specs.declared.line.TraceLine.{TraceLine}
@@ -8,52 +9,46 @@ use Rattle.trace_read.specs.Trace.{AcceptedTrace, IsAccepted}
 use Rattle.trace_reply.specs.ReplyList.{ReplyList}
 use Rattle.trace_reply.specs.declared.reply.Reply.{Reply}
 use Rattle.trace_reply.specs.Replies.{AreReplies, lines_with_replies}
-use Rattle.run_model.specs.Quiet.{cut}
-use Rattle.run_model.specs.RunState.{opening_run}
-use Rattle.run_model.specs.SerialRun.{WindowState, AllStores, opening_stores, serial_replies}
-use Rattle.run_model.specs.Windows.{lines_on_table, opening_window}
-use Rattle.run_model.specs.GoodRun.{IsGoodRun}
-use Rattle.run_model.specs.ParallelRun.{RunsParallel, WindowRunsParallel, IsParallel}
+use Rattle.run_model.specs.AllStores.{AllStores, all_stores, opening_all}
 use Rattle.run_model.specs.Assurances.{Assures}
+use Rattle.run_model.specs.GoodRun.{IsGoodRun}
 use Rattle.run_model.specs.Laws.{HasOneProcessor}
-use Rattle.run_model.proofs.ParallelGood.{parallel_good}
+use Rattle.run_model.specs.ParallelRun.{RunsParallel, IsParallelOn, IsParallel}
+use Rattle.run_model.specs.Quiet.{cut}
+use Rattle.run_model.specs.SerialRun.{serial_replies}
+use Rattle.run_model.specs.Stores.{Store, page_table, is_on}
 use Rattle.run_model.proofs.GoodAssured.{good_assures}
-use Rattle.run_model.proofs.SerialGood.{opening_processors}
-use Rattle.run_model.proofs.StoresGood.{one_good_run}
+use Rattle.run_model.proofs.OneGoodRun.{one_good_run}
+use Rattle.run_model.proofs.ParallelGood.{parallel_good}
+use Rattle.run_model.proofs.WindowLines.{opened_all}
 use Rattle.trace_runner.specs.Workers.{Keeping}
-use Rattle.trace_runner.specs.Windows.{opened, windows_of}
-use Rattle.trace_runner.specs.Sectioned.{Runs, HasRunFrom}
+use Rattle.trace_runner.specs.Sectioned.{Runs, AreNamed, HasRunFrom}
 use Rattle.trace_runner.specs.TextLog.{HasText}
 use Rattle.trace_runner.specs.ParallelRun.{IsOutputOfRun, IsTextOfRun}
 use Rattle.trace_runner.proofs.WindowPlaces.{windows_opened}
 
 -- ---- the run from the opening stores
-opening_grants : (c : Configuration) → (opening_run c).grants ≡ c.granted.grants
-unfolding opening_run
-opening_grants c = refl
-
-each_mapped : {A B : Type 0} (P : B → Type 0) (f : A → B) (xs : List A) → AllByRecursion P (map f xs) → AllByRecursion (λ x. P (f x)) xs
-each_mapped P f [] h = tt
-each_mapped P f (x ∷ xs) h = (h.0, each_mapped P f xs h.1)
-
-opening_parallel : (t : AcceptedTrace) (rs : List Reply) → Runs (opening_stores t.config) (lines_with_replies t.lines rs) → IsParallel t rs
+opening_parallel : (t : AcceptedTrace) (rs : List Reply) → Runs (opening_all t.config) (lines_with_replies t.lines rs) → IsParallel t rs
 opening_parallel t rs h =
-    let ts = lines_with_replies t.lines rs in
-    record {
-      table = subst (λ ws. RunsParallel (opening_run t.config) (cut (lines_on_table ws ts)).0 (cut (lines_on_table ws ts)).1) (windows_opened t.config.windows) h.table;
-      windows = subst (λ n. AllByRecursion (λ (w : BusWindow). WindowRunsParallel t.config.granted.grants n w opening_window (cut ts).0 (cut ts).1) t.config.windows) (opening_processors t)
-          (subst (λ g. AllByRecursion (λ (w : BusWindow). WindowRunsParallel g (length (opening_run t.config).processors) w opening_window (cut ts).0 (cut ts).1) t.config.windows) (opening_grants t.config)
-          (each_mapped (λ (v : WindowState). WindowRunsParallel (opening_run t.config).grants (length (opening_run t.config).processors) v.window v.states (cut ts).0 (cut ts).1) opened t.config.windows h.windows));
-    }
+    let c = cut (lines_with_replies t.lines rs) in
+    subst (AllByRecursion (IsParallelOn t rs)) (opened_all t.config)
+    (subst (λ ws. AllByRecursion (λ (x : Store). RunsParallel (is_on ws x.window) x c.0 c.1) (all_stores (opening_all t.config))) (windows_opened t.config.windows) h)
+
+opening_table : (c : Configuration) → (page_table c).window ≡ None
+unfolding page_table
+opening_table c = refl
+
+opening_named : (t : AcceptedTrace) → IsAccepted t → AreNamed (opening_all t.config)
+opening_named t is = record { table = opening_table t.config; differ = subst NumbersDiffer (sym (windows_opened t.config.windows)) is.windows.differ }
 
 -- The replies are a good run.
-good_of : (t : AcceptedTrace) (s : AllStores) (lines : List TraceLine) (rs : List Reply) → IsAccepted t → s ≡ opening_stores t.config → lines ≡ t.lines → AreReplies lines rs → (NumbersDiffer (windows_of s.windows) → Runs s (lines_with_replies lines rs)) → AreReplies t.lines rs × IsGoodRun t rs
+good_of : (t : AcceptedTrace) (s : AllStores) (lines : List TraceLine) (rs : List Reply) → IsAccepted t → s ≡ opening_all t.config → lines ≡ t.lines → (AreNamed s → AreReplies lines rs) → (AreNamed s → Runs s (lines_with_replies lines rs)) → AreReplies t.lines rs × IsGoodRun t rs
 good_of t s lines rs is opening same kinds runs =
-    let k : AreReplies t.lines rs = subst (λ ls. AreReplies ls rs) same kinds in
-    let all : NumbersDiffer (windows_of (opening_stores t.config).windows) → Runs (opening_stores t.config) (lines_with_replies t.lines rs) = subst (λ (z : AllStores × List TraceLine). NumbersDiffer (windows_of z.0.windows) → Runs z.0 (lines_with_replies z.1 rs)) (λ j. (opening j, same j)) runs in
-    (k, parallel_good t rs k (opening_parallel t rs (all (subst NumbersDiffer (sym (windows_opened t.config.windows)) is.windows.differ))))
+    let k : AreReplies t.lines rs = subst (λ ls. AreReplies ls rs) same (kinds (subst AreNamed (sym opening) (opening_named t is))) in
+    let all : AreNamed (opening_all t.config) → Runs (opening_all t.config) (lines_with_replies t.lines rs) = subst (λ (z : AllStores × List TraceLine). AreNamed z.0 → Runs z.0 (lines_with_replies z.1 rs)) (λ j. (opening j, same j)) runs in
+    (k, parallel_good t rs k (opening_parallel t rs (all (opening_named t is))))
 
-output_of : {O : Type 0} (has : Keeping O) (t : AcceptedTrace) (s : AllStores) (lines : List TraceLine) (output : O) → IsAccepted t → s ≡ opening_stores t.config → lines ≡ t.lines → HasRunFrom has s lines output → IsOutputOfRun has t output
+output_of : {O : Type 0} (has : Keeping O) (t : AcceptedTrace) (s : AllStores) (lines : List TraceLine) (output : O) → IsAccepted t → s ≡ opening_all t.config → lines ≡ t.lines → HasRunFrom has s lines output → IsOutputOfRun has t output
 output_of has t s lines output is opening same h =
     let rs = h.replies in
     let both = good_of t s lines rs is opening same h.kinds h.runs in
@@ -67,7 +62,7 @@ output_of has t s lines output is opening same h =
       one = λ cpu one. one_good_run t cpu rs is one good;
     }
 
-pub ok_output : {O E : Type 0} (has : Keeping O) (t : AcceptedTrace) (s : AllStores) (lines : List TraceLine) (r : Result O E) → IsAccepted t → s ≡ opening_stores t.config → lines ≡ t.lines → IfOk r (HasRunFrom has s lines) → IfOk r (IsOutputOfRun has t)
+pub ok_output : {O E : Type 0} (has : Keeping O) (t : AcceptedTrace) (s : AllStores) (lines : List TraceLine) (r : Result O E) → IsAccepted t → s ≡ opening_all t.config → lines ≡ t.lines → IfOk r (HasRunFrom has s lines) → IfOk r (IsOutputOfRun has t)
 ok_output has t s lines (Ok output) is opening same h = output_of has t s lines output is opening same h
 ok_output has t s lines (Err e) is opening same h = tt
 

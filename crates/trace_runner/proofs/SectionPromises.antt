@@ -175,6 +175,7 @@ none_apart set opening processors = record {
     legal = λ entry low. section_legal (section_on set opening processors []) opening tt refl entry;
     gone = λ cpu line gone. gone_at opening line gone;
   };
+  quiet = tt;
 }
 
 none_own : (ts : List RepliedLine) → ((cpu : ℕ) → lines_of_processor cpu ts ≡ []) → ts ≡ []

@@ -24,8 +24,7 @@ use Rattle.trace_reply.specs.declared.reply.Reply.{Reply}
 use Rattle.trace_reply.specs.Replies.{RepliedLine, AreReplies, receipts_in, lines_with_replies}
 use Rattle.run_model.specs.Processors.{processor_at, processor_after}
 use Rattle.run_model.specs.Histories.{lines_of_processor, receipts_by, receipts_from_processor}
-use Rattle.run_model.specs.Sections.{processor_after_lines, processors_after_lines}
-use Rattle.run_model.specs.StoreSections.{StoreSection, made_in as made_by}
+use Rattle.run_model.specs.Sections.{processor_after_lines, processors_after_lines, Section, made_in as made_by}
 use Rattle.run_model.specs.ParallelRun.{Works, AllWork, RunsApart}
 use Rattle.run_model.proofs.Each.{each_append}
 use Rattle.trace_runner.specs.declared.worker.Worker.{Worker}
@@ -241,7 +240,7 @@ own_parts lines picks ts ws own = all_of (λ j. lines_of_processor j ts ≡ repl
 
 -- ---- the section
 module _ {L : Type 0} (keeps : Keeping L) (set : StoreContext) (opening : List State) (processors : List Processor) (table : LockTable) (lines : List TraceLine) (picks : ℕ → List Reply) (ts : List RepliedLine) (ws : List (Worker L)) where
-  abbrev s : StoreSection
+  abbrev s : Section
   s = section_on set opening processors ts
 
   pub after_parts : processors_before ws ≡ processors → AllNumbered (IsPart keeps set table lines ts picks) 0 ws → map (λ (x : Worker L). x.cpu) ws ≡ processors_after_lines 0 processors ts
@@ -262,6 +261,7 @@ module _ {L : Type 0} (keeps : Keeping L) (set : StoreContext) (opening : List S
       legal = λ entry low. rw (sym made) (subst (λ l. IsLegal (state_at l entry) (history entry (view_of all).actor.receipts) (state_at b entry)) is (closes.legal entry (subst (λ l. entry < length l) (sym is) low)));
       gone = λ cpu line gone. at line (inside_of cpu line gone) (gone_case keeps set table lines ts picks cpu ws line gone);
     };
+    quiet = tt;
   } where
     a : List State
     a = table.opening.items

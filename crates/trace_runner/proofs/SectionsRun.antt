@@ -1,5 +1,6 @@
 -- The sections of a parallel run, one after the other.
-use Rattle.std.proofs.Common.{◌≡◌, ℕ, zero, suc, ◌+◌, ◌-◌, ◌<◌, ◌≤◌, List, [], ◌∷◌, ◌++◌, length, take, drop, get_or, replicate, cond, true, false, ap, sym, ◌∙◌, refl, subst, arith, append_assoc, append-nil, Bool}
+use Rattle.std.specs.Prelude.{Option, Some, None, IfSome, filter, map}
+use Rattle.std.proofs.Common.{◌≡◌, ℕ, zero, suc, ◌+◌, ◌-◌, ◌<◌, ◌≤◌, List, [], ◌∷◌, ◌++◌, length, take, drop, get_or, replicate, cond, true, false, ap, sym, ◌∙◌, refl, subst, arith, append_assoc, append-nil, Bool, eqb}
 use Rattle.std.specs.List.{AllByRecursion}
 use Rattle.std.proofs.lemmas.List.{drop_more, take_more}
 use Rattle.std.proofs.lemmas.List.Elements.{filter-append}
@@ -11,23 +12,29 @@ use Rattle.trace_line.specs.Lines.{is_quiet}
 use Rattle.trace_read.specs.Configuration.{NumbersDiffer}
 use Rattle.trace_reply.specs.declared.reply.Reply.{Reply}
 use Rattle.trace_reply.specs.Replies.{RepliedLine, IsOfKind, AreReplies, lines_with_replies}
+use Rattle.trace_line.specs.declared.act.Act.{Act}
+use Rattle.entry_model.specs.State.{State}
+use Rattle.run_model.specs.AllStores.{WindowState, AllStores, as_store, all_stores}
+use Rattle.run_model.specs.ParallelRun.{RunsApart, RunsParallel}
 use Rattle.run_model.specs.Quiet.{QuietPart, cut}
-use Rattle.run_model.specs.RunState.{RunState, run_quiet_line}
-use Rattle.run_model.specs.Sections.{processors_after_lines, section_end_on, table_section}
-use Rattle.run_model.specs.SerialRun.{WindowState, AllStores, run_store_line}
-use Rattle.run_model.specs.StoreContexts.{window_context}
-use Rattle.run_model.specs.Windows.{is_on_table, lines_on_table, lines_on_window}
-use Rattle.run_model.specs.ParallelRun.{RunsApart, RunsParallel, WindowRunsParallel}
+use Rattle.run_model.specs.QuietLines.{run_quiet_line}
+use Rattle.run_model.specs.Sections.{processors_after_lines, section_end_on, quiet_on, after_quiet}
+use Rattle.run_model.specs.SerialRun.{run_on, run_line, first_store}
+use Rattle.run_model.specs.Stores.{Store, is_on, lines_on, is_on_window, window_store}
 use Rattle.run_model.proofs.SerialGood.{quiet_kind}
-use Rattle.run_model.proofs.StoreLines.{quiet_on_table}
+use Rattle.run_model.proofs.StoreLines.{quiet_on_table, quiet_off_window}
+use Rattle.run_model.proofs.TableNamed.{after_window, quiet_window}
+use Rattle.run_model.proofs.WindowLines.{window_closes_on}
+use Rattle.trace_runner.specs.MachineState.{RunsLine}
+use Rattle.trace_runner.specs.Stores.{store_of, replied_on_store}
 use Rattle.trace_runner.specs.Windows.{windows_of}
-use Rattle.trace_runner.specs.StoreRuns.{AllPaired, section_on}
-use Rattle.trace_runner.specs.Sectioned.{section_lines, WindowSectioned, Sectioned, HasGrown, RunsSection, HasRunFrom, Runs}
+use Rattle.trace_runner.proofs.QuietLines.{quiet_is}
+use Rattle.trace_runner.proofs.StoreNumbers.{HasNumber, replied_first, replied_window, numbers}
+use Rattle.trace_runner.specs.StoreRuns.{AllPaired}
+use Rattle.trace_runner.specs.Sectioned.{section_lines, WindowSectioned, Sectioned, HasGrown, RunsSection, HasRunFrom, Runs, AreNamed}
 use Rattle.trace_runner.specs.Workers.{Keeping, AllNumbered, replied_line, NoneQuiet}
 use Rattle.trace_runner.proofs.WorkSteps.{replied_lines_more, kinds_more}
-use Rattle.trace_runner.proofs.StoreNumbers.{each_filtered, HasNumber, replied_table, replied_window, numbers}
 use Rattle.trace_runner.proofs.StoresRan.{paired_windows}
-use Rattle.trace_runner.proofs.QuietLines.{quiet_grants, after_quiet, quiet_step}
 
 -- ---- where the quiet lines cut
 abbrev NoneQuietIn : List RepliedLine → Type 0
@@ -51,29 +58,104 @@ section_cut us t ts m q = no_quiet_cut us (t ∷ ts) m ∙ ap (λ (x : List Repl
 last_cut : (us : List RepliedLine) → NoneQuietIn us → cut us ≡ (us, [])
 last_cut us m = ap cut (sym (append-nil us)) ∙ no_quiet_cut us [] m ∙ ap (λ vs. (vs, [])) (append-nil us)
 
-table_cut : (ws : List BusWindow) (us : List RepliedLine) (t : RepliedLine) (ts : List RepliedLine) → NoneQuietIn us → is_quiet t.line.act ≡ true → cut (lines_on_table ws (us ++ t ∷ ts)) ≡ (lines_on_table ws us, (t, (cut (lines_on_table ws ts)).0) ∷ (cut (lines_on_table ws ts)).1)
-table_cut ws us t ts m q =
-    let on : RepliedLine → Bool = λ u. is_on_table ws u.line.act in
-    let first : lines_on_table ws (t ∷ ts) ≡ t ∷ lines_on_table ws ts = ap (λ b. cond b (t ∷ lines_on_table ws ts) (lines_on_table ws ts)) (quiet_on_table ws t.line.act q) in
-    ap cut (filter-append on us (t ∷ ts) ∙ ap (λ vs. lines_on_table ws us ++ vs) first)
-    ∙ section_cut (lines_on_table ws us) t (lines_on_table ws ts) (each_filtered (λ (u : RepliedLine). is_quiet u.line.act ≡ false) on us m) q
+-- ---- stores and their numbers
+-- The lines of this number are those on the store of this name.
+abbrev HasStoreNumber : List BusWindow → ℕ → Option BusWindow → Type 0
+HasStoreNumber ws store o = (act : Act) → eqb (store_of ws act) store ≡ is_on ws o act
 
--- ---- the windows of a section
-module _ (ws : List BusWindow) (grants : List Grant) (cpus : ℕ) (on : ℕ → List RepliedLine) (ts : List RepliedLine) (same : (store : ℕ) (w : BusWindow) → HasNumber ws store w → on store ≡ lines_on_window w ts) where
-  apart_on : (store : ℕ) (v u : WindowState) → HasNumber ws store v.window → WindowSectioned grants cpus (on store) v u → RunsApart (section_on (window_context grants v.window) v.states (replicate cpus new_processor) (lines_on_window v.window ts)) u.states
-  apart_on store v u number h = subst (λ ls. RunsApart (section_on (window_context grants v.window) v.states (replicate cpus new_processor) ls) u.states) (same store v.window number) h.apart
+abbrev HaveStoreNumbers : List BusWindow → ℕ → List Store → Type 0
+HaveStoreNumbers ws n ss = AllNumbered (λ store (x : Store). HasStoreNumber ws store x.window) n ss
 
-  windows_go : (t : RepliedLine) (c : List RepliedLine × List QuietPart) (n : ℕ) (vs us : List WindowState) → AllPaired (λ store v u. WindowSectioned grants cpus (on store) v u) n vs us → AllNumbered (HasNumber ws) n (windows_of vs) → AllByRecursion (λ (u : WindowState). WindowRunsParallel grants cpus u.window u.states c.0 c.1) us → AllByRecursion (λ (v : WindowState). WindowRunsParallel grants cpus v.window v.states ts ((t, c.0) ∷ c.1)) vs
-  windows_go t c n [] [] h k rest = tt
-  windows_go t c n [] (u ∷ us) h k rest = absurd h
-  windows_go t c n (v ∷ vs) [] h k rest = absurd h
-  windows_go t c n (v ∷ vs) (u ∷ us) h k rest = ((u.states, apart_on n v u k.0 h.0, subst (λ w. WindowRunsParallel grants cpus w u.states c.0 c.1) h.0.same rest.0), windows_go t c (suc n) vs us h.1 k.1 rest.1)
+windows_numbered : (ws : List BusWindow) (table : Store) (n : ℕ) (vs : List WindowState) → AllNumbered (HasNumber ws) n (windows_of vs) → HaveStoreNumbers ws n (map (as_store table) vs)
+windows_numbered ws table n [] h = tt
+windows_numbered ws table n (v ∷ vs) h = (h.0, windows_numbered ws table (suc n) vs h.1)
 
-  windows_end : (n : ℕ) (vs us : List WindowState) → AllPaired (λ store v u. WindowSectioned grants cpus (on store) v u) n vs us → AllNumbered (HasNumber ws) n (windows_of vs) → AllByRecursion (λ (v : WindowState). WindowRunsParallel grants cpus v.window v.states ts []) vs
-  windows_end n [] [] h k = tt
-  windows_end n [] (u ∷ us) h k = absurd h
-  windows_end n (v ∷ vs) [] h k = absurd h
-  windows_end n (v ∷ vs) (u ∷ us) h k = ((u.states, apart_on n v u k.0 h.0), windows_end (suc n) vs us h.1 k.1)
+-- A number is a place among the stores.
+numbered : (s : AllStores) → AreNamed s → HaveStoreNumbers (windows_of s.windows) 0 (all_stores s)
+numbered s h = (
+  (λ act. replied_first (windows_of s.windows) act ∙ ap (λ o. is_on (windows_of s.windows) o act) (sym h.table)),
+  windows_numbered (windows_of s.windows) s.table 1 s.windows (numbers (windows_of s.windows) h.differ),
+)
+
+lines_numbered : (ws : List BusWindow) (store : ℕ) (o : Option BusWindow) (ts : List RepliedLine) → HasStoreNumber ws store o → replied_on_store ws store ts ≡ lines_on (is_on ws o) ts
+lines_numbered ws store o ts h = λ j. filter (λ (t : RepliedLine). h t.line.act j) ts
+
+-- ---- a section of a store
+-- On a store these lines are of processors that work on their own, and it closes so.
+pub record Closes (ts : List RepliedLine) (x y : Store) : Type 0 where
+  pub states : List State
+  pub apart : RunsApart (record { before = x; replied_lines = ts; quiet = None }) states
+  pub later : y ≡ section_end_on x ts states
+
+-- The quiet line has its reply of a store that it is on, and leaves it so.
+pub record Quiets (ws : List BusWindow) (t : RepliedLine) (y z : Store) : Type 0 where
+  pub reply : IfSome (quiet_on (is_on ws y.window) t) (λ q. q.reply ≡ (run_quiet_line y q.line.act).0)
+  pub later : z ≡ after_quiet y (quiet_on (is_on ws y.window) t)
+
+abbrev RunsOn : List BusWindow → List RepliedLine → List QuietPart → Store → Type 0
+RunsOn ws ts qs x = RunsParallel (is_on ws x.window) x ts qs
+
+module _ (ws : List BusWindow) (on : ℕ → List RepliedLine) (ts : List RepliedLine) (same : (store : ℕ) (o : Option BusWindow) → HasStoreNumber ws store o → on store ≡ lines_on (is_on ws o) ts) where
+  -- One store: the section, the quiet line behind it, and the rest.
+  store_goes : (t : RepliedLine) (c : List RepliedLine × List QuietPart) (n : ℕ) (x y z : Store) → HasStoreNumber ws n x.window → Closes (on n) x y → Quiets ws t y z → RunsOn ws c.0 c.1 z → RunsOn ws ts ((t, c.0) ∷ c.1) x
+  store_goes t c n x y z number h q rest =
+      let own = lines_on (is_on ws x.window) ts in
+      let e : on n ≡ own = same n x.window number in
+      let k : RunsApart (record { before = x; replied_lines = own; quiet = None }) h.states = subst (λ us. RunsApart (record { before = x; replied_lines = us; quiet = None }) h.states) e h.apart in
+      let end = section_end_on x own h.states in
+      let closed : y ≡ end = h.later ∙ ap (λ us. section_end_on x us h.states) e in
+      let quiet = quiet_on (is_on ws x.window) t in
+      let q' : Quiets ws t end z = subst (λ v. Quiets ws t v z) closed q in
+      let next = after_quiet end quiet in
+      let rest' : RunsOn ws c.0 c.1 next = subst (RunsOn ws c.0 c.1) q'.later rest in
+      (h.states, record { fronts = k.fronts; work = k.work; closed = record { size = k.closed.size; in_table = k.closed.in_table; legal = k.closed.legal; gone = k.closed.gone }; quiet = q'.reply }, subst (λ o. RunsParallel (is_on ws o) next c.0 c.1) (after_window end quiet) rest')
+
+  store_ends : (n : ℕ) (x y : Store) → HasStoreNumber ws n x.window → Closes (on n) x y → RunsOn ws ts [] x
+  store_ends n x y number h = (h.states, subst (λ us. RunsApart (record { before = x; replied_lines = us; quiet = None }) h.states) (same n x.window number) h.apart)
+
+  stores_go : (t : RepliedLine) (c : List RepliedLine × List QuietPart) (n : ℕ) (xs ys zs : List Store) → HaveStoreNumbers ws n xs → AllPaired (λ store x y. Closes (on store) x y) n xs ys → AllPaired (λ store y z. Quiets ws t y z) n ys zs → AllByRecursion (RunsOn ws c.0 c.1) zs → AllByRecursion (RunsOn ws ts ((t, c.0) ∷ c.1)) xs
+  stores_go t c n [] ys zs k h q rest = tt
+  stores_go t c n (x ∷ xs) [] zs k h q rest = absurd h
+  stores_go t c n (x ∷ xs) (y ∷ ys) [] k h q rest = absurd q
+  stores_go t c n (x ∷ xs) (y ∷ ys) (z ∷ zs) k h q rest = (store_goes t c n x y z k.0 h.0 q.0 rest.0, stores_go t c (suc n) xs ys zs k.1 h.1 q.1 rest.1)
+
+  stores_end_so : (n : ℕ) (xs ys : List Store) → HaveStoreNumbers ws n xs → AllPaired (λ store x y. Closes (on store) x y) n xs ys → AllByRecursion (RunsOn ws ts []) xs
+  stores_end_so n [] ys k h = tt
+  stores_end_so n (x ∷ xs) [] k h = absurd h
+  stores_end_so n (x ∷ xs) (y ∷ ys) k h = (store_ends n x y k.0 h.0, stores_end_so (suc n) xs ys k.1 h.1)
+
+-- The windows of a section close so.
+windows_close : (ws : List BusWindow) (table later : Store) (on : ℕ → List RepliedLine) (ts : List RepliedLine) → ((store : ℕ) (w : BusWindow) → HasNumber ws store w → on store ≡ lines_on (is_on_window w) ts) → later.grants ≡ table.grants → length later.processors ≡ length table.processors → (n : ℕ) (vs us : List WindowState) → AllNumbered (HasNumber ws) n (windows_of vs) → AllPaired (λ store v u. WindowSectioned table.grants (length table.processors) (on store) v u) n vs us → AllPaired (λ store x y. Closes (on store) x y) n (map (as_store table) vs) (map (as_store later) us)
+windows_close ws table later on ts same granted size n [] [] k h = tt
+windows_close ws table later on ts same granted size n [] (u ∷ us) k h = absurd h
+windows_close ws table later on ts same granted size n (v ∷ vs) [] k h = absurd h
+windows_close ws table later on ts same granted size n (v ∷ vs) (u ∷ us) k h = (record { states = u.states; apart = h.0.apart; later = here }, windows_close ws table later on ts same granted size (suc n) vs us k.1 h.1) where
+  here : as_store later u ≡ section_end_on (as_store table v) (on n) u.states
+  here =
+      (λ i. window_store (granted i) (size i) u.states (h.0.same i))
+      ∙ sym (ap (λ xs. section_end_on (as_store table v) xs u.states) (same n v.window k.0) ∙ window_closes_on table.grants (length table.processors) v.window v.states u.states ts)
+
+-- A store that the quiet line is on, or not.
+quiet_at : (ws : List BusWindow) (t : RepliedLine) (y : Store) → quiet_on (is_on ws y.window) t ≡ Some t → t.reply ≡ (run_quiet_line y t.line.act).0 → Quiets ws t y (run_quiet_line y t.line.act).1
+quiet_at ws t y e said = record {
+  reply = subst (λ (o : Option RepliedLine). IfSome o (λ q. q.reply ≡ (run_quiet_line y q.line.act).0)) (sym e) said;
+  later = sym (ap (after_quiet y) e);
+}
+
+quiet_off : (ws : List BusWindow) (t : RepliedLine) (y : Store) → quiet_on (is_on ws y.window) t ≡ None → Quiets ws t y y
+quiet_off ws t y e = record {
+  reply = subst (λ (o : Option RepliedLine). IfSome o (λ q. q.reply ≡ (run_quiet_line y q.line.act).0)) (sym e) tt;
+  later = sym (ap (after_quiet y) e);
+}
+
+-- A quiet line leaves the windows.
+windows_quiet : (ws : List BusWindow) (table : Store) (t : RepliedLine) (n : ℕ) (vs : List WindowState) → is_quiet t.line.act ≡ true → AllPaired (λ store y z. Quiets ws t y z) n (map (as_store table) vs) (map (as_store table) vs)
+windows_quiet ws table t n [] q = tt
+windows_quiet ws table t n (v ∷ vs) q =
+    let y = as_store table v in
+    (quiet_off ws t y (quiet_away v), windows_quiet ws table t (suc n) vs q) where
+      quiet_away : (w : WindowState) → quiet_on (is_on ws (Some w.window)) t ≡ None
+      quiet_away w = rw (quiet_off_window w.window t.line.act q) refl
 
 -- ---- what a section keeps
 processors_count : (n : ℕ) (processors : List Processor) (ts : List RepliedLine) → length (processors_after_lines n processors ts) ≡ length processors
@@ -81,10 +163,10 @@ processors_count n [] ts = refl
 processors_count n (s ∷ ss) ts = ap suc (processors_count (suc n) ss ts)
 
 pub section_processors : (s later : AllStores) (ls : List TraceLine) (news : List Reply) → Sectioned s ls news later → length later.table.processors ≡ length s.table.processors
-section_processors s later ls news h = ap (λ (v : RunState). length v.processors) h.table ∙ processors_count 0 s.table.processors (section_lines s ls news 0)
+section_processors s later ls news h = ap (λ (v : Store). length v.processors) h.table ∙ processors_count 0 s.table.processors (section_lines s ls news 0)
 
 pub section_number : (s later : AllStores) (ls : List TraceLine) (news : List Reply) → Sectioned s ls news later → later.table.memory.table.number ≡ s.table.memory.table.number
-section_number s later ls news h = ap (λ (v : RunState). v.memory.table.number) h.table
+section_number s later ls news h = ap (λ (v : Store). v.memory.table.number) h.table
 
 section_windows : (s later : AllStores) (ls : List TraceLine) (news : List Reply) → Sectioned s ls news later → windows_of later.windows ≡ windows_of s.windows
 section_windows s later ls news h = paired_windows 1 s.windows later.windows (weaker 1 s.windows later.windows h.windows) where
@@ -97,79 +179,89 @@ section_windows s later ls news h = paired_windows 1 s.windows later.windows (we
 -- ---- the replies up to a line
 -- The replies to the lines up to one are given, and what completes the rest completes the run.
 pub record Done (s : AllStores) (lines : List TraceLine) (start : ℕ) (later : AllStores) (rs : List Reply) : Type 0 where
-  pub kinds : AreReplies (take start lines) rs
-  pub windows : windows_of later.windows ≡ windows_of s.windows
-  pub goes : NumbersDiffer (windows_of s.windows) → (more : List Reply) → Runs later (lines_with_replies (drop start lines) more) → Runs s (lines_with_replies lines (rs ++ more))
+  pub kinds : AreNamed s → AreReplies (take start lines) rs
+  pub named : AreNamed s → AreNamed later
+  pub goes : AreNamed s → (more : List Reply) → Runs later (lines_with_replies (drop start lines) more) → Runs s (lines_with_replies lines (rs ++ more))
 
 pub done_none : (s : AllStores) (lines : List TraceLine) → Done s lines 0 s []
-done_none s lines = record { kinds = tt; windows = refl; goes = λ differ more h. h }
+done_none s lines = record { kinds = λ named. tt; named = λ h. h; goes = λ named more h. h }
 
-module _ (s later : AllStores) (ls : List TraceLine) (news : List Reply) (differ : NumbersDiffer (windows_of s.windows)) (h : Sectioned s ls news later) (m : NoneQuiet ls) where
+section_named : (s later : AllStores) (ls : List TraceLine) (news : List Reply) → Sectioned s ls news later → AreNamed s → AreNamed later
+section_named s later ls news h named = record {
+  table = ap (λ (v : Store). v.window) h.table ∙ named.table;
+  differ = subst NumbersDiffer (sym (section_windows s later ls news h)) named.differ;
+}
+
+-- A quiet line on all stores: it is run on the page table.
+abbrev quiet_left : AllStores → TraceLine → List Store
+quiet_left s l = (run_quiet_line s.table l.act).1 ∷ map (as_store s.table) s.windows
+
+quiet_runs : (s : AllStores) (l : TraceLine) → s.table.window ≡ None → is_quiet l.act ≡ true → run_line (windows_of s.windows) (all_stores s) l ≡ ((run_quiet_line s.table l.act).0, quiet_left s l)
+quiet_runs s l named q =
+    let on : is_on (windows_of s.windows) s.table.window l.act ≡ true = ap (λ o. is_on (windows_of s.windows) o l.act) named ∙ quiet_on_table (windows_of s.windows) l.act q in
+    let here : run_line (windows_of s.windows) (all_stores s) l ≡ ((run_on s.table l).0, (run_on s.table l).1 ∷ map (as_store s.table) s.windows) = rw on refl in
+    here ∙ ap (λ (x : Reply × Store). (x.0, x.1 ∷ map (as_store s.table) s.windows)) (quiet_is s.table l q)
+
+module _ (s after : AllStores) (l : TraceLine) (r : Reply) (named : AreNamed s) (q : is_quiet l.act ≡ true) (ran : RunsLine s l r after) where
+  quiet_told : ◌≡◌ {A = Reply × List Store} (r, all_stores after) ((run_quiet_line s.table l.act).0, quiet_left s l)
+  quiet_told = ran.ran ∙ quiet_runs s l named.table q
+
+  quiets : AllPaired (λ store y z. Quiets (windows_of s.windows) (replied_line l r) y z) 0 (all_stores s) (all_stores after)
+  quiets =
+      let ws = windows_of s.windows in
+      let t = replied_line l r in
+      let on : is_on ws s.table.window l.act ≡ true = ap (λ o. is_on ws o l.act) named.table ∙ quiet_on_table ws l.act q in
+      let here : quiet_on (is_on ws s.table.window) t ≡ Some t = rw on refl in
+      let first : Quiets ws t s.table (run_quiet_line s.table l.act).1 = quiet_at ws t s.table here (ap (λ (x : Reply × List Store). x.0) quiet_told) in
+      subst (AllPaired (λ store y z. Quiets ws t y z) 0 (all_stores s)) (sym (ap (λ (x : Reply × List Store). x.1) quiet_told)) (first, windows_quiet ws s.table t 1 s.windows q)
+
+  quiet_of_kind : IsOfKind l.act r
+  quiet_of_kind = subst (IsOfKind l.act) (sym (ap (λ (x : Reply × List Store). x.0) quiet_told)) (quiet_kind s.table l.act q)
+
+  quiet_named : AreNamed after
+  quiet_named = record {
+    table = ap (λ (ss : List Store). (first_store s.table ss).window) (ap (λ (x : Reply × List Store). x.1) quiet_told) ∙ quiet_window s.table l.act ∙ named.table;
+    differ = subst NumbersDiffer (sym ran.windows) named.differ;
+  }
+
+module _ (s later : AllStores) (ls : List TraceLine) (news : List Reply) (named : AreNamed s) (h : Sectioned s ls news later) (m : NoneQuiet ls) where
   abbrev ws : List BusWindow
   ws = windows_of s.windows
 
   abbrev ts : List RepliedLine
   ts = lines_with_replies ls news
 
-  on_table : section_lines s ls news 0 ≡ lines_on_table ws ts
-  on_table = replied_table ws ts
-
-  on_window : (store : ℕ) (w : BusWindow) → HasNumber ws store w → section_lines s ls news store ≡ lines_on_window w ts
-  on_window store w number = replied_window ws store w ts number
-
-  apart : RunsApart (table_section s.table (lines_on_table ws ts)) h.states
-  apart = subst (λ us. RunsApart (table_section s.table us) h.states) on_table h.apart
-
-  behind : later.table ≡ section_end_on s.table (lines_on_table ws ts) h.states
-  behind = h.table ∙ ap (λ us. section_end_on s.table us h.states) on_table
+  closes : AllPaired (λ store x y. Closes (section_lines s ls news store) x y) 0 (all_stores s) (all_stores later)
+  closes = (
+    record { states = h.states; apart = h.apart; later = h.table },
+    windows_close ws s.table later.table (section_lines s ls news) ts (λ store w number. replied_window ws store w ts number) (ap (λ (v : Store). v.grants) h.table) (section_processors s later ls news h) 1 s.windows later.windows (numbers ws named.differ) h.windows,
+  )
 
   last_runs : Runs s ts
-  last_runs = record {
-    table = subst (λ (c : List RepliedLine × List QuietPart). RunsParallel s.table c.0 c.1) (sym (last_cut (lines_on_table ws ts) (each_filtered (λ (u : RepliedLine). is_quiet u.line.act ≡ false) (λ (u : RepliedLine). is_on_table ws u.line.act) ts (none_in ls news m)))) (h.states, apart);
-    windows = subst (λ (c : List RepliedLine × List QuietPart). AllByRecursion (λ (v : WindowState). WindowRunsParallel s.table.grants (length s.table.processors) v.window v.states c.0 c.1) s.windows) (sym (last_cut ts (none_in ls news m)))
-        (windows_end ws s.table.grants (length s.table.processors) (section_lines s ls news) ts on_window 1 s.windows later.windows h.windows (numbers ws differ));
-  }
+  last_runs = subst (λ (c : List RepliedLine × List QuietPart). AllByRecursion (λ (x : Store). RunsParallel (is_on ws x.window) x c.0 c.1) (all_stores s)) (sym (last_cut ts (none_in ls news m)))
+      (stores_end_so ws (section_lines s ls news) ts (λ store o number. lines_numbered ws store o ts number) 0 (all_stores s) (all_stores later) (numbered s named) closes)
 
-  section_runs : (after : AllStores) (l : TraceLine) (r : Reply) (rest : List TraceLine) (more : List Reply) → is_quiet l.act ≡ true → (r, after) ≡ run_store_line later l → length after.table.processors ≡ length later.table.processors → Runs after (lines_with_replies rest more) → Runs s (lines_with_replies (ls ++ l ∷ rest) (news ++ r ∷ more))
-  section_runs after l r rest more q ran size k = subst (Runs s) (sym (replied_lines_more ls (l ∷ rest) news (r ∷ more) h.kinds)) (record {
-    table = subst (λ (c : List RepliedLine × List QuietPart). RunsParallel s.table c.0 c.1) (sym (table_cut ws ts t tr (none_in ls news m) q)) table;
-    windows = subst (λ (c : List RepliedLine × List QuietPart). AllByRecursion (λ (v : WindowState). WindowRunsParallel s.table.grants (length s.table.processors) v.window v.states c.0 c.1) s.windows) (sym (section_cut ts t tr (none_in ls news m) q))
-        (windows_go ws s.table.grants (length s.table.processors) (section_lines s ls news) ts on_window t (cut tr) 1 s.windows later.windows h.windows (numbers ws differ) windows);
-  }) where
-    t : RepliedLine
-    t = replied_line l r
+  section_runs : (after : AllStores) (l : TraceLine) (r : Reply) (rest : List TraceLine) (more : List Reply) → is_quiet l.act ≡ true → RunsLine later l r after → Runs after (lines_with_replies rest more) → Runs s (lines_with_replies (ls ++ l ∷ rest) (news ++ r ∷ more))
+  section_runs after l r rest more q ran k = subst (Runs s) (sym (replied_lines_more ls (l ∷ rest) news (r ∷ more) h.kinds))
+      (subst (λ (c : List RepliedLine × List QuietPart). AllByRecursion (λ (x : Store). RunsParallel (is_on ws x.window) x c.0 c.1) (all_stores s)) (sym (section_cut ts t tr (none_in ls news m) q))
+      (stores_go ws (section_lines s ls news) ts (λ store o number. lines_numbered ws store o ts number) t (cut tr) 0 (all_stores s) (all_stores later) (all_stores after) (numbered s named) closes there behind)) where
+        t : RepliedLine
+        t = replied_line l r
 
-    tr : List RepliedLine
-    tr = lines_with_replies rest more
+        tr : List RepliedLine
+        tr = lines_with_replies rest more
 
-    told : (r, after) ≡ after_quiet later l.act
-    told = ran ∙ quiet_step later l q
+        named' : AreNamed later
+        named' = section_named s later ls news h named
 
-    stay : after.windows ≡ later.windows
-    stay = ap (λ (x : Reply × AllStores). x.1.windows) told
+        same : windows_of later.windows ≡ ws
+        same = section_windows s later ls news h
 
-    same : windows_of after.windows ≡ ws
-    same = ap windows_of stay ∙ section_windows s later ls news h
+        there : AllPaired (λ store y z. Quiets ws t y z) 0 (all_stores later) (all_stores after)
+        there = subst (λ us. AllPaired (λ store y z. Quiets us t y z) 0 (all_stores later) (all_stores after)) same (quiets later after l r named' q ran)
 
-    grants : after.table.grants ≡ s.table.grants
-    grants = ap (λ (x : Reply × AllStores). x.1.table.grants) told ∙ quiet_grants later.table l.act ∙ ap (λ (v : RunState). v.grants) h.table
-
-    count : length after.table.processors ≡ length s.table.processors
-    count = size ∙ section_processors s later ls news h
-
-    next : after.table ≡ (run_quiet_line (section_end_on s.table (lines_on_table ws ts) h.states) l.act).1
-    next = ap (λ (x : Reply × AllStores). x.1.table) told ∙ ap (λ v. (run_quiet_line v l.act).1) behind
-
-    reply : r ≡ (run_quiet_line (section_end_on s.table (lines_on_table ws ts) h.states) l.act).0
-    reply = ap (λ (x : Reply × AllStores). x.0) told ∙ ap (λ v. (run_quiet_line v l.act).0) behind
-
-    table : RunsParallel s.table (lines_on_table ws ts) ((t, (cut (lines_on_table ws tr)).0) ∷ (cut (lines_on_table ws tr)).1)
-    table = (h.states, apart, reply, subst (λ v. RunsParallel v (cut (lines_on_table ws tr)).0 (cut (lines_on_table ws tr)).1) next (subst (λ us. RunsParallel after.table (cut (lines_on_table us tr)).0 (cut (lines_on_table us tr)).1) same k.table))
-
-    windows : AllByRecursion (λ (u : WindowState). WindowRunsParallel s.table.grants (length s.table.processors) u.window u.states (cut tr).0 (cut tr).1) later.windows
-    windows = subst (λ us. AllByRecursion (λ (u : WindowState). WindowRunsParallel s.table.grants (length s.table.processors) u.window u.states (cut tr).0 (cut tr).1) us) stay
-        (subst (λ n. AllByRecursion (λ (u : WindowState). WindowRunsParallel s.table.grants n u.window u.states (cut tr).0 (cut tr).1) after.windows) count
-        (subst (λ g. AllByRecursion (λ (u : WindowState). WindowRunsParallel g (length after.table.processors) u.window u.states (cut tr).0 (cut tr).1) after.windows) grants k.windows))
+        behind : AllByRecursion (RunsOn ws (cut tr).0 (cut tr).1) (all_stores after)
+        behind = subst (λ us. AllByRecursion (RunsOn us (cut tr).0 (cut tr).1) (all_stores after)) (ran.windows ∙ same) k
 
 -- The lines from a place up to another, and the one there.
 abbrev pub part : ℕ → ℕ → List TraceLine → List TraceLine
@@ -206,30 +298,30 @@ front_is lines start i d low within = take_more lines i d within ∙ ap (λ l. l
 
 pub done_more : (s later next after : AllStores) (lines : List TraceLine) (start i : ℕ) (d : TraceLine) (rs news : List Reply) (r : Reply)
     → start ≤ i → i < length lines → Done s lines start later rs → NoneQuiet (part start i lines) → Sectioned later (part start i lines) news next → is_quiet (get_or lines i d).act ≡ true
-    → (r, after) ≡ run_store_line next (get_or lines i d) → length after.table.processors ≡ length next.table.processors
+    → RunsLine next (get_or lines i d) r after
     → Done s lines (i + 1) after ((rs ++ news) ++ r ∷ [])
-done_more s later next after lines start i d rs news r low within h m sect q told size =
+done_more s later next after lines start i d rs news r low within h m sect q told =
     let l = get_or lines i d in
-    let quiet : (r, after) ≡ after_quiet next l.act = told ∙ quiet_step next l q in
-    let kind : IsOfKind l.act r = subst (IsOfKind l.act) (sym (ap (λ (x : Reply × AllStores). x.0) quiet)) (quiet_kind next.table l.act q) in
     record {
-      kinds = rw (front_is lines start i d low within) (kinds_more (take start lines ++ part start i lines) (l ∷ []) (rs ++ news) (r ∷ []) (kinds_more (take start lines) (part start i lines) rs news h.kinds sect.kinds) (kind, tt));
-      windows = ap (λ (x : Reply × AllStores). windows_of x.1.windows) quiet ∙ section_windows later next (part start i lines) news sect ∙ h.windows;
-      goes = λ differ more k.
-          let ran : Runs later (lines_with_replies (drop start lines) (news ++ r ∷ more)) = subst (λ ls. Runs later (lines_with_replies ls (news ++ r ∷ more))) (sym (rest_is lines start i d low within)) (section_runs later next (part start i lines) news (subst NumbersDiffer (sym h.windows) differ) sect m after l r (drop (i + 1) lines) more q told size k) in
+      kinds = λ named.
+          let kind : IsOfKind l.act r = quiet_of_kind next after l r (section_named later next (part start i lines) news sect (h.named named)) q told in
+          rw (front_is lines start i d low within) (kinds_more (take start lines ++ part start i lines) (l ∷ []) (rs ++ news) (r ∷ []) (kinds_more (take start lines) (part start i lines) rs news (h.kinds named) sect.kinds) (kind, tt));
+      named = λ named. quiet_named next after l r (section_named later next (part start i lines) news sect (h.named named)) q told;
+      goes = λ named more k.
+          let ran : Runs later (lines_with_replies (drop start lines) (news ++ r ∷ more)) = subst (λ ls. Runs later (lines_with_replies ls (news ++ r ∷ more))) (sym (rest_is lines start i d low within)) (section_runs later next (part start i lines) news (h.named named) sect m after l r (drop (i + 1) lines) more q told k) in
           let flat : rs ++ (news ++ r ∷ more) ≡ ((rs ++ news) ++ r ∷ []) ++ more = sym (append_assoc (rs ++ news) (r ∷ []) more ∙ append_assoc rs news (r ∷ more)) in
-          subst (λ z. Runs s (lines_with_replies lines z)) flat (h.goes differ (news ++ r ∷ more) ran);
+          subst (λ z. Runs s (lines_with_replies lines z)) flat (h.goes named (news ++ r ∷ more) ran);
     }
 
 -- The last section.
 pub record Ended (s : AllStores) (lines : List TraceLine) (rs : List Reply) : Type 0 where
-  pub kinds : AreReplies lines rs
-  pub runs : NumbersDiffer (windows_of s.windows) → Runs s (lines_with_replies lines rs)
+  pub kinds : AreNamed s → AreReplies lines rs
+  pub runs : AreNamed s → Runs s (lines_with_replies lines rs)
 
 pub done_all : (s later last : AllStores) (lines : List TraceLine) (start : ℕ) (rs news : List Reply) → Done s lines start later rs → NoneQuiet (drop start lines) → Sectioned later (drop start lines) news last → Ended s lines (rs ++ news)
 done_all s later last lines start rs news h m sect = record {
-  kinds = subst (λ ls. AreReplies ls (rs ++ news)) (sym (skip lines start)) (kinds_more (take start lines) (drop start lines) rs news h.kinds sect.kinds);
-  runs = λ differ. h.goes differ news (last_runs later last (drop start lines) news (subst NumbersDiffer (sym h.windows) differ) sect m);
+  kinds = λ named. subst (λ ls. AreReplies ls (rs ++ news)) (sym (skip lines start)) (kinds_more (take start lines) (drop start lines) rs news (h.kinds named) sect.kinds);
+  runs = λ named. h.goes named news (last_runs later last (drop start lines) news (h.named named) sect m);
 }
 
 -- One more line that isn't quiet.

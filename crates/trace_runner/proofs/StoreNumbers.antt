@@ -12,8 +12,8 @@ use Rattle.trace_line.specs.declared.line.TraceLine.{TraceLine}
 use Rattle.trace_line.specs.Lines.{is_quiet, bus_of}
 use Rattle.trace_read.specs.Configuration.{NumbersDiffer}
 use Rattle.trace_reply.specs.Replies.{RepliedLine}
-use Rattle.run_model.specs.SerialRun.{WindowState}
-use Rattle.run_model.specs.Windows.{is_on_window, is_on_table, lines_on_table, lines_on_window}
+use Rattle.run_model.specs.AllStores.{WindowState}
+use Rattle.run_model.specs.Stores.{is_on_window, is_on, lines_on}
 use Rattle.trace_runner.specs.Windows.{windows_of, place_from}
 use Rattle.trace_runner.specs.DealtLines.{AllEmpty}
 use Rattle.trace_runner.specs.Stores.{store_from, store_of, lines_on_store, replied_on_store, AreOnStores}
@@ -69,14 +69,17 @@ from_range n (w ∷ ws) act = at (cases_Bool (is_on_window w act)) (from_range (
   at (inr off) (inr low) = rw off (inr (omega (arith, low)))
 
 -- ---- the page table
-on_table_from : (n : ℕ) (ws : List BusWindow) (act : Act) → eqb (store_from (suc n) ws act) 0 ≡ is_on_table ws act
+on_table_from : (n : ℕ) (ws : List BusWindow) (act : Act) → eqb (store_from (suc n) ws act) 0 ≡ is_on ws None act
 on_table_from n [] act = refl
 on_table_from n (w ∷ ws) act = at (cases_Bool (is_on_window w act)) (on_table_from (suc n) ws act) where
-  at : (is_on_window w act ≡ true) ⊎ (is_on_window w act ≡ false) → eqb (store_from (suc (suc n)) ws act) 0 ≡ is_on_table ws act → eqb (store_from (suc n) (w ∷ ws) act) 0 ≡ is_on_table (w ∷ ws) act
+  at : (is_on_window w act ≡ true) ⊎ (is_on_window w act ≡ false) → eqb (store_from (suc (suc n)) ws act) 0 ≡ is_on ws None act → eqb (store_from (suc n) (w ∷ ws) act) 0 ≡ is_on (w ∷ ws) None act
   at (inl on) rest = rw on (not_eqb (suc n) 0 (λ e. absurd (omega (arith, e))))
   at (inr off) rest = rw off rest
 
-pub replied_table : (ws : List BusWindow) (ts : List RepliedLine) → replied_on_store ws 0 ts ≡ lines_on_table ws ts
+pub replied_first : (ws : List BusWindow) (act : Act) → eqb (store_of ws act) 0 ≡ is_on ws None act
+replied_first ws act = on_table_from 0 ws act
+
+pub replied_table : (ws : List BusWindow) (ts : List RepliedLine) → replied_on_store ws 0 ts ≡ lines_on (is_on ws None) ts
 replied_table ws ts = λ j. filter (λ (t : RepliedLine). on_table_from 0 ws t.line.act j) ts
 
 -- ---- windows
@@ -132,7 +135,7 @@ numbers_from n (w ∷ ws) h = numbers_more n w ws h.0 (numbers_from (suc n) ws h
 pub numbers : (ws : List BusWindow) → NumbersDiffer ws → AllNumbered (HasNumber ws) 1 ws
 numbers ws h = numbers_from 0 ws h
 
-pub replied_window : (ws : List BusWindow) (store : ℕ) (w : BusWindow) (ts : List RepliedLine) → HasNumber ws store w → replied_on_store ws store ts ≡ lines_on_window w ts
+pub replied_window : (ws : List BusWindow) (store : ℕ) (w : BusWindow) (ts : List RepliedLine) → HasNumber ws store w → replied_on_store ws store ts ≡ lines_on (is_on_window w) ts
 replied_window ws store w ts h = λ j. filter (λ (t : RepliedLine). h t.line.act j) ts
 
 -- ---- dealing

@@ -1,5 +1,5 @@
 -- The lines of a section that were run each on its store.
-use Rattle.std.specs.Prelude.{Vec}
+use Rattle.std.specs.Prelude.{Vec, None}
 use Rattle.std.proofs.Common.{◌≡◌, ℕ, zero, suc, ◌+◌, ◌<◌, ◌≤◌, List, [], ◌∷◌, ◌++◌, length, replicate, get_or, ap, sym, ◌∙◌, refl, subst, append_assoc, append-nil, arith, Result, Ok, Err, IfOk}
 use Rattle.bus_window.specs.Windows.{BusWindow}
 use Rattle.frame_grants.specs.declared.grant.Grant.{Grant}
@@ -7,12 +7,15 @@ use Rattle.hpt_resize.specs.TableMemory.{with_states}
 use Rattle.tlb_model.specs.Processor.{Processor, new_processor}
 use Rattle.trace_line.specs.declared.line.TraceLine.{TraceLine}
 use Rattle.trace_reply.specs.declared.reply.Reply.{Reply}
-use Rattle.run_model.specs.RunState.{RunState}
-use Rattle.run_model.specs.SerialRun.{WindowState, AllStores}
+use Rattle.entry_model.specs.State.{State}
+use Rattle.trace_reply.specs.Replies.{RepliedLine}
+use Rattle.run_model.specs.ParallelRun.{RunsApart}
+use Rattle.run_model.specs.Stores.{Store, context_of, states_of}
+use Rattle.run_model.specs.AllStores.{WindowState, AllStores}
 use Rattle.run_model.specs.StoreContexts.{window_context}
 use Rattle.trace_runner.specs.Windows.{windows_of}
 use Rattle.trace_runner.specs.Stores.{lines_on_store, AreOnStores}
-use Rattle.trace_runner.specs.StoreRuns.{AllPaired, AllTripled, AllKeep, RunsWindow, RanWindow, RanWindows, RanTable, AddsWindows, RanStores, StoresKeep, IsMerged}
+use Rattle.trace_runner.specs.StoreRuns.{section_on, AllPaired, AllTripled, AllKeep, RunsWindow, RanWindow, RanWindows, RanTable, AddsWindows, RanStores, StoresKeep, IsMerged}
 use Rattle.trace_runner.specs.Sectioned.{section_lines, WindowSectioned, Sectioned, AddsReplies, RunsSection}
 use Rattle.trace_runner.specs.Workers.{Keeping}
 use Rattle.trace_runner.proofs.Numbered.{all_at}
@@ -81,6 +84,15 @@ windowing_all {L = L} {Z = Z} keeps grants cpus dealt k vs rest later old logs n
     }
 
 -- ---- all stores
+-- The page table works as a store with its states and processors does.
+apart_on : (s : Store) (ts : List RepliedLine) (b : List State) → RunsApart (section_on (context_of s) (states_of s) s.processors ts) b → RunsApart (record { before = s; replied_lines = ts; quiet = None }) b
+apart_on s ts b h = record {
+  fronts = h.fronts;
+  work = h.work;
+  closed = record { size = h.closed.size; in_table = h.closed.in_table; legal = h.closed.legal; gone = h.closed.gone };
+  quiet = tt;
+}
+
 pub stores_alone : {L Z : Type 0} (keeps : Keeping L) (s later : AllStores) (lines : List TraceLine) (logs : List (Vec L Z)) → s.windows ≡ [] → RanTable keeps s lines later [] logs → RanStores keeps s lines later logs
 stores_alone {L = L} {Z = Z} keeps s later lines logs none r =
     let whole : lines ≡ lines_on_store (windows_of s.windows) 0 lines = sym (ap (λ vs. lines_on_store (windows_of vs) 0 lines) none ∙ lines_alone lines) in
@@ -110,7 +122,7 @@ pub stores_together : {L Z : Type 0} (keeps : Keeping L) (s middle later : AllSt
     → RanStores keeps s lines later logs
 stores_together {L = L} {Z = Z} keeps s middle later lines own old first logs grants cpus vs none is r windows granted count same h =
     let on : ℕ → List TraceLine = λ store. lines_on_store (windows_of s.windows) store lines in
-    let all_granted : grants ≡ s.table.grants = granted ∙ ap (λ (w : RunState). w.grants) r.table in
+    let all_granted : grants ≡ s.table.grants = granted ∙ ap (λ (w : Store). w.grants) r.table in
     record {
       middle = middle;
       first = first;
@@ -164,7 +176,7 @@ module _ {L Z : Type 0} (keeps : Keeping L) (s : AllStores) (lines : List TraceL
       record {
         kinds = m.kinds;
         states = r.table.closing;
-        apart = r.table.ran.1.apart (section_lines s lines news 0) (own 0);
+        apart = apart_on s.table (section_lines s lines news 0) r.table.closing (r.table.ran.1.apart (section_lines s lines news 0) (own 0));
         table = r.same ∙ r.table.table ∙ ap (λ (ps : List Processor). record s.table { memory = with_states s.table.memory r.table.closing; processors = ps }) (r.table.ran.1.after (section_lines s lines news 0) (own 0));
         windows = tripled_paired (λ store v u own. Runs store (picks_on store) v u own) (λ store v u. WindowSectioned s.table.grants count (section_lines s lines news store) v u) 1 s.windows later.windows r.windows.rest (λ k v u logs h. record { same = h.same; apart = h.ran.apart (section_lines s lines news k) (own k) }) windows_run;
       }

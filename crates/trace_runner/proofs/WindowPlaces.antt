@@ -4,16 +4,22 @@ use Rattle.std.specs.Option.{option_map_or}
 use Rattle.std.proofs.Common.{◌≡◌, ℕ, zero, suc, ◌+◌, ◌<◌, List, [], ◌∷◌, length, map, get_or, set, true, false, ap, sym, ◌∙◌, refl, subst, ◌⊎◌, inl, inr, Option, Some, None, Result, Ok, Err, arith}
 use Rattle.std.proofs.lemmas.Bool.{cases_Bool}
 use Rattle.bus_window.specs.Windows.{BusWindow}
-use Rattle.frame_grants.specs.declared.grant.Grant.{Grant}
 use Rattle.trace_line.specs.declared.act.Act.{Act}
 use Rattle.trace_line.specs.declared.line.TraceLine.{TraceLine}
 use Rattle.trace_line.specs.Lines.{is_quiet, bus_of}
 use Rattle.trace_reply.specs.declared.reply.Reply.{Reply}
-use Rattle.run_model.specs.Windows.{is_on_window}
-use Rattle.run_model.specs.RunState.{RunState, run_quiet_line}
-use Rattle.run_model.specs.SerialRun.{WindowState, AllStores, run_line, run_on_window, run_on_windows, beside_window, run_on_table, run_store_line}
-use Rattle.run_model.proofs.StoreLines.{quiet_off_window}
-use Rattle.trace_runner.specs.Windows.{opened, windows_of, place_from}
+use Rattle.entry_model.specs.State.{State}
+use Rattle.tlb_model.specs.Processor.{new_processor}
+use Rattle.run_model.specs.AllStores.{WindowState, AllStores, opened, as_store, all_stores}
+use Rattle.run_model.specs.QuietLines.{run_quiet_line}
+use Rattle.run_model.specs.SerialRun.{line_result, run_on, run_line}
+use Rattle.run_model.specs.StoreContexts.{window_context}
+use Rattle.run_model.specs.Stores.{Store, is_on_window, is_on}
+use Rattle.run_model.proofs.StoreLines.{quiet_off_window, on_first, off_first}
+use Rattle.run_model.proofs.WindowLines.{window_line}
+use Rattle.trace_runner.specs.MachineState.{RunsLine}
+use Rattle.trace_runner.specs.Windows.{windows_of, place_from}
+use Rattle.trace_runner.proofs.QuietLines.{line_beside, quiet_is}
 
 -- ---- which windows a line names
 pub on_none : (act : Act) → bus_of act ≡ None → (w : BusWindow) → is_on_window w act ≡ false
@@ -25,62 +31,77 @@ none_from act off place [] = refl
 none_from act off place (v ∷ vs) = rw (off v.window) (none_from act off (suc place) vs)
 
 -- ---- the run on the window at a place
--- The line names the window at this place, and is run on it.
-pub record RunsAt (grants : List Grant) (vs : List WindowState) (act : Act) (k : ℕ) : Type 0 where
+-- The reply to a line on a window, and the states of its entries.
+abbrev pub result_on : Store → WindowState → Act → Reply × List State
+result_on table v act = line_result (window_context table.grants v.window) new_processor v.states act
+
+-- The line names the window at this place, is run on it, and leaves the others.
+pub record RunsAt (ws : List BusWindow) (table : Store) (vs : List WindowState) (l : TraceLine) (k : ℕ) : Type 0 where
   pub inside : k < length vs
-  pub named : (d : WindowState) → is_on_window (get_or vs k d).window act ≡ true
-  pub runs : (d : WindowState) → Some ((run_on_window grants (get_or vs k d) act).0, set vs k (run_on_window grants (get_or vs k d) act).1) ≡ run_on_windows grants vs act
+  pub named : (d : WindowState) → is_on_window (get_or vs k d).window l.act ≡ true
+  pub runs :
+      (d : WindowState)
+      → let v = get_or vs k d in
+      let x = result_on table v l.act in
+      run_line ws (map (as_store table) vs) l ≡ (x.0, map (as_store table) (set vs k (record v { states = x.1 })))
 
 abbrev given : Option ℕ → ℕ
 given None = 0
 given (Some n) = n
 
-first_runs : (grants : List Grant) (v : WindowState) (vs : List WindowState) (act : Act) → is_on_window v.window act ≡ true → RunsAt grants (v ∷ vs) act 0
-first_runs grants v vs act on = record { inside = omega arith; named = λ d. on; runs = λ d. rw on refl }
+module _ (ws : List BusWindow) (table : Store) (l : TraceLine) where
+  first_runs : (v : WindowState) (vs : List WindowState) → is_on_window v.window l.act ≡ true → RunsAt ws table (v ∷ vs) l 0
+  first_runs v vs on = record {
+    inside = omega arith;
+    named = λ d. on;
+    runs = λ d. rw on (ap (λ (y : Reply × Store). (y.0, y.1 ∷ map (as_store table) vs)) (window_line table.grants (length table.processors) v.states v.window l on));
+  }
 
-later_runs : (grants : List Grant) (v : WindowState) (vs : List WindowState) (act : Act) (k : ℕ) → is_on_window v.window act ≡ false → RunsAt grants vs act k → RunsAt grants (v ∷ vs) act (suc k)
-later_runs grants v vs act k off h = record { inside = omega (arith, h.inside); named = h.named; runs = λ d. rw off (ap (beside_window v) (h.runs d)) }
+  later_runs : (v : WindowState) (vs : List WindowState) (k : ℕ) → is_on_window v.window l.act ≡ false → RunsAt ws table vs l k → RunsAt ws table (v ∷ vs) l (suc k)
+  later_runs v vs k off h = record {
+    inside = omega (arith, h.inside);
+    named = h.named;
+    runs = λ d. rw off (ap (λ (y : Reply × List Store). (y.0, as_store table v ∷ y.1)) (h.runs d));
+  }
 
-placed_from : (grants : List Grant) (n : ℕ) (vs : List WindowState) (act : Act) (i : ℕ) → place_from n vs act ≡ Some i → (k : ℕ) × (i ≡ n + k) × RunsAt grants vs act k
-placed_from grants n [] act i e = cc
-placed_from grants n (v ∷ vs) act i e = at (cases_Bool (is_on_window v.window act)) (λ k. placed_from grants (suc n) vs act i k) where
-  at : (is_on_window v.window act ≡ true) ⊎ (is_on_window v.window act ≡ false) → (place_from (suc n) vs act ≡ Some i → (k : ℕ) × (i ≡ suc n + k) × RunsAt grants vs act k) → (k : ℕ) × (i ≡ n + k) × RunsAt grants (v ∷ vs) act k
-  at (inl on) rest =
-      let same : n ≡ i = ap given (subst (λ b. (if b then Some n else place_from (suc n) vs act) ≡ Some i) on e) in
-      (0, omega (arith, same), first_runs grants v vs act on)
-  at (inr off) rest =
-      let later = rest (subst (λ b. (if b then Some n else place_from (suc n) vs act) ≡ Some i) off e) in
-      (suc later.0, omega (arith, later.1), later_runs grants v vs act later.0 off later.2)
+  placed_from : (n : ℕ) (vs : List WindowState) (i : ℕ) → place_from n vs l.act ≡ Some i → (k : ℕ) × (i ≡ n + k) × RunsAt ws table vs l k
+  placed_from n [] i e = cc
+  placed_from n (v ∷ vs) i e = at (cases_Bool (is_on_window v.window l.act)) (λ k. placed_from (suc n) vs i k) where
+    at : (is_on_window v.window l.act ≡ true) ⊎ (is_on_window v.window l.act ≡ false) → (place_from (suc n) vs l.act ≡ Some i → (k : ℕ) × (i ≡ suc n + k) × RunsAt ws table vs l k) → (k : ℕ) × (i ≡ n + k) × RunsAt ws table (v ∷ vs) l k
+    at (inl on) rest =
+        let same : n ≡ i = ap given (subst (λ b. (if b then Some n else place_from (suc n) vs l.act) ≡ Some i) on e) in
+        (0, omega (arith, same), first_runs v vs on)
+    at (inr off) rest =
+        let later = rest (subst (λ b. (if b then Some n else place_from (suc n) vs l.act) ≡ Some i) off e) in
+        (suc later.0, omega (arith, later.1), later_runs v vs later.0 off later.2)
 
--- The line is run on the window at its place.
-pub placed : (grants : List Grant) (vs : List WindowState) (act : Act) (i : ℕ) → place_from 0 vs act ≡ Some i → RunsAt grants vs act i
-placed grants vs act i e =
-    let found = placed_from grants 0 vs act i e in
-    let same : found.0 ≡ i = omega (arith, found.1) in
-    subst (RunsAt grants vs act) same found.2
+  -- The line is run on the window at its place.
+  pub placed : (vs : List WindowState) (i : ℕ) → place_from 0 vs l.act ≡ Some i → RunsAt ws table vs l i
+  placed vs i e =
+      let found = placed_from 0 vs i e in
+      let same : found.0 ≡ i = omega (arith, found.1) in
+      subst (RunsAt ws table vs l) same found.2
 
-pub runs_here : (grants : List Grant) (vs : List WindowState) (act : Act) (i : ℕ) (v new : WindowState) (r : Reply) → place_from 0 vs act ≡ Some i → v ≡ get_or vs i v → (r, new) ≡ run_on_window grants v act → Some (r, set vs i new) ≡ run_on_windows grants vs act
-runs_here grants vs act i v new r first is ran =
-    ap (λ (x : Reply × WindowState). Some (x.0, set vs i x.1)) (ran ∙ ap (λ (u : WindowState). run_on_window grants u act) is)
-    ∙ (placed grants vs act i first).runs v
+-- A line that has a place is off the page table, and one that has none is on it.
+pub off_table : (n : ℕ) (vs : List WindowState) (act : Act) (i : ℕ) → place_from n vs act ≡ Some i → is_on (windows_of vs) None act ≡ false
+off_table n [] act i e = cc
+off_table n (v ∷ vs) act i e = at (cases_Bool (is_on_window v.window act)) (λ k. off_table (suc n) vs act i k) where
+  at : (is_on_window v.window act ≡ true) ⊎ (is_on_window v.window act ≡ false) → (place_from (suc n) vs act ≡ Some i → is_on (windows_of vs) None act ≡ false) → is_on (windows_of (v ∷ vs)) None act ≡ false
+  at (inl on) rest = on_first v.window (windows_of vs) act on
+  at (inr off) rest = off_first v.window (windows_of vs) act off ∙ rest (subst (λ b. (if b then Some n else place_from (suc n) vs act) ≡ Some i) off e)
 
--- And on none where it has no place.
-pub none_runs : (grants : List Grant) (n : ℕ) (vs : List WindowState) (act : Act) → place_from n vs act ≡ None → run_on_windows grants vs act ≡ None
-none_runs grants n [] act e = refl
-none_runs grants n (v ∷ vs) act e = at (cases_Bool (is_on_window v.window act)) (λ k. none_runs grants (suc n) vs act k) where
-  at : (is_on_window v.window act ≡ true) ⊎ (is_on_window v.window act ≡ false) → (place_from (suc n) vs act ≡ None → run_on_windows grants vs act ≡ None) → run_on_windows grants (v ∷ vs) act ≡ None
+on_table : (n : ℕ) (vs : List WindowState) (act : Act) → place_from n vs act ≡ None → is_on (windows_of vs) None act ≡ true
+on_table n [] act e = refl
+on_table n (v ∷ vs) act e = at (cases_Bool (is_on_window v.window act)) (λ k. on_table (suc n) vs act k) where
+  at : (is_on_window v.window act ≡ true) ⊎ (is_on_window v.window act ≡ false) → (place_from (suc n) vs act ≡ None → is_on (windows_of vs) None act ≡ true) → is_on (windows_of (v ∷ vs)) None act ≡ true
   at (inl on) rest = let clash : Some n ≡ None = subst (λ b. (if b then Some n else place_from (suc n) vs act) ≡ None) on e in cc
-  at (inr off) rest = rw off (ap (beside_window v) (rest (subst (λ b. (if b then Some n else place_from (suc n) vs act) ≡ None) off e)))
+  at (inr off) rest = off_first v.window (windows_of vs) act off ∙ rest (subst (λ b. (if b then Some n else place_from (suc n) vs act) ≡ None) off e)
 
 -- ---- windows that stay
 pub windows_stay : (vs : List WindowState) (k : ℕ) (v d : WindowState) → k < length vs → v.window ≡ (get_or vs k d).window → windows_of (set vs k v) ≡ windows_of vs
 windows_stay [] k v d within e = absurd (omega (arith, within))
 windows_stay (x ∷ xs) zero v d within e = ap (λ w. w ∷ windows_of xs) e
 windows_stay (x ∷ xs) (suc k) v d within e = ap (λ ws. x.window ∷ ws) (windows_stay xs k v d (omega (arith, within)) e)
-
--- Behind a line on the window at its place.
-pub windows_stay_here : (grants : List Grant) (vs : List WindowState) (act : Act) (i : ℕ) (v new : WindowState) (r : Reply) → place_from 0 vs act ≡ Some i → v ≡ get_or vs i v → (r, new) ≡ run_on_window grants v act → windows_of (set vs i new) ≡ windows_of vs
-windows_stay_here grants vs act i v new r first is ran = windows_stay vs i new v (placed grants vs act i first).inside (ap (λ (x : Reply × WindowState). x.1.window) ran ∙ ap (λ (u : WindowState). u.window) is)
 
 pub windows_opened : (ws : List BusWindow) → windows_of (map opened ws) ≡ ws
 windows_opened [] = refl
@@ -91,25 +112,48 @@ on_ok_both : {T E P Q R : Type 0} (x : Result T E) → (P → Q → R) → OnOk 
 on_ok_both (Ok y) f p q = f p q
 on_ok_both (Err e) f p q = tt
 
-abbrev with_windows : AllStores → Reply × List WindowState → Reply × AllStores
-with_windows s x = (x.0, record s { windows = x.1 })
+-- On a window: it is run there, and the page table stays.
+pub steps_on_window : (s new : AllStores) (l : TraceLine) (r : Reply) (i : ℕ) (v u : WindowState) → s.table.window ≡ None → place_from 0 s.windows l.act ≡ Some i → v ≡ get_or s.windows i v → (r, u.states) ≡ result_on s.table v l.act → u.window ≡ v.window → new ≡ record s { windows = set s.windows i u } → RunsLine s l r new
+steps_on_window s new l r i v u named first is ran same after = subst (RunsLine s l r) (sym after) (record { ran = sym all; windows = stay }) where
+  ws : List BusWindow
+  ws = windows_of s.windows
 
-pub steps_on_window : (s new : AllStores) (l : TraceLine) (r : Reply) → Some (r, new.windows) ≡ run_on_windows s.table.grants s.windows l.act → new.table ≡ s.table → (r, new) ≡ run_store_line s l
-unfolding run_store_line
-steps_on_window s new l r ran table =
-    ap (λ (t : RunState). (r, record new { table = t })) table
-    ∙ ap (λ o. option_map_or (with_windows s) o (run_on_table s l)) ran
+  x : Reply × List State
+  x = result_on s.table (get_or s.windows i v) l.act
 
-pub steps_on_table : (s new : AllStores) (l : TraceLine) (r : Reply) → place_from 0 s.windows l.act ≡ None → (r, new.table) ≡ run_line s.table l → new.windows ≡ s.windows → (r, new) ≡ run_store_line s l
-unfolding run_store_line
-steps_on_table s new l r off ran windows =
-    (λ j. ((ran j).0, record { table = (ran j).1; windows = windows j }))
-    ∙ sym (ap (λ o. option_map_or (with_windows s) o (run_on_table s l)) (none_runs s.table.grants 0 s.windows l.act off))
+  here : RunsAt ws s.table s.windows l i
+  here = placed ws s.table l s.windows i first
 
-quiet_is_line : (w : RunState) (l : TraceLine) (x : Reply × RunState) → is_quiet l.act ≡ true → x ≡ run_quiet_line w l.act → x ≡ run_line w l
-unfolding run_line
-quiet_is_line w l x q e = rw q e
+  told : x ≡ (r, u.states)
+  told = sym (ran ∙ ap (λ (z : WindowState). result_on s.table z l.act) is)
+
+  left : record (get_or s.windows i v) { states = x.1 } ≡ u
+  left = λ j. record { window = sym (same ∙ ap (λ (z : WindowState). z.window) is) j; states = (told j).1 }
+
+  off : is_on ws s.table.window l.act ≡ false
+  off = ap (λ o. is_on ws o l.act) named ∙ off_table 0 s.windows l.act i first
+
+  all : run_line ws (all_stores s) l ≡ (r, all_stores (record s { windows = set s.windows i u }))
+  all = rw off (ap (λ (y : Reply × List Store). (y.0, s.table ∷ y.1)) (here.runs v ∙ (λ j. ((told j).0, map (as_store s.table) (set s.windows i (left j))))))
+
+  stay : windows_of (set s.windows i u) ≡ ws
+  stay = windows_stay s.windows i u v here.inside (same ∙ ap (λ (z : WindowState). z.window) is)
+
+-- On the page table: the windows stay.
+pub steps_on_table : (s new : AllStores) (l : TraceLine) (r : Reply) → s.table.window ≡ None → place_from 0 s.windows l.act ≡ None → (r, new.table) ≡ run_on s.table l → new.windows ≡ s.windows → RunsLine s l r new
+steps_on_table s new l r named none ran windows = record { ran = told ∙ sym all; windows = ap windows_of windows } where
+  ws : List BusWindow
+  ws = windows_of s.windows
+
+  on : is_on ws s.table.window l.act ≡ true
+  on = ap (λ o. is_on ws o l.act) named ∙ on_table 0 s.windows l.act none
+
+  all : ◌≡◌ {A = Reply × List Store} (run_line ws (all_stores s) l) ((run_on s.table l).0, (run_on s.table l).1 ∷ map (as_store s.table) s.windows)
+  all = rw on refl
+
+  told : ◌≡◌ {A = Reply × List Store} (r, all_stores new) ((run_on s.table l).0, (run_on s.table l).1 ∷ map (as_store s.table) s.windows)
+  told = (λ j. ((ran j).0, (ran j).1 ∷ map (as_store (ran j).1) (windows j))) ∙ ap {B = Reply × List Store} (λ us. ((run_on s.table l).0, (run_on s.table l).1 ∷ us)) (line_beside s.table l s.windows)
 
 -- A quiet line, if memory was enough for it.
-pub quiet_steps : {E : Type 0} (x : Result Unit E) (s new : AllStores) (l : TraceLine) (r : Reply) → is_quiet l.act ≡ true → OnOk x ((r, new.table) ≡ run_quiet_line s.table l.act) → OnOk x (new.windows ≡ s.windows) → OnOk x ((r, new) ≡ run_store_line s l)
-quiet_steps x s new l r q = on_ok_both x (λ ran windows. steps_on_table s new l r (none_from l.act (λ w. quiet_off_window w l.act q) 0 s.windows) (quiet_is_line s.table l (r, new.table) q ran) windows)
+pub quiet_steps : {E : Type 0} (x : Result Unit E) (s new : AllStores) (l : TraceLine) (r : Reply) → s.table.window ≡ None → is_quiet l.act ≡ true → OnOk x ((r, new.table) ≡ run_quiet_line s.table l.act) → OnOk x (new.windows ≡ s.windows) → OnOk x (RunsLine s l r new)
+quiet_steps x s new l r named q = on_ok_both x (λ ran windows. steps_on_table s new l r named (none_from l.act (λ w. quiet_off_window w l.act q) 0 s.windows) (ran ∙ sym (quiet_is s.table l q)) windows)

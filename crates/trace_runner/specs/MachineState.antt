@@ -1,17 +1,21 @@
 -- What the machine that runs a trace carries: a partition, its processors and its windows.
-use Rattle.std.specs.Prelude.{List}
+use Rattle.std.specs.Prelude.{◌≡◌, List, None}
 use Rattle.tlb_model.specs.Processor.{Processor}
 use Rattle.trace_read.specs.Configuration.{NumbersDiffer}
 use Rattle.partition.specs.PartitionState.{PartitionState, HasStates}
-use Rattle.run_model.specs.RunState.{RunState}
-use Rattle.run_model.specs.SerialRun.{WindowState, AllStores}
+use Rattle.run_model.specs.Stores.{Store}
+use Rattle.run_model.specs.AllStores.{WindowState, AllStores, all_stores}
 use Rattle.run_model.specs.HeldLines.{AllHold}
+use Rattle.trace_line.specs.declared.line.TraceLine.{TraceLine}
+use Rattle.trace_reply.specs.declared.reply.Reply.{Reply}
+use Rattle.run_model.specs.SerialRun.{run_line, replies_from, stores_after, first_store}
 use Rattle.trace_runner.specs.Windows.{windows_of}
 
 -- The run state of a partition and its processors.
-abbrev pub run_state_of : PartitionState → List Processor → RunState
+abbrev pub run_state_of : PartitionState → List Processor → Store
 run_state_of partition processors = record {
   grants = partition.granted.grants;
+  window = None;
   memory = partition.memory;
   processors = processors;
 }
@@ -33,3 +37,21 @@ pub record IsMachine
     pub has_states : HasStates partition
     pub hold : AllHold partition.memory.table.states processors
     pub differ : NumbersDiffer (windows_of windows)
+
+-- ---- the serial run from here on
+-- The line has this reply, and the stores are then so.
+pub record RunsLine (s : AllStores) (l : TraceLine) (r : Reply) (later : AllStores) : Type 0 where
+  pub ran : (r, all_stores later) ≡ run_line (windows_of s.windows) (all_stores s) l
+  pub windows : windows_of later.windows ≡ windows_of s.windows
+
+-- The replies to these lines, one after the other.
+abbrev pub replies_of : AllStores → List TraceLine → List Reply
+replies_of s lines = replies_from (windows_of s.windows) (all_stores s) lines
+
+-- The stores behind them.
+abbrev pub stores_end : AllStores → List TraceLine → List Store
+stores_end s lines = stores_after (windows_of s.windows) (all_stores s) lines
+
+-- The page table behind them.
+abbrev pub table_end : AllStores → List TraceLine → Store
+table_end s lines = first_store s.table (stores_end s lines)

@@ -1,4 +1,5 @@
 -- The sections of a run on all stores, and the run that they are.
+use Rattle.std.specs.Prelude.{None}
 use Rattle.std.specs.Prelude.{◌≡◌, ℕ, ◌+◌, ◌≤◌, List, [], ◌∷◌, ◌++◌, length, replicate}
 use Rattle.std.specs.List.{AllByRecursion}
 use Rattle.bus_window.specs.Windows.{BusWindow}
@@ -9,12 +10,13 @@ use Rattle.trace_line.specs.declared.line.TraceLine.{TraceLine}
 use Rattle.trace_read.specs.Configuration.{NumbersDiffer}
 use Rattle.trace_reply.specs.declared.reply.Reply.{Reply}
 use Rattle.trace_reply.specs.Replies.{RepliedLine, AreReplies, lines_with_replies}
-use Rattle.run_model.specs.ParallelRun.{RunsApart, RunsParallel, WindowRunsParallel}
+use Rattle.run_model.specs.AllStores.{WindowState, AllStores, all_stores}
+use Rattle.run_model.specs.ParallelRun.{RunsApart, RunsParallel}
 use Rattle.run_model.specs.Quiet.{cut}
-use Rattle.run_model.specs.Sections.{section_end_on, table_section}
-use Rattle.run_model.specs.SerialRun.{WindowState, AllStores, run_store_line}
+use Rattle.run_model.specs.Sections.{section_end_on}
 use Rattle.run_model.specs.StoreContexts.{window_context}
-use Rattle.run_model.specs.Windows.{lines_on_table}
+use Rattle.run_model.specs.Stores.{Store, is_on}
+use Rattle.trace_runner.specs.MachineState.{RunsLine}
 use Rattle.trace_runner.specs.Stores.{replied_on_store}
 use Rattle.trace_runner.specs.Windows.{windows_of}
 use Rattle.trace_runner.specs.StoreRuns.{AllPaired, IsMerged, section_on}
@@ -51,7 +53,10 @@ pub record Sectioned
   where
     pub kinds : AreReplies lines news
     pub states : List State
-    pub apart : RunsApart (table_section s.table (section_lines s lines news 0)) states
+    pub apart :
+        RunsApart
+        (record { before = s.table; replied_lines = section_lines s lines news 0; quiet = None })
+        states
     pub table : later.table ≡ section_end_on s.table (section_lines s lines news 0) states
     pub windows :
         AllPaired
@@ -62,16 +67,17 @@ pub record Sectioned
 
 -- ---- a run
 -- These lines with their replies are a run in which on each store each processor works on its own.
-pub record Runs (s : AllStores) (ts : List RepliedLine) : Type 0 where
-  pub table :
-      let c = cut (lines_on_table (windows_of s.windows) ts) in RunsParallel s.table c.0 c.1
-  pub windows :
-      let c = cut ts in
-      AllByRecursion
-      (λ (v : WindowState).
-      WindowRunsParallel
-      s.table.grants (length s.table.processors) v.window v.states c.0 c.1)
-      s.windows
+abbrev pub Runs : AllStores → List RepliedLine → Type 0
+Runs s ts =
+    let c = cut ts in
+    AllByRecursion
+    (λ (x : Store). RunsParallel (is_on (windows_of s.windows) x.window) x c.0 c.1)
+    (all_stores s)
+
+-- The first store is the page table, and the numbers of the windows differ.
+pub record AreNamed (s : AllStores) : Type 0 where
+  pub table : s.table.window ≡ None
+  pub differ : NumbersDiffer (windows_of s.windows)
 
 -- These replies to lines were put behind those of an output.
 abbrev pub HasGrown :
@@ -123,12 +129,12 @@ pub record RunsToQuiet
     pub between : O
     pub section : RunsSection has s lines old between next
     pub reply : Reply
-    pub ran : (reply, later) ≡ run_store_line next quiet
+    pub ran : RunsLine next quiet reply later
     pub put : HasGrown has (quiet ∷ []) (reply ∷ []) between new
     pub number : later.table.memory.table.number ≤ next.table.memory.table.number + 1
     pub processors : length later.table.processors ≡ length next.table.processors
 
--- An output has the replies to these lines. Where the windows' numbers differ, they are a run in which on each store each processor works on its own.
+-- An output has the replies to these lines. Where the stores are named, they are a run in which on each store each processor works on its own.
 pub record HasRunFrom
     {O : Type 0}
     (has : Keeping O)
@@ -139,5 +145,5 @@ pub record HasRunFrom
   where
     pub replies : List Reply
     pub put : has output lines replies
-    pub kinds : AreReplies lines replies
-    pub runs : NumbersDiffer (windows_of s.windows) → Runs s (lines_with_replies lines replies)
+    pub kinds : AreNamed s → AreReplies lines replies
+    pub runs : AreNamed s → Runs s (lines_with_replies lines replies)

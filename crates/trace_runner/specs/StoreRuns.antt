@@ -1,5 +1,5 @@
 -- The stores of a section: what their processors did, and their replies in file order.
-use Rattle.std.specs.Prelude.{◌≡◌, ℕ, suc, ◌<◌, List, [], ◌∷◌, ◌++◌, length, slice_index_or, replicate, Vec}
+use Rattle.std.specs.Prelude.{◌≡◌, ℕ, suc, ◌<◌, List, [], ◌∷◌, ◌++◌, length, slice_index_or, replicate, Vec, None}
 use Rattle.std.specs.List.{AllByRecursion}
 use Rattle.bus_window.specs.Windows.{BusWindow}
 use Rattle.frame_grants.specs.declared.grant.Grant.{Grant}
@@ -11,11 +11,10 @@ use Rattle.trace_reply.specs.declared.reply.Reply.{Reply}
 use Rattle.trace_reply.specs.Replies.{RepliedLine, AreReplies, lines_with_replies}
 use Rattle.run_model.specs.Histories.{lines_of_processor}
 use Rattle.run_model.specs.ParallelRun.{RunsApart}
-use Rattle.run_model.specs.RunState.{context_of, states_of}
-use Rattle.run_model.specs.Sections.{processors_after_lines}
-use Rattle.run_model.specs.SerialRun.{WindowState, AllStores}
+use Rattle.run_model.specs.Stores.{context_of, states_of, plain_store}
+use Rattle.run_model.specs.Sections.{Section, processors_after_lines}
+use Rattle.run_model.specs.AllStores.{WindowState, AllStores}
 use Rattle.run_model.specs.StoreContexts.{StoreContext, window_context}
-use Rattle.run_model.specs.StoreSections.{StoreSection}
 use Rattle.trace_runner.specs.Stores.{lines_on_store, replied_on_store}
 use Rattle.trace_runner.specs.Windows.{windows_of}
 use Rattle.trace_runner.specs.Workers.{Keeping, NoneQuiet, AllNumbered, lines_of_cpu, replied_lines_of_cpu}
@@ -47,14 +46,13 @@ AreRunnable cpus lines =
 abbrev pub AllRunnable : {Z : Type 0} → ℕ → List (Vec TraceLine Z) → Type 0
 AllRunnable cpus dealt = AllByRecursion (λ own. AreRunnable cpus own.items) dealt
 
--- The section of a store with these.
+-- The section of a store with these, and no quiet line.
 abbrev pub section_on :
-    StoreContext → List State → List Processor → List RepliedLine → StoreSection
+    StoreContext → List State → List Processor → List RepliedLine → Section
 section_on context opening processors ts = record {
-  context = context;
-  opening = opening;
-  processors = processors;
+  before = plain_store context opening processors;
   replied_lines = ts;
+  quiet = None;
 }
 
 -- Each line's processor has a log, and each processor's log keeps the replies to its lines that are picked for it.

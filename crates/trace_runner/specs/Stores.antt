@@ -4,7 +4,7 @@ use Rattle.bus_window.specs.Windows.{BusWindow}
 use Rattle.trace_line.specs.declared.act.Act.{Act}
 use Rattle.trace_line.specs.declared.line.TraceLine.{TraceLine}
 use Rattle.trace_reply.specs.Replies.{RepliedLine}
-use Rattle.run_model.specs.Windows.{is_on_window}
+use Rattle.run_model.specs.Stores.{is_on_window}
 use Rattle.trace_runner.specs.Workers.{AllNumbered}
 
 -- The number of the window that the line names, where the first of these has the given one; 0 where it names none of them.

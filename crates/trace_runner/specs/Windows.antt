@@ -2,12 +2,8 @@
 use Rattle.std.specs.Prelude.{ℕ, suc, List, [], ◌∷◌, map, Option, Some, None, if◌then◌else◌}
 use Rattle.bus_window.specs.Windows.{BusWindow}
 use Rattle.trace_line.specs.declared.act.Act.{Act}
-use Rattle.run_model.specs.Windows.{is_on_window, opening_window}
-use Rattle.run_model.specs.SerialRun.{WindowState}
-
--- A window before the first line.
-abbrev pub opened : BusWindow → WindowState
-opened w = record { window = w; states = opening_window }
+use Rattle.run_model.specs.Stores.{is_on_window}
+use Rattle.run_model.specs.AllStores.{WindowState}
 
 -- The windows without what their entries hold.
 abbrev pub windows_of : List WindowState → List BusWindow

@@ -1,8 +1,9 @@
 ghost use Rattle.std.specs.Prelude.{◌≡◌, ◌≤◌, ◌<◌, ◌^◌, length, IfOk};
 ghost use Rattle.std.specs.List.{AllByRecursion};
 ghost use Rattle.trace_line.specs.declared.line.TraceLine.{TraceLine};
-ghost use Rattle.run_model.specs.RunState.{shown_of};
-ghost use Rattle.run_model.specs.SerialRun.{opening_stores, serial_replies, store_replies_from, stores_after_lines};
+ghost use Rattle.run_model.specs.QuietLines.{shown_of};
+ghost use Rattle.run_model.specs.SerialRun.{serial_replies, table_after};
+ghost use Rattle.trace_runner.specs.MachineState.{replies_of, table_end};
 ghost use Rattle.run_model.specs.GoodRun.{IsGoodRun};
 ghost use Rattle.run_model.specs.Assurances.{Assures};
 ghost use Rattle.reply_text.specs.Summary.{IsCountOf};
@@ -35,11 +36,11 @@ fn count_lines(
     requires number { machine.old.table.memory.table.number ≡ 0 }
     ensures counts { IfOk
         result
-        (λ run. IsCountOf run.counts (store_replies_from machine.old lines.now)) }
+        (λ run. IsCountOf run.counts (replies_of machine.old lines.now)) }
     ensures table { IfOk
         result
         (λ run.
-        run.table ≡ shown_of (stores_after_lines machine.old lines.now).table.memory) }
+        run.table ≡ shown_of (table_end machine.old lines.now).memory) }
 {
     let mut counts = Counts::new();
     let mut place = ReplyPlace::new();
@@ -59,7 +60,7 @@ pub fn run_counted(alloc: Global, trace: &Trace) -> Result<CountedRun, AllocErro
         result
         (λ run.
         run.table
-        ≡ shown_of (stores_after_lines (opening_stores trace.now.config) trace.now.lines).table.memory) }
+        ≡ shown_of (table_after trace.now.config trace.now.lines).memory) }
     ensures good { IsGoodRun trace.now (serial_replies trace.now) }
     ensures assured { Assures trace.now (serial_replies trace.now) }
 {

@@ -1,7 +1,9 @@
-ghost use Rattle.std.specs.Prelude.{◌≡◌, ◌<◌, ◌≤◌, ◌+◌, ◌-◌, ◌^◌, length, true, false, Some, IfOk, OnOk, vec_len};
+ghost use Rattle.std.specs.Prelude.{◌≡◌, ◌<◌, ◌≤◌, ◌+◌, ◌-◌, ◌^◌, length, true, false, Some, None, IfOk, OnOk, vec_len};
 ghost use Rattle.trace_line.specs.Lines.{is_quiet};
-ghost use Rattle.run_model.specs.RunState.{run_quiet_line, run_resize, shown_of};
-ghost use Rattle.run_model.specs.SerialRun.{opening_stores, run_line, run_on_windows, run_store_line};
+ghost use Rattle.run_model.specs.QuietLines.{run_quiet_line, run_resize, shown_of};
+ghost use Rattle.run_model.specs.AllStores.{opening_all};
+ghost use Rattle.run_model.specs.SerialRun.{run_on};
+ghost use Rattle.trace_runner.specs.MachineState.{RunsLine};
 ghost use Rattle.trace_reply.specs.Places.{reply_in};
 ghost use Rattle.trace_runner.specs.Windows.{place_from, windows_of};
 
@@ -28,7 +30,7 @@ pub struct Machine {
 }
 
 impl Model for Machine {
-    ghost use Rattle.run_model.specs.SerialRun.{AllStores};
+    ghost use Rattle.run_model.specs.AllStores.{AllStores};
     ghost use Rattle.trace_runner.specs.MachineState.{stores_of, IsMachine};
 
     ghost Value = { AllStores };
@@ -40,9 +42,9 @@ impl Model for Machine {
 
 impl Machine {
     /// The machine of a configuration, before the first line.
-    #[tactic(auto, unfolding(run_model::specs::RunState::opening_run))]
+    #[tactic(auto, unfolding(run_model::specs::Stores::page_table))]
     pub fn open(alloc: Global, config: &Config) -> Result<Machine, AllocError>
-        ensures { IfOk result (λ machine. machine ≡ opening_stores config.now) }
+        ensures { IfOk result (λ machine. machine ≡ opening_all config.now) }
     {
         let partition = Partition::open(alloc, config)?;
         let cpus = empty_cpus(alloc, config.cpus)?;
@@ -66,7 +68,7 @@ impl Machine {
         requires number { self.old.table.memory.table.number < 2 ^ 32 - 1 }
         ensures reply { OnOk
             result
-            ((reply_in place.new, self.new) ≡ run_store_line self.old line.now) }
+            (RunsLine self.old line.now (reply_in place.new) self.new) }
         ensures number { OnOk
             result
             (self.new.table.memory.table.number ≤ self.old.table.memory.table.number + 1) }
@@ -79,16 +81,17 @@ impl Machine {
             return self.quiet(alloc, &line.act, place);
         }
         match place_of(self.windows.as_slice(), &line.act) {
-            Some(at) => self.run_on_window(at, &line.act, place),
+            Some(at) => self.run_on_window(at, line, place),
             None => self.run(line, place),
         }
         Ok(())
     }
 
     /// The table, as a dump shows it.
-    #[tactic(auto, unfolding(run_model::specs::RunState::shown_of))]
+    #[tactic(auto, unfolding(run_model::specs::QuietLines::shown_of))]
     pub fn shown(&self, alloc: Global) -> Result<Shown, AllocError>
-        ensures { IfOk result (λ shown. shown ≡ shown_of self.now.table.memory) }
+        ensures named { self.now.table.window ≡ None }
+        ensures shown { IfOk result (λ shown. shown ≡ shown_of self.now.table.memory) }
     {
         let order = self.partition.order();
         Shown::of_table(
@@ -101,11 +104,11 @@ impl Machine {
     }
 
     // A line that isn't quiet and names no window, by its processor.
-    #[tactic(auto, unfolding(run_model::specs::SerialRun::run_line))]
+    #[tactic(auto, unfolding(run_model::specs::SerialRun::run_on))]
     fn run(&mut self, line: &TraceLine, place: &mut ReplyPlace)
         requires not_quiet { is_quiet line.now.act ≡ false }
         requires cpu { line.now.cpu < length self.old.table.processors }
-        ensures reply { (reply_in place.new, self.new.table) ≡ run_line self.old.table line.now }
+        ensures reply { (reply_in place.new, self.new.table) ≡ run_on self.old.table line.now }
         ensures number { self.new.table.memory.table.number ≡ self.old.table.memory.table.number }
         ensures cpus { length self.new.table.processors ≡ length self.old.table.processors }
         ensures windows { self.new.windows ≡ self.old.windows }
@@ -122,22 +125,22 @@ impl Machine {
     }
 
     // A line on the window at this place, the first that it names.
-    fn run_on_window(&mut self, at: usize, act: &Act, place: &mut ReplyPlace)
-        requires first { place_from 0 self.old.windows act.now ≡ Some at }
-        ensures reply { Some (reply_in place.new, self.new.windows)
-            ≡ run_on_windows self.old.table.grants self.old.windows act.now }
+    fn run_on_window(&mut self, at: usize, line: &TraceLine, place: &mut ReplyPlace)
+        requires first { place_from 0 self.old.windows line.now.act ≡ Some at }
+        ensures reply { RunsLine self.old line.now (reply_in place.new) self.new }
         ensures table { self.new.table ≡ self.old.table }
         ensures windows { windows_of self.new.windows ≡ windows_of self.old.windows }
     {
-        self.windows[at].line(self.partition.grants(), act, place);
+        self.windows[at].line(self.partition.grants(), &line.act, place);
     }
 
     // A quiet line. These are rare, so other lines make no room for what this holds.
     #[inline(never)]
-    #[tactic(auto, unfolding(run_model::specs::RunState::run_quiet_line, trace_line::specs::Lines::is_quiet))]
+    #[tactic(auto, unfolding(run_model::specs::QuietLines::run_quiet_line, trace_line::specs::Lines::is_quiet))]
     fn quiet(&mut self, alloc: Global, act: &Act, place: &mut ReplyPlace) -> Result<(), AllocError>
         requires quiet { is_quiet act.now ≡ true }
         requires number { self.old.table.memory.table.number < 2 ^ 32 - 1 }
+        ensures named { self.old.table.window ≡ None }
         ensures reply { OnOk result
             ((reply_in place.new, self.new.table) ≡ run_quiet_line self.old.table act.now) }
         ensures number { OnOk
@@ -159,9 +162,10 @@ impl Machine {
     }
 
     // One of the two resize calls. A committed resize clears each processor's cache.
-    #[tactic(auto, unfolding(run_model::specs::RunState::run_resize))]
+    #[tactic(auto, unfolding(run_model::specs::QuietLines::run_resize))]
     fn resize(&mut self, alloc: Global, hcall: Hcall, args: &[u64; 8]) -> Result<HReply, AllocError>
         requires number { self.old.table.memory.table.number < 2 ^ 32 - 1 }
+        ensures named { self.old.table.window ≡ None }
         ensures reply { IfOk
             result
             (λ reply.

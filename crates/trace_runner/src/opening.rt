@@ -1,7 +1,9 @@
 ghost use Rattle.std.specs.Prelude.{◌≡◌, ◌<◌, length, IfOk};
 ghost use Rattle.std.specs.List.{AllByRecursion};
 ghost use Rattle.trace_line.specs.declared.line.TraceLine.{TraceLine};
-ghost use Rattle.run_model.specs.SerialRun.{opening_stores, serial_replies};
+ghost use Rattle.run_model.specs.AllStores.{opening_all};
+ghost use Rattle.run_model.specs.SerialRun.{serial_replies, table_after};
+ghost use Rattle.trace_runner.specs.MachineState.{replies_of, table_end};
 ghost use Rattle.run_model.specs.GoodRun.{IsGoodRun};
 ghost use Rattle.run_model.specs.Assurances.{Assures};
 ghost use Rattle.run_model.specs.BusyCalls.{PutIsNotBusy};
@@ -14,7 +16,14 @@ use trace_read::Trace;
 /// The machine of a trace, before its first line. The serial run of each trace is a good run, in which no
 /// H_PUT_TCE is answered H_BUSY.
 pub fn open_machine(alloc: Global, trace: &Trace) -> Result<Machine, AllocError>
-    ensures run_state { IfOk result (λ machine. machine ≡ opening_stores trace.now.config) }
+    ensures run_state { IfOk result (λ machine. machine ≡ opening_all trace.now.config) }
+    ensures serial { IfOk
+        result
+        (λ machine. replies_of machine trace.now.lines ≡ serial_replies trace.now) }
+    ensures table { IfOk
+        result
+        (λ machine.
+        table_end machine trace.now.lines ≡ table_after trace.now.config trace.now.lines) }
     ensures cpus { IfOk
         result
         (λ machine.

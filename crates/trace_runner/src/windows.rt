@@ -1,9 +1,12 @@
 //! The DMA windows of a run, with their entries.
 ghost use Rattle.std.specs.Prelude.{◌≡◌, map, true, IfOk};
 ghost use Rattle.trace_reply.specs.Places.{reply_in};
-ghost use Rattle.run_model.specs.Windows.{is_on_window};
-ghost use Rattle.run_model.specs.SerialRun.{run_on_window};
-ghost use Rattle.trace_runner.specs.Windows.{opened, place_from};
+ghost use Rattle.run_model.specs.Stores.{is_on_window};
+ghost use Rattle.run_model.specs.SerialRun.{line_result};
+ghost use Rattle.run_model.specs.StoreContexts.{window_context};
+ghost use Rattle.tlb_model.specs.Processor.{new_processor};
+ghost use Rattle.trace_runner.specs.Windows.{place_from};
+ghost use Rattle.run_model.specs.AllStores.{opened};
 
 use crate::act::run_on_bus;
 use bus_window::Window;
@@ -33,7 +36,7 @@ pub struct WindowEntries {
 impl Model for WindowEntries {
     ghost use Rattle.std.specs.Prelude.{◌≡◌, vec_len};
     ghost use Rattle.hpte_fields.specs.TableSize.{entry_count};
-    ghost use Rattle.run_model.specs.SerialRun.{WindowState};
+    ghost use Rattle.run_model.specs.AllStores.{WindowState};
 
     ghost Value = { WindowState };
 
@@ -44,7 +47,7 @@ impl Model for WindowEntries {
 
 impl WindowEntries {
     /// The window with all entries empty.
-    #[tactic(auto, unfolding(run_model::specs::Windows::opening_window))]
+    #[tactic(auto, unfolding(run_model::specs::Stores::opening_window))]
     pub fn open(alloc: Global, window: Window) -> Result<WindowEntries, AllocError>
         ensures { IfOk result (λ entries. entries ≡ opened window) }
     {
@@ -55,8 +58,13 @@ impl WindowEntries {
     /// Runs a line on the window, which it names. Its reply takes the place.
     pub fn line(&mut self, grants: &Grants, act: &Act, place: &mut ReplyPlace)
         requires named { is_on_window self.old.window act.now ≡ true }
-        ensures { (reply_in place.new, self.new)
-            ≡ run_on_window grants.now.grants self.old act.now }
+        ensures reply { (reply_in place.new, self.new.states)
+            ≡ line_result
+            (window_context grants.now.grants self.old.window)
+            new_processor
+            self.old.states
+            act.now }
+        ensures window { self.new.window ≡ self.old.window }
     {
         let alloc = *self.states.allocator();
         let states = mem::replace(&mut self.states, Vec::new(alloc));

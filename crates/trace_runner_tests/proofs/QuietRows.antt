@@ -5,7 +5,7 @@ use Rattle.std.specs.Fmt.{digits}
 use Rattle.frame_grants.specs.Grants.{machine_range}
 use Rattle.power_addr.specs.Pages.{virtual_page, tag_of, same_page}
 use Rattle.papr_codes.specs.Hcalls.{hcall_of, row_of}
-use Rattle.storage_prot.specs.declared.want.Want.TheVariants.{Store}
+use Rattle.storage_prot.specs.declared.want.Want.TheVariants as wants
 use Rattle.storage_prot.specs.Protection.{permission, rows}
 use Rattle.slb_model.specs.Buffer.{no_slots, slots_after, segment_of}
 use Rattle.slb_model.specs.Refusals.{mte_refusal, tests_of_words}
@@ -33,9 +33,10 @@ use Rattle.trace_line.specs.declared.act.Act.TheVariants.{Dump}
 use Rattle.trace_line.specs.declared.line.TraceLine.{TraceLine}
 use Rattle.trace_line.specs.Lines.{is_quiet}
 use Rattle.run_model.specs.LineReplies.{hcall_plan}
-use Rattle.run_model.specs.SerialRun.{line_result, run_line, replies_from}
+use Rattle.run_model.specs.SerialRun.{line_result, run_on, replies_from}
 use Rattle.reply_text.specs.Text.{text_from, head_text, code_text, entry_text, dump_head, table_text}
-use Rattle.run_model.specs.RunState.{RunState, run_resize, run_quiet_line, shown_of, opening_run}
+use Rattle.run_model.specs.Stores.{Store, page_table}
+use Rattle.run_model.specs.QuietLines.{run_resize, run_quiet_line, shown_of}
 use Rattle.run_model.proofs.SmallPartition.{memory_of, small, calls, reaches, mte}
 use Rattle.authority_mask.specs.Authority.{row_says, key_rows}
 
@@ -50,18 +51,18 @@ shown =
     ∷ dumps 5
     ∷ calls 6 0x08 (0x8000000000 ∷ 0x1 ∷ 0x1001 ∷ 0x3012 ∷ [])
     ∷ calls 7 0x08 (0x8000000000 ∷ 0xE ∷ 0x5011 ∷ 0x6092 ∷ [])
-    ∷ reaches 8 Store 0x1000 false
+    ∷ reaches 8 wants.Store 0x1000 false
     ∷ dumps 9
-    ∷ reaches 10 Store 0x1000 false
+    ∷ reaches 10 wants.Store 0x1000 false
     ∷ []
 
-dumped : text_from shown (replies_from (small 1) shown) ≡ codes "4 0 slbmte ok\n5 dump table 0 order 18 place 0x1000000000 entries 0\n6 0 H_ENTER 0 0x1 | 0x1.0.0.entered\n7 0 H_ENTER 0 0xe | 0xe.0.0.entered\n8 0 store at 0x2000003000 walk | 0x0.0.0.nomatch 0x1.1.0.at\n9 dump table 0 order 18 place 0x1000000000 entries 2\n 0x1 0x1001 0x3192 1\n 0xe 0x5011 0x6092 1\n10 0 store at 0x2000003000 hit | 0x1.1.3.at\n"
-unfolding digits shown text_from head_text code_text entry_text dump_head table_text run_line line_result run_quiet_line shown_of hcall_plan is_quiet hcall_of row_of plan_run trial_run candidates suits_grants h_enter_plan machine_range mte_refusal tests_of_words no_slots slots_after slot_of_words segment_of new_processor empty_cache cached_line same_page after_walk walk_calls group_of tag_of has_base permission rows row_says key_rows outcome_of
+dumped : text_from shown (replies_from [] ((small 1) ∷ []) shown) ≡ codes "4 0 slbmte ok\n5 dump table 0 order 18 place 0x1000000000 entries 0\n6 0 H_ENTER 0 0x1 | 0x1.0.0.entered\n7 0 H_ENTER 0 0xe | 0xe.0.0.entered\n8 0 store at 0x2000003000 walk | 0x0.0.0.nomatch 0x1.1.0.at\n9 dump table 0 order 18 place 0x1000000000 entries 2\n 0x1 0x1001 0x3192 1\n 0xe 0x5011 0x6092 1\n10 0 store at 0x2000003000 hit | 0x1.1.3.at\n"
+unfolding digits shown text_from head_text code_text entry_text dump_head table_text run_on line_result run_quiet_line shown_of hcall_plan is_quiet hcall_of row_of plan_run trial_run candidates suits_grants h_enter_plan machine_range mte_refusal tests_of_words no_slots slots_after slot_of_words segment_of new_processor empty_cache cached_line same_page after_walk walk_calls group_of tag_of has_base permission rows row_says key_rows outcome_of
 dumped = refl
 
 -- ---- the codes of the two calls
 -- In a pool of two blocks, where the table has one.
-tight : RunState
+tight : Store
 tight = record (small 1) { memory = record (memory_of []) { pool = record { base = 0x1000000000; order = 19; taken = record { place = 0x1000000000; order = 18 } ∷ [] } } }
 
 asked : List TraceLine
@@ -76,8 +77,8 @@ asked =
     ∷ calls 12 0x370 (0x1 ∷ 18 ∷ [])
     ∷ []
 
-resizes_refused : text_from asked (replies_from tight asked) ≡ codes "5 0 H_RESIZE_HPT_COMMIT 2\n6 0 H_RESIZE_HPT_PREPARE -4\n7 0 H_RESIZE_HPT_PREPARE -16\n8 0 H_RESIZE_HPT_PREPARE -9\n9 0 H_RESIZE_HPT_PREPARE 0\n10 0 H_RESIZE_HPT_PREPARE 0\n11 0 H_RESIZE_HPT_COMMIT 2\n12 0 H_RESIZE_HPT_COMMIT -4\n"
-unfolding digits tight asked text_from head_text code_text run_line run_quiet_line run_resize is_quiet hcall_of row_of prepare_result commit_result outcome_of_prepare outcome_of_commit lowest_place multiples taken_with taken_without
+resizes_refused : text_from asked (replies_from [] (tight ∷ []) asked) ≡ codes "5 0 H_RESIZE_HPT_COMMIT 2\n6 0 H_RESIZE_HPT_PREPARE -4\n7 0 H_RESIZE_HPT_PREPARE -16\n8 0 H_RESIZE_HPT_PREPARE -9\n9 0 H_RESIZE_HPT_PREPARE 0\n10 0 H_RESIZE_HPT_PREPARE 0\n11 0 H_RESIZE_HPT_COMMIT 2\n12 0 H_RESIZE_HPT_COMMIT -4\n"
+unfolding digits tight asked text_from head_text code_text run_on run_quiet_line run_resize is_quiet hcall_of row_of prepare_result commit_result outcome_of_prepare outcome_of_commit lowest_place multiples taken_with taken_without
 resizes_refused = refl
 
 -- ---- a resize
@@ -96,8 +97,8 @@ resized =
     ∷ dumps 13
     ∷ []
 
-resizes_in_two_calls : text_from resized (replies_from (small 1) resized) ≡ codes "4 0 H_ENTER 0 0x0 | 0x0.0.0.entered\n5 0 H_ENTER 0 0x8 | 0x8.0.0.entered\n6 0 H_ENTER 0 0x1 | 0x1.0.0.entered\n7 0 H_RESIZE_HPT_PREPARE 9900\n8 0 H_RESIZE_HPT_COMMIT 1\n9 0 H_RESIZE_HPT_PREPARE 0\n10 0 H_RESIZE_HPT_COMMIT 0\n11 0 H_RESIZE_HPT_COMMIT 2\n12 0 H_READ -4\n13 dump table 1 order 19 place 0x1000080000 entries 1\n 0x4000 0x801011 0x3192 0\n"
-unfolding digits resized dump_head table_text entry_text shown_of rehashed_states entry_at text_from head_text code_text run_line line_result run_quiet_line run_resize hcall_plan is_quiet hcall_of row_of plan_run trial_run candidates suits_grants h_enter_plan h_read_plan machine_range prepare_result commit_result outcome_of_prepare outcome_of_commit lowest_place multiples taken_with taken_without collision_of collision_at first_with target_of carried_page page_at group_of tag_of
+resizes_in_two_calls : text_from resized (replies_from [] ((small 1) ∷ []) resized) ≡ codes "4 0 H_ENTER 0 0x0 | 0x0.0.0.entered\n5 0 H_ENTER 0 0x8 | 0x8.0.0.entered\n6 0 H_ENTER 0 0x1 | 0x1.0.0.entered\n7 0 H_RESIZE_HPT_PREPARE 9900\n8 0 H_RESIZE_HPT_COMMIT 1\n9 0 H_RESIZE_HPT_PREPARE 0\n10 0 H_RESIZE_HPT_COMMIT 0\n11 0 H_RESIZE_HPT_COMMIT 2\n12 0 H_READ -4\n13 dump table 1 order 19 place 0x1000080000 entries 1\n 0x4000 0x801011 0x3192 0\n"
+unfolding digits resized dump_head table_text entry_text shown_of rehashed_states entry_at text_from head_text code_text run_on line_result run_quiet_line run_resize hcall_plan is_quiet hcall_of row_of plan_run trial_run candidates suits_grants h_enter_plan h_read_plan machine_range prepare_result commit_result outcome_of_prepare outcome_of_commit lowest_place multiples taken_with taken_without collision_of collision_at first_with target_of carried_page page_at group_of tag_of
 resizes_in_two_calls = refl
 
 -- The entries before the commit.
@@ -150,37 +151,37 @@ filled : Processor
 unfolding empty_cache
 filled = record new_processor { cache = slice_set empty_cache 1 (record { page = virtual_page false 0x801 12 1; entry = 0; stamp = 1; dword0 = 0x801011; dword1 = 0x3012 } ∷ []) }
 
-cached_then : RunState
+cached_then : Store
 cached_then = record (small 2) { memory = ready; processors = filled ∷ filled ∷ [] }
 
 -- Each processor's cache is cleared, and no other part of it.
-caches_are_cleared : (run_line cached_then (calls 5 0x370 (0 ∷ 19 ∷ []))).1.processors ≡ new_processor ∷ new_processor ∷ []
-unfolding cached_then ready filled old run_line run_quiet_line run_resize is_quiet hcall_of row_of commit_result outcome_of_commit collision_of collision_at first_with target_of carried_page page_at group_of tag_of new_processor empty_cache
+caches_are_cleared : (run_on cached_then (calls 5 0x370 (0 ∷ 19 ∷ []))).1.processors ≡ new_processor ∷ new_processor ∷ []
+unfolding cached_then ready filled old run_on run_quiet_line run_resize is_quiet hcall_of row_of commit_result outcome_of_commit collision_of collision_at first_with target_of carried_page page_at group_of tag_of new_processor empty_cache
 caches_are_cleared = refl
 
 -- By a commit that is refused they aren't, nor by a prepare.
-caches_are_kept : (run_line cached_then (calls 5 0x370 (0 ∷ 18 ∷ []))).1.processors ≡ filled ∷ filled ∷ []
-unfolding cached_then ready run_line run_quiet_line run_resize is_quiet hcall_of row_of commit_result outcome_of_commit
+caches_are_kept : (run_on cached_then (calls 5 0x370 (0 ∷ 18 ∷ []))).1.processors ≡ filled ∷ filled ∷ []
+unfolding cached_then ready run_on run_quiet_line run_resize is_quiet hcall_of row_of commit_result outcome_of_commit
 caches_are_kept = refl
 
-prepare_keeps_caches : (run_line cached_then (calls 5 0x36C (0 ∷ 0 ∷ []))).1.processors ≡ filled ∷ filled ∷ []
-unfolding cached_then run_line run_quiet_line run_resize is_quiet hcall_of row_of prepare_result
+prepare_keeps_caches : (run_on cached_then (calls 5 0x36C (0 ∷ 0 ∷ []))).1.processors ≡ filled ∷ filled ∷ []
+unfolding cached_then run_on run_quiet_line run_resize is_quiet hcall_of row_of prepare_result
 prepare_keeps_caches = refl
 
 -- ---- the beginning
 -- Two processors without segments, and a table at the lowest place of the pool.
-opened : RunState
-unfolding opening_run
-opened = opening_run (record { order = 18; limit = 20; cpus = 2; granted = record { pool_base = 0x1000000000; pool_order = 20; grants = [] }; entries = []; windows = [] })
+opened : Store
+unfolding page_table
+opened = page_table (record { order = 18; limit = 20; cpus = 2; granted = record { pool_base = 0x1000000000; pool_order = 20; grants = [] }; entries = []; windows = [] })
 
 opens_without_segments : opened.processors ≡ new_processor ∷ new_processor ∷ []
-unfolding opened opening_run
+unfolding opened page_table
 opens_without_segments = refl
 
 opens_at_the_lowest_place : bare opened.memory ≡ memory_of []
-unfolding opened opening_run opening_memory lowest_place multiples taken_with
+unfolding opened page_table opening_memory lowest_place multiples taken_with
 opens_at_the_lowest_place = refl
 
 last_is_empty : state_at opened.memory.table.states 0x3FFF ≡ empty_state 0
-unfolding opened opening_run opening_memory empty_states
+unfolding opened page_table opening_memory empty_states
 last_is_empty = refl

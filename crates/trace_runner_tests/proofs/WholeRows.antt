@@ -25,9 +25,10 @@ use Rattle.hpt_walk.specs.Walk.{walk_calls}
 use Rattle.trace_line.specs.Lines.{is_quiet}
 use Rattle.trace_read.specs.Trace.{AcceptedTrace}
 use Rattle.run_model.specs.LineReplies.{hcall_plan}
-use Rattle.run_model.specs.SerialRun.{line_result, run_line, run_store_line, serial_replies}
+use Rattle.run_model.specs.SerialRun.{line_result, run_on, serial_replies}
 use Rattle.reply_text.specs.Text.{text_from, head_text, code_text, text_of, dump_head, table_text, entry_text}
-use Rattle.run_model.specs.RunState.{opening_run, shown_of, run_quiet_line}
+use Rattle.run_model.specs.Stores.{page_table}
+use Rattle.run_model.specs.QuietLines.{shown_of, run_quiet_line}
 use Rattle.hpt_resize.specs.TableMemory.{opening_memory, empty_states}
 use Rattle.hpt_pool.specs.Pool.{lowest_place, multiples, taken_with}
 use Rattle.frame_grants.specs.declared.grant.Kind.TheVariants.{Ram}
@@ -48,7 +49,7 @@ whole = record {
 }
 
 a_whole_trace : text_of whole (serial_replies whole) ≡ codes "4 0 slbmte ok\n5 0 H_ENTER 0 0x20 | 0x20.0.0.entered\n6 0 store denied walk | 0x20.1.0.denied\n7 0 H_PROTECT 0 | 0x20.1.0.protected\n8 0 store at 0x2000003000 walk | 0x20.2.0.at\n"
-unfolding digits whole opening_run opening_memory empty_states lowest_place multiples taken_with text_from head_text code_text run_store_line run_line line_result hcall_plan is_quiet hcall_of row_of plan_run trial_run candidates suits_grants h_enter_plan h_remove_plan h_protect_plan h_clear_mod_plan machine_range mte_refusal tests_of_words no_slots slots_after slot_of_words segment_of new_processor empty_cache cached_line same_page after_walk walk_calls group_of tag_of has_base permission rows row_says key_rows outcome_of
+unfolding digits whole page_table opening_memory empty_states lowest_place multiples taken_with text_from head_text code_text run_on line_result hcall_plan is_quiet hcall_of row_of plan_run trial_run candidates suits_grants h_enter_plan h_remove_plan h_protect_plan h_clear_mod_plan machine_range mte_refusal tests_of_words no_slots slots_after slot_of_words segment_of new_processor empty_cache cached_line same_page after_walk walk_calls group_of tag_of has_base permission rows row_says key_rows outcome_of
 a_whole_trace = refl
 
 -- A walk to the secondary group, and a dump of the whole table.
@@ -63,7 +64,7 @@ far = record whole {
 }
 
 the_last_group : text_of far (serial_replies far) ≡ codes "4 0 slbmte ok\n5 0 H_ENTER 0 0x3fd8 | 0x3fd8.0.0.entered\n6 0 load at 0x2000003000 walk | 0x20.0.0.nomatch 0x21.0.0.nomatch 0x22.0.0.nomatch 0x23.0.0.nomatch 0x24.0.0.nomatch 0x25.0.0.nomatch 0x26.0.0.nomatch 0x27.0.0.nomatch 0x3fd8.1.0.at\n7 dump table 0 order 18 place 0x1000000000 entries 1\n 0x3fd8 0x1003 0x3112 1\n"
-unfolding digits far whole dump_head table_text entry_text shown_of run_quiet_line opening_run opening_memory empty_states lowest_place multiples taken_with text_from head_text code_text run_store_line run_line line_result hcall_plan is_quiet hcall_of row_of plan_run trial_run candidates suits_grants h_enter_plan h_remove_plan h_protect_plan h_clear_mod_plan machine_range mte_refusal tests_of_words no_slots slots_after slot_of_words segment_of new_processor empty_cache cached_line same_page after_walk walk_calls group_of tag_of has_base permission rows row_says key_rows outcome_of
+unfolding digits far whole dump_head table_text entry_text shown_of run_quiet_line page_table opening_memory empty_states lowest_place multiples taken_with text_from head_text code_text run_on line_result hcall_plan is_quiet hcall_of row_of plan_run trial_run candidates suits_grants h_enter_plan h_remove_plan h_protect_plan h_clear_mod_plan machine_range mte_refusal tests_of_words no_slots slots_after slot_of_words segment_of new_processor empty_cache cached_line same_page after_walk walk_calls group_of tag_of has_base permission rows row_says key_rows outcome_of
 the_last_group = refl
 
 -- An entry that is valid at first, with R and C: a load uses it, and a dump shows it with its words.
@@ -78,5 +79,5 @@ opened = record whole {
 }
 
 an_opening_entry : text_of opened (serial_replies opened) ≡ codes "5 0 slbmte ok\n6 0 load at 0x2000003000 walk | 0x20.0.3.at\n7 dump table 0 order 18 place 0x1000000000 entries 1\n 0x20 0x1001 0x3192 0\n"
-unfolding digits opened whole dump_head table_text entry_text shown_of run_quiet_line opening_run opening_memory empty_states lowest_place multiples taken_with text_from head_text code_text run_store_line run_line line_result hcall_plan is_quiet hcall_of row_of plan_run trial_run candidates suits_grants h_enter_plan h_remove_plan h_protect_plan h_clear_mod_plan machine_range mte_refusal tests_of_words no_slots slots_after slot_of_words segment_of new_processor empty_cache cached_line same_page after_walk walk_calls group_of tag_of has_base permission rows row_says key_rows outcome_of
+unfolding digits opened whole dump_head table_text entry_text shown_of run_quiet_line page_table opening_memory empty_states lowest_place multiples taken_with text_from head_text code_text run_on line_result hcall_plan is_quiet hcall_of row_of plan_run trial_run candidates suits_grants h_enter_plan h_remove_plan h_protect_plan h_clear_mod_plan machine_range mte_refusal tests_of_words no_slots slots_after slot_of_words segment_of new_processor empty_cache cached_line same_page after_walk walk_calls group_of tag_of has_base permission rows row_says key_rows outcome_of
 an_opening_entry = refl

@@ -1,6 +1,7 @@
+use Rattle.std.specs.Prelude.{None}
 use Rattle.std.proofs.Common.{◌≡◌, ◌∙◌, ◌-◌, ◌≤◌, [], ap, sym, arith, refl, drop, take, length, length-drop, List, ℕ}
 use Rattle.std.proofs.lemmas.List.{take_all, drop_all}
-use Rattle.run_model.specs.SerialRun.{AllStores}
+use Rattle.run_model.specs.AllStores.{AllStores}
 use Rattle.trace_line.specs.declared.act.Act.{Act}
 use Rattle.history_check.specs.FoundStores.{run_quiet_on}
 use Rattle.history_check.proofs.JudgedSections.{at_first, at_next, front_cpus, front_few, few_standing, number_stays, first_number, no_section, no_reply, no_last, last_ends, last_goes_on}

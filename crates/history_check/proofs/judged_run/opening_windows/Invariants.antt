@@ -1,7 +1,7 @@
 use Rattle.std.proofs.Common.{◌≡◌, map, take}
 use Rattle.bus_window.specs.Windows.{BusWindow}
-use Rattle.run_model.specs.SerialRun.{WindowState}
-use Rattle.run_model.specs.Windows.{opening_window}
+use Rattle.run_model.specs.AllStores.{WindowState}
+use Rattle.run_model.specs.Stores.{opening_window}
 use Rattle.history_check.proofs.judged_run.opening_windows.Given as goal
 
 abbrev at_first : BusWindow → WindowState

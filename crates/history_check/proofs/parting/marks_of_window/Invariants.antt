@@ -1,6 +1,6 @@
 use Rattle.std.proofs.Common.{◌≡◌, map, take}
 use Rattle.trace_line.specs.declared.line.TraceLine.{TraceLine}
-use Rattle.run_model.specs.Windows.{is_on_window}
+use Rattle.run_model.specs.Stores.{is_on_window}
 use Rattle.history_check.proofs.parting.marks_of_window.Given as goal
 
 abbrev pub invariant-loop-line : goal.invariant-loop-line

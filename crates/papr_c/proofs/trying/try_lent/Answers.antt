@@ -1,46 +1,66 @@
-use Rattle.std.proofs.Common.{◌≡◌, ◌+◌, ◌++◌, [], ◌∷◌, true, false, ◌⊎◌, inl, inr, arith}
-use Rattle.entry_model.specs.Trial.{goes_after}
-use Rattle.papr_c.proofs.SoFar.{IsTold, starts, so_far_goes, ends}
-use Rattle.papr_c.proofs.trying.try_lent.Goals.{then-tried-count-via-then-tried-count, then-tried-count-via-else-tried-count+then-not-after}
+use Rattle.std.specs.Prelude.{None}
+use Rattle.std.specs.List.{AllByRecursion}
+use Rattle.std.proofs.Common.{◌≡◌, ◌<◌, ◌≤◌, length, [], arith, sym, subst, ◌∙◌}
+use Rattle.entry_model.specs.Trial.{Call}
+use Rattle.papr_c.specs.Tried.{LentPair, IsTriedNext}
+use Rattle.papr_c.proofs.SoFar.{starts, so_far_next, told_last, past_last}
 use Rattle.papr_c.proofs.trying.try_lent.Goals as goal
 
-pub loop-tried-init : goal.loop-tried-init
-loop-tried-init c = record { more = omega (arith, c.requires.some); so_far = ([], starts _ _ _ _ _ _ _) }
+pub loop-made-init : goal.loop-made-init
+loop-made-init g c = record { so_far = ([], starts _ _ _ _) }
 
-ended : (c : goal.Joined-then-tried-count) → (goes_after c.args.goes_on c.make-last.result.answer ≡ false) ⊎ (c.loop-tried.tried + 1 ≡ c.args.count)
-ended c = elim c.then-tried-count.branch [
-  | then-tried-count-via-then-tried-count w ↦ inr w.if-tried-count.true
-  | then-tried-count-via-else-tried-count+then-not-after w ↦ inl (let e = w.if-not-after.ensures in let f = w.after.ensures in cc)
-]
+-- ---- one call more
+pub try_next-requires-clause-in_table : goal.try_next-requires-clause-in_table
+try_next-requires-clause-in_table g c =
+    subst (λ n. AllByRecursion (λ (d : Call). d.entry < n) (g.C.CallList.calls c.args.calls.now)) (sym c.loop-made.invariant.so_far.1.same) c.requires.in_table
 
-told : (c : goal.Joined-then-tried-count) → IsTold (goes_after c.args.goes_on) c.args.op.now c.args.first c.args.count c.args.place (c.loop-tried.tried + 1) c.args.entries.now c.make-last.new.entries c.args.receipts.now c.make-last.new.receipts c.make-last.result
-told c =
-    ends _ _ _ _ _ _ _ c.loop-tried.entries _ _ c.loop-tried.receipts _ c.loop-tried.invariant.so_far.0 _ c.loop-tried.invariant.more c.make-last.ensures.receipt c.make-last.ensures.entries c.make-last.ensures.receipts (ended c) c.loop-tried.invariant.so_far.1
+pub try_next-requires-clause-near : goal.try_next-requires-clause-near
+try_next-requires-clause-near g c = c.loop-made.invariant.so_far.1.inside
 
-pub returns-then-tried-count-clause-entries : goal.returns-then-tried-count-clause-entries
-returns-then-tried-count-clause-entries c = (told c).entries
+pub returns-in-Some-clause-entries : goal.returns-in-Some-clause-entries
+returns-in-Some-clause-entries g c =
+    let m : LentPair = record { before = c.loop-made.entries; after = c.try_next.new.entries; places_before = c.loop-made.receipts; places_after = c.try_next.new.receipts } in
+    (told_last _ (g.C.CallList.calls c.args.calls.now) c.loop-made.made c.args.entries.now c.args.receipts.now m _ _ c.in-Some.ensures c.loop-made.invariant.so_far).entries
 
-pub returns-then-tried-count-clause-receipts : goal.returns-then-tried-count-clause-receipts
-returns-then-tried-count-clause-receipts c = (told c).receipts
+pub returns-in-Some-clause-receipts : goal.returns-in-Some-clause-receipts
+returns-in-Some-clause-receipts g c =
+    let m : LentPair = record { before = c.loop-made.entries; after = c.try_next.new.entries; places_before = c.loop-made.receipts; places_after = c.try_next.new.receipts } in
+    (told_last _ (g.C.CallList.calls c.args.calls.now) c.loop-made.made c.args.entries.now c.args.receipts.now m _ _ c.in-Some.ensures c.loop-made.invariant.so_far).receipts
 
-pub returns-then-tried-count-clause-count : goal.returns-then-tried-count-clause-count
-returns-then-tried-count-clause-count c = (told c).counted
+pub returns-in-Some-clause-count : goal.returns-in-Some-clause-count
+returns-in-Some-clause-count g c =
+    let m : LentPair = record { before = c.loop-made.entries; after = c.try_next.new.entries; places_before = c.loop-made.receipts; places_after = c.try_next.new.receipts } in
+    (told_last _ (g.C.CallList.calls c.args.calls.now) c.loop-made.made c.args.entries.now c.args.receipts.now m _ _ c.in-Some.ensures c.loop-made.invariant.so_far).counted
 
-pub returns-then-tried-count-clause-ending : goal.returns-then-tried-count-clause-ending
-returns-then-tried-count-clause-ending c = (told c).ending
+pub returns-in-Some-clause-ending : goal.returns-in-Some-clause-ending
+returns-in-Some-clause-ending g c =
+    let m : LentPair = record { before = c.loop-made.entries; after = c.try_next.new.entries; places_before = c.loop-made.receipts; places_after = c.try_next.new.receipts } in
+    (told_last _ (g.C.CallList.calls c.args.calls.now) c.loop-made.made c.args.entries.now c.args.receipts.now m _ _ c.in-Some.ensures c.loop-made.invariant.so_far).ending
 
-pub returns-then-tried-count-clause-alone : goal.returns-then-tried-count-clause-alone
-returns-then-tried-count-clause-alone c = (told c).alone
+pub loop-made-preserved : goal.loop-made-preserved
+loop-made-preserved g c =
+    let m : LentPair = record { before = c.loop-made.entries; after = c.try_next.new.entries; places_before = c.loop-made.receipts; places_after = c.try_next.new.receipts } in
+    let next : IsTriedNext (g.C.CallList.goes_on c.args.calls.now) (g.C.CallList.calls c.args.calls.now) c.loop-made.made m None = subst (IsTriedNext (g.C.CallList.goes_on c.args.calls.now) (g.C.CallList.calls c.args.calls.now) c.loop-made.made m) c.in_default.is c.try_next.ensures in
+    record { so_far = so_far_next _ (g.C.CallList.calls c.args.calls.now) c.loop-made.made c.args.entries.now c.args.receipts.now m next c.loop-made.invariant.so_far }
 
-pub loop-tried-preserved : goal.loop-tried-preserved
-loop-tried-preserved c =
-    let r = c.make-last.result in
-    let on : goes_after c.args.goes_on r.answer ≡ true = let e = c.if-not-after.ensures in let f = c.after.ensures in cc in
-    let other = c.if-tried-count.false in
-    record {
-      more = omega (arith, other, c.loop-tried.invariant.more);
-      so_far = (
-        c.loop-tried.invariant.so_far.0 ++ r ∷ [],
-        so_far_goes _ _ _ _ _ _ _ c.loop-tried.entries _ _ c.loop-tried.receipts _ c.loop-tried.invariant.so_far.0 r c.loop-tried.invariant.more c.make-last.ensures.receipt c.make-last.ensures.entries c.make-last.ensures.receipts on c.loop-tried.invariant.so_far.1,
-      );
-    }
+-- ---- behind the last call
+pub returns-clause-entries : goal.returns-clause-entries
+returns-clause-entries g c =
+    let past : length (g.C.CallList.calls c.args.calls.now) ≤ c.loop-made.made = omega (arith, c.requires.few) in
+    (past_last _ (g.C.CallList.calls c.args.calls.now) c.loop-made.made _ _ _ _ _ past c.loop-made.invariant.so_far.1).entries
+
+pub returns-clause-receipts : goal.returns-clause-receipts
+returns-clause-receipts g c =
+    let past : length (g.C.CallList.calls c.args.calls.now) ≤ c.loop-made.made = omega (arith, c.requires.few) in
+    (past_last _ (g.C.CallList.calls c.args.calls.now) c.loop-made.made _ _ _ _ _ past c.loop-made.invariant.so_far.1).receipts
+
+pub returns-clause-count : goal.returns-clause-count
+returns-clause-count g c =
+    let past : length (g.C.CallList.calls c.args.calls.now) ≤ c.loop-made.made = omega (arith, c.requires.few) in
+    let all : 16 ≡ c.loop-made.made = omega arith in
+    all ∙ (past_last _ (g.C.CallList.calls c.args.calls.now) c.loop-made.made _ _ _ _ _ past c.loop-made.invariant.so_far.1).counted
+
+pub returns-clause-ending : goal.returns-clause-ending
+returns-clause-ending g c =
+    let past : length (g.C.CallList.calls c.args.calls.now) ≤ c.loop-made.made = omega (arith, c.requires.few) in
+    (past_last _ (g.C.CallList.calls c.args.calls.now) c.loop-made.made _ _ _ _ _ past c.loop-made.invariant.so_far.1).ending

@@ -1,4 +1,4 @@
-use Rattle.run_model.proofs.StoresGood.{one_good_run}
+use Rattle.run_model.proofs.OneGoodRun.{one_good_run}
 use Rattle.run_model.proofs.laws.one_good_run.Goals as goal
 
 pub returns : goal.returns

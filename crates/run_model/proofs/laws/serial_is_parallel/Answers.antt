@@ -1,4 +1,4 @@
-use Rattle.run_model.proofs.StoresGood.{serial_parallel}
+use Rattle.run_model.proofs.SerialParallel.{serial_parallel}
 use Rattle.run_model.proofs.laws.serial_is_parallel.Goals as goal
 
 pub returns : goal.returns

@@ -2,9 +2,9 @@ use Rattle.std.proofs.Common.{◌≡◌, ◌∙◌, ap, refl, subst, List, None}
 use Rattle.hpt_resize.specs.TableMemory.{with_states}
 use Rattle.partition.specs.PartitionState.{PartitionState, with_memory}
 use Rattle.entry_model.specs.State.{State}
-use Rattle.run_model.specs.SerialRun.{AllStores}
+use Rattle.run_model.specs.AllStores.{AllStores}
 use Rattle.run_model.specs.StoreContexts.{StoreContext, context_on}
-use Rattle.run_model.specs.RunState.{context_of}
+use Rattle.run_model.specs.Stores.{context_of}
 use Rattle.trace_runner.specs.MachineState.{run_state_of, stores_of}
 use Rattle.trace_runner.specs.StoreRuns.{RanStore, RanTable}
 use Rattle.trace_runner.proofs.all_stores.run_on_table.Goals as goal

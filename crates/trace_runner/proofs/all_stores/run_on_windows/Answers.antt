@@ -1,6 +1,6 @@
 use Rattle.std.proofs.Common.{◌≡◌, ◌+◌, ◌++◌, ◌∙◌, [], ◌∷◌, sym, ap, subst, reverse, List, arith}
 use Rattle.std.proofs.lemmas.List.{reverse-reverse}
-use Rattle.run_model.specs.SerialRun.{WindowState}
+use Rattle.run_model.specs.AllStores.{WindowState}
 use Rattle.trace_line.specs.declared.line.TraceLine.{TraceLine}
 use Rattle.trace_runner.specs.StoreRuns.{RanWindow}
 use Rattle.trace_runner.proofs.NewWorkers.{nil_of}

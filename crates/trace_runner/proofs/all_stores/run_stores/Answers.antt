@@ -1,7 +1,7 @@
 use Rattle.std.proofs.Common.{◌≡◌, ◌∙◌, [], sym, ap, subst, refl, length, vec_len, arith}
 use Rattle.std.proofs.lemmas.Bool.{eqb-true}
 use Rattle.frame_grants.specs.Grants.{GrantedMemory}
-use Rattle.run_model.specs.SerialRun.{AllStores}
+use Rattle.run_model.specs.AllStores.{AllStores}
 use Rattle.trace_read.specs.Configuration.{NumbersDiffer}
 use Rattle.trace_runner.specs.MachineState.{stores_of}
 use Rattle.trace_runner.specs.Windows.{windows_of}

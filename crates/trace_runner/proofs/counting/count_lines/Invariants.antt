@@ -1,6 +1,6 @@
 use Rattle.std.proofs.Common.{◌≡◌, ◌≤◌, ◌++◌, List, drop, length}
 use Rattle.trace_reply.specs.declared.reply.Reply.{Reply}
-use Rattle.run_model.specs.SerialRun.{store_replies_from, stores_after_lines}
+use Rattle.trace_runner.specs.MachineState.{replies_of, stores_end}
 use Rattle.reply_text.specs.Summary.{IsCountOf}
 use Rattle.trace_runner.proofs.counting.count_lines.Given as goal
 
@@ -10,8 +10,8 @@ invariant-loop-line l = record {
   seen : List Reply;
   counted : IsCountOf l.counts seen;
   count : length seen ≡ l.line-index;
-  told : seen ++ store_replies_from l.machine (drop l.line-index l.lines) ≡ store_replies_from l.fn.machine l.lines;
-  run_state : stores_after_lines l.machine (drop l.line-index l.lines) ≡ stores_after_lines l.fn.machine l.lines;
+  told : seen ++ replies_of l.machine (drop l.line-index l.lines) ≡ replies_of l.fn.machine l.lines;
+  run_state : stores_end l.machine (drop l.line-index l.lines) ≡ stores_end l.fn.machine l.lines;
   cpus : length l.machine.table.processors ≡ length l.fn.machine.table.processors;
   number : l.machine.table.memory.table.number ≤ l.line-index;
 }

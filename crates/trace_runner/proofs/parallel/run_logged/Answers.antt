@@ -1,6 +1,6 @@
 use Rattle.std.proofs.Common.{◌≡◌, ◌∙◌, ap, length, arith}
 use Rattle.trace_read.specs.Trace.{AcceptedTrace}
-use Rattle.run_model.specs.SerialRun.{AllStores}
+use Rattle.run_model.specs.AllStores.{AllStores}
 use Rattle.run_model.proofs.SerialGood.{opening_processors}
 use Rattle.trace_runner.proofs.ParallelAssured.{ok_output}
 use Rattle.trace_runner.proofs.parallel.run_logged.Goals as goal

@@ -49,7 +49,7 @@ loop-i-preserved g c =
             number = omega (arith, q.number, section_number c.loop-i.machine q.next _ _ e.sectioned, i.number);
             replies = (i.replies ++ e.news) ++ q.reply ∷ [];
             put = put_more g.L.RunLog.has c.args.lines.now c.loop-i.start c.loop-i.i d i.replies e.news q.reply c.loop-i.output q.between w.section_to_quiet.new.output i.low c.loop-i-test.true i.put e.grown q.put;
-            done = done_more c.args.opened c.loop-i.machine q.next w.in_ok-machine.machine c.args.lines.now c.loop-i.start c.loop-i.i d i.replies e.news q.reply i.low c.loop-i-test.true i.done i.none_quiet e.sectioned (sym c.is_quiet.ensures ∙ w.if-is_quiet.true) q.ran q.processors;
+            done = done_more c.args.opened c.loop-i.machine q.next w.in_ok-machine.machine c.args.lines.now c.loop-i.start c.loop-i.i d i.replies e.news q.reply i.low c.loop-i-test.true i.done i.none_quiet e.sectioned (sym c.is_quiet.ensures ∙ w.if-is_quiet.true) q.ran;
           })
       | else-is_quiet w ↦
           rw (w.machine-is, w.output-is, w.start-is) (record {

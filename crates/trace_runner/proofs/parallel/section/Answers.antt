@@ -1,5 +1,5 @@
 use Rattle.std.proofs.Common.{◌∙◌, ap, length, arith}
-use Rattle.run_model.specs.SerialRun.{AllStores}
+use Rattle.run_model.specs.AllStores.{AllStores}
 use Rattle.trace_runner.proofs.StoresRan.{stores_count, section_keeps, section_ran}
 use Rattle.trace_runner.proofs.parallel.section.Goals as goal
 

@@ -1,5 +1,5 @@
 use Rattle.std.proofs.Common.{◌≡◌, map, take}
-use Rattle.trace_runner.specs.Windows.{opened}
+use Rattle.run_model.specs.AllStores.{opened}
 use Rattle.trace_runner.proofs.windows.open_windows.Given as goal
 
 -- Those so far are opened.

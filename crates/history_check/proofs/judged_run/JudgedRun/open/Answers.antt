@@ -1,9 +1,8 @@
 use Rattle.std.proofs.Common.{ap, ◌∙◌, map, replicate, sym, subst}
 use Rattle.bus_window.specs.Windows.{BusWindow}
 use Rattle.tlb_model.specs.Processor.{new_processor}
-use Rattle.run_model.specs.RunState.{opening_run}
-use Rattle.run_model.specs.SerialRun.{WindowState}
-use Rattle.run_model.specs.Windows.{opening_window}
+use Rattle.run_model.specs.Stores.{page_table, opening_window}
+use Rattle.run_model.specs.AllStores.{WindowState}
 use Rattle.partition.specs.PartitionState.{opening_partition}
 use Rattle.trace_read.specs.Configuration.{NumbersDiffer}
 use Rattle.history_check.specs.JudgedRun.{run_state_of}
@@ -17,7 +16,7 @@ pub invariant_of-result : goal.invariant_of-result
 invariant_of-result c = (c.in_ok-partition.ensures.has_states, subst NumbersDiffer (sym (opened_windows c.as_slice.result.now c.in_ok-windows.windows.items c.in_ok-windows.ensures)) (subst NumbersDiffer (sym c.as_slice.ensures.items) c.as_slice.ensures.windows.differ))
 
 pub returns : goal.returns
-unfolding opening_run opening_partition
+unfolding page_table opening_partition
 returns c =
     let processors = c.in_ok-processors.ensures ∙ ap (λ n. replicate n new_processor) (ap (λ config. config.cpus) c.config.view_is) in
     let windows = c.in_ok-windows.ensures ∙ ap (map at_first) (c.as_slice.ensures.items ∙ ap (λ config. config.windows) c.config.view_is) in

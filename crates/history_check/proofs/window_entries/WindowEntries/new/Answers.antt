@@ -1,6 +1,6 @@
 use Rattle.std.proofs.Common.{◌≡◌, ◌∙◌, ap, replicate}
 use Rattle.entry_model.specs.State.{State}
-use Rattle.run_model.specs.Windows.{opening_window}
+use Rattle.run_model.specs.Stores.{opening_window}
 use Rattle.history_check.proofs.window_entries.WindowEntries.new.Goals as goal
 
 pub returns : goal.returns

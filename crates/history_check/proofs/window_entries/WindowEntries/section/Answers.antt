@@ -2,8 +2,8 @@ use Rattle.std.proofs.Common.{◌≡◌, ◌≤◌, ◌<◌, ◌∙◌, false, a
 use Rattle.std.specs.List.{list_any}
 use Rattle.trace_line.specs.Lines.{is_quiet}
 use Rattle.trace_line.specs.declared.line.TraceLine.{TraceLine}
-use Rattle.run_model.specs.SerialRun.{WindowState}
-use Rattle.run_model.specs.Windows.{is_on_window}
+use Rattle.run_model.specs.AllStores.{WindowState}
+use Rattle.run_model.specs.Stores.{is_on_window}
 use Rattle.history_check.specs.FoundSection.{ArePlain, AreOnProcessors}
 use Rattle.history_check.specs.PartedText.{marked_lines, marked_text}
 use Rattle.history_check.proofs.PartedTexts.{marked_is}

@@ -1,7 +1,7 @@
 use Rattle.std.proofs.Common.{ap, ◌∙◌}
 use Rattle.hpt_resize.specs.Resize.{table_of}
 use Rattle.hpt_resize.specs.TableMemory.{commit_result}
-use Rattle.run_model.specs.RunState.{after_commit}
+use Rattle.run_model.specs.QuietLines.{after_commit}
 use Rattle.lpar_set.specs.SetRun.{MemberState, with_pool}
 use Rattle.lpar_set.proofs.MemberSteps.{committed, still_hold}
 use Rattle.lpar_set.proofs.member.Member.commit.Goals as goal

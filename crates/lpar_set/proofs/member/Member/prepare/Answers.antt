@@ -1,7 +1,7 @@
 use Rattle.std.proofs.Common.{ap, ◌∙◌}
 use Rattle.hpt_resize.specs.Resize.{table_of}
 use Rattle.hpt_resize.specs.TableMemory.{prepare_result}
-use Rattle.run_model.specs.RunState.{after_prepare}
+use Rattle.run_model.specs.QuietLines.{after_prepare}
 use Rattle.lpar_set.specs.SetRun.{MemberState, with_pool}
 use Rattle.lpar_set.proofs.MemberSteps.{prepared}
 use Rattle.lpar_set.proofs.member.Member.prepare.Goals as goal

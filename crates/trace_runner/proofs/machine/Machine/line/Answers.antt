@@ -1,17 +1,13 @@
 use Rattle.std.proofs.Common.{◌≡◌, ◌∙◌, ap, sym, List, None}
 use Rattle.trace_reply.specs.Places.{reply_in}
-use Rattle.run_model.specs.SerialRun.{WindowState, AllStores}
+use Rattle.run_model.specs.AllStores.{WindowState, AllStores}
 use Rattle.trace_runner.specs.Windows.{place_from}
-use Rattle.trace_runner.proofs.WindowPlaces.{quiet_steps, steps_on_table, steps_on_window}
+use Rattle.trace_runner.proofs.WindowPlaces.{quiet_steps, steps_on_table}
 use Rattle.trace_runner.proofs.machine.Machine.line.Goals as goal
 
 pub returns-then-is_quiet-clause-reply : goal.returns-then-is_quiet-clause-reply
 returns-then-is_quiet-clause-reply c =
-    quiet_steps c.quiet.result c.args.self.now c.quiet.new.self c.args.line.now (reply_in c.quiet.new.place) (sym c.is_quiet.ensures ∙ c.if-is_quiet.true) c.quiet.ensures.reply c.quiet.ensures.windows
-
-pub returns-in-Some-clause-reply : goal.returns-in-Some-clause-reply
-returns-in-Some-clause-reply c =
-    steps_on_window c.args.self.now c.run_on_window.new.self c.args.line.now (reply_in c.run_on_window.new.place) c.run_on_window.ensures.reply c.run_on_window.ensures.table
+    quiet_steps c.quiet.result c.args.self.now c.quiet.new.self c.args.line.now (reply_in c.quiet.new.place) c.quiet.ensures.named (sym c.is_quiet.ensures ∙ c.if-is_quiet.true) c.quiet.ensures.reply c.quiet.ensures.windows
 
 pub returns-in-None-clause-reply : goal.returns-in-None-clause-reply
 returns-in-None-clause-reply c =
@@ -20,4 +16,4 @@ returns-in-None-clause-reply c =
     ∙ ap (λ (vs : List WindowState). place_from 0 vs c.args.line.now.act) (sym c.as_slice.ensures.value)
     ∙ sym c.place_of.ensures
     ∙ c.in-None.is in
-    steps_on_table c.args.self.now c.run.new.self c.args.line.now (reply_in c.run.new.place) none c.run.ensures.reply c.run.ensures.windows
+    steps_on_table c.args.self.now c.run.new.self c.args.line.now (reply_in c.run.new.place) (sym (ap (λ (s : AllStores). s.table.window) c.self.view_is)) none c.run.ensures.reply c.run.ensures.windows

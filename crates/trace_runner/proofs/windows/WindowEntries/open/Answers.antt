@@ -1,7 +1,7 @@
 use Rattle.std.proofs.Common.{◌≡◌, ◌∙◌, ap, replicate}
 use Rattle.hpte_fields.specs.TableSize.{entry_count}
 use Rattle.entry_model.specs.State.{State, empty_state}
-use Rattle.run_model.specs.Windows.{opening_window}
+use Rattle.run_model.specs.Stores.{opening_window}
 use Rattle.trace_runner.proofs.windows.WindowEntries.open.Goals as goal
 
 pub returns : goal.returns

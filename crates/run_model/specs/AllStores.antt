@@ -1,0 +1,32 @@
+-- The stores of a run as a machine carries them: of a window which it is, and what its entries hold.
+use Rattle.std.specs.Prelude.{List, ◌∷◌, map, length}
+use Rattle.bus_window.specs.Windows.{BusWindow}
+use Rattle.entry_model.specs.State.{State}
+use Rattle.trace_read.specs.Configuration.{Configuration}
+use Rattle.run_model.specs.Stores.{Store, page_table, opening_window, window_store}
+
+-- A window, and the states of its entries.
+pub record WindowState : Type 0 where
+  pub window : BusWindow
+  pub states : List State
+
+-- All that is carried from line to line: the page table with its processors, and the windows.
+pub record AllStores : Type 0 where
+  pub table : Store
+  pub windows : List WindowState
+
+-- The window as a store beside the page table: where the same memory is granted, and there are as many processors.
+abbrev pub as_store : Store → WindowState → Store
+as_store table v = window_store table.grants (length table.processors) v.states v.window
+
+-- The page table, and each window.
+abbrev pub all_stores : AllStores → List Store
+all_stores s = s.table ∷ map (as_store s.table) s.windows
+
+-- A window before the first line.
+abbrev pub opened : BusWindow → WindowState
+opened w = record { window = w; states = opening_window }
+
+-- At first all entries of the windows are empty.
+abbrev pub opening_all : Configuration → AllStores
+opening_all c = record { table = page_table c; windows = map opened c.windows }

@@ -39,7 +39,7 @@ HELP = {
     "lines": "only lines A to B of the trace; either may be left out",
     "page": "only receipts of entries of this page, its index in the segment; needs libpapr.so.0",
     "decode": "say what the entries map, by libpapr.so.0",
-    "trace": "the trace of the replies: it tells what was entered, and orders",
+    "trace": "the trace of the replies: it has what was entered, and orders",
     "order": "the order of the first table",
 }
 

@@ -1,6 +1,6 @@
 """Refused lines in words: the rule that a line breaks, the form that it should have, and a hint.
 
-Rules and forms are those of FORMATS.md. Where a rule has several parts, the one that applies is told.
+Rules and forms are those of FORMATS.md. Of a rule with several parts, the one that applies is shown.
 """
 
 import re
@@ -292,7 +292,7 @@ def hint_of_ascii(_formats: str, refused: Refused) -> Optional[str]:
 def hint_of_count(_formats: str, refused: Refused) -> Optional[str]:
     """That remarks have lines of their own."""
     has_mark = any(word.startswith("#") for word in refused.line.split())
-    return "a remark has a line of its own; behind other words `#` begins none" if has_mark else None
+    return "a remark has a line of its own; after other words `#` doesn't begin one" if has_mark else None
 
 
 def hint_of_number(_formats: str, refused: Refused) -> Optional[str]:

@@ -40,7 +40,7 @@ make a trace
   cut          a long trace into parts
 
 look at a run
-  why          why is a trace refused, and what is expected in its place
+  why          why is a trace refused, and what is expected instead
   bad-line     find the first line whose reply is wrong
   decode       doublewords, entries, receipts and replies in words
   receipts     as a table: CSV, JSON, SQLite

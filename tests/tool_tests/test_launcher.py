@@ -37,7 +37,8 @@ printf 'ran %s\\n%s' "$*" "${input%.}" 2>/dev/null || exit 4
 FOR_HELP = "papr: for help: papr --help, or man papr\n"
 REFUSED = (
     "  line: ends 2\n"
-    "  rule: the first word begins with no digit, and is no first word of a configuration line and not `dump`\n"
+    "  rule: the first word doesn't begin with a digit, and is neither the first word of a configuration line "
+    "nor `dump`\n"
 )
 USAGE = "papr: usage\n"
 COMMANDS: dict[str, list[str]] = {"run": [], "par": [], "check": [], "set": [], "image": ["old"]}
@@ -459,7 +460,7 @@ class Program(LauncherTest):
         trace = EXAMPLES / "refused.trace"
         told = (
             f"papr: {trace}: line 5: number\n  line: 0 H_ENTER 0x0 0x20 0x1001 0x\n"
-            "  rule: a word where a number is due isn't one\n  form: C H_ENTER flags ptex pteh ptel\n"
+            "  rule: a word isn't a number where a number is required\n  form: C H_ENTER flags ptex pteh ptel\n"
             "  hint: the word is `0x`\n"
         )
         for words in (["run"], ["par"], ["image", "new"]):

@@ -131,7 +131,7 @@ class Explanations(InstalledTest):
         self.assertEqual(ran.out.splitlines()[-1], hint)
 
     def test_a_remark_behind_a_line(self) -> None:
-        hint = "a remark has a line of its own; behind other words `#` begins none"
+        hint = "a remark has a line of its own; after other words `#` doesn't begin one"
         self.assert_told(2, "count", "C slbclear", "begin", "0 slbclear # all", hint=hint)
 
     def test_a_trace_that_is_too_long(self) -> None:

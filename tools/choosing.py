@@ -120,6 +120,8 @@ class Choice:
                 if receipts or not self.is_by_entry:
                     chosen.append(Chosen(reply, receipts, [it.entry for it in shown]))
         if self.page is not None and not chosen:
-            orders = "" if self.known.order(0) else "; --order or --trace tell the order, without which no page is known"
-            raise Bad(f"no receipt of page {self.page[0]:#x}:{self.page[1]:#x}{orders}")
+            message = f"no receipt of page {self.page[0]:#x}:{self.page[1]:#x}"
+            if self.known.order(0) is None:
+                message += "; no page is known without an order, which --order or --trace tells"
+            raise Bad(message)
         return chosen

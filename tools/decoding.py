@@ -80,7 +80,7 @@ class Page:
         page = "" if self.page is None else f" page {self.page:#x}"
         size = size_of(self.actual_shift)
         size = size if self.base_shift == self.actual_shift else f"{size_of(self.base_shift)} in {size}"
-        flags = "".join(f", {word}" for word, is_so in (("N", self.no_execute), ("bolted", self.bolted)) if is_so)
+        flags = (", N" if self.no_execute else "") + (", bolted" if self.bolted else "")
         return (
             f"VSID {self.vsid:#x}{page}, {size} at {self.real:#x}, {'/'.join(self.rights)}, "
             f"{self.attributes}, key {self.key}{flags}"
@@ -89,7 +89,8 @@ class Page:
 
 def size_of(shift: int) -> str:
     """A size in words, by its binary logarithm."""
-    return next((f"{1 << shift - unit} {name}" for unit, name in UNITS if shift >= unit), f"{1 << shift} bytes")
+    found = next(((unit, name) for unit, name in UNITS if shift >= unit), (0, "bytes"))
+    return f"{1 << shift - found[0]} {found[1]}"
 
 
 def places() -> Iterator[Path]:
@@ -187,6 +188,7 @@ class Decoder:
         group = "secondary" if page.secondary else "primary"
         segment = "1 TB (B 1)" if page.one_tb else "256 MB (B 0)"
         can = {"r": "read", "w": "write", "rw": "read and write", "-": "nothing"}
+        first, second = (can[rights] for rights in page.rights)
         if page.page is None:
             least, greatest = self.pages(words)
             span = f"{least:#x}"
@@ -204,7 +206,7 @@ class Decoder:
             f"page         {span}",
             f"size         {sizes}",
             f"real page    {page.real:#x}",
-            f"protection   {page.protection}: {can[page.rights[0]]} with a Ks or Kp of 0, {can[page.rights[1]]} with 1",
+            f"protection   {page.protection}: {first} with a Ks or Kp of 0, {second} with 1",
             f"execute      {'no' if page.no_execute else 'yes'}",
             f"key          {page.key}",
             f"WIMG         {page.attributes}",

@@ -1,13 +1,13 @@
 # shellcheck shell=bash
 # The command papr in all its uses: the script papr begins it, and serves just the plainest use alone.
 #
-#   launcher.bash TOP TOOLS PROGRAM WORD..
-#   launcher.bash TOP TOOLS PROGRAM --ended STATUS SKIP COMMAND
+#   launcher.bash TOP TOOLS PROGRAM command WORD..
+#   launcher.bash TOP TOOLS PROGRAM ended STATUS SKIP COMMAND
 #
 # The second says how the plain use ended that gave this status; it read standard input from byte SKIP on.
 set -u
-top=$1 tools=$2 program=$3
-shift 3
+top=$1 tools=$2 program=$3 use=$4
+shift 4
 manual='man papr'
 if [ -f "$tools/build" ]; then
     manual="man $top/man/papr.1"
@@ -116,10 +116,16 @@ will_remove() {
     trap remove_made EXIT
 }
 
-# make_temporary: a file for input that can't be read twice, in `again`.
+# make_temporary: a file of one's own for input that can't be read twice, in `again`.
 make_temporary() {
-    again=$(mktemp "${TMPDIR:-/tmp}/papr.XXXXXXXX" 2>/dev/null) || return
-    will_remove "$again"
+    again=${TMPDIR:-/tmp}/papr.$$.$RANDOM$RANDOM
+    # (A new one, or none: `set -C`.)
+    if (umask 077 && set -C && : >"$again") 2>/dev/null; then
+        will_remove "$again"
+    else
+        again=''
+        return 1
+    fi
 }
 
 # must_be_readable FILE: ends where it can't be read.
@@ -144,6 +150,11 @@ expander() {
         *.zst) expands=zstd ;;
         *) expands= ;;
     esac
+}
+
+no_room() {
+    say "$name: no temporary file can be made in ${TMPDIR:-/tmp}"
+    exit 3
 }
 
 # contents FILE: writes what a file has, expanded, as far as the program reads, and tells whether that went well.
@@ -182,9 +193,11 @@ open_input() {
     done
     expander "$name"
     if [ $# -eq 2 ]; then
-        make_temporary && joined "$@" || exit 3
+        make_temporary || no_room
+        joined "$@" || exit 3
     elif [ -n "$expands" ]; then
-        make_temporary && contents "$1" >"$again" || exit 3
+        make_temporary || no_room
+        contents "$1" >"$again" || exit 3
     elif [ "$name" = - ]; then
         name='standard input'
         can_reread
@@ -242,9 +255,15 @@ open_output() {
 # run_program WORD..: runs the program, and gives its status. On a terminal it is told, from the first second on,
 # how far it is.
 run_program() {
+    local to shown status
     if [ -t 1 ] && [ -t 2 ]; then
-        (echo "$BASHPID" && exec "$program" "$@") | telling show
-        return "${PIPESTATUS[0]}"
+        exec {to}> >(telling show)
+        shown=$!
+        as_child "$program" "$@" >&"$to"
+        status=$?
+        exec {to}>&-
+        wait "$shown"
+        return "$status"
     fi
     as_child "$program" "$@"
 }
@@ -357,6 +376,11 @@ run_tool() {
 }
 
 ended_by='' part='' place=''
+if [ "$use" = ended ]; then
+    name='standard input' again=/dev/fd/0 skip=$2
+    telling tell "$1" "$3"
+    exit "$1"
+fi
 [ $# -gt 0 ] || telling wrong 'no command is named'
 case $1 in
     run | par | check | set | image | drill)
@@ -365,11 +389,6 @@ case $1 in
     -h | --help) telling help ;;
     help) telling help "${@:2}" ;;
     --version) telling version ;;
-    --ended)
-        name='standard input' again=/dev/fd/0 skip=$3
-        telling tell "$2" "$4"
-        exit "$2"
-        ;;
     --program)
         have_program
         [[ $program = /* ]] || program=$PWD/$program

@@ -194,7 +194,8 @@ def rule_of_entry(formats: str, refused: Refused) -> Optional[str]:
     rules = rules_of_entries(formats)
     layout, index, digits = (refused.own_words + ["", "", "", ""])[1:4]
     order = next((number_in(words, 1) for _number, words in refused.before() if words[:1] == ["order"]), 18)
-    value, before = number_in(["", index], 1), [words for _n, words in refused.before() if words[:1] == ["entry"]]
+    value = number_in(["", index], 1)
+    before = [words for _number, words in refused.before() if words[:1] == ["entry"]]
     if value is None or order is None or len(rules) != 7:
         return None
     if layout not in ("old", "new"):
@@ -247,7 +248,8 @@ def beginnings(forms: dict[str, str]) -> str:
     """The words that a line can begin with."""
     run_words = [word for word, form in forms.items() if form.startswith("C ")]
     others = [word for word in forms if word not in run_words]
-    return f"a line begins with {', '.join(others)}, or with a processor's number and then {', '.join(run_words)}"
+    behind_number = f"with a processor's number and then {', '.join(run_words)}"
+    return f"a line begins with {', '.join(others)}, or {behind_number}"
 
 
 def order_of_lines(formats: str) -> str:
@@ -298,7 +300,8 @@ def hint_of_count(_formats: str, refused: Refused) -> Optional[str]:
 def hint_of_number(_formats: str, refused: Refused) -> Optional[str]:
     """Which word it is, where just one can be meant."""
     behind = refused.own_words[2 if refused.own_words[0][0].isdigit() else 1 :]
-    wrong = [word for word in behind if number_in([word], 0) is None and word not in ("priv", "user", "old", "new")]
+    others = ("priv", "user", "old", "new")
+    wrong = [word for word in behind if number_in([word], 0) is None and word not in others]
     return f"the word is `{wrong[0]}`" if wrong else None
 
 
@@ -348,7 +351,7 @@ def explained(refused: Refused) -> list[str]:
     hint = HINTS[refused.reason](formats, refused) if refused.reason in HINTS else None
     if refused.reason == "place":
         told.append(f"  order: {order_of_lines(formats)}")
-    elif refused.has_line and refused.reason not in ("lines", "ascii") and not (refused.reason == "word" and hint):
+    elif refused.has_line and refused.reason not in ("lines", "ascii") and (refused.reason != "word" or not hint):
         told.append(f"  form: {form_of(formats, refused)}")
     if hint:
         told.append(f"  hint: {hint}")

@@ -180,32 +180,29 @@ no_command() {
 
 # ---- a run that takes long
 
-# show: hands on what the program writes, behind a line that has its process.
+# show: hands on what the program writes, and says how far it is as long as nothing comes.
 show() {
-    local process first='' is_told=''
-    read -r process
+    local first='' is_told=''
     until IFS= read -r -N 1 -t 1 first; do
         # (A wait that is over has such a status, an end of the program without a word hasn't.)
         [ $? -gt 128 ] || break
         is_told=yes
-        printf '\r\033[Kpapr: %s' "$(progress "$process")" >&2
+        printf '\r\033[Kpapr: %s' "$(progress)" >&2
     done
     [ -z "$is_told" ] || printf '\r\033[K' >&2
     printf '%s' "$first"
     cat
 }
 
-# progress PROCESS: how many bytes the program has read, and for how long it runs.
+# progress: how many bytes the program has read, and for how long it runs. The input's place is that of this process.
 progress() {
-    local file=/proc/$1/fdinfo/0 field=pos: key value bytes=0 size=
+    local bytes=0 size=
     if [ -n "$is_copied" ]; then
-        file=/proc/$1/io field=rchar:
+        bytes=$(wc -c <"$again")
     elif [ -f "$again" ]; then
         size=$(wc -c <"$again")
+        { read -r -u 3 _ bytes 3<"/proc/$$/fdinfo/0"; } 2>/dev/null
     fi
-    { while read -r key value; do
-        [ "$key" != "$field" ] || bytes=$value
-    done <"$file"; } 2>/dev/null
     if [ -n "$size" ] && [ "$bytes" -ge "$size" ]; then
         echo "$(megabytes "$bytes") read, running, $SECONDS s"
     else

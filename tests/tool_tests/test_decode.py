@@ -1,4 +1,4 @@
-"""Tests of the tool that explains entries: by a stand-in for the library, and by the library where it is built."""
+"""Tests of the tool that explains entries: by a stand-in for the library, and by that where it is built."""
 
 import tempfile
 from pathlib import Path
@@ -11,8 +11,8 @@ DECODE = TOOLS / "decode"
 BUILT = TOP / "out" / "lib" / "libpapr.so.0"
 SHARING = EXAMPLES / "sharing.replies"
 
-# By hand: the tag 0x20 is VSID 1 and the first 8 MB of the segment; entry 0x27 is in group 4, which is the hash of
-# VSID 1 and page 5.
+# By hand: the tag 0x20 is VSID 1 and the first 8 MB of the segment; entry 0x27 is in group 4, which is the hash
+# of VSID 1 and page 5.
 ENTERED = """\
 doublewords  0x1001 0x3012
 entry        0x27: group 0x4, slot 7
@@ -87,9 +87,10 @@ class Words(DecodeTest):
         self.assertIn("doublewords  0x4000000000001001 0x3012\n", ran.out)
 
     def test_words_that_translate_nothing(self) -> None:
+        no_segment = "none: B is above 1, or no page of that size lies where the tag says"
         told = {
             "0x1000 0x3012": "none: V is clear: the entry is empty",
-            "0x8000000000001001 0x3012": "none: B is above 1, or no page of that size lies where the tag says",
+            "0x8000000000001001 0x3012": no_segment,
             "0x1001 0x3012 --index 0x4000": "none: the table has no such index",
             "0x1005 0x11012 --index 0x400": "none: no page whose group this is has this entry",
         }
@@ -160,7 +161,8 @@ class Texts(DecodeTest):
         self.assert_ran(self.decode("-", given=dump), f"{dump}{page}")
 
     def test_entries_of_a_trace_and_of_an_image(self) -> None:
-        line, page = "0x27 00000000000010010000000000003012\n", "    VSID 0x1 page 0x5, 4 KB at 0x3000, rw/rw, M, key 0\n"
+        line = "0x27 00000000000010010000000000003012\n"
+        page = "    VSID 0x1 page 0x5, 4 KB at 0x3000, rw/rw, M, key 0\n"
         trace = f"order 18\nram 0x0 0x0 0x40000000\nentry old {line}begin\n"
         self.assert_ran(self.decode("-", given=trace), f"entry old {line}{page}")
         self.assert_ran(self.decode("-", given=f"image old order 18 entries 1\n{line}"), f"{line}{page}")
@@ -177,7 +179,8 @@ class Filters(DecodeTest):
     def run_tool(self, tool: str, *words: Word) -> Ran:
         """Runs one of them, with the trace of the replies."""
         variables = {"PAPR_SHARED_LIBRARY": str(self.library)}
-        return run(TOOLS / tool, *words, "--trace", EXAMPLES / "sharing.trace", SHARING, environment=variables)
+        files = ("--trace", EXAMPLES / "sharing.trace", SHARING)
+        return run(TOOLS / tool, *words, *files, environment=variables)
 
     def test_receipts_with_what_their_entries_map(self) -> None:
         ran = self.run_tool("receipts", "--csv", "--decode")
@@ -199,7 +202,8 @@ class Filters(DecodeTest):
         ran = self.run_tool("entry-history", "0x20", "--decode")
         self.assert_ran(ran, out=None)
         page = "VSID 0x1 page 0x5, 4 KB at 0x3000, rw/-, M, key 0, bolted"
-        self.assertIn(f"<title>line 9, processor 0: H_ENTER entered; before: stamp 0, R 0, C 0; {page}</title>", ran.out)
+        receipt = "line 9, processor 0: H_ENTER entered; before: stamp 0, R 0, C 0"
+        self.assertIn(f"<title>{receipt}; {page}</title>", ran.out)
 
     def test_a_picture_says_what_the_busiest_groups_map(self) -> None:
         ran = self.run_tool("run-picture", "--decode")

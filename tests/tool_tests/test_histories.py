@@ -82,7 +82,8 @@ class Pictures(PictureTest):
         """Where one is drawn."""
         words = "the replies don't tell"
         self.assertIn(words, self.texts(self.draw("0x20", given=replies_of(SHARING))))
-        self.assertNotIn(words, self.texts(self.draw("0x20", given="1 0 H_REMOVE 0 0x1 0x0 | 0x20.0.0.removed\n")))
+        known = self.draw("0x20", given="1 0 H_REMOVE 0 0x1 0x0 | 0x20.0.0.removed\n")
+        self.assertNotIn(words, self.texts(known))
 
 
 class Words(PictureTest):

@@ -77,8 +77,8 @@ class Completions(ToolTest):
 
     def test_bash_completes_files(self) -> None:
         (self.folder / "a trace").touch()
-        for words in (["run", "a"], ["check", "x", "a"], ["image", "old", "a"], ["run", "-o", "a"], ["why", "a"]):
-            self.assertEqual(self.by_bash("papr", *words), ["a", "trace"])
+        for words in ("run a", "check x a", "image old a", "run -o a", "why a"):
+            self.assertEqual(self.by_bash("papr", *words.split()), ["a", "trace"])
         self.assertEqual(self.by_bash("papr", "drill", "a"), [])
 
     def test_bash_completes_a_tools_options(self) -> None:
@@ -90,7 +90,8 @@ class Completions(ToolTest):
         tools = [command.removeprefix("papr-") for command in COMMANDS]
         self.assertCountEqual(self.by_bash("papr", ""), [*WORDS, *tools, "help", "--help", "--version"])
         self.assertCountEqual(re.findall(r"(?m)^ +'([a-z-]+)\[", text_of(ZSH)), [*WORDS, *tools, "help"])
-        self.assertCountEqual(re.findall(r"is_first_token -a ([a-z-]+) ", text_of(FISH)), [*WORDS, *tools, "help"])
+        first = re.findall(r"is_first_token -a ([a-z-]+) ", text_of(FISH))
+        self.assertCountEqual(first, [*WORDS, *tools, "help"])
         synopsis = text_of(page("papr")).partition(".Sh DESCRIPTION")[0]
         self.assertEqual(re.findall(r"(?m)^\.Cm ([a-z]+)$", synopsis), [*WORDS, "help"])
         mentioned = text_of(page("papr"))
@@ -103,7 +104,8 @@ class Completions(ToolTest):
         ran = run(TOP / "papr", tool, "--help")
         self.assert_ran(ran, out=None)
         helped = set(re.findall(r"--([a-z][a-z-]+)", ran.out)) - {"help"}
-        for words in (f"complete -c {command} ", f"complete -c papr -n '__fish_seen_subcommand_from {tool}' "):
+        behind = f"complete -c papr -n '__fish_seen_subcommand_from {tool}' "
+        for words in (f"complete -c {command} ", behind):
             lines = [line for line in text_of(FISH).splitlines() if line.startswith(words)]
             self.assertEqual({word for line in lines for word in re.findall(r" -l ([a-z-]+)", line)}, helped)
 

@@ -108,7 +108,8 @@ class Tables(ToolTest):
             ran = run(RECEIPTS, "--csv", "--lines", words, "--entry", "0x20", SHARING)
             self.assert_ran(ran, out=None)
             rows = list(csv.DictReader(ran.out.splitlines()))
-            wanted = [row for row in every if lines[0] <= int(row["line"]) <= lines[1] and row["entry"] == "32"]
+            within = range(lines[0], lines[1] + 1)
+            wanted = [row for row in every if int(row["line"]) in within and row["entry"] == "32"]
             self.assertTrue(rows)
             self.assertEqual(rows, wanted)
 
@@ -122,7 +123,8 @@ class Tables(ToolTest):
         for _turn in range(2):
             self.assert_ran(run(RECEIPTS, "--sqlite", base, SHARING))
         with closing(sqlite3.connect(base)) as opened:
-            types = opened.execute("select distinct typeof(stamp), typeof(pteg), typeof(answer) from receipts")
+            asked = "select distinct typeof(stamp), typeof(pteg), typeof(answer) from receipts"
+            types = opened.execute(asked)
             self.assertEqual(types.fetchall(), [("integer", "integer", "text")])
             names = [row[1] for row in opened.execute("pragma table_info(receipts)")]
             self.assertEqual(",".join(names), HEAD)
@@ -175,7 +177,8 @@ class Words(ToolTest):
     def test_a_form_has_to_be_named(self) -> None:
         message = "receipts: error: one of the arguments --csv --json --sqlite is required"
         self.assert_refused(run(RECEIPTS), message)
-        self.assert_refused(run(RECEIPTS, "--sqlite", "x", "--replies"), "receipts: error: --sqlite writes both tables")
+        both = run(RECEIPTS, "--sqlite", "x", "--replies")
+        self.assert_refused(both, "receipts: error: --sqlite writes both tables")
 
     @for_each("x", "..", "5..1", "1..2..3")
     def test_a_range_of_lines_that_is_none(self, lines: str) -> None:

@@ -33,7 +33,8 @@ class Pictures(PictureTest):
     def test_lines_and_an_entry_are_chosen(self) -> None:
         ran = run(DRAW, "--lines", "10..26", "--entry", "0x20", EXAMPLES / "sharing.replies")
         self.assert_ran(ran, out=None)
-        chosen = [it for it in written(replies_of(EXAMPLES / "sharing.replies")) if it.entry == 0x20 and 10 <= it.line <= 26]
+        receipts = written(replies_of(EXAMPLES / "sharing.replies"))
+        chosen = [it for it in receipts if it.entry == 0x20 and 10 <= it.line <= 26]
         lines = len({it.line for it in chosen})
         self.assertEqual(self.texts(ran.out)[0], f"A run of papr: {lines} lines, {len(chosen)} receipts")
 

@@ -181,7 +181,8 @@ class Explanations(InstalledTest):
         self.assert_told(2, "count", "C H_PUT_TCE liobn ioba tce", "begin", "0 H_PUT_TCE 0x1 0x0")
 
     def test_a_devices_access_at_no_number(self) -> None:
-        self.assert_told(2, "number", "C dmaread liobn ioba", "begin", "0 dmaread 0x1 x", hint="the word is `x`")
+        form = "C dmaread liobn ioba"
+        self.assert_told(2, "number", form, "begin", "0 dmaread 0x1 x", hint="the word is `x`")
 
     def test_a_trace_that_is_accepted(self) -> None:
         ran = self.run_installed("papr-why", "-", given="begin\n")

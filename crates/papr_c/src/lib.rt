@@ -14,6 +14,7 @@ mod read;
 mod receipts;
 mod rehashing;
 mod reply;
+mod resizing;
 mod single;
 mod trying;
 mod walking;

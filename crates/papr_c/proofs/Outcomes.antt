@@ -1,15 +1,5 @@
 -- What a call leaves, by its reply and the receipts that it made.
-use Rattle.std.specs.Prelude.{flat_map}
-use Rattle.std.proofs.lemmas.Bool.{cases_Bool, lt-ltb, le-ltb}
-use Rattle.hpte_fields.specs.TableSize.{entry_count}
-use Rattle.frame_grants.specs.declared.grant.Grant.{Grant}
-use Rattle.page_grants.specs.Suited.{entered_words}
-use Rattle.entry_model.specs.declared.operation.Op.{Op}
-use Rattle.entry_model.specs.declared.operation.Op.TheVariants.{Read}
-use Rattle.h_update.specs.Single.{single_plan, told_by, h_read_plan, read_entries, both_words}
-use Rattle.h_enter.specs.Enter.{enter_plan}
-use Rattle.h_enter.specs.Checks.{h_enter_plan}
-use Rattle.std.proofs.Common.{◌≡◌, ℕ, ◌<◌, ◌≤◌, [], ◌∷◌, None, nat_lt, min, List, Bool, true, false, length, map, Option, Some, refl, ap, sym, arith, ◌∙◌, ◌⊎◌, inl, inr}
+use Rattle.std.proofs.Common.{◌≡◌, ℕ, min, List, Bool, true, length, map, Option, Some, refl, ap, sym, arith, ◌∙◌}
 use Rattle.entry_model.specs.State.{State}
 use Rattle.entry_model.specs.Run.{IsRun}
 use Rattle.entry_model.specs.Replies.{reply_with}
@@ -17,7 +7,7 @@ use Rattle.storage_prot.specs.declared.want.Want.{Want}
 use Rattle.power_addr.specs.Pages.{VirtualPage}
 use Rattle.entry_model.specs.Receipt.{is_no_match, found_of}
 use Rattle.entry_model.specs.Reply.{access_mode}
-use Rattle.entry_model.specs.Trial.{Plan, IsReplyOf, IsTrial, call, plan_of_code, plan_run, reply_by, trial_run}
+use Rattle.entry_model.specs.Trial.{Plan, IsReplyOf, IsTrial, plan_of_code, plan_run, reply_by, trial_run}
 use Rattle.entry_model.specs.declared.hreply.Registers.{Registers}
 use Rattle.entry_model.specs.declared.receipt.Receipt.{Receipt}
 use Rattle.entry_model.proofs.Plans.{plan_is}
@@ -27,13 +17,12 @@ use Rattle.papr_c.specs.declared.receipts.PaprReceipt.{PaprReceipt}
 use Rattle.papr_c.specs.declared.reply.PaprReply.{PaprReply}
 use Rattle.papr_codes.specs.ReturnCodes.{rc_code}
 use Rattle.papr_codes.specs.declared.codes.Rc.{Rc}
-use Rattle.papr_codes.specs.declared.codes.Rc.TheVariants.{Success, Parameter}
 use Rattle.papr_c.proofs.Filling.{filled-nil, placed_filled}
 use Rattle.papr_c.specs.Places.{filled, placed, shown_receipt}
 use Rattle.papr_c.specs.declared.walking.PaprAccess.{PaprAccess}
 use Rattle.papr_c.specs.declared.walking.PaprWalk.{PaprWalk}
 use Rattle.papr_c.specs.Lent.{is_table}
-use Rattle.papr_c.specs.Calls.{LentMemory, memory, refused_reply, reply_told, outcome_by, outcome_where}
+use Rattle.papr_c.specs.Calls.{LentMemory, memory, reply_told, outcome_by, outcome_where}
 use Rattle.papr_c.specs.Walks.{masks_of, WalkMemory, walk_memory, page_of, want_of, walk_end, walked_by, outcome_of_walk}
 
 -- What was handed over, and the entries that the receipts led to.
@@ -56,18 +45,6 @@ walk_is order a page want m rs found count told places lent now after fit at_pag
     let here : (told, walk_memory after places) ≡ walked_by a.ea m (rs, now) = rw (ended, is, counted, put, kept) refl in
     rw (fit, at_page, wants) (here ∙ ap (walked_by a.ea m) made)
 
--- A call that isn't made, and one that is answered by itself with H_PARAMETER, change nothing.
-pub refused_where : (fits : Bool) (plan : Plan) (m : LentMemory) → (fits ≡ false) ⊎ (plan ≡ plan_of_code Parameter) → (refused_reply, m) ≡ outcome_where fits plan m
-unfolding plan_run trial_run
-refused_where false plan m why = refl
-refused_where true plan m (inl e) = cc
-refused_where true plan m (inr is) = rw is (alone m) where
-  alone : (n : LentMemory) → (refused_reply, n) ≡ outcome_by n (plan_run (plan_of_code Parameter) n.entries)
-  alone n =
-      let no_words : min (length n.words) 0 ≡ 0 = omega arith in
-      let no_receipts : min (length n.receipts) 0 ≡ 0 = omega arith in
-      λ k. (record { rc = rc_code Parameter; words = sym no_words k; receipts = sym no_receipts k }, memory n.entries (sym (filled-nil n.words) k) (sym (filled-nil n.receipts) k))
-
 -- A call whose arguments fit leaves what its trial does on the entries that were lent.
 pub call_tried : (fits : Bool) (plan : Plan) (m : LentMemory) (x : List Receipt × List State) (rc : Rc) (ws : List ℕ) (reply : PaprReply) (words : List ℕ) (receipts : List PaprReceipt) (after : List State) → fits ≡ true → x ≡ trial_run plan.goes_on m.entries plan.calls → (rc, ws) ≡ plan.told x.0 → reply ≡ record { rc = rc_code rc; words = min (length m.words) (length ws); receipts = min (length m.receipts) (length x.0) } → words ≡ filled m.words ws → receipts ≡ placed m.receipts 0 (map shown_receipt x.0) → after ≡ x.1 → (reply, memory after words receipts) ≡ outcome_where fits plan m
 unfolding plan_run
@@ -77,29 +54,10 @@ call_tried fits plan m x rc ws reply words receipts after fit is told replied in
     let by : outcome_by m (record { rc = rc; words = ws; receipts = x.0 }, x.1) ≡ outcome_by m (reply_by plan x.0, x.1) = ap (λ (z : Rc × List ℕ). outcome_by m (record { rc = z.0; words = z.1; receipts = x.0 }, x.1)) told in
     rw fit (here ∙ by ∙ ap (λ (z : List Receipt × List State). outcome_by m (reply_by plan z.0, z.1)) is)
 
--- ---- plans of arguments that are in range
-pub single_inside : (order ptex : ℕ) (op : Op) (words : Receipt → List ℕ) → ptex < entry_count order → single_plan order ptex op words ≡ record { calls = call op ptex ∷ []; goes_on = λ answer. true; told = told_by words }
-single_inside order ptex op words inside = rw (lt-ltb ptex (entry_count order) inside) refl
-
-pub single_past : (order ptex : ℕ) (op : Op) (words : Receipt → List ℕ) → entry_count order ≤ ptex → single_plan order ptex op words ≡ plan_of_code Parameter
-single_past order ptex op words past = rw (le-ltb ptex (entry_count order) past) refl
-
-pub read_inside : (order flags ptex : ℕ) → ptex < entry_count order → h_read_plan order flags ptex ≡ record { calls = map (call Read) (read_entries flags ptex); goes_on = λ answer. true; told = λ rs. (Success, flat_map both_words rs) }
-unfolding h_read_plan
-read_inside order flags ptex inside = rw (lt-ltb ptex (entry_count order) inside) refl
-
-pub read_past : (order flags ptex : ℕ) → entry_count order ≤ ptex → h_read_plan order flags ptex ≡ plan_of_code Parameter
-unfolding h_read_plan
-read_past order flags ptex past = rw (le-ltb ptex (entry_count order) past) refl
-
-pub enter_inside : (order : ℕ) (grants : List Grant) (flags ptex pteh ptel dword0 dword1 : ℕ) → ptex < entry_count order → entered_words grants pteh ptel ≡ Some (dword0, dword1) → h_enter_plan order grants flags ptex pteh ptel ≡ enter_plan flags ptex dword0 dword1
-unfolding h_enter_plan
-enter_inside order grants flags ptex pteh ptel dword0 dword1 inside words = rw (lt-ltb ptex (entry_count order) inside, words) refl
-
-pub enter_past : (order : ℕ) (grants : List Grant) (flags ptex pteh ptel : ℕ) → (entry_count order ≤ ptex) ⊎ (entered_words grants pteh ptel ≡ None) → h_enter_plan order grants flags ptex pteh ptel ≡ plan_of_code Parameter
-unfolding h_enter_plan
-enter_past order grants flags ptex pteh ptel (inl past) = rw (le-ltb ptex (entry_count order) past) refl
-enter_past order grants flags ptex pteh ptel (inr none) = at (cases_Bool (nat_lt ptex (entry_count order))) where
-  at : (nat_lt ptex (entry_count order) ≡ true) ⊎ (nat_lt ptex (entry_count order) ≡ false) → h_enter_plan order grants flags ptex pteh ptel ≡ plan_of_code Parameter
-  at (inl inside) = rw (inside, none) refl
-  at (inr past) = rw past refl
+-- A call that is answered by itself changes nothing.
+pub coded : (fits : Bool) (rc : Rc) (m : LentMemory) → fits ≡ true → (record { rc = rc_code rc; words = 0; receipts = 0 }, m) ≡ outcome_where fits (plan_of_code rc) m
+unfolding plan_run trial_run
+coded fits rc m fit =
+    let no_words : min (length m.words) 0 ≡ 0 = omega arith in
+    let no_receipts : min (length m.receipts) 0 ≡ 0 = omega arith in
+    rw fit (λ k. (record { rc = rc_code rc; words = sym no_words k; receipts = sym no_receipts k }, memory m.entries (sym (filled-nil m.words) k) (sym (filled-nil m.receipts) k)))

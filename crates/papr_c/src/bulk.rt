@@ -2,11 +2,12 @@ ghost use Rattle.std.specs.Prelude.{◌≡◌};
 ghost use Rattle.h_update.specs.Bulk.{h_bulk_remove_plan};
 ghost use Rattle.papr_c.specs.Calls.{memory, outcome_of_bulk};
 
-use crate::lent::{LentTable, is_table};
-use crate::receipts::{PaprReceipt, put_receipts};
-use crate::reply::{PaprReply, hand_over};
-use entry_model::{EntryState, Receipts};
-use h_update::h_bulk_remove_into;
+use crate::lent::is_table;
+use crate::receipts::PaprReceipt;
+use crate::reply::PaprReply;
+use crate::running::run_lent;
+use call_plan::bulk_remove_plan;
+use entry_model::EntryState;
 
 /// H_BULK_REMOVE (LoPAR): takes four pairs of words, each a request to remove an entry and the word
 /// of its test. The words are all eight, with a response in place of each request that was taken
@@ -32,10 +33,11 @@ pub extern "C" fn papr_h_bulk_remove(
     let Some(pairs) = pairs.as_array() else {
         return PaprReply::refused();
     };
-    let mut made = Receipts::new();
-    let mut table = LentTable::lend(entries, order);
-    let registers = h_bulk_remove_into(&mut table, pairs, &mut made);
-    let _put = put_receipts(made.as_slice(), receipts);
-    let tried = made.as_slice().len() as u32;
-    hand_over(&registers, tried, words, receipts.len())
+    run_lent(
+        entries,
+        order,
+        &bulk_remove_plan(order, pairs),
+        words,
+        receipts,
+    )
 }

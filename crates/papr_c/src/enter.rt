@@ -6,12 +6,10 @@ ghost use Rattle.papr_c.specs.Grants.{listed};
 use crate::grants::PaprGrants;
 use crate::lent::is_table;
 use crate::receipts::PaprReceipt;
-use crate::reply::{PaprReply, hand_over};
-use crate::trying::try_lent;
-use entry_model::{EntryState, GoesOn, Op};
-use h_enter::{candidates, registers};
-use hpte_fields::entry_count;
-use page_grants::entered_words;
+use crate::reply::PaprReply;
+use crate::running::run_lent;
+use call_plan::enter_plan;
+use entry_model::EntryState;
 
 /// H_ENTER (LoPAR): puts the translation of a page into the table. `ptex` names the group, or under
 /// H_EXACT the entry, `pteh` and `ptel` are the two doublewords, and `grants` is a list that
@@ -37,15 +35,6 @@ pub extern "C" fn papr_h_enter(
     if !is_table(entries, order) {
         return PaprReply::refused();
     }
-    if ptex >= u64::from(entry_count(order)) {
-        return PaprReply::refused();
-    }
-    let Some((dword0, dword1)) = entered_words(grants, pteh, ptel) else {
-        return PaprReply::refused();
-    };
-    let (first, count) = candidates(flags, ptex as u32);
-    let op = Op::Enter { dword0, dword1 };
-    let tried = try_lent(entries, &op, first, count, GoesOn::WhileTaken, receipts, 0);
-    let told = registers(&tried.ending(GoesOn::WhileTaken));
-    hand_over(&told, tried.count, words, receipts.len())
+    let plan = enter_plan(order, grants, flags, ptex, pteh, ptel);
+    run_lent(entries, order, &plan, words, receipts)
 }

@@ -15,6 +15,7 @@ mod receipts;
 mod rehashing;
 mod reply;
 mod resizing;
+mod running;
 mod single;
 mod trying;
 mod walking;

@@ -7,15 +7,13 @@ ghost use Rattle.papr_c.specs.Tried.{words_of_entries};
 use crate::lent::is_table;
 use crate::receipts::PaprReceipt;
 use crate::reply::{PaprReply, filled_count, put_word};
-use crate::trying::try_lent;
-use entry_model::{EntryState, GoesOn, Op};
-use h_update::read_range;
-use hpte_fields::entry_count;
-use papr_codes::Rc;
+use crate::running::run_lent;
+use call_plan::read_plan;
+use entry_model::EntryState;
 
 /// Puts both doublewords of each of these entries into the caller's places, as far as these go, and
 /// gives how many it put.
-fn put_entries(entries: &[EntryState], first: u32, count: u32, places: &mut [u64]) -> u32
+pub fn put_entries(entries: &[EntryState], first: u32, count: u32, places: &mut [u64]) -> u32
     requires few { count ≤ 4 }
     requires in_table { first + count ≤ length entries.now }
     requires small { first + count < 2 ^ 32 }
@@ -47,20 +45,9 @@ pub extern "C" fn papr_h_read(
         (h_read_plan order flags ptex)
         (memory entries.old words.old receipts.old) }
 {
-    if !is_table(entries, order) || ptex >= u64::from(entry_count(order)) {
+    if !is_table(entries, order) {
         return PaprReply::refused();
     }
-    let (first, count) = read_range(flags, ptex as u32);
-    let tried = try_lent(
-        entries,
-        &Op::Read,
-        first,
-        count,
-        GoesOn::Always,
-        receipts,
-        0,
-    );
-    let shown = put_entries(entries, first, count, words);
-    let filled = filled_count(receipts.len(), tried.count);
-    PaprReply::told(Rc::Success, shown, filled)
+    let plan = read_plan(order, flags, ptex);
+    run_lent(entries, order, &plan, words, receipts)
 }

@@ -34,8 +34,8 @@ impl Tried {
     }
 }
 
-/// Gives an entry its state after an operation. An entry that doesn't match is as it was, and isn't
-/// written: a walk goes past most of them.
+/// Gives an entry its state after an operation. An entry that was read or doesn't match is as it was,
+/// and isn't written: a walk goes past most of them.
 #[inline(always)]
 fn store(entries: &mut [EntryState], receipt: &Receipt, after: &EntryState)
     requires in_table { receipt.now.entry < length entries.old }
@@ -43,6 +43,9 @@ fn store(entries: &mut [EntryState], receipt: &Receipt, after: &EntryState)
     requires after { after.now ≡ after_of receipt.now }
     ensures { entries.new ≡ states_after entries.old receipt.now }
 {
+    if matches!(receipt.op, Op::Read) {
+        return;
+    }
     if !matches!(receipt.answer, Answer::NoMatch) {
         entries[receipt.entry as usize] = *after;
     }

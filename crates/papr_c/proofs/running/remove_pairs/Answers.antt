@@ -1,13 +1,12 @@
-use Rattle.std.proofs.Common.{◌≡◌, rules}
+use Rattle.std.proofs.Common.{rules}
 use Rattle.papr_c.proofs.Outcomes.{call_is}
-use Rattle.papr_c.proofs.bulk.papr_h_bulk_remove.Goals as goal
+use Rattle.papr_c.proofs.running.remove_pairs.Goals as goal
 
 pub returns : goal.returns
 returns c =
-    let same : c.in-Some.pairs.now ≡ c.args.pairs.now = search rules in
     call_is _ _ _ c.h_bulk_remove_into-registers.result c.h_bulk_remove_into-registers.new.receipts c.hand_over.result c.hand_over.new.words c.put_receipts-put.new.places c.lend-table.result.entries.now c.h_bulk_remove_into-registers.new.store.entries.now _
-    (search rules)
-    (rw (c.lend-table.ensures.order, same) at c.h_bulk_remove_into-registers.ensures.reply)
+    c.requires.table
+    (rw c.lend-table.ensures.order at c.h_bulk_remove_into-registers.ensures.reply)
     c.h_bulk_remove_into-registers.ensures.made.made.run
     c.lend-table.ensures.entries
     (record {

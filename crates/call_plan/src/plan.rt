@@ -1,0 +1,58 @@
+ghost use Rattle.std.specs.Prelude.{◌≡◌};
+
+use entry_model::{GoesOn, Op};
+use h_update::ShownWords;
+use papr_codes::Rc;
+
+/// What the receipts of a trial tell: the return code and the words. It follows after which answers
+/// the trial goes on.
+#[derive(Clone, Copy)]
+pub enum Told {
+    /// Which entry was entered: the first that wasn't taken.
+    Entered,
+    /// What the one entry answered, and these of its doublewords as they were.
+    Answer { shown: ShownWords },
+    /// Both doublewords of each entry.
+    Contents,
+}
+
+/// One operation on entries that stand one behind the other.
+#[derive(Clone, Copy)]
+pub struct Trial {
+    /// What is made on each of them.
+    pub op: Op,
+    /// The index of the first of them.
+    pub first: u32,
+    /// How many there are at most.
+    pub count: u32,
+    /// What their receipts tell.
+    pub told: Told,
+}
+
+/// What a hypervisor call with its arguments is. The value is small, and whoever makes the call may
+/// keep it.
+#[derive(Clone, Copy)]
+pub enum CallPlan<'a> {
+    /// It is answered by this code, and touches no entry.
+    Code { rc: Rc },
+    /// It tries entries with one operation.
+    Tries { trial: Trial },
+    /// H_BULK_REMOVE: it removes the entries that four pairs of words ask for, of a table of
+    /// `2^order` bytes. The pairs stay where its caller has them.
+    Removes { order: u8, pairs: &'a [u64; 8] },
+}
+
+impl Told {
+    ghost use Rattle.call_plan.specs.Plans as plans;
+
+    /// After which answers the next entry is tried.
+    #[inline]
+    pub fn goes_on(self) -> GoesOn
+        ensures { result ≡ plans.goes_of self }
+    {
+        match self {
+            Told::Entered => GoesOn::WhileTaken,
+            Told::Answer { .. } | Told::Contents => GoesOn::Always,
+        }
+    }
+}

@@ -6,3 +6,4 @@ pub mod TwoGroups
 pub mod Makings
 pub mod Searching
 mod Rows
+pub mod Transfers

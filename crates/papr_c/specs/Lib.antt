@@ -6,3 +6,4 @@ pub mod Grants
 pub mod Walks
 pub mod Rehash
 pub mod Resizing
+pub mod Transfers

@@ -7,8 +7,10 @@
 
 mod bulk;
 mod enter;
+mod exporting;
 mod granting;
 mod grants;
+mod importing;
 mod lent;
 mod read;
 mod receipts;
@@ -17,5 +19,6 @@ mod reply;
 mod resizing;
 mod running;
 mod single;
+mod transfer;
 mod trying;
 mod walking;

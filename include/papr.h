@@ -33,6 +33,18 @@
 extern "C" {
 #endif
 
+/* ---- the version */
+
+#define PAPR_VERSION_MAJOR 0
+#define PAPR_VERSION_MINOR 1
+#define PAPR_VERSION_PATCH 0
+
+/* One number, which rises with each version. */
+#define PAPR_VERSION ((PAPR_VERSION_MAJOR << 16) | (PAPR_VERSION_MINOR << 8) | PAPR_VERSION_PATCH)
+
+/* The version of the library, which is PAPR_VERSION where header and library belong together. */
+uint32_t papr_version(void);
+
 /* ---- the table */
 
 /* One entry, in 24 bytes. All zero is an empty one, so calloc makes an empty table. The calls write
@@ -52,10 +64,15 @@ struct papr_entry {
 /* Return codes, as register 3 has them. */
 enum papr_rc {
     PAPR_H_SUCCESS = 0,
+    PAPR_H_BUSY = 1,            /* not all entries of the pending table are ready */
+    PAPR_H_CLOSED = 2,          /* no table of the order is pending */
+    PAPR_H_LONG_BUSY = 9900,    /* the next entries are ready: call again for the rest */
     PAPR_H_HARDWARE = -1,       /* the entry has changed 2^32 - 1 times, and can't change again */
     PAPR_H_PARAMETER = -4,
     PAPR_H_PTEG_FULL = -6,
-    PAPR_H_NOT_FOUND = -7
+    PAPR_H_NOT_FOUND = -7,
+    PAPR_H_NO_MEM = -9,         /* the memory that is lent isn't that of a table of the order */
+    PAPR_H_RESOURCE = -16       /* the order is above the highest that is allowed */
 };
 
 /* What an entry answered: the number in a receipt. */
@@ -249,6 +266,72 @@ struct papr_rehash {
 struct papr_rehash papr_rehash(const struct papr_entry *entries, size_t count, uint8_t order,
                                struct papr_entry *into, size_t into_count, uint8_t into_order);
 
+/* ---- the resize calls */
+
+/* What is pending between two resize calls. All zero is nothing; the calls write it, and read one that
+ * no call left as nothing. */
+struct papr_resize {
+    uint32_t ready;             /* entries of the pending table that are ready, from the first on */
+    uint8_t order;              /* it has 2^order bytes */
+    bool pending;
+};
+
+/* H_RESIZE_HPT_PREPARE with these flags and this shift, of which `limit` is the highest: makes a table
+ * of 2^shift bytes ready in `into`, 16,384 entries at each call, which are empty then. PAPR_H_SUCCESS
+ * where all are ready, else PAPR_H_LONG_BUSY. PAPR_H_PARAMETER for a flag, or for a shift that is not
+ * 0 nor from 18 to 46, and PAPR_H_RESOURCE for one above the limit or above 22: nothing changes then.
+ * Shift 0 drops what is pending; so does another shift than that of the pending table, and a new one
+ * is begun. PAPR_H_NO_MEM where `into_count` isn't 2^(shift - 4): nothing is pending then. The memory
+ * is lent for the call alone: lend the same at each call up to the commit. */
+int64_t papr_resize_prepare(struct papr_resize *resize, uint8_t limit, uint64_t flags, uint64_t shift,
+                            struct papr_entry *into, size_t into_count);
+
+/* H_RESIZE_HPT_COMMIT with these flags and this shift: carries the bolted entries of the current table
+ * over into the pending one, as papr_rehash does. At PAPR_H_SUCCESS `into` is the current table from
+ * then on, and no cached translation is one any more. At PAPR_H_PTEG_FULL the current table stays. At
+ * both nothing is pending. PAPR_H_PARAMETER for a flag, a shift that is not from 18 to 46, another
+ * order or count of the current table, or an `into_count` that isn't 2^(shift - 4); PAPR_H_CLOSED where
+ * no table of that shift is pending; PAPR_H_BUSY where it isn't ready: nothing changes then. */
+struct papr_rehash papr_resize_commit(struct papr_resize *resize, const struct papr_entry *entries,
+                                      size_t count, uint8_t order, struct papr_entry *into,
+                                      size_t into_count, uint64_t flags, uint64_t shift);
+
+/* ---- entries as bytes */
+
+/* Entries as bytes are 16 each: doubleword 0 and then doubleword 1 with R and C, each with its most
+ * significant byte first. An empty entry is 16 zeros. The layout is that of the Power ISA. */
+enum papr_layout {
+    PAPR_LAYOUT_OLD = 0,        /* version 2.07: B stands in doubleword 0 */
+    PAPR_LAYOUT_NEW = 1         /* version 3.0: B stands in doubleword 1 */
+};
+
+/* Why entries aren't transferred. */
+enum papr_transfer_refusal {
+    PAPR_TRANSFERRED = 0,
+    PAPR_TRANSFER_ARGUMENTS = 1, /* order, count, layout, range, or too few bytes */
+    PAPR_TRANSFER_UNHELD = 2,   /* the layout has no such entry */
+    PAPR_TRANSFER_UNENTERED = 3 /* H_ENTER would refuse it */
+};
+
+struct papr_transfer {
+    size_t index;               /* of the first entry that is refused, else 0 */
+    uint32_t refusal;           /* an enum papr_transfer_refusal */
+};
+
+/* Writes `number` entries of a table from `first` on into the first 16 * number bytes of `out`. Stamps
+ * are left out. Where one is refused nothing is written. */
+struct papr_transfer papr_export(const struct papr_entry *entries, size_t count, uint8_t order,
+                                 uint8_t layout, size_t first, size_t number, uint8_t *out,
+                                 size_t out_size);
+
+/* Reads `number` entries from bytes into a table from `first` on. Each is what H_ENTER stores of its two
+ * doublewords, at stamp 0, or empty where V is clear; what stood there is dropped, and no cached
+ * translation of it is one any more. Where one is refused nothing at all changes: all are tried before
+ * the first is put. */
+struct papr_transfer papr_import(struct papr_entry *entries, size_t count, uint8_t order,
+                                 const struct papr_grants *grants, uint8_t layout, size_t first,
+                                 size_t number, const uint8_t *bytes, size_t bytes_size);
+
 /* ---- how the structs lie in memory, as the library for x86-64 has them: tested where the language
  * can, from C11 and from C++11 on */
 
@@ -316,6 +399,13 @@ PAPR_AT(papr_rehash, rc, 0);
 PAPR_AT(papr_rehash, first, 8);
 PAPR_AT(papr_rehash, second, 12);
 PAPR_AT(papr_rehash, target, 16);
+PAPR_SIZE(papr_resize, 8);
+PAPR_AT(papr_resize, ready, 0);
+PAPR_AT(papr_resize, order, 4);
+PAPR_AT(papr_resize, pending, 5);
+PAPR_SIZE(papr_transfer, 16);
+PAPR_AT(papr_transfer, index, 0);
+PAPR_AT(papr_transfer, refusal, 8);
 
 #undef PAPR_AT
 #undef PAPR_SIZE

@@ -15,6 +15,7 @@ from .support import DATA, EXAMPLES, LIBRARY, TOP, ToolTest, for_each, needs, ne
 INCLUDE = TOP / "include"
 STRICT = ("-Wall", "-Wextra", "-Werror", f"-I{INCLUDE}")
 TRACES = sorted(EXAMPLES.glob("*.trace"))
+VERSION = (TOP / "VERSION").read_text(encoding="ascii").strip()
 WINDOW = re.compile(r"^window ", re.MULTILINE)
 REPLAYED = [path.stem for path in TRACES if not WINDOW.search(path.read_text(encoding="latin-1"))]
 REFUSED = [path.stem for path in TRACES if path.stem not in REPLAYED]
@@ -54,18 +55,58 @@ class Header(ToolTest):
         self.assert_ran(run(compiler, standard, *STRICT, "-Wpedantic", "-fsyntax-only", source))
 
     @needs("cc")
-    def test_the_header_by_itself_in_c(self) -> None:
-        self.assert_compiles("cc", "-std=c11", "alone.c")
+    @for_each("c11", "c17")
+    def test_the_header_by_itself_in(self, standard: str) -> None:
+        self.assert_compiles("cc", f"-std={standard}", "alone.c")
 
     @needs("c++")
-    def test_the_header_by_itself_in_cpp(self) -> None:
-        self.assert_compiles("c++", "-std=c++11", "alone.cc")
+    @for_each("c++11", "c++17")
+    def test_the_header_by_itself_in_cpp(self, standard: str) -> None:
+        self.assert_compiles("c++", f"-std={standard}", "alone.cc")
 
     @needs("cc")
     def test_the_header_in_c99(self) -> None:
         source = self.folder / "old.c"
         source.write_text("#include <papr.h>\nint of_entry[sizeof(struct papr_entry)];\n", encoding="ascii")
         self.assert_ran(run("cc", "-std=c99", *STRICT, "-Wpedantic", "-fsyntax-only", source))
+
+
+@needs("cc", "nm", "readelf")
+@needs_library
+class Shared(ToolTest):
+    """The shared object, made of the archive."""
+
+    shared: ClassVar[Path]
+
+    @classmethod
+    def setUpClass(cls) -> None:
+        """Makes it, once for the class."""
+        super().setUpClass()
+        work = tempfile.TemporaryDirectory(prefix="papr-shared-")
+        cls.addClassCleanup(work.cleanup)
+        cls.shared = Path(work.name) / f"libpapr.so.{VERSION}"
+        ran = run(TOP / "tools" / "shared-library", LIBRARY, cls.shared)
+        if (ran.status, ran.err) != (0, ""):
+            raise OSError(f"the shared object isn't made: {ran.err}")
+
+    def test_it_exports_the_functions_of_the_header_and_nothing_else(self) -> None:
+        told = run("nm", "-D", "--defined-only", self.shared).out.split("\n")
+        declared = re.findall(r"\b(papr_[a-z_0-9]+)\(", (INCLUDE / "papr.h").read_text(encoding="ascii"))
+        self.assertEqual([line.split()[1:] for line in told if line], [["T", name] for name in sorted(set(declared))])
+
+    def test_its_name_is_that_of_its_major_version(self) -> None:
+        told = run("readelf", "-d", self.shared).out
+        soname = f"libpapr.so.{VERSION.split('.')[0]}"
+        self.assertEqual(re.findall(r"\(SONAME\).*\[(.*)\]", told), [soname])
+        self.assertEqual((self.shared.parent / soname).resolve(), self.shared.resolve())
+
+    def test_a_program_finds_each_field_where_its_call_puts_it(self) -> None:
+        program = self.folder / "fields"
+        folder = self.shared.parent
+        words = ("-std=c11", *STRICT, "-o", program, DATA / "fields.c", f"-L{folder}", "-lpapr")
+        self.assert_ran(run("cc", *words, f"-Wl,-rpath,{folder}"))
+        self.assert_ran(run(program))
+        self.assertIn(f"libpapr.so.{VERSION.split('.')[0]}", run("readelf", "-d", program).out)
 
 
 @needs("cc")
@@ -148,6 +189,7 @@ class FromRust(ToolTest):
     def test_a_program_in_rust(self) -> None:
         program = self.folder / "enter"
         source = EXAMPLES / "rust" / "enter.rs"
-        built = run("rustc", "-O", "-L", f"native={LIBRARY.parent}", "-o", program, source)
+        (self.folder / "libpapr.a").symlink_to(LIBRARY)
+        built = run("rustc", "-O", "-L", f"native={self.folder}", "-o", program, source)
         self.assert_ran(built, out=None, err=None)
         self.assert_ran(run(program), ENTERED)

@@ -7,3 +7,4 @@ pub mod Makings
 pub mod Searching
 mod Rows
 pub mod Transfers
+pub mod SlotSearch

@@ -7,3 +7,5 @@ pub mod Walks
 pub mod Rehash
 pub mod Resizing
 pub mod Transfers
+pub mod Version
+pub mod Segments

@@ -92,12 +92,7 @@ fn entry_of_bytes(
 }
 
 /// The first of so many entries that is refused.
-fn first_refused(
-    grants: &PaprGrants,
-    layout: Layout,
-    bytes: &[u8],
-    number: usize,
-) -> Option<usize>
+fn first_refused(grants: &PaprGrants, layout: Layout, bytes: &[u8], number: usize) -> Option<usize>
     requires { 16 * number ≤ length bytes.now }
     ensures value { result
         ≡ Rattle.papr_c.specs.Transfers.first_refused

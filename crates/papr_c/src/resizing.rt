@@ -108,8 +108,8 @@ fn advance(ready: usize, order: u8, into: &mut [EntryState]) -> usize
 
 /// H_RESIZE_HPT_PREPARE: makes a table of `2^shift` bytes ready in the memory that is lent, a part
 /// at each call. `limit` is the highest order that the guest may ask for.
-#[unsafe(no_mangle)]
 #[tactic(auto, unfolding(crate::specs::Resizing::outcome_of_resize_prepare))]
+#[unsafe(no_mangle)]
 pub extern "C" fn papr_resize_prepare(
     resize: &mut PaprResize,
     limit: u8,
@@ -150,8 +150,8 @@ pub extern "C" fn papr_resize_prepare(
 
 /// H_RESIZE_HPT_COMMIT: carries the bolted entries of the current table over into the memory of the
 /// pending one of `2^shift` bytes, as `papr_rehash` does. Its caller makes that the current table.
-#[unsafe(no_mangle)]
 #[tactic(auto, unfolding(crate::specs::Resizing::outcome_of_resize_commit))]
+#[unsafe(no_mangle)]
 pub extern "C" fn papr_resize_commit(
     resize: &mut PaprResize,
     entries: &[EntryState],

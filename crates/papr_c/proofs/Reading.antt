@@ -7,12 +7,16 @@ use Rattle.entry_model.specs.Reply.{words_of}
 use Rattle.entry_model.specs.Run.{state_at, states_after}
 use Rattle.entry_model.specs.Trial.{call, receipt_at, trial_run}
 use Rattle.entry_model.specs.declared.operation.Op.TheVariants.{Read}
+use Rattle.entry_model.specs.declared.receipt.Receipt.{Receipt}
 use Rattle.entry_model.proofs.TrialSteps.{calls_from}
 use Rattle.h_update.specs.Single.{both_words}
 use Rattle.papr_c.specs.Places.{placed}
 use Rattle.papr_c.specs.Tried.{words_of_entries}
 use Rattle.papr_c.proofs.Filling.{placed-append}
-use Rattle.papr_c.proofs.SoFar.{rest_of}
+
+-- The trial that reads entries.
+abbrev pub read_all : ℕ → ℕ → List State → List Receipt × List State
+read_all first count a = trial_run (λ answer. true) a (calls_from Read first count)
 
 -- Both doublewords of an entry.
 abbrev pair_at : List State → ℕ → List ℕ
@@ -20,9 +24,9 @@ pair_at a e = (words_of (state_at a e)).0 ∷ (words_of (state_at a e)).1 ∷ []
 
 -- What reads leave of the entries, and what their receipts show.
 pub record IsRead (a : List State) (first count : ℕ) : Type 0 where
-  pub entries : (rest_of (λ answer. true) Read first count a).1 ≡ a
-  pub words : flat_map both_words (rest_of (λ answer. true) Read first count a).0 ≡ words_of_entries a first count
-  pub many : length (rest_of (λ answer. true) Read first count a).0 ≡ count
+  pub entries : (read_all first count a).1 ≡ a
+  pub words : flat_map both_words (read_all first count a).0 ≡ words_of_entries a first count
+  pub many : length (read_all first count a).0 ≡ count
 
 pub reads : (a : List State) (first count : ℕ) → IsRead a first count
 unfolding trial_run

@@ -8,7 +8,7 @@ use crate::lent::LentTable;
 use crate::read::put_entries;
 use crate::receipts::{PaprReceipt, put_receipts};
 use crate::reply::{PaprReply, filled_count, hand_over};
-use crate::trying::try_lent;
+use crate::trying::{make, try_lent};
 use call_plan::{CallPlan, Told, Trial};
 use entry_model::{EntryState, Receipts};
 use h_update::h_bulk_remove_into;
@@ -32,22 +32,20 @@ fn try_trial(
         (plans.plan_of_trial trial.now)
         (memory entries.old words.old receipts.old) }
 {
-    let goes_on = trial.told.goes_on();
-    let (first, count) = (trial.first, trial.count);
-    let tried = try_lent(entries, &trial.op, first, count, goes_on, receipts, 0);
+    let room = receipts.len();
     match trial.told {
         Told::Entered => {
-            let told = h_enter::registers(&tried.ending(goes_on));
-            hand_over(&told, tried.count, words, receipts.len())
+            let tried = try_lent(entries, trial, receipts);
+            hand_over(&h_enter::registers(&tried.ending), tried.count, words, room)
         }
         Told::Answer { shown } => {
-            let told = h_update::registers(&tried.last, shown);
-            hand_over(&told, tried.count, words, receipts.len())
+            let receipt = make(entries, &trial.op, trial.first, receipts, 0);
+            hand_over(&h_update::registers(&receipt, shown), 1, words, room)
         }
         Told::Contents => {
-            let shown = put_entries(entries, first, count, words);
-            let filled = filled_count(receipts.len(), tried.count);
-            PaprReply::told(Rc::Success, shown, filled)
+            let tried = try_lent(entries, trial, receipts);
+            let shown = put_entries(entries, trial.first, trial.count, words);
+            PaprReply::told(Rc::Success, shown, filled_count(room, tried.count))
         }
     }
 }

@@ -1,41 +1,25 @@
-ghost use Rattle.std.specs.Prelude.{◌≡◌, ◌≤◌, ◌<◌, ◌+◌, ◌^◌, [], ◌∷◌, length, map, set, if◌then◌else◌, Some, None};
+ghost use Rattle.std.specs.Prelude.{◌≡◌, ◌≤◌, ◌<◌, length, map, set};
+ghost use Rattle.std.specs.List.{AllByRecursion};
 ghost use Rattle.entry_model.specs.Receipt.{after_of, receipt_of};
 ghost use Rattle.entry_model.specs.Run.{state_at, states_after};
-ghost use Rattle.entry_model.specs.Trial.{ending_of};
+ghost use Rattle.entry_model.specs.Trial.{Call, ending_of, trial_run};
 ghost use Rattle.papr_c.specs.Places.{placed, shown_receipt};
-ghost use Rattle.papr_c.specs.Tried.{tried};
 
 use crate::receipts::{PaprReceipt, put_receipt};
-use entry_model::{Answer, EntryState, GoesOn, Op, Receipt, reply};
+use call_trials::CallList;
+use entry_model::{Answer, EntryState, Op, Receipt, reply};
 
 /// How a trial ended.
 #[derive(Clone, Copy)]
 pub struct Tried {
-    /// The receipt of the last entry that was tried.
-    pub last: Receipt,
-    /// How many entries were tried.
+    /// The receipt after which the trial didn't go on, if there was one.
+    pub ending: Option<Receipt>,
+    /// How many calls were made.
     pub count: u32,
 }
 
-impl Tried {
-    /// The receipt after which the trial didn't go on, if there was one.
-    #[inline]
-    pub fn ending(&self, goes_on: GoesOn) -> Option<Receipt>
-        ensures { result
-            ≡ (if Rattle.entry_model.specs.Trial.goes_after goes_on self.now.last.answer
-            then None
-            else Some self.now.last) }
-    {
-        if goes_on.after(self.last.answer) {
-            None
-        } else {
-            Some(self.last)
-        }
-    }
-}
-
-/// Gives an entry its state after an operation. An entry that was read or doesn't match is as it was,
-/// and isn't written: a walk goes past most of them.
+/// Gives an entry its state after an operation. An entry that was read or doesn't match is as it
+/// was, and isn't written: a walk goes past most of them.
 #[inline(always)]
 fn store(entries: &mut [EntryState], receipt: &Receipt, after: &EntryState)
     requires in_table { receipt.now.entry < length entries.old }
@@ -54,7 +38,7 @@ fn store(entries: &mut [EntryState], receipt: &Receipt, after: &EntryState)
 /// Makes an operation on an entry, and puts the receipt into the caller's place, where there is
 /// one.
 #[inline(always)]
-fn make(
+pub fn make(
     entries: &mut [EntryState],
     op: &Op,
     entry: u32,
@@ -79,44 +63,45 @@ fn make(
     receipt
 }
 
-/// Makes an operation on `count` entries, one behind the other from `first` on, as long as the
-/// answers go on. The receipts are put into the caller's places from `place` on, as far as these
-/// go.
+/// Makes calls on entries in turn, as long as the answers go on. The receipts are put into the
+/// caller's places, as far as these go.
 // In line, so that each caller has the part of `reply` that its operation needs, and no other.
 #[inline(always)]
-pub fn try_lent(
+pub fn try_lent<C: CallList>(
     entries: &mut [EntryState],
-    op: &Op,
-    first: u32,
-    count: u32,
-    goes_on: GoesOn,
+    calls: &C,
     receipts: &mut [PaprReceipt],
-    place: u32,
 ) -> Tried
-    requires some { 1 ≤ count }
-    requires in_table { first + count ≤ length entries.old }
-    requires small { first + count < 2 ^ 32 }
-    requires near { place + count < 2 ^ 32 }
-    ensures entries { entries.new ≡ (tried goes_on op.now first count entries.old).1 }
-    ensures receipts { receipts.new
-        ≡ placed
-        receipts.old
-        place
-        (map shown_receipt (tried goes_on op.now first count entries.old).0) }
-    ensures few { result.count ≤ count }
-    ensures count { result.count ≡ length (tried goes_on op.now first count entries.old).0 }
-    ensures ending { let goes = Rattle.entry_model.specs.Trial.goes_after goes_on in
-        ending_of goes (tried goes_on op.now first count entries.old).0
-        ≡ (if goes result.last.answer then None else Some result.last) }
-    ensures alone { count ≡ 1
-        → (tried goes_on op.now first count entries.old).0 ≡ result.last ∷ [] }
+    requires in_table { AllByRecursion
+        (λ (c : Call). c.entry < length entries.old)
+        (C.calls calls.now) }
+    requires few { length (C.calls calls.now) ≤ 16 }
+    ensures entries { entries.new
+        ≡ (trial_run (C.goes_on calls.now) entries.old (C.calls calls.now)).1 }
+    ensures receipts { let made = (trial_run (C.goes_on calls.now) entries.old (C.calls calls.now)).0 in
+        receipts.new ≡ placed receipts.old 0 (map shown_receipt made) }
+    ensures count { result.count
+        ≡ length (trial_run (C.goes_on calls.now) entries.old (C.calls calls.now)).0 }
+    ensures ending { let goes = C.goes_on calls.now in
+        result.ending ≡ ending_of goes (trial_run goes entries.old (C.calls calls.now)).0 }
 {
-    let mut tried = 0;
-    loop {
-        let last = make(entries, op, first + tried, receipts, place + tried);
-        tried += 1;
-        if tried == count || !goes_on.after(last.answer) {
-            return Tried { last, count: tried };
+    for made in 0..16 {
+        let Some((entry, op)) = calls.call_at(made) else {
+            return Tried {
+                ending: None,
+                count: made,
+            };
+        };
+        let receipt = make(entries, &op, entry, receipts, made);
+        if !calls.goes_on_after(receipt.answer) {
+            return Tried {
+                ending: Some(receipt),
+                count: made + 1,
+            };
         }
+    }
+    Tried {
+        ending: None,
+        count: 16,
     }
 }

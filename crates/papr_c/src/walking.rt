@@ -6,10 +6,8 @@ use crate::receipts::PaprReceipt;
 use crate::reply::filled_count;
 use crate::trying::try_lent;
 use authority_mask::{MaskName, Masks};
-use entry_model::{Answer, EntryState, GoesOn, Receipt};
-use hpt_hash::groups;
-use hpt_walk::{access_op, logical_of};
-use hpte_fields::GROUP_SIZE;
+use entry_model::{Answer, EntryState, Receipt};
+use hpt_walk::{PageCalls, logical_of};
 use power_addr::Page;
 use storage_prot::Want;
 
@@ -162,32 +160,12 @@ pub extern "C" fn papr_walk(
     if !is_table(entries, order) {
         return PaprWalk::refused();
     }
-    let (primary, secondary) = groups(&page, order);
-    let (key, no_execute) = (access.key, access.no_execute);
     let masks = Masks {
         amr: access.amr,
         iamr: access.iamr,
     };
-    let op = access_op(&page, key, no_execute, want, masks, false);
-    let goes_on = GoesOn::WhileNoMatch;
-    let first = primary as u32 * GROUP_SIZE;
-    let early = try_lent(entries, &op, first, GROUP_SIZE, goes_on, receipts, 0);
-    if let Some(receipt) = early.ending(goes_on) {
-        let count = filled_count(receipts.len(), early.count);
-        return PaprWalk::end(access.ea, &Some(receipt), count);
-    }
-    let op = access_op(&page, key, no_execute, want, masks, true);
-    let first = secondary as u32 * GROUP_SIZE;
-    let late = try_lent(
-        entries,
-        &op,
-        first,
-        GROUP_SIZE,
-        goes_on,
-        receipts,
-        early.count,
-    );
-    let found = late.ending(goes_on);
-    let count = filled_count(receipts.len(), early.count + late.count);
-    PaprWalk::end(access.ea, &found, count)
+    let calls = PageCalls::of(&page, order, want, access.key, access.no_execute, masks);
+    let tried = try_lent(entries, &calls, receipts);
+    let filled = filled_count(receipts.len(), tried.count);
+    PaprWalk::end(access.ea, &tried.ending, filled)
 }

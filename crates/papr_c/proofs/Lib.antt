@@ -7,3 +7,5 @@ pub mod Searching
 mod Rows
 pub mod Transfers
 pub mod SlotSearch
+pub mod PoolPrepares
+pub mod PoolCommits

@@ -9,3 +9,4 @@ pub mod Resizing
 pub mod Transfers
 pub mod Version
 pub mod Segments
+pub mod ResizeLaw

@@ -11,6 +11,7 @@ mod exporting;
 mod granting;
 mod grants;
 mod importing;
+mod laws;
 mod lent;
 mod read;
 mod receipts;

@@ -296,6 +296,45 @@ struct papr_rehash papr_resize_commit(struct papr_resize *resize, const struct p
                                       size_t count, uint8_t order, struct papr_entry *into,
                                       size_t into_count, uint64_t flags, uint64_t shift);
 
+/* ---- segments */
+
+/* One slot of a segment lookaside buffer. All zero is an invalid one. The other fields of a valid one
+ * are as papr_access has them. */
+struct papr_slot {
+    uint64_t esid;              /* upper 36 bits of its addresses; of a segment of 1 TB 24 of them count */
+    uint64_t vsid;
+    uint8_t shift;
+    bool valid;
+    bool one_tb;
+    bool ks;                    /* the key of an access in privileged state */
+    bool kp;                    /* the key of an access in problem state */
+    bool no_execute;
+};
+
+/* The segment lookaside buffer of a processor: a slot for each number that slbmte has. */
+struct papr_slb {
+    struct papr_slot slots[32];
+};
+
+/* What may be wrong with the words of an slbmte. */
+enum papr_slb_refusal {
+    PAPR_SLB_WRITTEN = 0,
+    PAPR_SLB_SLOT = 1,          /* there is no slot of that number */
+    PAPR_SLB_SEGMENT_SIZE = 2,  /* B is neither 0 (256 MB) nor 1 (1 TB) */
+    PAPR_SLB_PAGE_SIZE = 3      /* L and LP are no base page size of such a segment */
+};
+
+/* slbmte: writes the slot that rb names, with the segment that both words describe, or without V in rb
+ * with none. An enum papr_slb_refusal; what is refused changes nothing. */
+uint32_t papr_slb_mte(struct papr_slb *slb, uint64_t rb, uint64_t rs);
+
+/* Makes all 32 slots invalid. */
+void papr_slb_clear(struct papr_slb *slb);
+
+/* The slot of the segment in which an effective address lies: the lowest valid one that has it. Its
+ * `valid` is false where none has. */
+struct papr_slot papr_slb_find(const struct papr_slb *slb, uint64_t ea);
+
 /* ---- entries as bytes */
 
 /* Entries as bytes are 16 each: doubleword 0 and then doubleword 1 with R and C, each with its most
@@ -403,6 +442,17 @@ PAPR_SIZE(papr_resize, 8);
 PAPR_AT(papr_resize, ready, 0);
 PAPR_AT(papr_resize, order, 4);
 PAPR_AT(papr_resize, pending, 5);
+PAPR_SIZE(papr_slot, 24);
+PAPR_AT(papr_slot, esid, 0);
+PAPR_AT(papr_slot, vsid, 8);
+PAPR_AT(papr_slot, shift, 16);
+PAPR_AT(papr_slot, valid, 17);
+PAPR_AT(papr_slot, one_tb, 18);
+PAPR_AT(papr_slot, ks, 19);
+PAPR_AT(papr_slot, kp, 20);
+PAPR_AT(papr_slot, no_execute, 21);
+PAPR_SIZE(papr_slb, 768);
+PAPR_AT(papr_slb, slots, 0);
 PAPR_SIZE(papr_transfer, 16);
 PAPR_AT(papr_transfer, index, 0);
 PAPR_AT(papr_transfer, refusal, 8);

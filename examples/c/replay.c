@@ -3,10 +3,9 @@
  *
  *   replay <TRACE
  *
- * The library has the calls on entries, the walk and the rehash. What an emulator keeps itself is kept
- * here: the segments of each processor (segments.c), and the tables between two resize calls
- * (resizing.c). Nothing is cached: each access is a walk, so where papr writes `hit` this writes `walk`,
- * with the receipts of the whole walk; the answer is the same.
+ * The library has the calls on entries, the walk, the segments and the resize calls. What an emulator keeps
+ * itself is kept here: the memory of the tables (resizing.c), and a cache of translations for each processor
+ * (cache.c). Where papr writes `hit` this finds the translation in the cache.
  *
  * A trace is taken to be one that papr accepts: but for its numbers nothing is checked. The library has no
  * DMA windows, so that a trace with a line `window` is refused.
@@ -108,27 +107,40 @@ static const char *refusal_word(uint32_t outcome)
     }
 }
 
+/* The walk of an access. Where its translation is cached, what papr writes is the receipt of its entry, by
+ * which this walk ends too: the walk is made here for what it leaves in R and C. */
 static void access_line(uint64_t cpu, const char *want, uint64_t ea, bool problem)
 {
     struct papr_receipt made[16];
-    struct papr_access access;
-    if (!segment_access(&guest.slb[cpu], ea, problem, &access)) {
+    struct papr_slot segment = papr_slb_find(&guest.slb[cpu], ea);
+    if (!segment.valid) {
         puts("nosegment");
         return;
     }
-    access.amr = guest.amr[cpu];
-    access.iamr = guest.iamr[cpu];
-    access.want = want[0] == 'l' ? 0 : want[0] == 's' ? 1 : 2;
+    struct papr_access access = {
+        .ea = ea, .vsid = segment.vsid, .amr = guest.amr[cpu], .iamr = guest.iamr[cpu],
+        .shift = segment.shift, .want = want[0] == 'l' ? 0 : want[0] == 's' ? 1 : 2,
+        .one_tb = segment.one_tb, .key = problem ? segment.kp : segment.ks,
+        .no_execute = segment.no_execute};
     struct table *t = &guest.current;
+    struct cache *cache = &guest.cache[cpu];
+    bool hit = find_cached(cache, &segment, ea, t->entries);
+    const char *by = hit ? "hit" : "walk";
     struct papr_walk w = papr_walk(t->entries, t->count, t->order, &access, made, 16);
     struct papr_range at = papr_machine_of(&guest.grants, w.logical, 1);
-    if (w.outcome == PAPR_WALK_AT && at.granted)
-        printf("at 0x%" PRIx64 " walk", at.machine);
+    bool allowed = w.outcome == PAPR_WALK_AT && at.granted;
+    if (allowed)
+        printf("at 0x%" PRIx64 " %s", at.machine, by);
     else if (w.outcome == PAPR_WALK_AT)
-        printf("ungranted 0x%" PRIx64 " walk", w.logical);
+        printf("ungranted 0x%" PRIx64 " %s", w.logical, by);
     else
-        printf("%s walk", refusal_word(w.outcome));
-    put_receipts(made, w.receipts);
+        printf("%s %s", refusal_word(w.outcome), by);
+    if (hit)
+        put_receipts(made + w.receipts - 1, 1);
+    else
+        put_receipts(made, w.receipts);
+    if (!hit)
+        after_walk(cache, &segment, ea, allowed, w.entry, t->entries[w.entry].stamp);
 }
 
 /* A call on entries by its number; false where the number is none of them. */
@@ -209,9 +221,9 @@ static void run_line(unsigned long n, const struct line *l)
     uint64_t cpu = l->value[0];
     printf("%" PRIu64 " %s ", cpu, name);
     if (!strcmp(name, "slbmte"))
-        puts(slbmte(&guest.slb[cpu], l->value[2], l->value[3]) ? "ok" : "refused");
+        puts(papr_slb_mte(&guest.slb[cpu], l->value[2], l->value[3]) ? "refused" : "ok");
     else if (!strcmp(name, "slbclear"))
-        memset(&guest.slb[cpu], 0, sizeof guest.slb[cpu]), puts("ok");
+        papr_slb_clear(&guest.slb[cpu]), puts("ok");
     else if (!strcmp(name, "amr"))
         guest.amr[cpu] = l->value[2], puts("ok");
     else if (!strcmp(name, "iamr"))

@@ -32,6 +32,8 @@ STRUCTS = {
     "PaprWalk": "papr_walk",
     "PaprRehash": "papr_rehash",
     "PaprResize": "papr_resize",
+    "PaprSlot": "papr_slot",
+    "PaprSlb": "papr_slb",
     "PaprTransfer": "papr_transfer",
 }
 FUNCTIONS = (
@@ -49,6 +51,9 @@ FUNCTIONS = (
     "papr_rehash",
     "papr_resize_prepare",
     "papr_resize_commit",
+    "papr_slb_mte",
+    "papr_slb_clear",
+    "papr_slb_find",
     "papr_export",
     "papr_import",
 )
@@ -79,7 +84,7 @@ COUNTS = {
 
 # A struct of the sources with its attributes, and a function for C.
 STRUCT = re.compile(r"((?:#\[[^\n]*\]\s*)*)pub struct (\w+) \{(.*?)\n\}", re.DOTALL)
-EXTERN = re.compile(r"(#\[unsafe\(no_mangle\)\]\s*)?pub extern \"C\" fn (\w+)\(([^()]*)\) -> (\w+)")
+EXTERN = re.compile(r"(#\[unsafe\(no_mangle\)\]\s*)?pub extern \"C\" fn (\w+)\(([^()]*)\)(?: -> (\w+))?")
 
 Named = tuple[str, str]  # a name and its type in C
 
@@ -187,7 +192,7 @@ class Sources:
             parameters = [it.split(": ", 1) for it in split_outside(given)]
             named = [pair for it in parameters for pair in in_c(it[0].removeprefix("_"), it[1])]
             symbol = name if exported else f"{name}, not exported"
-            self.functions[symbol] = Function(named, of_value(result))
+            self.functions[symbol] = Function(named, of_value(result) if result else "void")
         self.text = text
 
     def numbers(self, pattern: str) -> dict[str, int]:
@@ -292,6 +297,12 @@ class Constants(ToolTest):
         expected.update({f"PAPR_TRANSFER_{in_capitals(it)}": n for it, n in numbers.items()})
         self.assertEqual(header().enums["papr_transfer_refusal"], expected)
 
+    def test_the_numbers_of_refused_slots_are_those_of_the_sources(self) -> None:
+        numbers = sources().numbers(r"\bBadSlb::(\w+) => ([0-9]+),")
+        expected = {"PAPR_SLB_WRITTEN": 0}
+        expected.update({f"PAPR_SLB_{in_capitals(it)}": n for it, n in numbers.items()})
+        self.assertEqual(header().enums["papr_slb_refusal"], expected)
+
     def test_the_numbers_of_layouts_are_those_of_the_sources(self) -> None:
         numbers = re.findall(r"\b([0-9]+) => Some\(Layout::(\w+)\),", sources().text)
         expected = {f"PAPR_LAYOUT_{in_capitals(it)}": int(n) for n, it in numbers}
@@ -342,6 +353,8 @@ SWAPPED = (
     ("papr_access", "amr", "iamr"),
     ("papr_reply", "words", "receipts"),
     ("papr_transfer", "index", "refusal"),
+    ("papr_slot", "ks", "kp"),
+    ("papr_slb_mte", "rb", "rs"),
     ("papr_resize_prepare", "flags", "shift"),
     ("papr_export", "first", "number"),
     ("papr_h_remove", "ptex", "avpn"),

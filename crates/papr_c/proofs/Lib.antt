@@ -9,3 +9,4 @@ pub mod Transfers
 pub mod SlotSearch
 pub mod PoolPrepares
 pub mod PoolCommits
+pub mod Tces

@@ -10,3 +10,4 @@ pub mod Transfers
 pub mod Version
 pub mod Segments
 pub mod ResizeLaw
+pub mod Windows

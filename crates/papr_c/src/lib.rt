@@ -25,3 +25,4 @@ mod transfer;
 mod trying;
 mod version;
 mod walking;
+mod windows;

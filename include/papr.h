@@ -335,6 +335,45 @@ void papr_slb_clear(struct papr_slb *slb);
  * `valid` is false where none has. */
 struct papr_slot papr_slb_find(const struct papr_slb *slb, uint64_t ea);
 
+/* ---- DMA windows */
+
+/* In these calls `entries` are those of a window: one for each of its `pages` pages of 4,096 bytes, of
+ * which the first has the bus address `base`. All zero is a window in which nothing is set. There is such
+ * a window where `base` is a multiple of 4,096, `pages` from 1 to 16,384, and the end not above 2^60. */
+
+/* H_PUT_TCE: sets the translation control entry of the page that has the bus address `ioba`, over any
+ * that is there. One that permits neither a read (1) nor a write (2) empties it. No word. Up to two
+ * receipts. PAPR_H_PARAMETER where there is no such window or page, or for an entry whose page no single
+ * grant of main storage holds; PAPR_H_HARDWARE. */
+struct papr_reply papr_put_tce(struct papr_entry *entries, size_t pages, uint64_t base,
+                               const struct papr_grants *grants, uint64_t ioba, uint64_t tce,
+                               struct papr_receipt *receipts, size_t receipts_room);
+
+/* H_GET_TCE: the word is the page's translation control entry, or 0 where none is set.
+ * PAPR_H_PARAMETER where there is no such window or page. */
+struct papr_reply papr_get_tce(struct papr_entry *entries, size_t pages, uint64_t base, uint64_t ioba,
+                               uint64_t *words, size_t words_room, struct papr_receipt *receipts,
+                               size_t receipts_room);
+
+enum papr_device_outcome {
+    PAPR_DEVICE_AT = 0,
+    PAPR_DEVICE_DENIED = 1,     /* the page's entry doesn't permit the access, or none is set */
+    PAPR_DEVICE_NO_WINDOW = 2,  /* the address lies outside the window */
+    PAPR_DEVICE_UNGRANTED = 3,  /* no single grant of main storage holds the page */
+    PAPR_DEVICE_PARAMETER = 4   /* there is no such window */
+};
+
+struct papr_device {
+    uint64_t address;           /* the machine address, at PAPR_DEVICE_UNGRANTED the logical one, else 0 */
+    uint32_t outcome;           /* an enum papr_device_outcome */
+    uint32_t receipts;          /* places filled: never more than 1 */
+};
+
+/* A device's read or write at a bus address, by the page's entry, which stays as it is. */
+struct papr_device papr_device(struct papr_entry *entries, size_t pages, uint64_t base,
+                               const struct papr_grants *grants, uint64_t ioba, bool write,
+                               struct papr_receipt *receipts, size_t receipts_room);
+
 /* ---- entries as bytes */
 
 /* Entries as bytes are 16 each: doubleword 0 and then doubleword 1 with R and C, each with its most
@@ -453,6 +492,10 @@ PAPR_AT(papr_slot, kp, 20);
 PAPR_AT(papr_slot, no_execute, 21);
 PAPR_SIZE(papr_slb, 768);
 PAPR_AT(papr_slb, slots, 0);
+PAPR_SIZE(papr_device, 16);
+PAPR_AT(papr_device, address, 0);
+PAPR_AT(papr_device, outcome, 8);
+PAPR_AT(papr_device, receipts, 12);
 PAPR_SIZE(papr_transfer, 16);
 PAPR_AT(papr_transfer, index, 0);
 PAPR_AT(papr_transfer, refusal, 8);

@@ -3,12 +3,11 @@
  *
  *   replay <TRACE
  *
- * The library has the calls on entries, the walk, the segments and the resize calls. What an emulator keeps
+ * The library has the calls, the walk, the segments and the devices' accesses. What an emulator keeps
  * itself is kept here: the memory of the tables (resizing.c), and a cache of translations for each processor
  * (cache.c). Where papr writes `hit` this finds the translation in the cache.
  *
- * A trace is taken to be one that papr accepts: but for its numbers nothing is checked. The library has no
- * DMA windows, so that a trace with a line `window` is refused.
+ * A trace is taken to be one that papr accepts: but for its numbers nothing is checked.
  */
 #include "replay.h"
 
@@ -143,6 +142,19 @@ static void access_line(uint64_t cpu, const char *want, uint64_t ea, bool proble
         after_walk(cache, &segment, ea, allowed, w.entry, t->entries[w.entry].stamp);
 }
 
+static void device_line(uint64_t liobn, uint64_t ioba, bool write)
+{
+    struct papr_receipt made[16];
+    struct papr_device d = access_device(&guest, liobn, ioba, write, made);
+    if (d.outcome == PAPR_DEVICE_AT)
+        printf("at 0x%" PRIx64, d.address);
+    else if (d.outcome == PAPR_DEVICE_UNGRANTED)
+        printf("ungranted 0x%" PRIx64, d.address);
+    else
+        printf("%s", d.outcome == PAPR_DEVICE_DENIED ? "denied" : "nowindow");
+    put_receipts(made, d.receipts);
+}
+
 /* A call on entries by its number; false where the number is none of them. */
 static bool call_entries(uint64_t number, const uint64_t *a, struct papr_reply *r, uint64_t *words,
                          struct papr_receipt *made)
@@ -188,7 +200,7 @@ static void call_line(uint64_t number, const uint64_t *a)
         else if (number == H_RESIZE_HPT_COMMIT)
             r.rc = commit(&guest, a[0], a[1]);
         else if (number == H_GET_TCE || number == H_PUT_TCE)
-            r.rc = -4; /* there is no DMA window */
+            r = call_window(&guest, number, a, words, made);
     }
     printf("%" PRId64, r.rc);
     for (uint32_t i = 0; i < r.words; i++)
@@ -231,7 +243,7 @@ static void run_line(unsigned long n, const struct line *l)
     else if (!strcmp(name, "load") || !strcmp(name, "store") || !strcmp(name, "fetch"))
         access_line(cpu, name, l->value[2], !strcmp(l->word[3], "user"));
     else if (!strcmp(name, "dmaread") || !strcmp(name, "dmawrite"))
-        puts("nowindow");
+        device_line(l->value[2], l->value[3], name[3] == 'w');
     else if (!strcmp(name, "hcall"))
         call_line(l->value[2], l->value + 3);
     else
@@ -274,6 +286,8 @@ static bool set_line(const struct line *l)
         guest.given[guest.given_count++] = (struct papr_grant){v[0], v[1], v[2], name[0] == 'i'};
     else if (!strcmp(name, "entry"))
         return entry_line(l);
+    else if (!strcmp(name, "window"))
+        return open_window(&guest, v[0], v[1], v[2]);
     else if (!strcmp(name, "begin"))
         return papr_make_grants(guest.given, guest.given_count, guest.pool_base, guest.pool_order,
                                 &guest.grants).refusal == PAPR_GRANTED &&
@@ -297,11 +311,6 @@ static int replay(char *text)
             free(lines);
             return 2;
         }
-        if (lines[n].words && !strcmp(lines[n].word[0], "window")) {
-            fprintf(stderr, "replay: line %lu: the library has no DMA windows\n", n + 1);
-            free(lines);
-            return 2;
-        }
     }
     int status = 0;
     for (unsigned long n = 0; n < count && !status; n++) {
@@ -322,6 +331,7 @@ int main(void)
     char *text = read_all();
     int status = text ? replay(text) : 5;
     close_tables(&guest);
+    close_windows(&guest);
     free(text);
     return status;
 }

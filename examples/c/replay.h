@@ -31,6 +31,13 @@ struct table {
     uint64_t place;
 };
 
+/* A DMA window: an entry for each page from the bus address base on. */
+struct window {
+    uint64_t liobn, base;
+    size_t pages;
+    struct papr_entry *entries;
+};
+
 struct guest {
     struct table current, pending;
     struct papr_resize resize;  /* what the library has to know of the pending one */
@@ -43,6 +50,8 @@ struct guest {
     struct papr_slb slb[64];    /* the processors' segments, their authority masks, and their caches */
     uint64_t amr[64], iamr[64];
     struct cache cache[64];
+    struct window window[4];
+    size_t window_count;
 };
 
 /* The cached translation of a page of this segment, if it is one still; else NULL. */
@@ -61,5 +70,18 @@ int64_t prepare(struct guest *guest, uint64_t flags, uint64_t shift);
 int64_t commit(struct guest *guest, uint64_t flags, uint64_t shift);
 
 void close_tables(struct guest *guest);
+
+/* `window LIOBN BASE PAGES`: false where memory ends. */
+bool open_window(struct guest *guest, uint64_t liobn, uint64_t base, uint64_t pages);
+
+/* A TCE call by its number, on the window that its first argument names. */
+struct papr_reply call_window(struct guest *guest, uint64_t number, const uint64_t *a, uint64_t *words,
+                              struct papr_receipt *made);
+
+/* A device's access: its outcome and its receipt. */
+struct papr_device access_device(struct guest *guest, uint64_t liobn, uint64_t ioba, bool write,
+                                 struct papr_receipt *made);
+
+void close_windows(struct guest *guest);
 
 #endif

@@ -334,6 +334,37 @@ static void segments(void)
     IS(papr_slb_find(&slb, UINT64_C(0x1ffffffffff)).valid, false);
 }
 
+static void is_device(int line, struct papr_device d, uint64_t address, uint32_t outcome, uint32_t made)
+{
+    is(line, "address", d.address, address);
+    is(line, "outcome", d.outcome, outcome);
+    is(line, "receipts", d.receipts, made);
+}
+#define DEVICE(call, address, outcome, made) is_device(__LINE__, call, address, outcome, made)
+
+/* A window of three pages: its calls, and what a device reaches by it. */
+static void windows(void)
+{
+    static struct papr_entry pages[3];
+    const uint64_t base = 0x7000;
+    REPLY(papr_put_tce(pages, 3, base, &list, 0x8123, 0x4001, receipts, RECEIPTS), PAPR_H_SUCCESS, 0, 2);
+    RECEIPT(receipts[0], 0, 0, 1, 0, 0, PAPR_NOTFOUND);
+    RECEIPT(receipts[1], 0, 0, 1, 0, 0, PAPR_ENTERED);
+    REPLY(papr_get_tce(pages, 3, base, 0x8000, ROOM), PAPR_H_SUCCESS, 1, 1);
+    IS(words[0], 0x4001);
+    DEVICE(papr_device(pages, 3, base, &list, 0x8123, false, receipts, RECEIPTS), 0x2000004123, PAPR_DEVICE_AT, 1);
+    DEVICE(papr_device(pages, 3, base, &list, 0x8123, true, receipts, RECEIPTS), 0, PAPR_DEVICE_DENIED, 1);
+    DEVICE(papr_device(pages, 3, base, &list, 0xa000, true, receipts, RECEIPTS), 0, PAPR_DEVICE_NO_WINDOW, 0);
+    DEVICE(papr_device(pages, 3, 0x7001, &list, 0x8000, true, receipts, RECEIPTS), 0, PAPR_DEVICE_PARAMETER, 0);
+    const struct papr_grants none = {0};
+    DEVICE(papr_device(pages, 3, base, &none, 0x8123, false, receipts, RECEIPTS), 0x4123, PAPR_DEVICE_UNGRANTED, 1);
+    REPLY(papr_put_tce(pages, 3, base, &list, 0x8000, 0x100001, receipts, RECEIPTS), PAPR_H_PARAMETER, 0, 0);
+    REPLY(papr_put_tce(pages, 3, base, &list, 0x6000, 0x4001, receipts, RECEIPTS), PAPR_H_PARAMETER, 0, 0);
+    REPLY(papr_get_tce(pages, 0, base, base, ROOM), PAPR_H_PARAMETER, 0, 0);
+    REPLY(papr_put_tce(pages, 3, base, &list, 0x8000, 0, receipts, RECEIPTS), PAPR_H_SUCCESS, 0, 1);
+    IS(pages[1].valid, false);
+}
+
 int main(void)
 {
     grants();
@@ -343,6 +374,7 @@ int main(void)
     calls();
     transfers();
     segments();
+    windows();
     IS(papr_version(), PAPR_VERSION);
     return rehash() || resize() || failures;
 }

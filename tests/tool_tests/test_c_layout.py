@@ -34,6 +34,7 @@ STRUCTS = {
     "PaprResize": "papr_resize",
     "PaprSlot": "papr_slot",
     "PaprSlb": "papr_slb",
+    "PaprDevice": "papr_device",
     "PaprTransfer": "papr_transfer",
 }
 FUNCTIONS = (
@@ -54,9 +55,14 @@ FUNCTIONS = (
     "papr_slb_mte",
     "papr_slb_clear",
     "papr_slb_find",
+    "papr_put_tce",
+    "papr_get_tce",
+    "papr_device",
     "papr_export",
     "papr_import",
 )
+# Their entries are those of a window.
+OF_WINDOWS = ("papr_put_tce", "papr_get_tce", "papr_device")
 SCALARS = {
     "u8": "uint8_t",
     "u32": "uint32_t",
@@ -191,6 +197,8 @@ class Sources:
         for exported, name, given, result in EXTERN.findall(text):
             parameters = [it.split(": ", 1) for it in split_outside(given)]
             named = [pair for it in parameters for pair in in_c(it[0].removeprefix("_"), it[1])]
+            if name in OF_WINDOWS:
+                named[1] = ("pages", named[1][1])
             symbol = name if exported else f"{name}, not exported"
             self.functions[symbol] = Function(named, of_value(result) if result else "void")
         self.text = text
@@ -296,6 +304,11 @@ class Constants(ToolTest):
         expected = {"PAPR_TRANSFERRED": 0}
         expected.update({f"PAPR_TRANSFER_{in_capitals(it)}": n for it, n in numbers.items()})
         self.assertEqual(header().enums["papr_transfer_refusal"], expected)
+
+    def test_the_numbers_of_devices_outcomes_are_those_of_the_sources(self) -> None:
+        numbers = sources().numbers(r"\bDeviceOutcome::(\w+)(?:\(\w+\))? => \(\w+, ([0-9]+)\),")
+        expected = {f"PAPR_DEVICE_{in_capitals(it)}": n for it, n in numbers.items()}
+        self.assertEqual(header().enums["papr_device_outcome"], {**expected, "PAPR_DEVICE_PARAMETER": 4})
 
     def test_the_numbers_of_refused_slots_are_those_of_the_sources(self) -> None:
         numbers = sources().numbers(r"\bBadSlb::(\w+) => ([0-9]+),")

@@ -16,9 +16,7 @@ INCLUDE = TOP / "include"
 STRICT = ("-Wall", "-Wextra", "-Werror", f"-I{INCLUDE}")
 TRACES = sorted(EXAMPLES.glob("*.trace"))
 VERSION = (TOP / "VERSION").read_text(encoding="ascii").strip()
-WINDOW = re.compile(r"^window ", re.MULTILINE)
-REPLAYED = [path.stem for path in TRACES if not WINDOW.search(path.read_text(encoding="latin-1"))]
-REFUSED = [path.stem for path in TRACES if path.stem not in REPLAYED]
+REPLAYED = [path.stem for path in TRACES]
 
 # The sizes that the library was built with.
 SIZES = """\
@@ -130,15 +128,6 @@ class Replayer(ToolTest):
         replies = (EXAMPLES / f"{name}.replies").read_text(encoding="ascii")
         status = 2 if replies.startswith("papr: ") else 0
         self.assert_ran(run(self.replayer, given=EXAMPLES / f"{name}.trace"), replies, status=status)
-
-    @for_each(*REFUSED)
-    def test_before_a_reply_it_refuses_the_windows_of(self, name: str) -> None:
-        """The library has no DMA windows."""
-        trace = (EXAMPLES / f"{name}.trace").read_text(encoding="ascii")
-        found = WINDOW.search(trace)
-        line = trace.count("\n", 0, found.start() if found else 0) + 1
-        message = f"replay: line {line}: the library has no DMA windows"
-        self.assert_refused(run(self.replayer, given=trace), message)
 
     @needs("xz")
     def test_it_replays_the_boot(self) -> None:

@@ -4,8 +4,9 @@
 #   make check                    run the examples and the tests of the tools
 #   make install PREFIX=/usr      build both and install; DESTDIR is put in front of every path. install-program leaves
 #                                 out the library for C, install-library installs it alone
-#   make library                  build both libraries for C: the calls (include/papr.h), where it is missing or older than its
-#                                 sources, and the whole program on bytes (include/papr_bytes.h)
+#   make library                  build both libraries for C: the calls (include/papr.h), as an archive, where it is missing or
+#                                 older than its sources, and as a shared object, out/lib/libpapr.so.0; and the whole program on
+#                                 bytes (include/papr_bytes.h)
 #   make bytes-library            build the second of these alone
 #   make page                     build docs/papr.html, in which the program runs in a browser
 #   make uninstall PREFIX=/usr    take away what install put there
@@ -21,6 +22,9 @@ LIBRARY ?= $(own_library)
 BYTES_LIBRARY ?= crates/papr_bytes/out/libpapr_bytes.a
 INSTALL ?= install
 VERSION := $(shell cat VERSION)
+own_shared = out/lib/libpapr.so.$(VERSION)
+SHARED ?= $(own_shared)
+soname = libpapr.so.$(firstword $(subst ., ,$(VERSION)))
 
 # Folders, which may have blanks in their names: each stands in double quotes where a shell reads it.
 share = $(DESTDIR)$(PREFIX)/share
@@ -66,7 +70,10 @@ check: all
 $(own_library):
 	tools/build --library
 
-library: $(own_library) bytes-library
+library: $(own_shared) bytes-library
+
+$(own_shared): $(LIBRARY) include/papr.h
+	tools/shared-library $(LIBRARY) $@
 
 # Both prove the crates below first, as ./papr does.
 bytes-library:
@@ -80,21 +87,24 @@ prefix=$(PREFIX)
 libdir=$${prefix}/lib
 includedir=$${prefix}/include
 
-Name: papr_c
+Name: papr
 Description: the hypervisor side of the hashed page table of a paravirtual Power guest, proved
 Version: $(VERSION)
-Libs: -L"$${libdir}" -lpapr_c
+Libs: -L"$${libdir}" -lpapr
 Cflags: -I"$${includedir}"
 endef
 export pc_file
 
 install: install-program install-library
 
-install-library: $(LIBRARY)
+install-library: $(LIBRARY) $(SHARED)
 	$(INSTALL) -d "$(libdir)/pkgconfig" "$(includedir)" "$(exampledir)/c" "$(exampledir)/rust"
-	$(INSTALL) -m 644 $(LIBRARY) "$(libdir)/libpapr_c.a"
+	$(INSTALL) -m 644 $(LIBRARY) "$(libdir)/libpapr.a"
+	$(INSTALL) -m 644 $(SHARED) "$(libdir)/libpapr.so.$(VERSION)"
+	ln -sf libpapr.so.$(VERSION) "$(libdir)/$(soname)"
+	ln -sf libpapr.so.$(VERSION) "$(libdir)/libpapr.so"
 	$(INSTALL) -m 644 include/papr.h "$(includedir)/papr.h"
-	printf '%s\n' "$$pc_file" >"$(libdir)/pkgconfig/papr_c.pc"
+	printf '%s\n' "$$pc_file" >"$(libdir)/pkgconfig/papr.pc"
 	$(INSTALL) -m 644 $(sources_c) "$(exampledir)/c"
 	$(INSTALL) -m 644 $(sources_rust) "$(exampledir)/rust"
 
@@ -136,7 +146,7 @@ uninstall:
 	$(call remove,$(fishdir),papr.fish $(addsuffix .fish,$(commands)))
 	$(call remove,$(tooldir),$(notdir $(tool_files) $(modules)) version __pycache__/*)
 	$(call remove,$(docdir),$(texts) $(documents) $(examples) $(sources_c) $(sources_rust))
-	$(call remove,$(libdir),libpapr_c.a pkgconfig/papr_c.pc)
+	$(call remove,$(libdir),libpapr.a libpapr.so.$(VERSION) $(soname) libpapr.so pkgconfig/papr.pc)
 	$(call remove,$(includedir),papr.h)
 	for folder in "$(exampledir)/c" "$(exampledir)/rust" "$(exampledir)" "$(docdir)/docs" "$(docdir)" \
 	    "$(tooldir)/__pycache__" "$(tooldir)" "$(programdir)"; do rmdir "$$folder" 2>/dev/null || true; done

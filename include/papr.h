@@ -37,6 +37,18 @@
 extern "C" {
 #endif
 
+/* ---- the version */
+
+#define PAPR_VERSION_MAJOR 0
+#define PAPR_VERSION_MINOR 1
+#define PAPR_VERSION_PATCH 0
+
+/* One number, which rises with each version. */
+#define PAPR_VERSION ((PAPR_VERSION_MAJOR << 16) | (PAPR_VERSION_MINOR << 8) | PAPR_VERSION_PATCH)
+
+/* The version of the library, which is PAPR_VERSION where header and library belong together. */
+uint32_t papr_version(void);
+
 /* ---- the table */
 
 /* One entry, in 24 bytes. All zero is an empty entry, so calloc makes an empty table. The calls write
@@ -56,10 +68,15 @@ struct papr_entry {
 /* Return codes, as register 3 has them. */
 enum papr_rc {
     PAPR_H_SUCCESS = 0,
+    PAPR_H_BUSY = 1,            /* not all entries of the pending table are ready */
+    PAPR_H_CLOSED = 2,          /* no table of the order is pending */
+    PAPR_H_LONG_BUSY = 9900,    /* the next entries are ready: call again for the rest */
     PAPR_H_HARDWARE = -1,       /* the entry has changed 2^32 - 1 times, and can't change again */
     PAPR_H_PARAMETER = -4,
     PAPR_H_PTEG_FULL = -6,
-    PAPR_H_NOT_FOUND = -7
+    PAPR_H_NOT_FOUND = -7,
+    PAPR_H_NO_MEM = -9,         /* the memory that is lent isn't that of a table of the order */
+    PAPR_H_RESOURCE = -16       /* the order is above the highest that is allowed */
 };
 
 /* What an entry answered: the number in a receipt. */
@@ -255,6 +272,150 @@ struct papr_rehash {
 struct papr_rehash papr_rehash(const struct papr_entry *entries, size_t count, uint8_t order,
                                struct papr_entry *into, size_t into_count, uint8_t into_order);
 
+/* ---- the resize calls */
+
+/* What is pending between two resize calls. All zero is nothing; the calls write it, and read one that
+ * no call left as nothing. */
+struct papr_resize {
+    uint32_t ready;             /* entries of the pending table that are ready, from the first on */
+    uint8_t order;              /* it has 2^order bytes */
+    bool pending;
+};
+
+/* H_RESIZE_HPT_PREPARE with these flags and this shift, of which `limit` is the highest: makes a table
+ * of 2^shift bytes ready in `into`, 16,384 entries at each call, which are empty then. PAPR_H_SUCCESS
+ * where all are ready, else PAPR_H_LONG_BUSY. PAPR_H_PARAMETER for a flag, or for a shift that is not
+ * 0 nor from 18 to 46, and PAPR_H_RESOURCE for one above the limit or above 22: nothing changes then.
+ * Shift 0 drops what is pending; so does another shift than that of the pending table, and a new one
+ * is begun. PAPR_H_NO_MEM where `into_count` isn't 2^(shift - 4): nothing is pending then. The memory
+ * is lent for the call alone: lend the same at each call up to the commit. */
+int64_t papr_resize_prepare(struct papr_resize *resize, uint8_t limit, uint64_t flags, uint64_t shift,
+                            struct papr_entry *into, size_t into_count);
+
+/* H_RESIZE_HPT_COMMIT with these flags and this shift: carries the bolted entries of the current table
+ * over into the pending one, as papr_rehash does. At PAPR_H_SUCCESS `into` is the current table from
+ * then on, and no cached translation is one any more. At PAPR_H_PTEG_FULL the current table stays. At
+ * both nothing is pending. PAPR_H_PARAMETER for a flag, a shift that is not from 18 to 46, another
+ * order or count of the current table, or an `into_count` that isn't 2^(shift - 4); PAPR_H_CLOSED where
+ * no table of that shift is pending; PAPR_H_BUSY where it isn't ready: nothing changes then. */
+struct papr_rehash papr_resize_commit(struct papr_resize *resize, const struct papr_entry *entries,
+                                      size_t count, uint8_t order, struct papr_entry *into,
+                                      size_t into_count, uint64_t flags, uint64_t shift);
+
+/* ---- segments */
+
+/* One slot of a segment lookaside buffer. All zero is an invalid one. The other fields of a valid one
+ * are as papr_access has them. */
+struct papr_slot {
+    uint64_t esid;              /* upper 36 bits of its addresses; of a segment of 1 TB 24 of them count */
+    uint64_t vsid;
+    uint8_t shift;
+    bool valid;
+    bool one_tb;
+    bool ks;                    /* the key of an access in privileged state */
+    bool kp;                    /* the key of an access in problem state */
+    bool no_execute;
+};
+
+/* The segment lookaside buffer of a processor: a slot for each number that slbmte has. */
+struct papr_slb {
+    struct papr_slot slots[32];
+};
+
+/* What may be wrong with the words of an slbmte. */
+enum papr_slb_refusal {
+    PAPR_SLB_WRITTEN = 0,
+    PAPR_SLB_SLOT = 1,          /* there is no slot of that number */
+    PAPR_SLB_SEGMENT_SIZE = 2,  /* B is neither 0 (256 MB) nor 1 (1 TB) */
+    PAPR_SLB_PAGE_SIZE = 3      /* L and LP are no base page size of such a segment */
+};
+
+/* slbmte: writes the slot that rb names, with the segment that both words describe, or without V in rb
+ * with none. An enum papr_slb_refusal; what is refused changes nothing. */
+uint32_t papr_slb_mte(struct papr_slb *slb, uint64_t rb, uint64_t rs);
+
+/* Makes all 32 slots invalid. */
+void papr_slb_clear(struct papr_slb *slb);
+
+/* The slot of the segment in which an effective address lies: the lowest valid one that has it. Its
+ * `valid` is false where none has. */
+struct papr_slot papr_slb_find(const struct papr_slb *slb, uint64_t ea);
+
+/* ---- DMA windows */
+
+/* In these calls `entries` are those of a window: one for each of its `pages` pages of 4,096 bytes, of
+ * which the first has the bus address `base`. All zero is a window in which nothing is set. There is such
+ * a window where `base` is a multiple of 4,096, `pages` from 1 to 16,384, and the end not above 2^60. */
+
+/* H_PUT_TCE: sets the translation control entry of the page that has the bus address `ioba`, over any
+ * that is there. One that permits neither a read (1) nor a write (2) empties it. No word. Up to two
+ * receipts. PAPR_H_PARAMETER where there is no such window or page, or for an entry whose page no single
+ * grant of main storage holds; PAPR_H_HARDWARE. */
+struct papr_reply papr_put_tce(struct papr_entry *entries, size_t pages, uint64_t base,
+                               const struct papr_grants *grants, uint64_t ioba, uint64_t tce,
+                               struct papr_receipt *receipts, size_t receipts_room);
+
+/* H_GET_TCE: the word is the page's translation control entry, or 0 where none is set.
+ * PAPR_H_PARAMETER where there is no such window or page. */
+struct papr_reply papr_get_tce(struct papr_entry *entries, size_t pages, uint64_t base, uint64_t ioba,
+                               uint64_t *words, size_t words_room, struct papr_receipt *receipts,
+                               size_t receipts_room);
+
+enum papr_device_outcome {
+    PAPR_DEVICE_AT = 0,
+    PAPR_DEVICE_DENIED = 1,     /* the page's entry doesn't permit the access, or none is set */
+    PAPR_DEVICE_NO_WINDOW = 2,  /* the address lies outside the window */
+    PAPR_DEVICE_UNGRANTED = 3,  /* no single grant of main storage holds the page */
+    PAPR_DEVICE_PARAMETER = 4   /* there is no such window */
+};
+
+struct papr_device {
+    uint64_t address;           /* the machine address, at PAPR_DEVICE_UNGRANTED the logical one, else 0 */
+    uint32_t outcome;           /* an enum papr_device_outcome */
+    uint32_t receipts;          /* places filled: never more than 1 */
+};
+
+/* A device's read or write at a bus address, by the page's entry, which stays as it is. */
+struct papr_device papr_device(struct papr_entry *entries, size_t pages, uint64_t base,
+                               const struct papr_grants *grants, uint64_t ioba, bool write,
+                               struct papr_receipt *receipts, size_t receipts_room);
+
+/* ---- entries as bytes */
+
+/* Entries as bytes are 16 each: doubleword 0 and then doubleword 1 with R and C, each with its most
+ * significant byte first. An empty entry is 16 zeros. The layout is that of the Power ISA. */
+enum papr_layout {
+    PAPR_LAYOUT_OLD = 0,        /* version 2.07: B stands in doubleword 0 */
+    PAPR_LAYOUT_NEW = 1         /* version 3.0: B stands in doubleword 1 */
+};
+
+/* Why entries aren't transferred. */
+enum papr_transfer_refusal {
+    PAPR_TRANSFERRED = 0,
+    PAPR_TRANSFER_ARGUMENTS = 1, /* order, count, layout, range, or too few bytes */
+    PAPR_TRANSFER_UNHELD = 2,   /* the layout has no such entry */
+    PAPR_TRANSFER_UNENTERED = 3 /* H_ENTER would refuse it */
+};
+
+struct papr_transfer {
+    size_t index;               /* of the first entry that is refused, else 0 */
+    uint32_t refusal;           /* an enum papr_transfer_refusal */
+};
+
+/* Writes `number` entries of a table from `first` on into the first 16 * number bytes of `out`. Stamps
+ * are left out. Where one is refused nothing is written. */
+struct papr_transfer papr_export(const struct papr_entry *entries, size_t count, uint8_t order,
+                                 uint8_t layout, size_t first, size_t number, uint8_t *out,
+                                 size_t out_size);
+
+/* Reads `number` entries from bytes into a table from `first` on. Each is what H_ENTER stores of its two
+ * doublewords, at stamp 0, or empty where V is clear; what stood there is dropped, and no cached
+ * translation of it is one any more. Where one is refused nothing at all changes: all are tried before
+ * the first is put. */
+struct papr_transfer papr_import(struct papr_entry *entries, size_t count, uint8_t order,
+                                 const struct papr_grants *grants, uint8_t layout, size_t first,
+                                 size_t number, const uint8_t *bytes, size_t bytes_size);
+
 /* ---- the layout of the structs, as the library for x86-64 has it: asserted from C11 and from C++11
  * on */
 
@@ -322,6 +483,28 @@ PAPR_AT(papr_rehash, rc, 0);
 PAPR_AT(papr_rehash, first, 8);
 PAPR_AT(papr_rehash, second, 12);
 PAPR_AT(papr_rehash, target, 16);
+PAPR_SIZE(papr_resize, 8);
+PAPR_AT(papr_resize, ready, 0);
+PAPR_AT(papr_resize, order, 4);
+PAPR_AT(papr_resize, pending, 5);
+PAPR_SIZE(papr_slot, 24);
+PAPR_AT(papr_slot, esid, 0);
+PAPR_AT(papr_slot, vsid, 8);
+PAPR_AT(papr_slot, shift, 16);
+PAPR_AT(papr_slot, valid, 17);
+PAPR_AT(papr_slot, one_tb, 18);
+PAPR_AT(papr_slot, ks, 19);
+PAPR_AT(papr_slot, kp, 20);
+PAPR_AT(papr_slot, no_execute, 21);
+PAPR_SIZE(papr_slb, 768);
+PAPR_AT(papr_slb, slots, 0);
+PAPR_SIZE(papr_device, 16);
+PAPR_AT(papr_device, address, 0);
+PAPR_AT(papr_device, outcome, 8);
+PAPR_AT(papr_device, receipts, 12);
+PAPR_SIZE(papr_transfer, 16);
+PAPR_AT(papr_transfer, index, 0);
+PAPR_AT(papr_transfer, refusal, 8);
 
 #undef PAPR_AT
 #undef PAPR_SIZE

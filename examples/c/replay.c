@@ -3,13 +3,11 @@
  *
  *   replay <TRACE
  *
- * The library has the calls on entries, the walk and the rehash. What an emulator keeps itself is kept
- * here: the segments of each processor (segments.c), and the tables between two resize calls
- * (resizing.c). Nothing is cached: each access is a walk, so where papr writes `hit` this writes `walk`,
- * with the receipts of the whole walk; the answer is the same.
+ * The library has the calls, the walk, the segments and the devices' accesses. What an emulator keeps
+ * itself is kept here: the memory of the tables (resizing.c), and a cache of translations for each processor
+ * (cache.c). Where papr writes `hit` this finds the translation in the cache.
  *
- * A trace is taken to be one that papr accepts: but for its numbers nothing is checked. The library has no
- * DMA windows, so that a trace with a line `window` is refused.
+ * A trace is taken to be one that papr accepts: but for its numbers nothing is checked.
  */
 #include "replay.h"
 
@@ -108,27 +106,53 @@ static const char *refusal_word(uint32_t outcome)
     }
 }
 
+/* The walk of an access. Where its translation is cached, what papr writes is the receipt of its entry, by
+ * which this walk ends too: the walk is made here for what it leaves in R and C. */
 static void access_line(uint64_t cpu, const char *want, uint64_t ea, bool problem)
 {
     struct papr_receipt made[16];
-    struct papr_access access;
-    if (!segment_access(&guest.slb[cpu], ea, problem, &access)) {
+    struct papr_slot segment = papr_slb_find(&guest.slb[cpu], ea);
+    if (!segment.valid) {
         puts("nosegment");
         return;
     }
-    access.amr = guest.amr[cpu];
-    access.iamr = guest.iamr[cpu];
-    access.want = want[0] == 'l' ? 0 : want[0] == 's' ? 1 : 2;
+    struct papr_access access = {
+        .ea = ea, .vsid = segment.vsid, .amr = guest.amr[cpu], .iamr = guest.iamr[cpu],
+        .shift = segment.shift, .want = want[0] == 'l' ? 0 : want[0] == 's' ? 1 : 2,
+        .one_tb = segment.one_tb, .key = problem ? segment.kp : segment.ks,
+        .no_execute = segment.no_execute};
     struct table *t = &guest.current;
+    struct cache *cache = &guest.cache[cpu];
+    bool hit = find_cached(cache, &segment, ea, t->entries);
+    const char *by = hit ? "hit" : "walk";
     struct papr_walk w = papr_walk(t->entries, t->count, t->order, &access, made, 16);
     struct papr_range at = papr_machine_of(&guest.grants, w.logical, 1);
-    if (w.outcome == PAPR_WALK_AT && at.granted)
-        printf("at 0x%" PRIx64 " walk", at.machine);
+    bool allowed = w.outcome == PAPR_WALK_AT && at.granted;
+    if (allowed)
+        printf("at 0x%" PRIx64 " %s", at.machine, by);
     else if (w.outcome == PAPR_WALK_AT)
-        printf("ungranted 0x%" PRIx64 " walk", w.logical);
+        printf("ungranted 0x%" PRIx64 " %s", w.logical, by);
     else
-        printf("%s walk", refusal_word(w.outcome));
-    put_receipts(made, w.receipts);
+        printf("%s %s", refusal_word(w.outcome), by);
+    if (hit)
+        put_receipts(made + w.receipts - 1, 1);
+    else
+        put_receipts(made, w.receipts);
+    if (!hit)
+        after_walk(cache, &segment, ea, allowed, w.entry, t->entries[w.entry].stamp);
+}
+
+static void device_line(uint64_t liobn, uint64_t ioba, bool write)
+{
+    struct papr_receipt made[16];
+    struct papr_device d = access_device(&guest, liobn, ioba, write, made);
+    if (d.outcome == PAPR_DEVICE_AT)
+        printf("at 0x%" PRIx64, d.address);
+    else if (d.outcome == PAPR_DEVICE_UNGRANTED)
+        printf("ungranted 0x%" PRIx64, d.address);
+    else
+        printf("%s", d.outcome == PAPR_DEVICE_DENIED ? "denied" : "nowindow");
+    put_receipts(made, d.receipts);
 }
 
 /* A call on entries by its number; false where the number is none of them. */
@@ -176,7 +200,7 @@ static void call_line(uint64_t number, const uint64_t *a)
         else if (number == H_RESIZE_HPT_COMMIT)
             r.rc = commit(&guest, a[0], a[1]);
         else if (number == H_GET_TCE || number == H_PUT_TCE)
-            r.rc = -4; /* there is no DMA window */
+            r = call_window(&guest, number, a, words, made);
     }
     printf("%" PRId64, r.rc);
     for (uint32_t i = 0; i < r.words; i++)
@@ -209,9 +233,9 @@ static void run_line(unsigned long n, const struct line *l)
     uint64_t cpu = l->value[0];
     printf("%" PRIu64 " %s ", cpu, name);
     if (!strcmp(name, "slbmte"))
-        puts(slbmte(&guest.slb[cpu], l->value[2], l->value[3]) ? "ok" : "refused");
+        puts(papr_slb_mte(&guest.slb[cpu], l->value[2], l->value[3]) ? "refused" : "ok");
     else if (!strcmp(name, "slbclear"))
-        memset(&guest.slb[cpu], 0, sizeof guest.slb[cpu]), puts("ok");
+        papr_slb_clear(&guest.slb[cpu]), puts("ok");
     else if (!strcmp(name, "amr"))
         guest.amr[cpu] = l->value[2], puts("ok");
     else if (!strcmp(name, "iamr"))
@@ -219,7 +243,7 @@ static void run_line(unsigned long n, const struct line *l)
     else if (!strcmp(name, "load") || !strcmp(name, "store") || !strcmp(name, "fetch"))
         access_line(cpu, name, l->value[2], !strcmp(l->word[3], "user"));
     else if (!strcmp(name, "dmaread") || !strcmp(name, "dmawrite"))
-        puts("nowindow");
+        device_line(l->value[2], l->value[3], name[3] == 'w');
     else if (!strcmp(name, "hcall"))
         call_line(l->value[2], l->value + 3);
     else
@@ -262,6 +286,8 @@ static bool set_line(const struct line *l)
         guest.given[guest.given_count++] = (struct papr_grant){v[0], v[1], v[2], name[0] == 'i'};
     else if (!strcmp(name, "entry"))
         return entry_line(l);
+    else if (!strcmp(name, "window"))
+        return open_window(&guest, v[0], v[1], v[2]);
     else if (!strcmp(name, "begin"))
         return papr_make_grants(guest.given, guest.given_count, guest.pool_base, guest.pool_order,
                                 &guest.grants).refusal == PAPR_GRANTED &&
@@ -285,11 +311,6 @@ static int replay(char *text)
             free(lines);
             return 2;
         }
-        if (lines[n].words && !strcmp(lines[n].word[0], "window")) {
-            fprintf(stderr, "replay: line %lu: the library has no DMA windows\n", n + 1);
-            free(lines);
-            return 2;
-        }
     }
     int status = 0;
     for (unsigned long n = 0; n < count && !status; n++) {
@@ -310,6 +331,7 @@ int main(void)
     char *text = read_all();
     int status = text ? replay(text) : 5;
     close_tables(&guest);
+    close_windows(&guest);
     free(text);
     return status;
 }

@@ -2,8 +2,7 @@
 #include "replay.h"
 
 #include <stdlib.h>
-
-#define READY_A_CALL 16384
+#include <string.h>
 
 static bool meets(uint64_t place, uint64_t size, const struct table *t)
 {
@@ -35,42 +34,36 @@ void close_tables(struct guest *guest)
     close_table(&guest->pending);
 }
 
+/* The pending table is in the library's hands while it is prepared: here is its memory alone. */
 int64_t prepare(struct guest *guest, uint64_t flags, uint64_t shift)
 {
-    struct table *pending = &guest->pending;
-    if (flags || (shift && (shift < 18 || shift > 46)))
-        return PAPR_H_PARAMETER;
-    if (shift > guest->limit)
-        return -16;
-    if (shift != pending->order)
+    struct table *pending = &guest->pending, none = {0};
+    bool is_order = !flags && shift >= 18 && shift <= guest->limit;
+    if (is_order && pending->order != shift) {
         close_table(pending);
-    if (!shift)
-        return PAPR_H_SUCCESS;
-    if (!pending->entries && !open_table(guest, pending, (uint8_t)shift))
-        return -9;
-    size_t left = pending->count - pending->ready;
-    pending->ready += left < READY_A_CALL ? left : READY_A_CALL;
-    return pending->ready == pending->count ? PAPR_H_SUCCESS : 9900;
+        open_table(guest, pending, (uint8_t)shift);
+    }
+    struct table *lent = is_order ? pending : &none;
+    int64_t rc = papr_resize_prepare(&guest->resize, (uint8_t)guest->limit, flags, shift, lent->entries,
+                                     lent->count);
+    if (!guest->resize.pending)
+        close_table(pending);
+    return rc;
 }
 
 int64_t commit(struct guest *guest, uint64_t flags, uint64_t shift)
 {
     struct table *current = &guest->current, *pending = &guest->pending;
-    if (flags || shift < 18 || shift > 46)
-        return PAPR_H_PARAMETER;
-    if (!pending->entries || pending->order != shift)
-        return 2;
-    if (pending->ready != pending->count)
-        return 1;
-    struct papr_rehash r = papr_rehash(current->entries, current->count, current->order,
-                                       pending->entries, pending->count, pending->order);
-    if (r.rc != PAPR_H_SUCCESS) {
+    struct papr_rehash r = papr_resize_commit(&guest->resize, current->entries, current->count, current->order,
+                                              pending->entries, pending->count, flags, shift);
+    if (r.rc == PAPR_H_SUCCESS) {
+        close_table(current);
+        *current = *pending;
+        *pending = (struct table){0};
+        guest->number++;
+        memset(guest->cache, 0, sizeof guest->cache);
+    } else if (!guest->resize.pending) {
         close_table(pending);
-        return r.rc;
     }
-    close_table(current);
-    *current = *pending;
-    *pending = (struct table){0};
-    guest->number++;
-    return PAPR_H_SUCCESS;
+    return r.rc;
 }

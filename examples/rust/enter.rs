@@ -15,7 +15,7 @@ struct Receipt { dword0: u64, dword1: u64, entry: u32, stamp: u32, bits: u8, ans
 #[repr(C)]
 struct Reply { rc: i64, words: u32, receipts: u32 }
 
-#[link(name = "papr_c", kind = "static")]
+#[link(name = "papr", kind = "static")]
 extern "C" {
     fn papr_make_grants(given: *const Grant, count: usize, base: u64, order: u8, list: *mut Grants) -> Making;
     fn papr_h_enter(entries: *mut Entry, count: usize, order: u8, grants: *const Grants, flags: u64, ptex: u64,

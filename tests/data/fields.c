@@ -209,6 +209,162 @@ static int rehash(void)
     return 0;
 }
 
+/* A table that is made ready in two calls, each refusal in its order, and the commit. */
+static int resize(void)
+{
+    enum { LARGE_ORDER = 19, LARGE = 1 << 15 };
+    struct papr_entry *from = calloc(COUNT, sizeof *from), *into = malloc(LARGE * sizeof *into);
+    struct papr_resize r = {0};
+    struct papr_rehash made;
+    if (!from || !into)
+        return 1;
+    memset(into, 0x11, LARGE * sizeof *into);
+    for (size_t at = 0; at < LARGE; at++)
+        into[at].valid = into[at].referenced = into[at].changed = false;
+    REPLY(papr_h_enter(from, COUNT, ORDER, &list, PAPR_EXACT, 0x23, 0x1091, 0x3012, ROOM), PAPR_H_SUCCESS, 1, 1);
+    IS(papr_resize_prepare(&r, 20, 1, LARGE_ORDER, into, LARGE), PAPR_H_PARAMETER);
+    IS(papr_resize_prepare(&r, 20, 0, 17, into, LARGE), PAPR_H_PARAMETER);
+    IS(papr_resize_prepare(&r, 20, 0, 21, into, LARGE), PAPR_H_RESOURCE);
+    IS(papr_resize_prepare(&r, 46, 0, 23, into, LARGE), PAPR_H_RESOURCE);
+    IS(papr_resize_prepare(&r, 20, 0, LARGE_ORDER, into, LARGE), PAPR_H_LONG_BUSY);
+    IS(r.ready, 16384);
+    IS(r.order, LARGE_ORDER);
+    IS(r.pending, true);
+    ENTRY(into[16383], 0, 0, 0, false, false, false);
+    IS(into[16384].dword0, UINT64_C(0x1111111111111111));
+    made = papr_resize_commit(&r, from, COUNT, ORDER, into, LARGE, 0, LARGE_ORDER);
+    IS(made.rc, PAPR_H_BUSY);
+    made = papr_resize_commit(&r, from, COUNT, ORDER, into, LARGE, 0, 20);
+    IS(made.rc, PAPR_H_CLOSED);
+    made = papr_resize_commit(&r, from, COUNT, ORDER, into, LARGE, 1, LARGE_ORDER);
+    IS(made.rc, PAPR_H_PARAMETER);
+    IS(papr_resize_prepare(&r, 20, 0, LARGE_ORDER, into, LARGE), PAPR_H_SUCCESS);
+    IS(r.ready, LARGE);
+    made = papr_resize_commit(&r, from, COUNT, ORDER, into, LARGE - 1, 0, LARGE_ORDER);
+    IS(made.rc, PAPR_H_PARAMETER);
+    made = papr_resize_commit(&r, from, COUNT, ORDER, into, LARGE, 0, LARGE_ORDER);
+    IS(made.rc, PAPR_H_SUCCESS);
+    ENTRY(into[0x4023], 0x1091, 0x3012, 0, true, false, false);
+    IS(r.pending, false);
+    made = papr_resize_commit(&r, from, COUNT, ORDER, into, LARGE, 0, LARGE_ORDER);
+    IS(made.rc, PAPR_H_CLOSED);
+    IS(papr_resize_prepare(&r, 20, 0, LARGE_ORDER, into, LARGE), PAPR_H_LONG_BUSY);
+    IS(papr_resize_prepare(&r, 20, 0, 20, into, LARGE), PAPR_H_NO_MEM);
+    IS(r.pending, false);
+    IS(papr_resize_prepare(&r, 20, 0, 0, NULL, 0), PAPR_H_SUCCESS);
+    free(from);
+    free(into);
+    return 0;
+}
+
+static void is_transfer(int line, struct papr_transfer made, size_t index, uint32_t refusal)
+{
+    is(line, "index", made.index, index);
+    is(line, "refusal", made.refusal, refusal);
+}
+#define TRANSFER(call, index, refusal) is_transfer(__LINE__, call, index, refusal)
+
+/* Entries as bytes in both layouts, and what is refused of them. */
+static void transfers(void)
+{
+    static const uint8_t old[32] = {[6] = 0x10, [7] = 0x01, [14] = 0x31, [15] = 0x92,
+                                    [16] = 0x40, [20] = 0x01, [23] = 0x01, [30] = 0x60, [31] = 0x10};
+    static struct papr_entry mine[COUNT];
+    uint8_t bytes[40], other[32];
+    memset(mine, 0, sizeof mine);
+    memset(bytes, 0x55, sizeof bytes);
+    TRANSFER(papr_import(mine, COUNT, ORDER, &list, PAPR_LAYOUT_OLD, 0x22, 2, old, 32), 0, PAPR_TRANSFERRED);
+    ENTRY(mine[0x22], 0x1001, 0x3012, 0, true, true, true);
+    ENTRY(mine[0x23], UINT64_C(0x4000000001000001), 0x6010, 0, true, false, false);
+    TRANSFER(papr_export(mine, COUNT, ORDER, PAPR_LAYOUT_OLD, 0x22, 2, bytes, 40), 0, PAPR_TRANSFERRED);
+    IS(memcmp(bytes, old, 32), 0);
+    IS(bytes[32], 0x55);
+    TRANSFER(papr_export(mine, COUNT, ORDER, PAPR_LAYOUT_NEW, 0x22, 2, other, 32), 0, PAPR_TRANSFERRED);
+    IS(memcmp(other, old, 16), 0);
+    IS(other[16], 0);
+    IS(other[24], 0x04);
+    TRANSFER(papr_import(mine, COUNT, ORDER, &list, PAPR_LAYOUT_NEW, 0x30, 2, other, 32), 0, PAPR_TRANSFERRED);
+    ENTRY(mine[0x31], UINT64_C(0x4000000001000001), 0x6010, 0, true, false, false);
+    TRANSFER(papr_import(mine, COUNT, ORDER, &list, PAPR_LAYOUT_NEW, 0x40, 2, old, 32), 0x41,
+             PAPR_TRANSFER_UNHELD);
+    IS(mine[0x40].valid, false);
+    memcpy(other, old, 32);
+    other[15] = 0x11;               /* W, I, M and G of 2 alone suit main storage */
+    other[31] = 0x38;
+    TRANSFER(papr_import(mine, COUNT, ORDER, &list, PAPR_LAYOUT_OLD, 0x40, 2, other, 32), 0x41,
+             PAPR_TRANSFER_UNENTERED);
+    IS(mine[0x40].valid, false);
+    TRANSFER(papr_import(mine, COUNT, ORDER, &list, 2, 0x40, 2, old, 32), 0, PAPR_TRANSFER_ARGUMENTS);
+    TRANSFER(papr_import(mine, COUNT, ORDER, &list, 0, COUNT - 1, 2, old, 32), 0, PAPR_TRANSFER_ARGUMENTS);
+    TRANSFER(papr_export(mine, COUNT, ORDER, 0, 0, 2, other, 31), 0, PAPR_TRANSFER_ARGUMENTS);
+    TRANSFER(papr_export(mine, COUNT, ORDER, 0, 0, SIZE_MAX, other, 32), 0, PAPR_TRANSFER_ARGUMENTS);
+    mine[0x22].dword0 |= UINT64_C(1) << 52;
+    TRANSFER(papr_export(mine, COUNT, ORDER, PAPR_LAYOUT_NEW, 0x21, 2, bytes, 40), 0x22, PAPR_TRANSFER_UNHELD);
+}
+
+/* A segment of 256 MB in slot 3, and one of 1 TB in slot 1. */
+static void segments(void)
+{
+    static struct papr_slb slb;
+    IS(papr_slb_mte(&slb, 0x18000003, 0x5e10), PAPR_SLB_PAGE_SIZE);
+    IS(papr_slb_mte(&slb, 0x18000003, UINT64_C(0x8000000000005e00)), PAPR_SLB_SEGMENT_SIZE);
+    IS(papr_slb_mte(&slb, 0x18000020, 0x5e00), PAPR_SLB_SLOT);
+    IS(papr_slb_mte(&slb, 0x18000003, 0x5d00), PAPR_SLB_WRITTEN);
+    struct papr_slot found = papr_slb_find(&slb, 0x12345678);
+    IS(found.valid, true);
+    IS(found.esid, 1);
+    IS(found.vsid, 5);
+    IS(found.shift, 24);
+    IS(found.one_tb, false);
+    IS(found.ks, true);
+    IS(found.kp, true);
+    IS(found.no_execute, false);
+    IS(papr_slb_find(&slb, 0x2345678).valid, false);
+    IS(papr_slb_mte(&slb, UINT64_C(0x0000010008000001), UINT64_C(0x4000000007000a00)), PAPR_SLB_WRITTEN);
+    found = papr_slb_find(&slb, UINT64_C(0x1ffffffffff));
+    IS(found.one_tb, true);
+    IS(found.vsid, 7);
+    IS(found.shift, 12);
+    IS(found.ks, true);
+    IS(found.kp, false);
+    IS(found.no_execute, true);
+    IS(papr_slb_mte(&slb, 3, 0), PAPR_SLB_WRITTEN);
+    IS(papr_slb_find(&slb, 0x12345678).valid, false);
+    papr_slb_clear(&slb);
+    IS(papr_slb_find(&slb, UINT64_C(0x1ffffffffff)).valid, false);
+}
+
+static void is_device(int line, struct papr_device d, uint64_t address, uint32_t outcome, uint32_t made)
+{
+    is(line, "address", d.address, address);
+    is(line, "outcome", d.outcome, outcome);
+    is(line, "receipts", d.receipts, made);
+}
+#define DEVICE(call, address, outcome, made) is_device(__LINE__, call, address, outcome, made)
+
+/* A window of three pages: its calls, and what a device reaches by it. */
+static void windows(void)
+{
+    static struct papr_entry pages[3];
+    const uint64_t base = 0x7000;
+    REPLY(papr_put_tce(pages, 3, base, &list, 0x8123, 0x4001, receipts, RECEIPTS), PAPR_H_SUCCESS, 0, 2);
+    RECEIPT(receipts[0], 0, 0, 1, 0, 0, PAPR_NOTFOUND);
+    RECEIPT(receipts[1], 0, 0, 1, 0, 0, PAPR_ENTERED);
+    REPLY(papr_get_tce(pages, 3, base, 0x8000, ROOM), PAPR_H_SUCCESS, 1, 1);
+    IS(words[0], 0x4001);
+    DEVICE(papr_device(pages, 3, base, &list, 0x8123, false, receipts, RECEIPTS), 0x2000004123, PAPR_DEVICE_AT, 1);
+    DEVICE(papr_device(pages, 3, base, &list, 0x8123, true, receipts, RECEIPTS), 0, PAPR_DEVICE_DENIED, 1);
+    DEVICE(papr_device(pages, 3, base, &list, 0xa000, true, receipts, RECEIPTS), 0, PAPR_DEVICE_NO_WINDOW, 0);
+    DEVICE(papr_device(pages, 3, 0x7001, &list, 0x8000, true, receipts, RECEIPTS), 0, PAPR_DEVICE_PARAMETER, 0);
+    const struct papr_grants none = {0};
+    DEVICE(papr_device(pages, 3, base, &none, 0x8123, false, receipts, RECEIPTS), 0x4123, PAPR_DEVICE_UNGRANTED, 1);
+    REPLY(papr_put_tce(pages, 3, base, &list, 0x8000, 0x100001, receipts, RECEIPTS), PAPR_H_PARAMETER, 0, 0);
+    REPLY(papr_put_tce(pages, 3, base, &list, 0x6000, 0x4001, receipts, RECEIPTS), PAPR_H_PARAMETER, 0, 0);
+    REPLY(papr_get_tce(pages, 0, base, base, ROOM), PAPR_H_PARAMETER, 0, 0);
+    REPLY(papr_put_tce(pages, 3, base, &list, 0x8000, 0, receipts, RECEIPTS), PAPR_H_SUCCESS, 0, 1);
+    IS(pages[1].valid, false);
+}
+
 int main(void)
 {
     grants();
@@ -216,5 +372,9 @@ int main(void)
     walk();
     other_pages();
     calls();
-    return rehash() || failures;
+    transfers();
+    segments();
+    windows();
+    IS(papr_version(), PAPR_VERSION);
+    return rehash() || resize() || failures;
 }

@@ -138,10 +138,13 @@ class Installed(BuildTest):
             if tool.is_file() and not (self.checkout.top / "tools" / tool.name).exists():
                 shutil.copy(tool, self.checkout.top / "tools")
         self.tree = self.folder / "tree"
+        # An archive of the stand-in has no objects of which a shared one could be made.
+        self.shared = self.folder / "libpapr.so"
+        self.shared.touch()
 
     def make(self, *words: str) -> Ran:
         """Runs make in the checkout, whose program ends with status 0."""
-        words = ("-s", "-C", str(self.checkout.top), f"DESTDIR={self.tree}", "PREFIX=/usr", *words)
+        words = ("-s", "-C", str(self.checkout.top), f"DESTDIR={self.tree}", "PREFIX=/usr", f"SHARED={self.shared}", *words)
         return run("make", *words, environment=self.checkout.environment(ENDS="0"))
 
     def test_program_and_library_are_built_where_they_are_missing_or_older(self) -> None:
@@ -149,7 +152,7 @@ class Installed(BuildTest):
         self.assert_same_file(self.tree / "usr/libexec/papr/papr", self.checkout.program)
         version = (self.tree / "usr/share/papr/version").read_text().splitlines()
         self.assertEqual(version[2], "a kit")
-        self.assert_same_file(self.tree / "usr/lib/libpapr_c.a", self.checkout.archive)
+        self.assert_same_file(self.tree / "usr/lib/libpapr.a", self.checkout.archive)
         self.assertEqual(len(self.checkout.compilers()), len({*IN_PROGRAM, *IN_LIBRARY}))
         self.assert_ran(self.make("install"))
         self.checkout.times.unlink()
@@ -161,7 +164,7 @@ class Installed(BuildTest):
 
     def test_the_library_alone(self) -> None:
         self.assert_ran(self.make("install-library"), err=None)
-        self.assert_same_file(self.tree / "usr/lib/libpapr_c.a", self.checkout.archive)
+        self.assert_same_file(self.tree / "usr/lib/libpapr.a", self.checkout.archive)
         self.assertFalse(self.checkout.program.exists())
 
     def test_make_builds_it_once(self) -> None:

@@ -31,8 +31,14 @@ STRUCTS = {
     "PaprAccess": "papr_access",
     "PaprWalk": "papr_walk",
     "PaprRehash": "papr_rehash",
+    "PaprResize": "papr_resize",
+    "PaprSlot": "papr_slot",
+    "PaprSlb": "papr_slb",
+    "PaprDevice": "papr_device",
+    "PaprTransfer": "papr_transfer",
 }
 FUNCTIONS = (
+    "papr_version",
     "papr_make_grants",
     "papr_machine_of",
     "papr_h_enter",
@@ -44,7 +50,19 @@ FUNCTIONS = (
     "papr_h_bulk_remove",
     "papr_walk",
     "papr_rehash",
+    "papr_resize_prepare",
+    "papr_resize_commit",
+    "papr_slb_mte",
+    "papr_slb_clear",
+    "papr_slb_find",
+    "papr_put_tce",
+    "papr_get_tce",
+    "papr_device",
+    "papr_export",
+    "papr_import",
 )
+# Their entries are those of a window.
+OF_WINDOWS = ("papr_put_tce", "papr_get_tce", "papr_device")
 SCALARS = {
     "u8": "uint8_t",
     "u32": "uint32_t",
@@ -55,6 +73,9 @@ SCALARS = {
 }
 WIDTHS = {"uint8_t": 1, "uint32_t": 4, "uint64_t": 8, "int64_t": 8, "size_t": 8, "bool": 1}  # in bytes
 
+# The parts of a version.
+PARTS = ("MAJOR", "MINOR", "PATCH")
+
 # How the header names the count behind a slice.
 COUNTS = {
     "entries": "count",
@@ -63,11 +84,13 @@ COUNTS = {
     "given": "given_count",
     "pairs": "pairs_count",
     "into": "into_count",
+    "out": "out_size",
+    "bytes": "bytes_size",
 }
 
 # A struct of the sources with its attributes, and a function for C.
 STRUCT = re.compile(r"((?:#\[[^\n]*\]\s*)*)pub struct (\w+) \{(.*?)\n\}", re.DOTALL)
-EXTERN = re.compile(r"(#\[unsafe\(no_mangle\)\]\s*)?pub extern \"C\" fn (\w+)\(([^()]*)\) -> (\w+)")
+EXTERN = re.compile(r"(#\[unsafe\(no_mangle\)\]\s*)?pub extern \"C\" fn (\w+)\(([^()]*)\)(?: -> (\w+))?")
 
 Named = tuple[str, str]  # a name and its type in C
 
@@ -115,8 +138,9 @@ class Header:
         for name, body in re.findall(r"\bstruct (\w+) \{(.*?)\};", text, re.DOTALL):
             self.structs[name] = Struct([declared(field) for field in body.split(";") if field.strip()])
         self.functions: dict[str, Function] = {}
-        for result, name, given in re.findall(r"^(struct \w+) (\w+)\(([^()]*)\);", text, re.MULTILINE):
-            self.functions[name] = Function([declared(it) for it in given.split(",")], result)
+        for result, name, given in re.findall(r"^(struct \w+|\w+) (\w+)\(([^()]*)\);", text, re.MULTILINE):
+            parameters = [] if given == "void" else given.split(",")
+            self.functions[name] = Function([declared(it) for it in parameters], result)
         self.enums: dict[str, dict[str, int]] = {}
         for name, body in re.findall(r"\benum (\w+) \{(.*?)\};", text, re.DOTALL):
             members = re.findall(r"(\w+) = (-?[0-9]+)", body)
@@ -127,6 +151,8 @@ class Header:
         self.places = {(name, field): int(place) for name, field, place in places}
         defined = re.findall(r"^#define (PAPR_\w+)\s+UINT64_C\((0x[0-9A-F]+)\)", text, re.MULTILINE)
         self.flags = {name: int(value, 16) for name, value in defined}
+        parts = dict(re.findall(r"^#define PAPR_VERSION_(\w+) ([0-9]+)$", text, re.MULTILINE))
+        self.version = [int(parts[name]) for name in PARTS]
 
 
 def split_outside(text: str) -> list[str]:
@@ -171,8 +197,10 @@ class Sources:
         for exported, name, given, result in EXTERN.findall(text):
             parameters = [it.split(": ", 1) for it in split_outside(given)]
             named = [pair for it in parameters for pair in in_c(it[0].removeprefix("_"), it[1])]
+            if name in OF_WINDOWS:
+                named[1] = ("pages", named[1][1])
             symbol = name if exported else f"{name}, not exported"
-            self.functions[symbol] = Function(named, of_value(result))
+            self.functions[symbol] = Function(named, of_value(result) if result else "void")
         self.text = text
 
     def numbers(self, pattern: str) -> dict[str, int]:
@@ -265,14 +293,44 @@ class Constants(ToolTest):
 
     def test_the_numbers_of_outcomes_are_those_of_the_sources(self) -> None:
         numbers = sources().numbers(r"\bconst (\w+): u32 = ([0-9]+);")
+        for name in PARTS:
+            del numbers[name]
         numbers["AT"], numbers["PARAMETER"] = numbers.pop("ALLOWED"), numbers.pop("REFUSED")
         expected = {f"PAPR_WALK_{it}": n for it, n in numbers.items()}
         self.assertEqual(header().enums["papr_outcome"], expected)
 
+    def test_the_numbers_of_refused_transfers_are_those_of_the_sources(self) -> None:
+        numbers = sources().numbers(r"\bRefusal::(\w+) => ([0-9]+),")
+        expected = {"PAPR_TRANSFERRED": 0}
+        expected.update({f"PAPR_TRANSFER_{in_capitals(it)}": n for it, n in numbers.items()})
+        self.assertEqual(header().enums["papr_transfer_refusal"], expected)
+
+    def test_the_numbers_of_devices_outcomes_are_those_of_the_sources(self) -> None:
+        numbers = sources().numbers(r"\bDeviceOutcome::(\w+)(?:\(\w+\))? => \(\w+, ([0-9]+)\),")
+        expected = {f"PAPR_DEVICE_{in_capitals(it)}": n for it, n in numbers.items()}
+        self.assertEqual(header().enums["papr_device_outcome"], {**expected, "PAPR_DEVICE_PARAMETER": 4})
+
+    def test_the_numbers_of_refused_slots_are_those_of_the_sources(self) -> None:
+        numbers = sources().numbers(r"\bBadSlb::(\w+) => ([0-9]+),")
+        expected = {"PAPR_SLB_WRITTEN": 0}
+        expected.update({f"PAPR_SLB_{in_capitals(it)}": n for it, n in numbers.items()})
+        self.assertEqual(header().enums["papr_slb_refusal"], expected)
+
+    def test_the_numbers_of_layouts_are_those_of_the_sources(self) -> None:
+        numbers = re.findall(r"\b([0-9]+) => Some\(Layout::(\w+)\),", sources().text)
+        expected = {f"PAPR_LAYOUT_{in_capitals(it)}": int(n) for n, it in numbers}
+        self.assertEqual(header().enums["papr_layout"], expected)
+
+    def test_the_version_is_that_of_the_sources_and_of_the_file(self) -> None:
+        numbers = sources().numbers(r"\bconst (\w+): u32 = ([0-9]+);")
+        version = [numbers[name] for name in PARTS]
+        self.assertEqual(header().version, version)
+        self.assertEqual(text_of(TOP / "VERSION").strip(), ".".join(map(str, version)))
+
     def test_the_return_codes_are_those_of_the_sources(self) -> None:
         codes = sources().numbers(r"\bRc::(\w+) => (-?[0-9]+),")
         told = {f"PAPR_H_{in_capitals(it)}": n for it, n in codes.items()}
-        mine = ("Success", "Hardware", "Parameter", "PtegFull", "NotFound")
+        mine = tuple(name for name in codes if name != "Function")
         expected = {name: told[name] for name in (f"PAPR_H_{in_capitals(it)}" for it in mine)}
         self.assertEqual(header().enums["papr_rc"], expected)
 
@@ -288,7 +346,7 @@ class Functions(ToolTest):
 
     @for_each(*FUNCTIONS)
     def test_the_parameters_and_the_result_of_are_those_of_the_sources(self, name: str) -> None:
-        self.assertTrue(header().functions[name].parameters)
+        self.assertEqual(bool(header().functions[name].parameters), name != "papr_version")
         self.assertEqual(header().functions[name], sources().functions[name])
 
     def test_neither_has_another_function(self) -> None:
@@ -307,6 +365,11 @@ SWAPPED = (
     ("papr_walk", "entry", "receipts"),
     ("papr_access", "amr", "iamr"),
     ("papr_reply", "words", "receipts"),
+    ("papr_transfer", "index", "refusal"),
+    ("papr_slot", "ks", "kp"),
+    ("papr_slb_mte", "rb", "rs"),
+    ("papr_resize_prepare", "flags", "shift"),
+    ("papr_export", "first", "number"),
     ("papr_h_remove", "ptex", "avpn"),
     ("papr_h_clear_ref", "_flags", "ptex"),
 )

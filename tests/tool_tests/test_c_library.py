@@ -15,9 +15,8 @@ from .support import DATA, EXAMPLES, LIBRARY, TOP, ToolTest, for_each, needs, ne
 INCLUDE = TOP / "include"
 STRICT = ("-Wall", "-Wextra", "-Werror", f"-I{INCLUDE}")
 TRACES = sorted(EXAMPLES.glob("*.trace"))
-WINDOW = re.compile(r"^window ", re.MULTILINE)
-REPLAYED = [path.stem for path in TRACES if not WINDOW.search(path.read_text(encoding="latin-1"))]
-REFUSED = [path.stem for path in TRACES if path.stem not in REPLAYED]
+VERSION = (TOP / "VERSION").read_text(encoding="ascii").strip()
+REPLAYED = [path.stem for path in TRACES]
 
 # The sizes that the library was built with.
 SIZES = """\
@@ -38,12 +37,6 @@ valid: 1
 """
 
 
-def answer(reply: str) -> tuple[str, list[str]]:
-    """What a walk answers, and its last receipt; a hit is read as a walk."""
-    told, _, receipts = reply.replace(" hit", " walk").partition(" | ")
-    return told, receipts.split()[-1:]
-
-
 class Header(ToolTest):
     """The header stands by itself, and its structs have the library's sizes."""
 
@@ -54,18 +47,58 @@ class Header(ToolTest):
         self.assert_ran(run(compiler, standard, *STRICT, "-Wpedantic", "-fsyntax-only", source))
 
     @needs("cc")
-    def test_the_header_by_itself_in_c(self) -> None:
-        self.assert_compiles("cc", "-std=c11", "alone.c")
+    @for_each("c11", "c17")
+    def test_the_header_by_itself_in(self, standard: str) -> None:
+        self.assert_compiles("cc", f"-std={standard}", "alone.c")
 
     @needs("c++")
-    def test_the_header_by_itself_in_cpp(self) -> None:
-        self.assert_compiles("c++", "-std=c++11", "alone.cc")
+    @for_each("c++11", "c++17")
+    def test_the_header_by_itself_in_cpp(self, standard: str) -> None:
+        self.assert_compiles("c++", f"-std={standard}", "alone.cc")
 
     @needs("cc")
     def test_the_header_in_c99(self) -> None:
         source = self.folder / "old.c"
         source.write_text("#include <papr.h>\nint of_entry[sizeof(struct papr_entry)];\n", encoding="ascii")
         self.assert_ran(run("cc", "-std=c99", *STRICT, "-Wpedantic", "-fsyntax-only", source))
+
+
+@needs("cc", "nm", "readelf")
+@needs_library
+class Shared(ToolTest):
+    """The shared object, made of the archive."""
+
+    shared: ClassVar[Path]
+
+    @classmethod
+    def setUpClass(cls) -> None:
+        """Makes it, once for the class."""
+        super().setUpClass()
+        work = tempfile.TemporaryDirectory(prefix="papr-shared-")
+        cls.addClassCleanup(work.cleanup)
+        cls.shared = Path(work.name) / f"libpapr.so.{VERSION}"
+        ran = run(TOP / "tools" / "shared-library", LIBRARY, cls.shared)
+        if (ran.status, ran.err) != (0, ""):
+            raise OSError(f"the shared object isn't made: {ran.err}")
+
+    def test_it_exports_the_functions_of_the_header_and_nothing_else(self) -> None:
+        told = run("nm", "-D", "--defined-only", self.shared).out.split("\n")
+        declared = re.findall(r"\b(papr_[a-z_0-9]+)\(", (INCLUDE / "papr.h").read_text(encoding="ascii"))
+        self.assertEqual([line.split()[1:] for line in told if line], [["T", name] for name in sorted(set(declared))])
+
+    def test_its_name_is_that_of_its_major_version(self) -> None:
+        told = run("readelf", "-d", self.shared).out
+        soname = f"libpapr.so.{VERSION.split('.')[0]}"
+        self.assertEqual(re.findall(r"\(SONAME\).*\[(.*)\]", told), [soname])
+        self.assertEqual((self.shared.parent / soname).resolve(), self.shared.resolve())
+
+    def test_a_program_finds_each_field_where_its_call_puts_it(self) -> None:
+        program = self.folder / "fields"
+        folder = self.shared.parent
+        words = ("-std=c11", *STRICT, "-o", program, DATA / "fields.c", f"-L{folder}", "-lpapr")
+        self.assert_ran(run("cc", *words, f"-Wl,-rpath,{folder}"))
+        self.assert_ran(run(program))
+        self.assertIn(f"libpapr.so.{VERSION.split('.')[0]}", run("readelf", "-d", program).out)
 
 
 @needs("cc")
@@ -92,26 +125,9 @@ class Replayer(ToolTest):
 
     @for_each(*REPLAYED)
     def test_what_it_writes_is_what_papr_writes_of(self, name: str) -> None:
-        """Where papr hit a cached line the replayer walks, with the same answer and last receipt."""
-        ran = run(self.replayer, given=EXAMPLES / f"{name}.trace")
-        papr = (EXAMPLES / f"{name}.replies").read_text(encoding="ascii").splitlines()
-        self.assert_ran(ran, out=None, status=2 if papr[0].startswith("papr: ") else 0)
-        replayed = ran.out.splitlines()
-        self.assertEqual(len(papr), len(replayed))
-        for reply, mine in zip(papr, replayed):
-            if " hit" in reply:
-                self.assertEqual(answer(mine), answer(reply))
-            else:
-                self.assertEqual(mine, reply)
-
-    @for_each(*REFUSED)
-    def test_before_a_reply_it_refuses_the_windows_of(self, name: str) -> None:
-        """The library has no DMA windows."""
-        trace = (EXAMPLES / f"{name}.trace").read_text(encoding="ascii")
-        found = WINDOW.search(trace)
-        line = trace.count("\n", 0, found.start() if found else 0) + 1
-        message = f"replay: line {line}: the library has no DMA windows"
-        self.assert_refused(run(self.replayer, given=trace), message)
+        replies = (EXAMPLES / f"{name}.replies").read_text(encoding="ascii")
+        status = 2 if replies.startswith("papr: ") else 0
+        self.assert_ran(run(self.replayer, given=EXAMPLES / f"{name}.trace"), replies, status=status)
 
     @needs("xz")
     def test_it_replays_the_boot(self) -> None:
@@ -139,6 +155,40 @@ class Fields(ToolTest):
         self.assert_ran(run("cc", "-std=c11", *STRICT, "-o", program, DATA / "fields.c", LIBRARY))
         self.assert_ran(run(program))
 
+    @needs("valgrind")
+    def test_nothing_is_leaked_nor_read_before_it_is_written(self) -> None:
+        program = self.folder / "fields"
+        self.assert_ran(run("cc", "-std=c11", *STRICT, "-g", "-o", program, DATA / "fields.c", LIBRARY))
+        self.assert_ran(run("valgrind", "-q", "--error-exitcode=9", "--leak-check=full", program))
+
+
+@needs("cc")
+@needs_library
+class Sanitized(ToolTest):
+    """The replayer and the program of fields with the compiler's checks of addresses and of undefined behaviour."""
+
+    CHECKS = ("-std=gnu11", "-g", "-fsanitize=address,undefined", "-fno-sanitize-recover=all", f"-I{INCLUDE}")
+
+    def built(self, *sources: Path) -> Path:
+        """The program of these sources with the checks; the test is skipped where the compiler hasn't them."""
+        alone = self.folder / "alone.c"
+        alone.write_text("int main(void) { return 0; }\n", encoding="ascii")
+        if run("cc", *self.CHECKS, "-o", self.folder / "alone", alone).status != 0:
+            self.skipTest("the compiler has no sanitizers")
+        program = self.folder / "program"
+        self.assert_ran(run("cc", *self.CHECKS, "-o", program, *sources, LIBRARY))
+        return program
+
+    def test_nothing_is_found_in_the_program_of_fields(self) -> None:
+        self.assert_ran(run(self.built(DATA / "fields.c")))
+
+    def test_nothing_is_found_in_the_replayer(self) -> None:
+        replayer = self.built(*sorted((EXAMPLES / "c").glob("*.c")))
+        for name in REPLAYED:
+            replies = (EXAMPLES / f"{name}.replies").read_text(encoding="ascii")
+            status = 2 if replies.startswith("papr: ") else 0
+            self.assert_ran(run(replayer, given=EXAMPLES / f"{name}.trace"), replies, status=status)
+
 
 @needs_library
 class FromRust(ToolTest):
@@ -148,6 +198,7 @@ class FromRust(ToolTest):
     def test_a_program_in_rust(self) -> None:
         program = self.folder / "enter"
         source = EXAMPLES / "rust" / "enter.rs"
-        built = run("rustc", "-O", "-L", f"native={LIBRARY.parent}", "-o", program, source)
+        (self.folder / "libpapr.a").symlink_to(LIBRARY)
+        built = run("rustc", "-O", "-L", f"native={self.folder}", "-o", program, source)
         self.assert_ran(built, out=None, err=None)
         self.assert_ran(run(program), ENTERED)

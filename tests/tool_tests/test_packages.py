@@ -195,16 +195,17 @@ class Installing(ToolTest):
         cls.usr = cls.tree / "usr"
         program = write_script(Path(work.name) / "program", STAND_IN)
         library = write_script(Path(work.name) / "library", A_LIBRARY)
-        make("install", cls.tree, f"PROGRAM={program}", f"LIBRARY={library}")
+        make("install", cls.tree, f"PROGRAM={program}", f"LIBRARY={library}", f"SHARED={library}")
 
     def run_installed(self, command: str, *words: Word) -> Ran:
         """Runs a command from the tree."""
         return run(self.usr / "bin" / command, *words)
 
     def test_make_install_puts_the_library(self) -> None:
-        self.assertEqual(text_of(self.usr / "lib" / "libpapr_c.a"), A_LIBRARY)
+        for name in ("libpapr.a", f"libpapr.so.{VERSION}", f"libpapr.so.{VERSION.split('.')[0]}", "libpapr.so"):
+            self.assertEqual(text_of(self.usr / "lib" / name), A_LIBRARY)
         self.assert_same_file(self.usr / "include" / "papr.h", TOP / "include" / "papr.h")
-        described = text_of(self.usr / "lib" / "pkgconfig" / "papr_c.pc").splitlines()
+        described = text_of(self.usr / "lib" / "pkgconfig" / "papr.pc").splitlines()
         self.assertEqual([line for line in described if line.startswith("Version")], [f"Version: {VERSION}"])
 
     def test_make_install_puts_the_program_the_documents_and_the_examples(self) -> None:

@@ -71,7 +71,7 @@ class Applied(ShadowTest):
         self.assertTrue(lines[freed - 1].strip().startswith("papr_shadow_table(NULL"), lines[freed - 1])
 
     def test_the_build_has_the_library_and_the_tree_our_files(self) -> None:
-        self.assertEqual(self.text("hw/ppc/meson.build").count("dependency('papr_c')"), 1)
+        self.assertEqual(self.text("hw/ppc/meson.build").count("dependency('papr', static: true)"), 1)
         own = TOOLS / "qemu-shadow"
         self.assert_same_file(self.tree / "hw" / "ppc" / "papr-shadow.c", own / "papr-shadow.c")
         self.assert_same_file(self.tree / "include" / "hw" / "ppc" / "papr-shadow.h", own / "papr-shadow.h")

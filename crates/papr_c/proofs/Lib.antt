@@ -5,3 +5,8 @@ pub mod Reading
 pub mod Makings
 pub mod Searching
 mod Rows
+pub mod Transfers
+pub mod SlotSearch
+pub mod PoolPrepares
+pub mod PoolCommits
+pub mod Tces

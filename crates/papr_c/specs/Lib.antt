@@ -5,3 +5,9 @@ pub mod Calls
 pub mod Grants
 pub mod Walks
 pub mod Rehash
+pub mod Resizing
+pub mod Transfers
+pub mod Version
+pub mod Segments
+pub mod ResizeLaw
+pub mod Windows

@@ -5,10 +5,11 @@ ghost use Rattle.papr_c.specs.Lent.{is_table};
 use crate::trying::make;
 use entry_model::{EntryState, EntryStore, Line, Op, Receipt};
 
-/// The orders of the smallest and of the largest table.
-const LEAST: u8 = 18;
+/// The order of the smallest table.
+pub const LEAST: u8 = 18;
 
-const GREATEST: u8 = 22;
+/// The order of the largest table.
+pub const GREATEST: u8 = 22;
 
 /// Whether the entries are all those of one table of `2^order` bytes.
 pub fn is_table(entries: &[EntryState], order: u8) -> bool

@@ -7,14 +7,22 @@
 
 mod bulk;
 mod enter;
+mod exporting;
 mod granting;
 mod grants;
+mod importing;
+mod laws;
 mod lent;
 mod read;
 mod receipts;
 mod rehashing;
 mod reply;
+mod resizing;
 mod running;
+mod segments;
 mod single;
+mod transfer;
 mod trying;
+mod version;
 mod walking;
+mod windows;

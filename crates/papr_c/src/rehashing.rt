@@ -1,6 +1,8 @@
-ghost use Rattle.std.specs.Prelude.{◌≡◌, length, replicate};
+ghost use Rattle.std.specs.Prelude.{◌≡◌, ◌≤◌, length, replicate};
 ghost use Rattle.entry_model.specs.State.{empty_state};
-ghost use Rattle.papr_c.specs.Rehash.{without_collision, outcome_of_rehash};
+ghost use Rattle.hpte_fields.specs.TableSize.{entry_count};
+ghost use Rattle.hpt_resize.specs.Rehash.{collision_of};
+ghost use Rattle.papr_c.specs.Rehash.{without_collision, rehash_told, table_after, outcome_of_rehash};
 
 use crate::lent::is_table;
 use entry_model::EntryState;
@@ -23,7 +25,7 @@ pub struct PaprRehash {
 
 impl PaprRehash {
     /// An answer with no collision.
-    fn of(rc: Rc) -> PaprRehash
+    pub fn of(rc: Rc) -> PaprRehash
         ensures { result ≡ without_collision rc }
     {
         PaprRehash {
@@ -36,11 +38,43 @@ impl PaprRehash {
 }
 
 /// Empties each entry.
-fn clear(entries: &mut [EntryState])
+pub fn clear(entries: &mut [EntryState])
     ensures { entries.new ≡ replicate (length entries.old) (empty_state 0) }
 {
     for i in 0..entries.len() {
         entries[i] = EntryState::empty(0);
+    }
+}
+
+/// Carries the bolted entries of a table over to another one, in which nothing else stays.
+pub fn carry(
+    entries: &[EntryState],
+    order: u8,
+    into: &mut [EntryState],
+    into_order: u8,
+) -> PaprRehash
+    requires from_low { 18 ≤ order }
+    requires from_high { order ≤ 22 }
+    requires to_low { 18 ≤ into_order }
+    requires to_high { into_order ≤ 22 }
+    requires from_whole { length entries.now ≡ entry_count order }
+    requires to_whole { length into.old ≡ entry_count into_order }
+    ensures told { result ≡ rehash_told (collision_of order into_order entries.now) }
+    ensures table { into.new
+        ≡ table_after (collision_of order into_order entries.now) order into_order entries.now }
+{
+    clear(into);
+    match rehash_into(order, into_order, entries, into) {
+        Ok(()) => PaprRehash::of(Rc::Success),
+        Err(collision) => {
+            clear(into);
+            PaprRehash {
+                rc: Rc::PtegFull.code(),
+                first: collision.first,
+                second: collision.second,
+                target: collision.target,
+            }
+        }
     }
 }
 
@@ -59,17 +93,5 @@ pub extern "C" fn papr_rehash(
     if !is_table(entries, order) || !is_table(into, into_order) {
         return PaprRehash::of(Rc::Parameter);
     }
-    clear(into);
-    match rehash_into(order, into_order, entries, into) {
-        Ok(()) => PaprRehash::of(Rc::Success),
-        Err(collision) => {
-            clear(into);
-            PaprRehash {
-                rc: Rc::PtegFull.code(),
-                first: collision.first,
-                second: collision.second,
-                target: collision.target,
-            }
-        }
-    }
+    carry(entries, order, into, into_order)
 }

@@ -1,0 +1,25 @@
+use Rattle.std.specs.Prelude.{not}
+use Rattle.std.proofs.Common.{◌≡◌, [], ◌∷◌, true, refl, ap, ◌∙◌}
+use Rattle.papr_codes.specs.ReturnCodes.{rc_code}
+use Rattle.entry_model.specs.Receipt.{is_worn}
+use Rattle.entry_model.specs.Run.{states_after}
+use Rattle.entry_model.specs.declared.operation.Op.TheVariants.{Remove}
+use Rattle.dma_window.specs.Calls.{clear_plan}
+use Rattle.dma_window.specs.Entries.{no_test}
+use Rattle.papr_c.specs.Calls.{memory}
+use Rattle.papr_c.proofs.Outcomes.{call_tried}
+use Rattle.papr_c.proofs.Tces.{one_call}
+use Rattle.papr_c.proofs.windows.clear.Goals as goal
+
+pub returns : goal.returns
+returns c =
+    let r = c.make-removed.result in
+    let entries = c.args.entries.now in
+    call_tried true (clear_plan c.args.entry) (memory entries [] c.args.receipts.now) (r ∷ [], states_after entries r) c.code_of.result [] c.told.result [] c.make-removed.new.receipts c.make-removed.new.entries
+    refl
+    (one_call (λ answer. not (is_worn answer)) (Remove no_test) c.args.entry entries r c.make-removed.ensures.receipt)
+    (ap (λ rc. (rc, [])) c.code_of.ensures)
+    (c.told.ensures ∙ ap (λ n. record { rc = rc_code c.code_of.result; words = 0; receipts = n }) c.filled_count.ensures)
+    refl
+    c.make-removed.ensures.receipts
+    c.make-removed.ensures.entries

@@ -1,0 +1,177 @@
+ghost use Rattle.std.specs.Prelude.{◌≡◌, ◌+◌, ◌*◌, ◌≤◌, ◌<◌, None, IfSome, length};
+ghost use Rattle.entry_model.specs.Reply.{entered_state};
+ghost use Rattle.table_image.specs.Layouts.{read_words};
+ghost use Rattle.papr_c.specs.Grants.{listed};
+ghost use Rattle.papr_c.specs.Transfers.{replaced, entries_of_bytes, outcome_of_import};
+
+use crate::grants::PaprGrants;
+use crate::lent::is_table;
+use crate::transfer::{PaprTransfer, Refusal, is_range, layout_of};
+use byteorder::{BigEndian, ByteOrder};
+use entry_model::{EntryState, Op, reply};
+use hpte_fields::VALID;
+use page_grants::entered_words;
+use table_image::Layout;
+
+/// The bits of doubleword 0 that the newer layout leaves out.
+const LEFT_OUT: u64 = 0xFFF0_0000_0000_0000;
+
+/// The bit of doubleword 1 that H_ENTER clears.
+const CLEARED: u64 = 0x4000_0000_0000_0000;
+
+/// All of doubleword 1 but the place of B in the newer layout.
+const BESIDE_SEGMENT: u64 = 0xF3FF_FFFF_FFFF_FFFF;
+
+/// The older layout's doublewords of those of this layout.
+fn words_from(layout: Layout, dword0: u64, dword1: u64) -> Option<(u64, u64)>
+    ensures { result ≡ read_words layout (dword0, dword1) }
+{
+    if dword1 & CLEARED != 0 {
+        return None;
+    }
+    match layout {
+        Layout::Old => Some((dword0, dword1)),
+        Layout::New => {
+            if dword0 & LEFT_OUT != 0 {
+                return None;
+            }
+            let segment = dword1 >> 58 & 3;
+            Some((dword0 | segment << 62, dword1 & BESIDE_SEGMENT))
+        }
+    }
+}
+
+/// What H_ENTER makes of an empty entry by these doublewords, at stamp 0.
+fn entered(dword0: u64, dword1: u64) -> EntryState
+    ensures { result ≡ entered_state dword0 dword1 }
+{
+    let (_, mut entry) = reply(&EntryState::empty(0), &Op::Enter { dword0, dword1 });
+    entry.stamp = 0;
+    entry
+}
+
+/// The entry of two doublewords of this layout.
+fn entry_of_words(
+    grants: &PaprGrants,
+    layout: Layout,
+    dword0: u64,
+    dword1: u64,
+) -> Result<EntryState, Refusal>
+    ensures { result
+        ≡ Rattle.papr_c.specs.Transfers.entry_of_words
+        (listed grants.now.grants grants.now.count)
+        layout
+        (dword0, dword1) }
+{
+    if dword0 & VALID == 0 {
+        return Ok(EntryState::empty(0));
+    }
+    let (pteh, ptel) = words_from(layout, dword0, dword1).ok_or(Refusal::Unheld)?;
+    let (dword0, dword1) = entered_words(grants, pteh, ptel).ok_or(Refusal::Unentered)?;
+    Ok(entered(dword0, dword1))
+}
+
+/// The entry of the 16 bytes behind those of `i` others.
+fn entry_of_bytes(
+    grants: &PaprGrants,
+    layout: Layout,
+    bytes: &[u8],
+    i: usize,
+) -> Result<EntryState, Refusal>
+    requires { 16 * i + 16 ≤ length bytes.now }
+    ensures { result
+        ≡ Rattle.papr_c.specs.Transfers.entry_of_bytes
+        (listed grants.now.grants grants.now.count)
+        layout
+        bytes.now
+        i }
+{
+    let entry = &bytes[16 * i..];
+    let (dword0, dword1) = (BigEndian::read_u64(entry), BigEndian::read_u64(&entry[8..]));
+    entry_of_words(grants, layout, dword0, dword1)
+}
+
+/// The first of so many entries that is refused.
+fn first_refused(grants: &PaprGrants, layout: Layout, bytes: &[u8], number: usize) -> Option<usize>
+    requires { 16 * number ≤ length bytes.now }
+    ensures value { result
+        ≡ Rattle.papr_c.specs.Transfers.first_refused
+        (listed grants.now.grants grants.now.count)
+        layout
+        bytes.now
+        number }
+    ensures low { IfSome result (λ i. i < number) }
+{
+    for i in 0..number {
+        if entry_of_bytes(grants, layout, bytes, i).is_err() {
+            return Some(i);
+        }
+    }
+    None
+}
+
+/// Puts so many entries, none of which is refused, in place of those from the first on.
+fn put_entries(
+    grants: &PaprGrants,
+    layout: Layout,
+    bytes: &[u8],
+    number: usize,
+    first: usize,
+    entries: &mut [EntryState],
+)
+    requires enough { 16 * number ≤ length bytes.now }
+    requires in_table { first + number ≤ length entries.old }
+    requires entered { Rattle.papr_c.specs.Transfers.first_refused
+        (listed grants.now.grants grants.now.count)
+        layout
+        bytes.now
+        number
+        ≡ None }
+    ensures { let grants = listed grants.now.grants grants.now.count in
+        entries.new
+        ≡ replaced entries.old first (entries_of_bytes grants layout bytes.now number) }
+{
+    for i in 0..number {
+        entries[first + i] = entry_of_bytes(grants, layout, bytes, i).unwrap();
+    }
+}
+
+/// Reads `number` entries of a table from bytes, from the entry `first` on: 16 an entry, as
+/// `papr_export` writes them in this layout. Each is what H_ENTER stores of its two doublewords, at
+/// stamp 0, or empty where V is clear; what stood there is dropped. Where H_ENTER would refuse one,
+/// or the layout has no such entry, nothing changes.
+#[unsafe(no_mangle)]
+pub extern "C" fn papr_import(
+    entries: &mut [EntryState],
+    order: u8,
+    grants: &PaprGrants,
+    layout: u8,
+    first: usize,
+    number: usize,
+    bytes: &[u8],
+) -> PaprTransfer
+    ensures { (result, entries.new)
+        ≡ outcome_of_import
+        order
+        entries.old
+        (listed grants.now.grants grants.now.count)
+        layout
+        first
+        number
+        bytes.now }
+{
+    if !is_table(entries, order) || !is_range(entries.len(), first, number, bytes.len()) {
+        return PaprTransfer::refused(0, Refusal::Arguments);
+    }
+    let Some(layout) = layout_of(layout) else {
+        return PaprTransfer::refused(0, Refusal::Arguments);
+    };
+    if let Some(i) = first_refused(grants, layout, bytes, number) {
+        return match entry_of_bytes(grants, layout, bytes, i) {
+            Ok(_) => PaprTransfer::done(),
+            Err(refusal) => PaprTransfer::refused(first + i, refusal),
+        };
+    }
+    put_entries(grants, layout, bytes, number, first, entries);
+    PaprTransfer::done()
+}

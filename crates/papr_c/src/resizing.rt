@@ -1,0 +1,183 @@
+ghost use Rattle.std.specs.Prelude.{◌≡◌, ◌≤◌, ◌+◌, min, Some, None, length, MatchResult, IfOk, OnOk};
+ghost use Rattle.hpte_fields.specs.TableSize.{entry_count};
+ghost use Rattle.hpt_resize.specs.Resize.{commit_refusal};
+ghost use Rattle.papr_c.specs.Resizing.{resize_memory, nothing_pending, pending_of, is_pending_table, table_of_order, emptied, prepared, outcome_of_resize_prepare, outcome_of_resize_commit};
+
+use crate::lent::{GREATEST, LEAST, is_table};
+use crate::rehashing::{PaprRehash, carry, clear};
+use entry_model::EntryState;
+use hpte_fields::entry_count;
+use papr_codes::Rc;
+
+/// How many entries one call makes ready.
+const READY_A_CALL: usize = 16_384;
+
+/// The highest order that a guest may name: that of the architecture.
+const HIGHEST: u64 = 46;
+
+/// What is pending between two resize calls. All zero is nothing; the calls write it.
+#[repr(C)]
+#[derive(Clone, Copy)]
+pub struct PaprResize {
+    /// How many entries of the pending table are ready, from the first on.
+    pub ready: u32,
+    /// The pending table has `2^order` bytes.
+    pub order: u8,
+    /// Whether a table is pending.
+    pub pending: bool,
+}
+
+impl PaprResize {
+    /// Nothing is pending.
+    const NOTHING: PaprResize = PaprResize {
+        ready: 0,
+        order: 0,
+        pending: false,
+    };
+
+    /// Whether a table is pending that a call left so.
+    fn is_pending_table(&self) -> bool
+        ensures { result ≡ is_pending_table self.now }
+    {
+        self.pending
+            && (LEAST <= self.order
+                && self.order <= GREATEST
+                && self.ready <= entry_count(self.order))
+    }
+
+    /// How many entries of the pending table of this order are ready: none where another is
+    /// pending, or none is.
+    fn ready_of(&self, order: u8) -> usize
+        requires low { 18 ≤ order }
+        requires high { order ≤ 22 }
+        ensures value { result ≡ (table_of_order order (pending_of self.now)).ready }
+        ensures few { result ≤ entry_count order }
+    {
+        if self.is_pending_table() && self.order == order {
+            self.ready as usize
+        } else {
+            0
+        }
+    }
+
+    /// Why no table of this order can be committed.
+    #[tactic(auto, unfolding(hpt_resize::specs::Resize::pending_refusal))]
+    fn refusal(&self, flags: u64, shift: u64) -> Result<u8, Rc>
+        ensures told { MatchResult
+            result
+            (λ _. commit_refusal flags shift (pending_of self.now) ≡ None)
+            (λ rc. commit_refusal flags shift (pending_of self.now) ≡ Some rc) }
+        ensures order { IfOk result (λ order. order ≡ shift) }
+        ensures high { OnOk result (shift ≤ 22) }
+        ensures low { OnOk result (18 ≤ shift) }
+    {
+        if flags != 0 || shift < u64::from(LEAST) || shift > HIGHEST {
+            return Err(Rc::Parameter);
+        }
+        if !self.is_pending_table() || u64::from(self.order) != shift {
+            return Err(Rc::Closed);
+        }
+        if self.ready != entry_count(self.order) {
+            return Err(Rc::Busy);
+        }
+        Ok(self.order)
+    }
+}
+
+/// Whether the guest knows no flag, and names no order or one that the architecture has.
+fn is_prepare_request(flags: u64, shift: u64) -> bool
+    ensures { result ≡ Rattle.hpt_resize.specs.Resize.is_prepare_request flags shift }
+{
+    flags == 0 && (shift == 0 || (u64::from(LEAST) <= shift && shift <= HIGHEST))
+}
+
+/// Makes the next entries of a table of `2^order` bytes ready, of which the first are so already,
+/// and says how many are then.
+fn advance(ready: usize, order: u8, into: &mut [EntryState]) -> usize
+    requires low { 18 ≤ order }
+    requires high { order ≤ 22 }
+    requires few { ready ≤ entry_count order }
+    requires whole { length into.old ≡ entry_count order }
+    ensures ready { result ≡ min (ready + 16384) (entry_count order) }
+    ensures into { into.new ≡ emptied ready result into.old }
+{
+    let end = into.len().min(ready + READY_A_CALL);
+    clear(&mut into[ready..end]);
+    end
+}
+
+/// H_RESIZE_HPT_PREPARE: makes a table of `2^shift` bytes ready in the memory that is lent, a part
+/// at each call. `limit` is the highest order that the guest may ask for.
+#[tactic(auto, unfolding(crate::specs::Resizing::outcome_of_resize_prepare))]
+#[unsafe(no_mangle)]
+pub extern "C" fn papr_resize_prepare(
+    resize: &mut PaprResize,
+    limit: u8,
+    flags: u64,
+    shift: u64,
+    into: &mut [EntryState],
+) -> i64
+    ensures { (result, resize_memory resize.new into.new)
+        ≡ outcome_of_resize_prepare limit flags shift (resize_memory resize.old into.old) }
+{
+    if !is_prepare_request(flags, shift) {
+        return Rc::Parameter.code();
+    }
+    if shift > u64::from(limit.min(GREATEST)) {
+        return Rc::Resource.code();
+    }
+    if shift == 0 {
+        *resize = PaprResize::NOTHING;
+        return Rc::Success.code();
+    }
+    let order = shift as u8;
+    if into.len() != entry_count(order) as usize {
+        *resize = PaprResize::NOTHING;
+        return Rc::NoMem.code();
+    }
+    let ready = advance(resize.ready_of(order), order, into);
+    *resize = PaprResize {
+        ready: ready as u32,
+        order,
+        pending: true,
+    };
+    if ready == into.len() {
+        Rc::Success.code()
+    } else {
+        Rc::LongBusy.code()
+    }
+}
+
+/// H_RESIZE_HPT_COMMIT: carries the bolted entries of the current table over into the memory of the
+/// pending one of `2^shift` bytes, as `papr_rehash` does. Its caller makes that the current table.
+#[tactic(auto, unfolding(crate::specs::Resizing::outcome_of_resize_commit))]
+#[unsafe(no_mangle)]
+pub extern "C" fn papr_resize_commit(
+    resize: &mut PaprResize,
+    entries: &[EntryState],
+    order: u8,
+    into: &mut [EntryState],
+    flags: u64,
+    shift: u64,
+) -> PaprRehash
+    ensures { (result, resize_memory resize.new into.new)
+        ≡ outcome_of_resize_commit
+        order
+        entries.now
+        flags
+        shift
+        (resize_memory resize.old into.old) }
+{
+    if !is_table(entries, order) {
+        return PaprRehash::of(Rc::Parameter);
+    }
+    let into_order = match resize.refusal(flags, shift) {
+        Ok(order) => order,
+        Err(rc) => return PaprRehash::of(rc),
+    };
+    if into.len() != entry_count(into_order) as usize {
+        return PaprRehash::of(Rc::Parameter);
+    }
+    *resize = PaprResize::NOTHING;
+    carry(entries, order, into, into_order)
+}

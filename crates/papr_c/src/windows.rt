@@ -1,0 +1,302 @@
+ghost use Rattle.std.specs.Prelude.{◌≡◌, ◌<◌, ◌||◌, [], length, true, false, IfSome};
+ghost use Rattle.bus_window.specs.Windows as bus;
+ghost use Rattle.dma_window.specs.Calls.{put_tce_plan, put_plan_at, get_tce_plan, clear_plan, replace_plan};
+ghost use Rattle.dma_window.specs.Devices.{outcome_by};
+ghost use Rattle.dma_window.specs.Entries as words;
+ghost use Rattle.dma_window.specs.Pages as pages;
+ghost use Rattle.entry_model.specs.Receipt;
+ghost use Rattle.papr_c.specs.Calls.{memory, outcome_where};
+ghost use Rattle.papr_c.specs.Grants.{listed};
+ghost use Rattle.papr_c.specs.Windows.{window_of, page_entry, outcome_of_tce, device_told, refused_device, outcome_of_device};
+
+use crate::grants::PaprGrants;
+use crate::receipts::PaprReceipt;
+use crate::reply::{PaprReply, filled_count, put_word};
+use crate::trying::make;
+use bus_window::Window;
+use dma_window::{entering, tce_of};
+use entry_model::{Answer, DeviceOutcome, EntryState, Op, Test};
+use frame_grants::Kind;
+use page_grants::GrantedMemory;
+use papr_codes::Rc;
+
+/// The logical address of a page, in a translation control entry.
+const ADDRESS: u64 = 0x0FFF_FFFF_FFFF_F000;
+
+/// A device may read the page.
+const READ: u64 = 0x1;
+
+/// A device may write the page.
+const WRITE: u64 = 0x2;
+
+/// The bytes of a page.
+const PAGE: u64 = 4096;
+
+/// What empties an entry: any valid one passes its test.
+const REMOVAL: Op = Op::Remove {
+    test: Test {
+        avpn: None,
+        andcond: None,
+    },
+};
+
+/// What became of a device's access.
+#[repr(C)]
+#[derive(Clone, Copy)]
+pub struct PaprDevice {
+    /// The machine address, or where the page isn't granted the logical one, else 0.
+    pub address: u64,
+    /// 0 where the access is allowed, 1 where its TCE doesn't permit it, 2 where the address lies
+    /// outside the window, 3 where no single grant of ram holds the page, 4 where there can be no
+    /// such window.
+    pub outcome: u32,
+    /// How many of the caller's places for receipts were filled.
+    pub receipts: u32,
+}
+
+impl PaprDevice {
+    fn of(outcome: DeviceOutcome, receipts: u32) -> PaprDevice
+        ensures { result ≡ device_told outcome receipts }
+    {
+        let (address, outcome) = match outcome {
+            DeviceOutcome::At(machine) => (machine, 0),
+            DeviceOutcome::Denied => (0, 1),
+            DeviceOutcome::NoWindow => (0, 2),
+            DeviceOutcome::Ungranted(logical) => (logical, 3),
+        };
+        PaprDevice {
+            address,
+            outcome,
+            receipts,
+        }
+    }
+
+    fn refused() -> PaprDevice
+        ensures { result ≡ refused_device }
+    {
+        PaprDevice {
+            address: 0,
+            outcome: 4,
+            receipts: 0,
+        }
+    }
+}
+
+/// Whether there can be a window of so many entries from this bus address on.
+fn is_window(entries: &[EntryState], base: u64) -> bool
+    ensures { result ≡ bus.is_window (window_of base entries.now) }
+{
+    Window::new(0, base, entries.len() as u64).is_some()
+}
+
+/// The entry of the page that has this bus address, in a window of these entries: none where there
+/// can be no such window, or it lacks the page.
+fn entry_of(entries: &[EntryState], base: u64, ioba: u64) -> Option<u32>
+    ensures entry { result ≡ page_entry base entries.now ioba }
+    ensures in_window { IfSome result (λ entry. entry < length entries.now) }
+{
+    Window::new(0, base, entries.len() as u64)?.entry_at(ioba)
+}
+
+/// Whether a TCE permits a write, or a read.
+fn permits(tce: u64, write: bool) -> bool
+    ensures { result ≡ words.permits tce write }
+{
+    let permission = if write { WRITE } else { READ };
+    tce & permission == permission
+}
+
+/// Whether a TCE permits anything.
+fn permits_any(tce: u64) -> bool
+    ensures { result ≡ (words.permits tce false || words.permits tce true) }
+{
+    permits(tce, false) || permits(tce, true)
+}
+
+/// Whether one grant of ram holds the page at this logical address.
+#[tactic(auto, unfolding(dma_window::specs::Pages::is_ram))]
+fn is_ram(grants: &PaprGrants, page: u64) -> bool
+    ensures { result ≡ pages.is_ram
+        (listed grants.now.grants grants.now.count)
+        page }
+{
+    match grants.machine_of(page, PAGE) {
+        Some((_, Kind::Ram)) => true,
+        _ => false,
+    }
+}
+
+/// The return code of a call that ended with this answer.
+fn code_of(answer: Answer) -> Rc
+    ensures { result ≡ Rattle.dma_window.specs.Calls.code_of answer }
+{
+    match answer {
+        Answer::Worn => Rc::Hardware,
+        Answer::Taken => Rc::Busy,
+        _ => Rc::Success,
+    }
+}
+
+/// Whether the entry's stamp is at its last value.
+fn is_worn(answer: Answer) -> bool
+    ensures { result ≡ Rattle.entry_model.specs.Receipt.is_worn answer }
+{
+    matches!(answer, Answer::Worn)
+}
+
+/// Empties an entry.
+fn clear(entries: &mut [EntryState], entry: u32, receipts: &mut [PaprReceipt]) -> PaprReply
+    requires { entry < length entries.old }
+    ensures { (result, memory entries.new [] receipts.new)
+        ≡ outcome_where true (clear_plan entry) (memory entries.old [] receipts.old) }
+{
+    let room = receipts.len();
+    let removed = make(entries, &REMOVAL, entry, receipts, 0);
+    PaprReply::told(code_of(removed.answer), 0, filled_count(room, 1))
+}
+
+/// Empties an entry, and makes this operation on it.
+fn replace(
+    entries: &mut [EntryState],
+    entry: u32,
+    op: &Op,
+    receipts: &mut [PaprReceipt],
+) -> PaprReply
+    requires { entry < length entries.old }
+    ensures { (result, memory entries.new [] receipts.new)
+        ≡ outcome_where true (replace_plan entry op.now) (memory entries.old [] receipts.old) }
+{
+    let room = receipts.len();
+    let removed = make(entries, &REMOVAL, entry, receipts, 0);
+    if is_worn(removed.answer) {
+        return PaprReply::told(Rc::Hardware, 0, filled_count(room, 1));
+    }
+    let entered = make(entries, op, entry, receipts, 1);
+    PaprReply::told(code_of(entered.answer), 0, filled_count(room, 2))
+}
+
+/// H_PUT_TCE on the entry of a page.
+fn put_at(
+    entries: &mut [EntryState],
+    entry: u32,
+    grants: &PaprGrants,
+    tce: u64,
+    receipts: &mut [PaprReceipt],
+) -> PaprReply
+    requires { entry < length entries.old }
+    ensures { let grants = listed grants.now.grants grants.now.count in
+        (result, memory entries.new [] receipts.new)
+        ≡ outcome_where
+        true
+        (put_plan_at grants tce entry)
+        (memory entries.old [] receipts.old) }
+{
+    if !permits_any(tce) {
+        return clear(entries, entry, receipts);
+    }
+    if !is_ram(grants, tce & ADDRESS) {
+        return PaprReply::refused();
+    }
+    replace(entries, entry, &entering(tce), receipts)
+}
+
+/// H_PUT_TCE (LoPAR) on the entries of a window, one for each page of 4,096 bytes from the bus
+/// address `base` on: sets the TCE of the page at `ioba`, over any that is there. A TCE that permits
+/// nothing empties the entry. There are no words.
+#[tactic(auto, unfolding(dma_window::specs::Calls::put_tce_plan))]
+#[unsafe(no_mangle)]
+pub extern "C" fn papr_put_tce(
+    entries: &mut [EntryState],
+    base: u64,
+    grants: &PaprGrants,
+    ioba: u64,
+    tce: u64,
+    receipts: &mut [PaprReceipt],
+) -> PaprReply
+    ensures { (result, memory entries.new [] receipts.new)
+        ≡ outcome_of_tce
+        base
+        (λ w. put_tce_plan (listed grants.now.grants grants.now.count) w ioba tce)
+        (memory entries.old [] receipts.old) }
+{
+    let Some(entry) = entry_of(entries, base, ioba) else {
+        return PaprReply::refused();
+    };
+    put_at(entries, entry, grants, tce, receipts)
+}
+
+/// H_GET_TCE (LoPAR) on the entries of a window: the word is the TCE of the page at `ioba`, or 0
+/// where none is set.
+#[tactic(auto, unfolding(dma_window::specs::Calls::get_tce_plan))]
+#[unsafe(no_mangle)]
+pub extern "C" fn papr_get_tce(
+    entries: &mut [EntryState],
+    base: u64,
+    ioba: u64,
+    words: &mut [u64],
+    receipts: &mut [PaprReceipt],
+) -> PaprReply
+    ensures { (result, memory entries.new words.new receipts.new)
+        ≡ outcome_of_tce
+        base
+        (λ w. get_tce_plan w ioba)
+        (memory entries.old words.old receipts.old) }
+{
+    let Some(entry) = entry_of(entries, base, ioba) else {
+        return PaprReply::refused();
+    };
+    let filled = filled_count(receipts.len(), 1);
+    let shown = filled_count(words.len(), 1);
+    let read = make(entries, &Op::Read, entry, receipts, 0);
+    put_word(tce_of(&read.before), words, 0);
+    PaprReply::told(Rc::Success, shown, filled)
+}
+
+/// Where a device's access ends by the page's TCE.
+fn device_by(grants: &PaprGrants, tce: u64, ioba: u64, write: bool) -> DeviceOutcome
+    ensures { result ≡ outcome_by (listed grants.now.grants grants.now.count) ioba write tce }
+{
+    if !permits(tce, write) {
+        return DeviceOutcome::Denied;
+    }
+    let page = tce & ADDRESS;
+    let logical = page + ioba % PAGE;
+    if !is_ram(grants, page) {
+        return DeviceOutcome::Ungranted(logical);
+    }
+    match grants.machine_of(logical, 1) {
+        None => DeviceOutcome::Ungranted(logical),
+        Some((machine, _)) => DeviceOutcome::At(machine),
+    }
+}
+
+/// A device's access at a bus address, a read or a write, by the entries of its window.
+#[unsafe(no_mangle)]
+pub extern "C" fn papr_device(
+    entries: &mut [EntryState],
+    base: u64,
+    grants: &PaprGrants,
+    ioba: u64,
+    write: bool,
+    receipts: &mut [PaprReceipt],
+) -> PaprDevice
+    ensures told { (result, receipts.new)
+        ≡ outcome_of_device
+        base
+        entries.old
+        (listed grants.now.grants grants.now.count)
+        ioba
+        write
+        receipts.old }
+    ensures kept { entries.new ≡ entries.old }
+{
+    if !is_window(entries, base) {
+        return PaprDevice::refused();
+    }
+    let Some(entry) = entry_of(entries, base, ioba) else {
+        return PaprDevice::of(DeviceOutcome::NoWindow, 0);
+    };
+    let filled = filled_count(receipts.len(), 1);
+    let read = make(entries, &Op::Read, entry, receipts, 0);
+    PaprDevice::of(device_by(grants, tce_of(&read.before), ioba, write), filled)
+}

@@ -6,3 +6,6 @@ pub mod TwoGroups
 pub mod Makings
 pub mod Searching
 mod Rows
+pub mod PagePlaces
+pub mod DecodedPages
+pub mod ReservedBits

@@ -5,3 +5,4 @@ pub mod Calls
 pub mod Grants
 pub mod Walks
 pub mod Rehash
+pub mod Decoding

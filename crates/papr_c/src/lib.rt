@@ -6,6 +6,7 @@
 #![tactic(auto)]
 
 mod bulk;
+mod decoding;
 mod enter;
 mod granting;
 mod grants;
@@ -14,6 +15,7 @@ mod read;
 mod receipts;
 mod rehashing;
 mod reply;
+mod rights;
 mod running;
 mod single;
 mod trying;

@@ -9,3 +9,4 @@ mod Rows
 pub mod PagePlaces
 pub mod DecodedPages
 pub mod ReservedBits
+pub mod StaleTrials

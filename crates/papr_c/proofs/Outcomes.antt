@@ -1,5 +1,5 @@
 -- What a call leaves, by its reply and the receipts that it made.
-use Rattle.std.proofs.Common.{◌≡◌, ℕ, min, List, Bool, true, length, map, Option, Some, refl, ap, sym, arith, ◌∙◌}
+use Rattle.std.proofs.Common.{◌≡◌, ℕ, min, List, Bool, true, false, length, map, Option, Some, refl, ap, sym, arith, ◌∙◌}
 use Rattle.entry_model.specs.State.{State}
 use Rattle.entry_model.specs.Run.{IsRun}
 use Rattle.entry_model.specs.Replies.{reply_with}
@@ -22,6 +22,7 @@ use Rattle.papr_c.specs.Places.{filled, placed, shown_receipt}
 use Rattle.papr_c.specs.declared.walking.PaprAccess.{PaprAccess}
 use Rattle.papr_c.specs.declared.walking.PaprWalk.{PaprWalk}
 use Rattle.papr_c.specs.Lent.{is_table}
+use Rattle.papr_c.specs.Stale.{any_stale}
 use Rattle.papr_c.specs.Calls.{LentMemory, memory, reply_told, outcome_by, outcome_where}
 use Rattle.papr_c.specs.Walks.{masks_of, WalkMemory, walk_memory, page_of, want_of, walk_end, walked_by, outcome_of_walk}
 
@@ -46,7 +47,7 @@ walk_is order a page want m rs found count told places lent now after fit at_pag
     rw (fit, at_page, wants) (here ∙ ap (walked_by a.ea m) made)
 
 -- A call whose arguments fit leaves what its trial does on the entries that were lent.
-pub call_tried : (fits : Bool) (plan : Plan) (m : LentMemory) (x : List Receipt × List State) (rc : Rc) (ws : List ℕ) (reply : PaprReply) (words : List ℕ) (receipts : List PaprReceipt) (after : List State) → fits ≡ true → x ≡ trial_run plan.goes_on m.entries plan.calls → (rc, ws) ≡ plan.told x.0 → reply ≡ record { rc = rc_code rc; words = min (length m.words) (length ws); receipts = min (length m.receipts) (length x.0) } → words ≡ filled m.words ws → receipts ≡ placed m.receipts 0 (map shown_receipt x.0) → after ≡ x.1 → (reply, memory after words receipts) ≡ outcome_where fits plan m
+pub call_tried : (fits : Bool) (plan : Plan) (m : LentMemory) (x : List Receipt × List State) (rc : Rc) (ws : List ℕ) (reply : PaprReply) (words : List ℕ) (receipts : List PaprReceipt) (after : List State) → fits ≡ true → x ≡ trial_run plan.goes_on m.entries plan.calls → (rc, ws) ≡ plan.told x.0 → reply ≡ record { rc = rc_code rc; words = min (length m.words) (length ws); receipts = min (length m.receipts) (length x.0); stale = any_stale x.0 } → words ≡ filled m.words ws → receipts ≡ placed m.receipts 0 (map shown_receipt x.0) → after ≡ x.1 → (reply, memory after words receipts) ≡ outcome_where fits plan m
 unfolding plan_run
 call_tried fits plan m x rc ws reply words receipts after fit is told replied in_words in_receipts kept =
     let put : receipts ≡ filled m.receipts (map shown_receipt x.0) = in_receipts ∙ placed_filled (map shown_receipt x.0) m.receipts in
@@ -55,9 +56,9 @@ call_tried fits plan m x rc ws reply words receipts after fit is told replied in
     rw fit (here ∙ by ∙ ap (λ (z : List Receipt × List State). outcome_by m (reply_by plan z.0, z.1)) is)
 
 -- A call that is answered by itself changes nothing.
-pub coded : (fits : Bool) (rc : Rc) (m : LentMemory) → fits ≡ true → (record { rc = rc_code rc; words = 0; receipts = 0 }, m) ≡ outcome_where fits (plan_of_code rc) m
-unfolding plan_run trial_run
+pub coded : (fits : Bool) (rc : Rc) (m : LentMemory) → fits ≡ true → (record { rc = rc_code rc; words = 0; receipts = 0; stale = false }, m) ≡ outcome_where fits (plan_of_code rc) m
+unfolding plan_run trial_run any_stale
 coded fits rc m fit =
     let no_words : min (length m.words) 0 ≡ 0 = omega arith in
     let no_receipts : min (length m.receipts) 0 ≡ 0 = omega arith in
-    rw fit (λ k. (record { rc = rc_code rc; words = sym no_words k; receipts = sym no_receipts k }, memory m.entries (sym (filled-nil m.words) k) (sym (filled-nil m.receipts) k)))
+    rw fit (λ k. (record { rc = rc_code rc; words = sym no_words k; receipts = sym no_receipts k; stale = false }, memory m.entries (sym (filled-nil m.words) k) (sym (filled-nil m.receipts) k)))

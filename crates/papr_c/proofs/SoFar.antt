@@ -101,7 +101,8 @@ so_far_goes goes op first count place i a b c old new next rs r more is after pu
 
 -- ---- its end
 -- What is told of the whole trial.
-pub record IsTold (goes : Answer → Bool) (op : Op) (first count place tried : ℕ) (a c : List State) (old next : List PaprReceipt) (r : Receipt) : Type 0 where
+pub record IsTold (goes : Answer → Bool) (op : Op) (first count place tried : ℕ) (a c : List State) (old next : List PaprReceipt) (rs : List Receipt) (r : Receipt) : Type 0 where
+  pub whole : (rest_of goes op first count a).0 ≡ rs ++ r ∷ []
   pub entries : c ≡ (rest_of goes op first count a).1
   pub receipts : next ≡ placed old place (map shown_receipt (rest_of goes op first count a).0)
   pub counted : tried ≡ length (rest_of goes op first count a).0
@@ -112,8 +113,9 @@ alone_is : (rs : List Receipt) (r : Receipt) (i count : ℕ) → length rs ≡ i
 alone_is [] r i count tried more one = refl
 alone_is (x ∷ rs) r i count tried more one = absurd (omega (arith, tried))
 
-told_by : (goes : Answer → Bool) (op : Op) (first count place i : ℕ) (a b c : List State) (old new next : List PaprReceipt) (rs : List Receipt) (r : Receipt) → i < count → c ≡ states_after b r → next ≡ set new (place + i) (shown_receipt r) → rest_of goes op first count a ≡ (rs ++ r ∷ [], states_after b r) → IsSoFar goes op first count place i a b old new rs → ending_of goes (r ∷ []) ≡ (if goes r.answer then None else Some r) → IsTold goes op first count place (i + 1) a c old next r
+told_by : (goes : Answer → Bool) (op : Op) (first count place i : ℕ) (a b c : List State) (old new next : List PaprReceipt) (rs : List Receipt) (r : Receipt) → i < count → c ≡ states_after b r → next ≡ set new (place + i) (shown_receipt r) → rest_of goes op first count a ≡ (rs ++ r ∷ [], states_after b r) → IsSoFar goes op first count place i a b old new rs → ending_of goes (r ∷ []) ≡ (if goes r.answer then None else Some r) → IsTold goes op first count place (i + 1) a c old next rs r
 told_by goes op first count place i a b c old new next rs r more after put all h ending = record {
+  whole = rw all refl;
   entries = rw all after;
   receipts = rw all (put ∙ put_next old new place i rs r h.put h.tried);
   counted = rw all (sym (length-more rs r ∙ ap (λ n. n + 1) h.tried));
@@ -128,7 +130,7 @@ ending_alone goes r = at (cases_Bool (goes r.answer)) where
   at (inr off) = rw off refl
 
 -- The entry's answer ends it, or there is no further entry.
-pub ends : (goes : Answer → Bool) (op : Op) (first count place i : ℕ) (a b c : List State) (old new next : List PaprReceipt) (rs : List Receipt) (r : Receipt) → i < count → r ≡ receipt_at b (call op (first + i)) → c ≡ states_after b r → next ≡ set new (place + i) (shown_receipt r) → (goes r.answer ≡ false) ⊎ (i + 1 ≡ count) → IsSoFar goes op first count place i a b old new rs → IsTold goes op first count place (i + 1) a c old next r
+pub ends : (goes : Answer → Bool) (op : Op) (first count place i : ℕ) (a b c : List State) (old new next : List PaprReceipt) (rs : List Receipt) (r : Receipt) → i < count → r ≡ receipt_at b (call op (first + i)) → c ≡ states_after b r → next ≡ set new (place + i) (shown_receipt r) → (goes r.answer ≡ false) ⊎ (i + 1 ≡ count) → IsSoFar goes op first count place i a b old new rs → IsTold goes op first count place (i + 1) a c old next rs r
 ends goes op first count place i a b c old new next rs r more is after put end h =
     told_by goes op first count place i a b c old new next rs r more after put (at end (cases_Bool (goes r.answer))) h (ending_alone goes r) where
       at : (goes r.answer ≡ false) ⊎ (i + 1 ≡ count) → (goes r.answer ≡ true) ⊎ (goes r.answer ≡ false) → rest_of goes op first count a ≡ (rs ++ r ∷ [], states_after b r)

@@ -1,6 +1,7 @@
 pub mod Lent
 pub mod Places
 pub mod Tried
+pub mod Stale
 pub mod Calls
 pub mod Grants
 pub mod Walks

@@ -18,5 +18,6 @@ mod reply;
 mod rights;
 mod running;
 mod single;
+mod stale;
 mod trying;
 mod walking;

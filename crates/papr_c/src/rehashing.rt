@@ -1,6 +1,6 @@
 ghost use Rattle.std.specs.Prelude.{◌≡◌, length, replicate};
 ghost use Rattle.entry_model.specs.State.{empty_state};
-ghost use Rattle.papr_c.specs.Rehash.{without_collision, outcome_of_rehash};
+ghost use Rattle.papr_c.specs.Rehash.{refused_rehash, outcome_of_rehash};
 
 use crate::lent::is_table;
 use entry_model::EntryState;
@@ -19,18 +19,21 @@ pub struct PaprRehash {
     pub second: u32,
     /// The index in the new table.
     pub target: u32,
+    /// Whether cached translations have to be dropped: after a success none is one of the new table.
+    pub stale: bool,
 }
 
 impl PaprRehash {
-    /// An answer with no collision.
-    fn of(rc: Rc) -> PaprRehash
-        ensures { result ≡ without_collision rc }
+    /// H_PARAMETER, for a rehash that isn't made.
+    fn refused() -> PaprRehash
+        ensures { result ≡ refused_rehash }
     {
         PaprRehash {
-            rc: rc.code(),
+            rc: Rc::Parameter.code(),
             first: 0,
             second: 0,
             target: 0,
+            stale: false,
         }
     }
 }
@@ -57,11 +60,17 @@ pub extern "C" fn papr_rehash(
     ensures { (result, into.new) ≡ outcome_of_rehash order entries.now into_order into.old }
 {
     if !is_table(entries, order) || !is_table(into, into_order) {
-        return PaprRehash::of(Rc::Parameter);
+        return PaprRehash::refused();
     }
     clear(into);
     match rehash_into(order, into_order, entries, into) {
-        Ok(()) => PaprRehash::of(Rc::Success),
+        Ok(()) => PaprRehash {
+            rc: Rc::Success.code(),
+            first: 0,
+            second: 0,
+            target: 0,
+            stale: true,
+        },
         Err(collision) => {
             clear(into);
             PaprRehash {
@@ -69,6 +78,7 @@ pub extern "C" fn papr_rehash(
                 first: collision.first,
                 second: collision.second,
                 target: collision.target,
+                stale: false,
             }
         }
     }

@@ -8,6 +8,7 @@ use crate::lent::LentTable;
 use crate::read::put_entries;
 use crate::receipts::{PaprReceipt, put_receipts};
 use crate::reply::{PaprReply, filled_count, hand_over};
+use crate::stale::any_stale;
 use crate::trying::try_lent;
 use call_plan::{CallPlan, Told, Trial};
 use entry_model::{EntryState, Receipts};
@@ -38,16 +39,16 @@ fn try_trial(
     match trial.told {
         Told::Entered => {
             let told = h_enter::registers(&tried.ending(goes_on));
-            hand_over(&told, tried.count, words, receipts.len())
+            hand_over(&told, tried.count, tried.stale, words, receipts.len())
         }
         Told::Answer { shown } => {
             let told = h_update::registers(&tried.last, shown);
-            hand_over(&told, tried.count, words, receipts.len())
+            hand_over(&told, tried.count, tried.stale, words, receipts.len())
         }
         Told::Contents => {
             let shown = put_entries(entries, first, count, words);
             let filled = filled_count(receipts.len(), tried.count);
-            PaprReply::told(Rc::Success, shown, filled)
+            PaprReply::told(Rc::Success, shown, filled, tried.stale)
         }
     }
 }
@@ -73,7 +74,7 @@ fn remove_pairs(
     let registers = h_bulk_remove_into(&mut table, pairs, &mut made);
     let _put = put_receipts(made.as_slice(), receipts);
     let tried = made.as_slice().len() as u32;
-    hand_over(&registers, tried, words, receipts.len())
+    hand_over(&registers, tried, any_stale(made.as_slice()), words, receipts.len())
 }
 
 /// Makes a call on entries that are lent, and hands over what its receipts tell.
@@ -94,7 +95,7 @@ pub fn run_lent(
         (memory entries.old words.old receipts.old) }
 {
     match plan {
-        CallPlan::Code { rc } => PaprReply::told(*rc, 0, 0),
+        CallPlan::Code { rc } => PaprReply::told(*rc, 0, 0, false),
         CallPlan::Tries { trial } => try_trial(entries, order, trial, words, receipts),
         CallPlan::Removes { order: _, pairs } => {
             remove_pairs(entries, order, pairs, words, receipts)

@@ -3,9 +3,11 @@ ghost use Rattle.entry_model.specs.Receipt.{after_of, receipt_of};
 ghost use Rattle.entry_model.specs.Run.{state_at, states_after};
 ghost use Rattle.entry_model.specs.Trial.{ending_of};
 ghost use Rattle.papr_c.specs.Places.{placed, shown_receipt};
+ghost use Rattle.papr_c.specs.Stale.{any_stale};
 ghost use Rattle.papr_c.specs.Tried.{tried};
 
 use crate::receipts::{PaprReceipt, put_receipt};
+use crate::stale::is_stale;
 use entry_model::{Answer, EntryState, GoesOn, Op, Receipt, reply};
 
 /// How a trial ended.
@@ -15,6 +17,8 @@ pub struct Tried {
     pub last: Receipt,
     /// How many entries were tried.
     pub count: u32,
+    /// Whether a cached translation of one of them may be one no more.
+    pub stale: bool,
 }
 
 impl Tried {
@@ -108,15 +112,22 @@ pub fn try_lent(
     ensures ending { let goes = Rattle.entry_model.specs.Trial.goes_after goes_on in
         ending_of goes (tried goes_on op.now first count entries.old).0
         ≡ (if goes result.last.answer then None else Some result.last) }
+    ensures stale { result.stale ≡ any_stale (tried goes_on op.now first count entries.old).0 }
     ensures alone { count ≡ 1
         → (tried goes_on op.now first count entries.old).0 ≡ result.last ∷ [] }
 {
     let mut tried = 0;
+    let mut stale = false;
     loop {
         let last = make(entries, op, first + tried, receipts, place + tried);
         tried += 1;
+        stale |= is_stale(last.answer);
         if tried == count || !goes_on.after(last.answer) {
-            return Tried { last, count: tried };
+            return Tried {
+                last,
+                count: tried,
+                stale,
+            };
         }
     }
 }

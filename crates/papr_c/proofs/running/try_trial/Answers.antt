@@ -11,6 +11,7 @@ use Rattle.h_update.specs.Single.{told_by}
 use Rattle.h_update.specs.ShownWords.{words_shown}
 use Rattle.call_plan.specs.Plans.{goes_of, told_of, most_of, IsToldOf}
 use Rattle.papr_c.specs.Places.{placed, shown_receipt}
+use Rattle.papr_c.specs.Stale.{any_stale}
 use Rattle.papr_c.specs.Tried.{tried, words_of_entries}
 use Rattle.papr_c.proofs.Filling.{placed_filled}
 use Rattle.papr_c.proofs.Outcomes.{call_tried}
@@ -29,7 +30,7 @@ returns-in-Entered c =
     ∙ ap (λ g. told_by_ending (ending_of (goes_after g) x.0)) (c.goes_on-goes_on.ensures ∙ ap goes_of c.in-Entered.is)
     ∙ told_is x.0
     ∙ ap (λ d. told_of d x.0) (sym c.in-Entered.is))
-    (rw (c.try_lent-tried.auto.receipts, c.try_lent-tried.ensures.count) at c.hand_over.ensures.reply)
+    (rw (c.try_lent-tried.auto.receipts, c.try_lent-tried.ensures.count, c.try_lent-tried.ensures.stale) at c.hand_over.ensures.reply)
     c.hand_over.ensures.words
     c.try_lent-tried.ensures.receipts
     c.try_lent-tried.ensures.entries
@@ -46,7 +47,7 @@ returns-in-Answer c =
     (c.registers-told-in-Answer.ensures
     ∙ ap (told_by (words_shown c.in-Answer.shown)) (sym (c.try_lent-tried.ensures.alone one))
     ∙ ap (λ d. told_of d x.0) (sym c.in-Answer.is))
-    (rw (c.try_lent-tried.auto.receipts, c.try_lent-tried.ensures.count) at c.hand_over-in-Answer.ensures.reply)
+    (rw (c.try_lent-tried.auto.receipts, c.try_lent-tried.ensures.count, c.try_lent-tried.ensures.stale) at c.hand_over-in-Answer.ensures.reply)
     c.hand_over-in-Answer.ensures.words
     c.try_lent-tried.ensures.receipts
     c.try_lent-tried.ensures.entries
@@ -66,11 +67,12 @@ returns-in-Contents c =
     let shown : c.put_entries-shown.result ≡ min (length c.args.words.now) (length ws) = c.put_entries-shown.ensures.count ∙ ap (min (length c.args.words.now)) (sym (words-length entries t.first t.count)) in
     let many = rw (c.try_lent-tried.auto.receipts, c.try_lent-tried.ensures.count) at c.filled_count-filled.ensures in
     let filled : c.filled_count-filled.result ≡ min (length c.args.receipts.now) (length x.0) = many ∙ ap (λ z. min (length c.args.receipts.now) (length z.0)) same in
+    let stale : c.try_lent-tried.result.stale ≡ any_stale x.0 = c.try_lent-tried.ensures.stale ∙ ap (λ z. any_stale z.0) same in
     call_tried _ _ _ x Success ws c.told.result c.put_entries-shown.new.places c.try_lent-tried.new.receipts c.try_lent-tried.new.entries
     c.requires.table
     (λ k. tried (sym goes k) (sym op k) t.first t.count entries)
     (ap (λ z. (Success, z)) (sym read.words) ∙ ap (λ d. told_of d x.0) (sym c.in-Contents.is))
-    (c.told.ensures ∙ λ k. record { rc = rc_code Success; words = shown k; receipts = filled k })
+    (c.told.ensures ∙ λ k. record { rc = rc_code Success; words = shown k; receipts = filled k; stale = stale k })
     (c.put_entries-shown.ensures.put ∙ ap (λ e. placed c.args.words.now 0 (words_of_entries e t.first t.count)) stays ∙ placed_filled ws c.args.words.now)
     (c.try_lent-tried.ensures.receipts ∙ ap (λ z. placed c.args.receipts.now 0 (map shown_receipt z.0)) same)
     (c.try_lent-tried.ensures.entries ∙ ap (λ z. z.1) same)

@@ -1,11 +1,13 @@
-use Rattle.std.proofs.Common.{◌≡◌, ◌+◌, ◌++◌, [], ◌∷◌, true, false, ◌⊎◌, inl, inr, arith}
+use Rattle.std.proofs.Common.{◌≡◌, ◌+◌, ◌++◌, [], ◌∷◌, true, false, ◌⊎◌, inl, inr, arith, ap, sym, ◌∙◌}
 use Rattle.entry_model.specs.Trial.{goes_after}
+use Rattle.papr_c.specs.Stale.{any_stale}
+use Rattle.papr_c.proofs.StaleTrials.{none_stale, stale_more}
 use Rattle.papr_c.proofs.SoFar.{IsTold, starts, so_far_goes, ends}
 use Rattle.papr_c.proofs.trying.try_lent.Goals.{then-tried-count-via-then-tried-count, then-tried-count-via-else-tried-count+then-not-after}
 use Rattle.papr_c.proofs.trying.try_lent.Goals as goal
 
 pub loop-tried-init : goal.loop-tried-init
-loop-tried-init c = record { more = omega (arith, c.requires.some); so_far = ([], starts _ _ _ _ _ _ _) }
+loop-tried-init c = record { more = omega (arith, c.requires.some); so_far = ([], starts _ _ _ _ _ _ _, none_stale) }
 
 ended : (c : goal.Joined-then-tried-count) → (goes_after c.args.goes_on c.make-last.result.answer ≡ false) ⊎ (c.loop-tried.tried + 1 ≡ c.args.count)
 ended c = elim c.then-tried-count.branch [
@@ -13,7 +15,7 @@ ended c = elim c.then-tried-count.branch [
   | then-tried-count-via-else-tried-count+then-not-after w ↦ inl (let e = w.if-not-after.ensures in let f = w.after.ensures in cc)
 ]
 
-told : (c : goal.Joined-then-tried-count) → IsTold (goes_after c.args.goes_on) c.args.op.now c.args.first c.args.count c.args.place (c.loop-tried.tried + 1) c.args.entries.now c.make-last.new.entries c.args.receipts.now c.make-last.new.receipts c.make-last.result
+told : (c : goal.Joined-then-tried-count) → IsTold (goes_after c.args.goes_on) c.args.op.now c.args.first c.args.count c.args.place (c.loop-tried.tried + 1) c.args.entries.now c.make-last.new.entries c.args.receipts.now c.make-last.new.receipts c.loop-tried.invariant.so_far.0 c.make-last.result
 told c =
     ends _ _ _ _ _ _ _ c.loop-tried.entries _ _ c.loop-tried.receipts _ c.loop-tried.invariant.so_far.0 _ c.loop-tried.invariant.more c.make-last.ensures.receipt c.make-last.ensures.entries c.make-last.ensures.receipts (ended c) c.loop-tried.invariant.so_far.1
 
@@ -29,6 +31,9 @@ returns-then-tried-count-clause-count c = (told c).counted
 pub returns-then-tried-count-clause-ending : goal.returns-then-tried-count-clause-ending
 returns-then-tried-count-clause-ending c = (told c).ending
 
+pub returns-then-tried-count-clause-stale : goal.returns-then-tried-count-clause-stale
+returns-then-tried-count-clause-stale c = stale_more _ _ _ _ c.loop-tried.invariant.so_far.2 c.is_stale-stale.ensures ∙ sym (ap any_stale (told c).whole)
+
 pub returns-then-tried-count-clause-alone : goal.returns-then-tried-count-clause-alone
 returns-then-tried-count-clause-alone c = (told c).alone
 
@@ -42,5 +47,6 @@ loop-tried-preserved c =
       so_far = (
         c.loop-tried.invariant.so_far.0 ++ r ∷ [],
         so_far_goes _ _ _ _ _ _ _ c.loop-tried.entries _ _ c.loop-tried.receipts _ c.loop-tried.invariant.so_far.0 r c.loop-tried.invariant.more c.make-last.ensures.receipt c.make-last.ensures.entries c.make-last.ensures.receipts on c.loop-tried.invariant.so_far.1,
+        stale_more _ _ _ _ c.loop-tried.invariant.so_far.2 c.is_stale-stale.ensures,
       );
     }

@@ -10,3 +10,4 @@ pub mod PagePlaces
 pub mod DecodedPages
 pub mod ReservedBits
 pub mod StaleTrials
+pub mod FoundAsIs

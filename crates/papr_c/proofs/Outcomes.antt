@@ -5,8 +5,7 @@ use Rattle.entry_model.specs.Run.{IsRun}
 use Rattle.entry_model.specs.Replies.{reply_with}
 use Rattle.storage_prot.specs.declared.want.Want.{Want}
 use Rattle.power_addr.specs.Pages.{VirtualPage}
-use Rattle.entry_model.specs.Receipt.{is_no_match, found_of}
-use Rattle.entry_model.specs.Reply.{access_mode}
+use Rattle.entry_model.specs.Receipt.{after_of, is_no_match, found_of}
 use Rattle.entry_model.specs.Trial.{Plan, IsReplyOf, IsTrial, plan_of_code, plan_run, reply_by, trial_run}
 use Rattle.entry_model.specs.declared.hreply.Registers.{Registers}
 use Rattle.entry_model.specs.declared.receipt.Receipt.{Receipt}
@@ -24,7 +23,8 @@ use Rattle.papr_c.specs.declared.walking.PaprWalk.{PaprWalk}
 use Rattle.papr_c.specs.Lent.{is_table}
 use Rattle.papr_c.specs.Stale.{any_stale}
 use Rattle.papr_c.specs.Calls.{LentMemory, memory, reply_told, outcome_by, outcome_where}
-use Rattle.papr_c.specs.Walks.{masks_of, WalkMemory, walk_memory, page_of, want_of, walk_end, walked_by, outcome_of_walk}
+use Rattle.papr_c.specs.WalkEnds.{mode_of, walk_end}
+use Rattle.papr_c.specs.Walks.{WalkMemory, walk_memory, page_of, want_of, walked_by, walk_run, outcome_of_walk}
 
 -- What was handed over, and the entries that the receipts led to.
 pub record IsHandedOver (registers : Registers) (rs : List Receipt) (m : LentMemory) (told : PaprReply) (words : List ℕ) (receipts : List PaprReceipt) : Type 0 where
@@ -40,11 +40,11 @@ call_is fits plan m registers rs reply words receipts lent now after fit is run 
     rw fit (told ∙ ap (outcome_by m) made)
 
 -- A walk whose arguments fit leaves what its calls do on the entries that were lent.
-pub walk_is : (order : ℕ) (a : PaprAccess) (page : VirtualPage) (want : Want) (m : WalkMemory) (rs : List Receipt) (found : Option Receipt) (count : ℕ) (told : PaprWalk) (places : List PaprReceipt) (lent now after : List State) → is_table order m.entries ≡ true → page_of a ≡ Some page → want_of a.want ≡ Some want → IsTrial is_no_match (walk_calls order page (access_mode a.key a.no_execute want (masks_of a))) rs → IsRun lent rs now → lent ≡ m.entries → found ≡ found_of rs → count ≡ min (length m.receipts) (length rs) → told ≡ walk_end a.ea found count → places ≡ filled m.receipts (map shown_receipt rs) → after ≡ now → (told, walk_memory after places) ≡ outcome_of_walk order a m
+pub walk_is : (order : ℕ) (a : PaprAccess) (page : VirtualPage) (want : Want) (m : WalkMemory) (rs : List Receipt) (found : Option Receipt) (count : ℕ) (told : PaprWalk) (places : List PaprReceipt) (lent now after : List State) → is_table order m.entries ≡ true → page_of a ≡ Some page → want_of a.want ≡ Some want → IsTrial is_no_match (walk_calls order page (mode_of a want)) rs → IsRun lent rs now → lent ≡ m.entries → found ≡ found_of rs → count ≡ min (length m.receipts) (length rs) → told ≡ walk_end after_of a want found count → places ≡ filled m.receipts (map shown_receipt rs) → after ≡ now → (told, walk_memory after places) ≡ outcome_of_walk order a m
 walk_is order a page want m rs found count told places lent now after fit at_page wants trial run same is counted ended put kept =
-    let made : (rs, now) ≡ trial_run is_no_match m.entries (walk_calls order page (access_mode a.key a.no_execute want (masks_of a))) = trial_is is_no_match m.entries now (walk_calls order page (access_mode a.key a.no_execute want (masks_of a))) rs trial (rw same at run) in
-    let here : (told, walk_memory after places) ≡ walked_by a.ea m (rs, now) = rw (ended, is, counted, put, kept) refl in
-    rw (fit, at_page, wants) (here ∙ ap (walked_by a.ea m) made)
+    let made : (rs, now) ≡ walk_run order a page want m.entries = trial_is is_no_match m.entries now (walk_calls order page (mode_of a want)) rs trial (rw same at run) in
+    let here : (told, walk_memory after places) ≡ walked_by a want m (rs, now) = rw (ended, is, counted, put, kept) refl in
+    rw (fit, at_page, wants) (here ∙ ap (walked_by a want m) made)
 
 -- A call whose arguments fit leaves what its trial does on the entries that were lent.
 pub call_tried : (fits : Bool) (plan : Plan) (m : LentMemory) (x : List Receipt × List State) (rc : Rc) (ws : List ℕ) (reply : PaprReply) (words : List ℕ) (receipts : List PaprReceipt) (after : List State) → fits ≡ true → x ≡ trial_run plan.goes_on m.entries plan.calls → (rc, ws) ≡ plan.told x.0 → reply ≡ record { rc = rc_code rc; words = min (length m.words) (length ws); receipts = min (length m.receipts) (length x.0); stale = any_stale x.0 } → words ≡ filled m.words ws → receipts ≡ placed m.receipts 0 (map shown_receipt x.0) → after ≡ x.1 → (reply, memory after words receipts) ≡ outcome_where fits plan m

@@ -15,7 +15,7 @@ use Rattle.papr_c.specs.Places.{placed, shown_receipt}
 use Rattle.papr_c.proofs.Filling.{placed-append}
 
 -- The rest of the entries begins with this one.
-calls_step : (op : Op) (first i count : ℕ) → i < count → calls_from op (first + i) (count - i) ≡ call op (first + i) ∷ calls_from op (first + (i + 1)) (count - (i + 1))
+pub calls_step : (op : Op) (first i count : ℕ) → i < count → calls_from op (first + i) (count - i) ≡ call op (first + i) ∷ calls_from op (first + (i + 1)) (count - (i + 1))
 calls_step op first i count h =
     let one : count - i ≡ suc (count - (i + 1)) = omega arith in
     let next : (first + i) + 1 ≡ first + (i + 1) = omega arith in
@@ -30,20 +30,20 @@ abbrev pub before_rest : List Receipt → List Receipt × List State → List Re
 before_rest rs rest = (rs ++ rest.0, rest.1)
 
 -- One entry, and its answer goes on.
-step_on : (goes : Answer → Bool) (a : List State) (c : Call) (cs : List Call) (r : Receipt) → r ≡ receipt_at a c → goes r.answer ≡ true → trial_run goes a (c ∷ cs) ≡ before_rest (r ∷ []) (trial_run goes (states_after a r) cs)
+pub step_on : (goes : Answer → Bool) (a : List State) (c : Call) (cs : List Call) (r : Receipt) → r ≡ receipt_at a c → goes r.answer ≡ true → trial_run goes a (c ∷ cs) ≡ before_rest (r ∷ []) (trial_run goes (states_after a r) cs)
 unfolding trial_run
 step_on goes a c cs r is on =
     let on' : goes (receipt_at a c).answer ≡ true = rw is at on in
     rw (is, on') refl
 
 -- One entry, and its answer ends the trial.
-step_off : (goes : Answer → Bool) (a : List State) (c : Call) (cs : List Call) (r : Receipt) → r ≡ receipt_at a c → goes r.answer ≡ false → trial_run goes a (c ∷ cs) ≡ (r ∷ [], states_after a r)
+pub step_off : (goes : Answer → Bool) (a : List State) (c : Call) (cs : List Call) (r : Receipt) → r ≡ receipt_at a c → goes r.answer ≡ false → trial_run goes a (c ∷ cs) ≡ (r ∷ [], states_after a r)
 unfolding trial_run
 step_off goes a c cs r is off =
     let off' : goes (receipt_at a c).answer ≡ false = rw is at off in
     rw (is, off') refl
 
-no_more : (goes : Answer → Bool) (a : List State) → trial_run goes a [] ≡ ([], a)
+pub no_more : (goes : Answer → Bool) (a : List State) → trial_run goes a [] ≡ ([], a)
 unfolding trial_run
 no_more goes a = refl
 

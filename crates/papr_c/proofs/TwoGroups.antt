@@ -1,13 +1,12 @@
 -- A walk's trials of its two groups.
-use Rattle.std.specs.Prelude.{◌==◌, ◌&&◌, nat_le}
+use Rattle.std.specs.Prelude.{◌==◌, ◌&&◌, nat_le, if◌then◌else◌}
 use Rattle.std.proofs.Common.{◌≡◌, ℕ, ◌+◌, ◌*◌, ◌≤◌, min, List, [], ◌∷◌, ◌++◌, Bool, true, false, length, map, Option, Some, None, refl, ap, sym, subst, arith, ◌∙◌}
 use Rattle.std.proofs.lemmas.Bool.{eqb-true}
 use Rattle.hpte_fields.specs.TableSize.{entry_count}
 use Rattle.hpt_hash.specs.Hash.{group_of}
 use Rattle.entry_model.specs.State.{State}
 use Rattle.entry_model.specs.Run.{IsRun}
-use Rattle.entry_model.specs.Reply.{access_mode}
-use Rattle.entry_model.specs.Receipt.{is_no_match, found_of}
+use Rattle.entry_model.specs.Receipt.{after_of, is_no_match, found_of}
 use Rattle.entry_model.specs.declared.operation.Op.{Op}
 use Rattle.entry_model.specs.declared.receipt.Receipt.{Receipt}
 use Rattle.entry_model.specs.declared.trial.GoesOn.TheVariants.{WhileNoMatch}
@@ -26,7 +25,8 @@ use Rattle.papr_c.specs.declared.walking.PaprWalk.{PaprWalk}
 use Rattle.papr_c.specs.Lent.{is_table}
 use Rattle.papr_c.specs.Places.{placed, shown_receipt}
 use Rattle.papr_c.specs.Tried.{tried}
-use Rattle.papr_c.specs.Walks.{masks_of, WalkMemory, walk_memory, page_of, want_of, walk_end, outcome_of_walk}
+use Rattle.papr_c.specs.WalkEnds.{mode_of, walk_end}
+use Rattle.papr_c.specs.Walks.{WalkMemory, walk_memory, page_of, want_of, outcome_of_walk}
 use Rattle.papr_c.proofs.Filling.{placed_filled, placed-append}
 use Rattle.papr_c.proofs.SoFar.{length-map_shown}
 use Rattle.papr_c.proofs.Outcomes.{walk_is}
@@ -55,21 +55,26 @@ length-both : (rs ss : List Receipt) → length (rs ++ ss) ≡ length rs + lengt
 length-both [] ss = omega arith
 length-both (r ∷ rs) ss = omega (arith, length-both rs ss)
 
+-- What ended a trial is its last receipt.
+pub ended_last : (on : Bool) (last r : Receipt) → Some r ≡ (if on then None else Some last) → r ≡ last
+ended_last true last r e = cc
+ended_last false last r e = cc
+
 -- The entry of the page is in the primary group.
-pub walk_early : (order : ℕ) (a : PaprAccess) (page : VirtualPage) (want : Want) (m : WalkMemory) (op : Op) (g : ℕ) (x : Receipt) (count : ℕ) (told : PaprWalk) (places : List PaprReceipt) (after : List State) → is_table order m.entries ≡ true → page_of a ≡ Some page → want_of a.want ≡ Some want → op ≡ access_op page (access_mode a.key a.no_execute want (masks_of a)) false → g ≡ group_of page order false → g * 8 + 8 ≤ length m.entries → Some x ≡ found_of (of_group op g m.entries).0 → count ≡ min (length m.receipts) (length (of_group op g m.entries).0) → told ≡ walk_end a.ea (Some x) count → places ≡ placed m.receipts 0 (map shown_receipt (of_group op g m.entries).0) → after ≡ (of_group op g m.entries).1 → (told, walk_memory after places) ≡ outcome_of_walk order a m
+pub walk_early : (order : ℕ) (a : PaprAccess) (page : VirtualPage) (want : Want) (m : WalkMemory) (op : Op) (g : ℕ) (x : Receipt) (count : ℕ) (told : PaprWalk) (places : List PaprReceipt) (after : List State) → is_table order m.entries ≡ true → page_of a ≡ Some page → want_of a.want ≡ Some want → op ≡ access_op page (mode_of a want) false → g ≡ group_of page order false → g * 8 + 8 ≤ length m.entries → Some x ≡ found_of (of_group op g m.entries).0 → count ≡ min (length m.receipts) (length (of_group op g m.entries).0) → told ≡ walk_end after_of a want (Some x) count → places ≡ placed m.receipts 0 (map shown_receipt (of_group op g m.entries).0) → after ≡ (of_group op g m.entries).1 → (told, walk_memory after places) ≡ outcome_of_walk order a m
 walk_early order a page want m op g x count told places after fit at_page wants op_is g_is inside found counted ended put kept =
     let meets = group_meets op g m.entries inside in
     let rs = (of_group op g m.entries).0 in
     walk_is order a page want m rs (Some x) count told places m.entries (of_group op g m.entries).1 after fit at_page wants
-    (walk_ends order page (access_mode a.key a.no_execute want (masks_of a)) op g rs x op_is g_is meets.0 (sym found))
+    (walk_ends order page (mode_of a want) op g rs x op_is g_is meets.0 (sym found))
     meets.1 refl found counted ended
     (put ∙ placed_filled (map shown_receipt rs) m.receipts)
     kept
 
 -- It is in the secondary group, or in neither.
-pub walk_late : (order : ℕ) (a : PaprAccess) (page : VirtualPage) (want : Want) (m : WalkMemory) (op₁ op₂ : Op) (g₁ g₂ : ℕ) (found : Option Receipt) (count : ℕ) (told : PaprWalk) (between places : List PaprReceipt) (mid after : List State) → is_table order m.entries ≡ true → page_of a ≡ Some page → want_of a.want ≡ Some want → op₁ ≡ access_op page (access_mode a.key a.no_execute want (masks_of a)) false → g₁ ≡ group_of page order false → op₂ ≡ access_op page (access_mode a.key a.no_execute want (masks_of a)) true → g₂ ≡ group_of page order true → g₁ * 8 + 8 ≤ length m.entries → g₂ * 8 + 8 ≤ length m.entries → None ≡ found_of (of_group op₁ g₁ m.entries).0 → between ≡ placed m.receipts 0 (map shown_receipt (of_group op₁ g₁ m.entries).0) → mid ≡ (of_group op₁ g₁ m.entries).1 → found ≡ found_of (of_group op₂ g₂ mid).0 → count ≡ min (length m.receipts) (length (of_group op₁ g₁ m.entries).0 + length (of_group op₂ g₂ mid).0) → told ≡ walk_end a.ea found count → places ≡ placed between (length (of_group op₁ g₁ m.entries).0) (map shown_receipt (of_group op₂ g₂ mid).0) → after ≡ (of_group op₂ g₂ mid).1 → (told, walk_memory after places) ≡ outcome_of_walk order a m
+pub walk_late : (order : ℕ) (a : PaprAccess) (page : VirtualPage) (want : Want) (m : WalkMemory) (op₁ op₂ : Op) (g₁ g₂ : ℕ) (found : Option Receipt) (count : ℕ) (told : PaprWalk) (between places : List PaprReceipt) (mid after : List State) → is_table order m.entries ≡ true → page_of a ≡ Some page → want_of a.want ≡ Some want → op₁ ≡ access_op page (mode_of a want) false → g₁ ≡ group_of page order false → op₂ ≡ access_op page (mode_of a want) true → g₂ ≡ group_of page order true → g₁ * 8 + 8 ≤ length m.entries → g₂ * 8 + 8 ≤ length m.entries → None ≡ found_of (of_group op₁ g₁ m.entries).0 → between ≡ placed m.receipts 0 (map shown_receipt (of_group op₁ g₁ m.entries).0) → mid ≡ (of_group op₁ g₁ m.entries).1 → found ≡ found_of (of_group op₂ g₂ mid).0 → count ≡ min (length m.receipts) (length (of_group op₁ g₁ m.entries).0 + length (of_group op₂ g₂ mid).0) → told ≡ walk_end after_of a want found count → places ≡ placed between (length (of_group op₁ g₁ m.entries).0) (map shown_receipt (of_group op₂ g₂ mid).0) → after ≡ (of_group op₂ g₂ mid).1 → (told, walk_memory after places) ≡ outcome_of_walk order a m
 walk_late order a page want m op₁ op₂ g₁ g₂ found count told between places mid after fit at_page wants op₁_is g₁_is op₂_is g₂_is inside₁ inside₂ none put₁ kept₁ is counted ended put₂ kept₂ =
-    let mode = access_mode a.key a.no_execute want (masks_of a) in
+    let mode = mode_of a want in
     let early = group_meets op₁ g₁ m.entries inside₁ in
     let rs = (of_group op₁ g₁ m.entries).0 in
     let ss = (of_group op₂ g₂ mid).0 in

@@ -4,6 +4,8 @@ pub mod Tried
 pub mod Stale
 pub mod Calls
 pub mod Grants
+pub mod Rights
+pub mod WalkEnds
 pub mod Walks
 pub mod Rehash
 pub mod Decoding

@@ -11,6 +11,7 @@ mod enter;
 mod granting;
 mod grants;
 mod lent;
+mod probing;
 mod read;
 mod receipts;
 mod rehashing;

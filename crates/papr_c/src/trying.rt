@@ -15,6 +15,8 @@ use entry_model::{Answer, EntryState, GoesOn, Op, Receipt, reply};
 pub struct Tried {
     /// The receipt of the last entry that was tried.
     pub last: Receipt,
+    /// Its state after that.
+    pub after: EntryState,
     /// How many entries were tried.
     pub count: u32,
     /// Whether a cached translation of one of them may be one no more.
@@ -55,8 +57,24 @@ fn store(entries: &mut [EntryState], receipt: &Receipt, after: &EntryState)
     }
 }
 
+/// The receipt of an operation on an entry in this state, and the entry's state after it.
+#[inline(always)]
+pub fn asked(entry: u32, before: &EntryState, op: &Op) -> (Receipt, EntryState)
+    ensures receipt { result.0 ≡ receipt_of entry before.now op.now }
+    ensures after { result.1 ≡ after_of result.0 }
+{
+    let (answer, after) = reply(before, op);
+    let receipt = Receipt {
+        entry,
+        before: *before,
+        op: *op,
+        answer,
+    };
+    (receipt, after)
+}
+
 /// Makes an operation on an entry, and puts the receipt into the caller's place, where there is
-/// one.
+/// one. Gives the entry's state after it too.
 #[inline(always)]
 fn make(
     entries: &mut [EntryState],
@@ -64,23 +82,18 @@ fn make(
     entry: u32,
     receipts: &mut [PaprReceipt],
     place: u32,
-) -> Receipt
+) -> (Receipt, EntryState)
     requires { entry < length entries.old }
-    ensures receipt { result ≡ receipt_of entry (state_at entries.old entry) op.now }
-    ensures entries { entries.new ≡ states_after entries.old result }
-    ensures receipts { receipts.new ≡ set receipts.old place (shown_receipt result) }
+    ensures receipt { result.0 ≡ receipt_of entry (state_at entries.old entry) op.now }
+    ensures after { result.1 ≡ after_of result.0 }
+    ensures entries { entries.new ≡ states_after entries.old result.0 }
+    ensures receipts { receipts.new ≡ set receipts.old place (shown_receipt result.0) }
 {
     let before = entries[entry as usize];
-    let (answer, after) = reply(&before, op);
-    let receipt = Receipt {
-        entry,
-        before,
-        op: *op,
-        answer,
-    };
+    let (receipt, after) = asked(entry, &before, op);
     store(entries, &receipt, &after);
     put_receipt(&receipt, receipts, place);
-    receipt
+    (receipt, after)
 }
 
 /// Makes an operation on `count` entries, one behind the other from `first` on, as long as the
@@ -112,6 +125,7 @@ pub fn try_lent(
     ensures ending { let goes = Rattle.entry_model.specs.Trial.goes_after goes_on in
         ending_of goes (tried goes_on op.now first count entries.old).0
         ≡ (if goes result.last.answer then None else Some result.last) }
+    ensures after { result.after ≡ after_of result.last }
     ensures stale { result.stale ≡ any_stale (tried goes_on op.now first count entries.old).0 }
     ensures alone { count ≡ 1
         → (tried goes_on op.now first count entries.old).0 ≡ result.last ∷ [] }
@@ -119,12 +133,13 @@ pub fn try_lent(
     let mut tried = 0;
     let mut stale = false;
     loop {
-        let last = make(entries, op, first + tried, receipts, place + tried);
+        let (last, after) = make(entries, op, first + tried, receipts, place + tried);
         tried += 1;
         stale |= is_stale(last.answer);
         if tried == count || !goes_on.after(last.answer) {
             return Tried {
                 last,
+                after,
                 count: tried,
                 stale,
             };

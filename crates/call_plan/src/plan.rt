@@ -1,6 +1,7 @@
-ghost use Rattle.std.specs.Prelude.{◌≡◌};
+ghost use Rattle.std.specs.Prelude.{◌+◌, ◌<◌, ◌^◌};
 
-use entry_model::{GoesOn, Op};
+use call_trials::CallList;
+use entry_model::{Answer, GoesOn, Op};
 use h_update::ShownWords;
 use papr_codes::Rc;
 
@@ -27,6 +28,7 @@ pub struct Trial {
     pub count: u32,
     /// What their receipts tell.
     pub told: Told,
+    pub ghost small: { first + count < 2 ^ 32 },
 }
 
 /// What a hypervisor call with its arguments is. The value is small, and whoever makes the call may
@@ -43,6 +45,7 @@ pub enum CallPlan<'a> {
 }
 
 impl Told {
+    ghost use Rattle.std.specs.Prelude.{◌≡◌};
     ghost use Rattle.call_plan.specs.Plans as plans;
 
     /// After which answers the next entry is tried.
@@ -54,5 +57,27 @@ impl Told {
             Told::Entered => GoesOn::WhileTaken,
             Told::Answer { .. } | Told::Contents => GoesOn::Always,
         }
+    }
+}
+
+impl CallList for Trial {
+    ghost use Rattle.call_plan.specs.Plans.{plan_of_trial};
+
+    ghost calls = { λ trial. (plan_of_trial trial).calls };
+
+    ghost goes_on = { λ trial. (plan_of_trial trial).goes_on };
+
+    #[inline(always)]
+    fn call_at(&self, made: u32) -> Option<(u32, Op)> {
+        if made < self.count {
+            Some((self.first + made, self.op))
+        } else {
+            None
+        }
+    }
+
+    #[inline(always)]
+    fn goes_on_after(&self, answer: Answer) -> bool {
+        self.told.goes_on().after(answer)
     }
 }

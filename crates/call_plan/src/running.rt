@@ -1,11 +1,12 @@
-ghost use Rattle.std.specs.Prelude.{◌≡◌, []};
+ghost use Rattle.std.specs.Prelude.{◌≡◌};
 ghost use Rattle.entry_model.specs.Replies.{reply_with};
 ghost use Rattle.entry_model.specs.Trial.{IsReplyOf};
 ghost use Rattle.call_plan.specs.Plans.{plan_of, plan_of_trial, Fits, IsTrialIn};
 
 use crate::plan::{CallPlan, Trial};
 use crate::telling::told_registers;
-use entry_model::{EntryStore, Receipts, Registers, try_entries};
+use call_trials::make_trial;
+use entry_model::{EntryStore, Receipts, Registers};
 use h_update::h_bulk_remove_into;
 use papr_codes::Rc;
 
@@ -13,13 +14,10 @@ use papr_codes::Rc;
 #[inline]
 fn run_trial<T: EntryStore>(store: &mut T, trial: &Trial, receipts: &mut Receipts) -> Registers
     requires fits { IsTrialIn (T.table_order store.old) trial.now }
-    requires empty { receipts.old ≡ [] }
     ensures made { T.made store.old store.new receipts.new }
     ensures reply { IsReplyOf (plan_of_trial trial.now) (reply_with result receipts.new) }
 {
-    let _order = store.order();
-    let goes_on = trial.told.goes_on();
-    let ending = try_entries(store, trial.op, trial.first, trial.count, goes_on, receipts);
+    let ending = make_trial(store, trial, receipts);
     told_registers(trial.told, &ending, receipts.as_slice())
 }
 
@@ -29,9 +27,11 @@ pub fn run_plan<T: EntryStore>(store: &mut T, plan: &CallPlan, receipts: &mut Re
     ensures made { T.made store.old store.new receipts.new }
     ensures reply { IsReplyOf (plan_of plan.now) (reply_with result receipts.new) }
 {
-    receipts.clear();
     match plan {
-        CallPlan::Code { rc } => Registers::with_code(*rc),
+        CallPlan::Code { rc } => {
+            receipts.clear();
+            Registers::with_code(*rc)
+        }
         CallPlan::Tries { trial } => run_trial(store, trial, receipts),
         CallPlan::Removes { order: _, pairs } => h_bulk_remove_into(store, pairs, receipts),
     }

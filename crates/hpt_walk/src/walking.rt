@@ -1,17 +1,15 @@
-ghost use Rattle.std.specs.Prelude.{◌≡◌, ◌≤◌, ◌<◌, ◌-◌, ◌+◌, ◌*◌, ◌^◌, ◌++◌, ◌↔◌, length, IsNone, IfSome};
-ghost use Rattle.hpte_fields.specs.TableSize.{entry_count};
+ghost use Rattle.std.specs.Prelude.{◌≡◌, ◌↔◌, IsNone, IfSome};
 ghost use Rattle.entry_model.specs.Reply.{access_mode};
-ghost use Rattle.entry_model.specs.Receipt.{IsNormal, is_no_match, found_of};
-ghost use Rattle.entry_model.specs.Trial.{IsTrial, receipts_added};
+ghost use Rattle.entry_model.specs.Receipt.{is_no_match, found_of};
+ghost use Rattle.entry_model.specs.Trial.{IsTrial};
 ghost use Rattle.entry_model.specs.CachedLines.{ShowsLine, line_of};
-ghost use Rattle.hpt_walk.specs.Walk.{walk_calls, group_calls, AreAllNoMatch};
+ghost use Rattle.hpt_walk.specs.Walk.{walk_calls, AreAllNoMatch};
 ghost use Rattle.hpt_walk.specs.Translations.{TranslatesItsPage};
 
-use crate::access::access_op;
+use crate::page_calls::PageCalls;
 use authority_mask::Masks;
-use entry_model::{EntryStore, GoesOn, Op, Receipt, Receipts, try_entries};
-use hpt_hash::groups;
-use hpte_fields::GROUP_SIZE;
+use call_trials::make_trial;
+use entry_model::{EntryStore, Receipt, Receipts};
 use power_addr::Page;
 use storage_prot::Want;
 
@@ -55,7 +53,6 @@ pub fn walk<T: EntryStore>(
 
 /// The same walk, whose receipts take the place of what is in `receipts`. Gives back the receipt of
 /// the entry that translates the page: the last one, which says At, Masked or Denied.
-#[tactic(auto, unfolding(crate::specs::Walk::walk_calls))]
 pub fn walk_into<T: EntryStore>(
     store: &mut T,
     page: &Page,
@@ -77,43 +74,6 @@ pub fn walk_into<T: EntryStore>(
     ensures shown { IfSome result (λ r. ShowsLine (line_of page.now r) receipts.new) }
     ensures translates { IfSome result (λ r. TranslatesItsPage (line_of page.now r)) }
 {
-    receipts.clear();
-    let (primary, secondary) = groups(page, store.order());
-    let op = access_op(page, key, no_execute, want, masks, false);
-    if let Some(receipt) = search(store, primary as u32, op, receipts) {
-        return Some(receipt);
-    }
-    let op = access_op(page, key, no_execute, want, masks, true);
-    search(store, secondary as u32, op, receipts)
-}
-
-/// Makes an access on the entries of a group, in slot order, up to the first that doesn't say
-/// NoMatch, which it gives back.
-fn search<T: EntryStore>(
-    store: &mut T,
-    group: u32,
-    op: Op,
-    receipts: &mut Receipts,
-) -> Option<Receipt>
-    requires in_table { group * 8 + 8 ≤ entry_count (T.table_order store.old) }
-    requires small { group < 2 ^ 15 }
-    requires normal { IsNormal op }
-    requires room { length receipts.old ≤ 8 }
-    ensures behind { receipts.new ≡ receipts.old ++ receipts_added receipts.old receipts.new }
-    ensures few { length receipts.new ≤ length receipts.old + 8 }
-    ensures made { T.made store.old store.new (receipts_added receipts.old receipts.new) }
-    ensures trial { IsTrial
-        is_no_match
-        (group_calls op group)
-        (receipts_added receipts.old receipts.new) }
-    ensures found { result ≡ found_of (receipts_added receipts.old receipts.new) }
-{
-    try_entries(
-        store,
-        op,
-        group * GROUP_SIZE,
-        GROUP_SIZE,
-        GoesOn::WhileNoMatch,
-        receipts,
-    )
+    let calls = PageCalls::of(page, store.order(), want, key, no_execute, masks);
+    make_trial(store, &calls, receipts)
 }

@@ -2,7 +2,6 @@ pub mod Filling
 pub mod SoFar
 pub mod Outcomes
 pub mod Reading
-pub mod TwoGroups
 pub mod Makings
 pub mod Searching
 mod Rows

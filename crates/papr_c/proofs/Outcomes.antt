@@ -1,16 +1,21 @@
 -- What a call leaves, by its reply and the receipts that it made.
-use Rattle.std.proofs.Common.{◌≡◌, ℕ, min, List, Bool, true, false, length, map, Option, Some, refl, ap, sym, arith, ◌∙◌}
+use Rattle.std.specs.Prelude.{◌==◌, ◌&&◌, nat_le}
+use Rattle.std.specs.List.{AllByRecursion}
+use Rattle.std.proofs.Common.{◌≡◌, ℕ, ◌<◌, min, List, [], ◌∷◌, Bool, true, false, length, map, Option, Some, refl, ap, sym, subst, arith, ◌∙◌}
+use Rattle.std.proofs.lemmas.Bool.{eqb-true}
+use Rattle.hpte_fields.specs.TableSize.{entry_count}
+use Rattle.entry_model.specs.declared.operation.Op.{Op}
+use Rattle.call_trials.specs.Calls.{AreCallsIn}
 use Rattle.entry_model.specs.State.{State}
-use Rattle.entry_model.specs.Run.{IsRun}
+use Rattle.entry_model.specs.Run.{states_after, IsRun}
 use Rattle.entry_model.specs.Replies.{reply_with}
 use Rattle.storage_prot.specs.declared.want.Want.{Want}
 use Rattle.power_addr.specs.Pages.{VirtualPage}
 use Rattle.entry_model.specs.Receipt.{after_of, is_no_match, found_of}
-use Rattle.entry_model.specs.Trial.{Plan, IsReplyOf, IsTrial, plan_of_code, plan_run, reply_by, trial_run}
+use Rattle.entry_model.specs.Trial.{Call, call, receipt_at, Plan, IsReplyOf, plan_of_code, plan_run, reply_by, trial_run}
 use Rattle.entry_model.specs.declared.hreply.Registers.{Registers}
 use Rattle.entry_model.specs.declared.receipt.Receipt.{Receipt}
 use Rattle.entry_model.proofs.Plans.{plan_is}
-use Rattle.entry_model.proofs.Trials.{trial_is}
 use Rattle.hpt_walk.specs.Walk.{walk_calls}
 use Rattle.papr_c.specs.declared.receipts.PaprReceipt.{PaprReceipt}
 use Rattle.papr_c.specs.declared.reply.PaprReply.{PaprReply}
@@ -21,10 +26,10 @@ use Rattle.papr_c.specs.Places.{filled, placed, shown_receipt}
 use Rattle.papr_c.specs.declared.walking.PaprAccess.{PaprAccess}
 use Rattle.papr_c.specs.declared.walking.PaprWalk.{PaprWalk}
 use Rattle.papr_c.specs.Lent.{is_table}
-use Rattle.papr_c.specs.Stale.{any_stale}
 use Rattle.papr_c.specs.Calls.{LentMemory, memory, reply_told, outcome_by, outcome_where}
+use Rattle.papr_c.specs.Stale.{any_stale}
 use Rattle.papr_c.specs.WalkEnds.{mode_of, walk_end}
-use Rattle.papr_c.specs.Walks.{WalkMemory, walk_memory, page_of, want_of, walked_by, walk_run, outcome_of_walk}
+use Rattle.papr_c.specs.Walks.{WalkMemory, walk_memory, page_of, want_of, walked_by, outcome_of_walk}
 
 -- What was handed over, and the entries that the receipts led to.
 pub record IsHandedOver (registers : Registers) (rs : List Receipt) (m : LentMemory) (told : PaprReply) (words : List ℕ) (receipts : List PaprReceipt) : Type 0 where
@@ -40,11 +45,12 @@ call_is fits plan m registers rs reply words receipts lent now after fit is run 
     rw fit (told ∙ ap (outcome_by m) made)
 
 -- A walk whose arguments fit leaves what its calls do on the entries that were lent.
-pub walk_is : (order : ℕ) (a : PaprAccess) (page : VirtualPage) (want : Want) (m : WalkMemory) (rs : List Receipt) (found : Option Receipt) (count : ℕ) (told : PaprWalk) (places : List PaprReceipt) (lent now after : List State) → is_table order m.entries ≡ true → page_of a ≡ Some page → want_of a.want ≡ Some want → IsTrial is_no_match (walk_calls order page (mode_of a want)) rs → IsRun lent rs now → lent ≡ m.entries → found ≡ found_of rs → count ≡ min (length m.receipts) (length rs) → told ≡ walk_end after_of a want found count → places ≡ filled m.receipts (map shown_receipt rs) → after ≡ now → (told, walk_memory after places) ≡ outcome_of_walk order a m
-walk_is order a page want m rs found count told places lent now after fit at_page wants trial run same is counted ended put kept =
-    let made : (rs, now) ≡ walk_run order a page want m.entries = trial_is is_no_match m.entries now (walk_calls order page (mode_of a want)) rs trial (rw same at run) in
-    let here : (told, walk_memory after places) ≡ walked_by a want m (rs, now) = rw (ended, is, counted, put, kept) refl in
-    rw (fit, at_page, wants) (here ∙ ap (walked_by a want m) made)
+pub walk_is : (order : ℕ) (a : PaprAccess) (page : VirtualPage) (want : Want) (m : WalkMemory) (cs : List Call) (found : Option Receipt) (count : ℕ) (told : PaprWalk) (places : List PaprReceipt) (after : List State) → is_table order m.entries ≡ true → page_of a ≡ Some page → want_of a.want ≡ Some want → cs ≡ walk_calls order page (mode_of a want) → found ≡ found_of (trial_run is_no_match m.entries cs).0 → count ≡ min (length m.receipts) (length (trial_run is_no_match m.entries cs).0) → told ≡ walk_end after_of a want found count → places ≡ placed m.receipts 0 (map shown_receipt (trial_run is_no_match m.entries cs).0) → after ≡ (trial_run is_no_match m.entries cs).1 → (told, walk_memory after places) ≡ outcome_of_walk order a m
+walk_is order a page want m cs found count told places after fit at_page wants calls is counted ended put kept =
+    let x = trial_run is_no_match m.entries cs in
+    let in_places : places ≡ filled m.receipts (map shown_receipt x.0) = put ∙ placed_filled (map shown_receipt x.0) m.receipts in
+    let here : (told, walk_memory after places) ≡ walked_by a want m x = rw (ended, is, counted, in_places, kept) refl in
+    rw (fit, at_page, wants) (here ∙ ap (λ (ds : List Call). walked_by a want m (trial_run is_no_match m.entries ds)) calls)
 
 -- A call whose arguments fit leaves what its trial does on the entries that were lent.
 pub call_tried : (fits : Bool) (plan : Plan) (m : LentMemory) (x : List Receipt × List State) (rc : Rc) (ws : List ℕ) (reply : PaprReply) (words : List ℕ) (receipts : List PaprReceipt) (after : List State) → fits ≡ true → x ≡ trial_run plan.goes_on m.entries plan.calls → (rc, ws) ≡ plan.told x.0 → reply ≡ record { rc = rc_code rc; words = min (length m.words) (length ws); receipts = min (length m.receipts) (length x.0); stale = any_stale x.0 } → words ≡ filled m.words ws → receipts ≡ placed m.receipts 0 (map shown_receipt x.0) → after ≡ x.1 → (reply, memory after words receipts) ≡ outcome_where fits plan m
@@ -62,3 +68,22 @@ coded fits rc m fit =
     let no_words : min (length m.words) 0 ≡ 0 = omega arith in
     let no_receipts : min (length m.receipts) 0 ≡ 0 = omega arith in
     rw fit (λ k. (record { rc = rc_code rc; words = sym no_words k; receipts = sym no_receipts k; stale = false }, memory m.entries (sym (filled-nil m.words) k) (sym (filled-nil m.receipts) k)))
+
+-- The trial of one call that is made on one entry.
+pub alone : (op : Op) (entry : ℕ) (a : List State) (r : Receipt) → r ≡ receipt_at a (call op entry) → (r ∷ [], states_after a r) ≡ trial_run (λ answer. true) a (call op entry ∷ [])
+unfolding trial_run
+alone op entry a r is = rw is refl
+
+-- A table has all its entries.
+whole_of : (p q : Bool) (m n : ℕ) → (p && q && (m == n)) ≡ true → m ≡ n
+whole_of true true m n h = eqb-true m n h
+whole_of true false m n h = cc
+whole_of false q m n h = cc
+
+pub table_whole : (order : ℕ) (entries : List State) → is_table order entries ≡ true → length entries ≡ entry_count order
+table_whole order entries fit = whole_of (nat_le 18 order) (nat_le order 22) (length entries) (entry_count order) fit
+
+-- The calls on entries of a table are on entries that were lent.
+pub calls_inside : (order : ℕ) (entries : List State) (cs : List Call) → is_table order entries ≡ true → AreCallsIn order cs → AllByRecursion (λ (c : Call). c.entry < length entries) cs
+calls_inside order entries cs fit fits =
+    subst (λ n. AllByRecursion (λ (c : Call). c.entry < n) cs) (sym (table_whole order entries fit)) fits.in_table

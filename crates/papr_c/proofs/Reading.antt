@@ -1,18 +1,23 @@
 -- H_READ's words, entry by entry.
 use Rattle.std.specs.Prelude.{flat_map}
-use Rattle.std.proofs.Common.{◌≡◌, ℕ, zero, suc, ◌+◌, ◌*◌, List, [], ◌∷◌, ◌++◌, length, set, true, arith, subst, sym, ap, ◌∙◌, refl}
+use Rattle.std.proofs.Common.{◌≡◌, ℕ, zero, suc, ◌+◌, ◌*◌, List, [], ◌∷◌, ◌++◌, length, set, true, false, arith, subst, sym, ap, ◌∙◌, refl}
 use Rattle.std.proofs.lemmas.List.{set-get_or}
 use Rattle.entry_model.specs.State.{State, empty_state}
 use Rattle.entry_model.specs.Reply.{words_of}
 use Rattle.entry_model.specs.Run.{state_at, states_after}
 use Rattle.entry_model.specs.Trial.{call, receipt_at, trial_run}
 use Rattle.entry_model.specs.declared.operation.Op.TheVariants.{Read}
+use Rattle.entry_model.specs.declared.receipt.Receipt.{Receipt}
 use Rattle.entry_model.proofs.TrialSteps.{calls_from}
 use Rattle.h_update.specs.Single.{both_words}
 use Rattle.papr_c.specs.Places.{placed}
+use Rattle.papr_c.specs.Stale.{any_stale}
 use Rattle.papr_c.specs.Tried.{words_of_entries}
 use Rattle.papr_c.proofs.Filling.{placed-append}
-use Rattle.papr_c.proofs.SoFar.{rest_of}
+
+-- The trial that reads entries.
+abbrev pub read_all : ℕ → ℕ → List State → List Receipt × List State
+read_all first count a = trial_run (λ answer. true) a (calls_from Read first count)
 
 -- Both doublewords of an entry.
 abbrev pair_at : List State → ℕ → List ℕ
@@ -20,13 +25,14 @@ pair_at a e = (words_of (state_at a e)).0 ∷ (words_of (state_at a e)).1 ∷ []
 
 -- What reads leave of the entries, and what their receipts show.
 pub record IsRead (a : List State) (first count : ℕ) : Type 0 where
-  pub entries : (rest_of (λ answer. true) Read first count a).1 ≡ a
-  pub words : flat_map both_words (rest_of (λ answer. true) Read first count a).0 ≡ words_of_entries a first count
-  pub many : length (rest_of (λ answer. true) Read first count a).0 ≡ count
+  pub entries : (read_all first count a).1 ≡ a
+  pub words : flat_map both_words (read_all first count a).0 ≡ words_of_entries a first count
+  pub many : length (read_all first count a).0 ≡ count
+  pub fresh : any_stale (read_all first count a).0 ≡ false
 
 pub reads : (a : List State) (first count : ℕ) → IsRead a first count
-unfolding trial_run
-reads a first zero = record { entries = refl; words = refl; many = refl }
+unfolding trial_run any_stale
+reads a first zero = record { entries = refl; words = refl; many = refl; fresh = refl }
 reads a first (suc count) =
     let r = receipt_at a (call Read first) in
     let cs = calls_from Read (first + 1) count in
@@ -36,6 +42,7 @@ reads a first (suc count) =
       entries = subst (λ b. (trial_run (λ answer. true) b cs).1 ≡ a) (sym stays) rest.entries;
       words = subst (λ b. both_words r ++ flat_map both_words (trial_run (λ answer. true) b cs).0 ≡ words_of_entries a first (suc count)) (sym stays) (ap (λ ws. both_words r ++ ws) rest.words);
       many = subst (λ b. suc (length (trial_run (λ answer. true) b cs).0) ≡ suc count) (sym stays) (ap suc rest.many);
+      fresh = subst (λ b. any_stale (trial_run (λ answer. true) b cs).0 ≡ false) (sym stays) rest.fresh;
     }
 
 pub words-length : (a : List State) (first count : ℕ) → length (words_of_entries a first count) ≡ 2 * count

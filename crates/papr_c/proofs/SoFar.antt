@@ -1,42 +1,48 @@
--- A trial on lent entries, one entry after the other.
-use Rattle.std.specs.Prelude.{map, if◌then◌else◌}
-use Rattle.std.proofs.Common.{◌≡◌, ℕ, suc, ◌+◌, ◌-◌, ◌<◌, List, [], ◌∷◌, ◌++◌, length, get_or, set, Bool, true, false, Some, None, arith, sym, ap, ◌∙◌, refl, append_assoc, append-nil, ◌⊎◌, inl, inr, length-set}
-use Rattle.std.proofs.lemmas.Bool.{cases_Bool}
-use Rattle.entry_model.specs.Receipt.{after_of, blank_receipt, IsReceiptOf}
+-- A trial on lent entries, one call after the other.
+use Rattle.std.specs.Prelude.{map}
+use Rattle.std.proofs.Common.{◌≡◌, ℕ, zero, suc, ◌+◌, ◌≤◌, List, [], ◌∷◌, ◌++◌, length, drop, set, Bool, true, false, Option, Some, None, arith, sym, ap, ◌∙◌, refl, append_assoc, append-nil, length-set}
+use Rattle.std.proofs.Math.Numerals.{add-one}
+use Rattle.entry_model.specs.Receipt.{after_of}
 use Rattle.entry_model.specs.State.{State}
 use Rattle.entry_model.specs.declared.operation.Op.{Op}
 use Rattle.entry_model.specs.declared.operation.Answer.{Answer}
 use Rattle.entry_model.specs.declared.receipt.Receipt.{Receipt}
-use Rattle.entry_model.specs.Run.{states_after, IsRun}
+use Rattle.entry_model.specs.Run.{states_after}
 use Rattle.entry_model.specs.Trial.{Call, call, ending_of, receipt_at, trial_run}
-use Rattle.entry_model.proofs.TrialSteps.{calls_from, ending-on}
+use Rattle.entry_model.proofs.TrialSteps.{ending-on, ending-off}
+use Rattle.call_trials.specs.Calls.{call_at}
+use Rattle.call_trials.proofs.BegunLaws.{at_end, at_inside}
 use Rattle.papr_c.specs.declared.receipts.PaprReceipt.{PaprReceipt}
 use Rattle.papr_c.specs.Places.{placed, shown_receipt}
 use Rattle.papr_c.proofs.Filling.{placed-append}
 
--- The rest of the entries begins with this one.
-pub calls_step : (op : Op) (first i count : ℕ) → i < count → calls_from op (first + i) (count - i) ≡ call op (first + i) ∷ calls_from op (first + (i + 1)) (count - (i + 1))
-calls_step op first i count h =
-    let one : count - i ≡ suc (count - (i + 1)) = omega arith in
-    let next : (first + i) + 1 ≡ first + (i + 1) = omega arith in
-    ap (calls_from op (first + i)) one ∙ ap (λ k. call op (first + i) ∷ calls_from op k (count - (i + 1))) next
+-- The rest of the calls begins with this one.
+pub drop_at : (cs : List Call) (i entry : ℕ) (op : Op) → call_at cs i ≡ Some (entry, op) → drop i cs ≡ call op entry ∷ drop (suc i) cs
+drop_at [] i entry op at = cc
+drop_at (c ∷ cs) zero entry op at =
+    let same : (c.entry, c.op) ≡ (entry, op) = cc in
+    ap (λ (x : ℕ × Op). call x.1 x.0 ∷ cs) same
+drop_at (c ∷ cs) (suc i) entry op at = drop_at cs i entry op at
 
--- What the entries from one on answer.
-abbrev pub rest_of : (Answer → Bool) → Op → ℕ → ℕ → List State → List Receipt × List State
-rest_of goes op first count entries = trial_run goes entries (calls_from op first count)
+-- There is no rest.
+pub drop_none : (cs : List Call) (i : ℕ) → call_at cs i ≡ None → drop i cs ≡ []
+drop_none [] zero none = refl
+drop_none [] (suc i) none = refl
+drop_none (c ∷ cs) zero none = cc
+drop_none (c ∷ cs) (suc i) none = drop_none cs i none
 
 -- Receipts before those of the rest.
 abbrev pub before_rest : List Receipt → List Receipt × List State → List Receipt × List State
 before_rest rs rest = (rs ++ rest.0, rest.1)
 
--- One entry, and its answer goes on.
+-- One call, and its answer goes on.
 pub step_on : (goes : Answer → Bool) (a : List State) (c : Call) (cs : List Call) (r : Receipt) → r ≡ receipt_at a c → goes r.answer ≡ true → trial_run goes a (c ∷ cs) ≡ before_rest (r ∷ []) (trial_run goes (states_after a r) cs)
 unfolding trial_run
 step_on goes a c cs r is on =
     let on' : goes (receipt_at a c).answer ≡ true = rw is at on in
     rw (is, on') refl
 
--- One entry, and its answer ends the trial.
+-- One call, and its answer ends the trial.
 pub step_off : (goes : Answer → Bool) (a : List State) (c : Call) (cs : List Call) (r : Receipt) → r ≡ receipt_at a c → goes r.answer ≡ false → trial_run goes a (c ∷ cs) ≡ (r ∷ [], states_after a r)
 unfolding trial_run
 step_off goes a c cs r is off =
@@ -48,19 +54,20 @@ unfolding trial_run
 no_more goes a = refl
 
 -- ---- the trial so far
--- The first entries were tried, with these receipts, and each answer went on.
-pub record IsSoFar (goes : Answer → Bool) (op : Op) (first count place i : ℕ) (a b : List State) (old new : List PaprReceipt) (rs : List Receipt) : Type 0 where
-  pub whole : rest_of goes op first count a ≡ before_rest rs (rest_of goes op (first + i) (count - i) b)
+-- The first calls were made, with these receipts, and each answer went on.
+pub record IsSoFar (goes : Answer → Bool) (cs : List Call) (i : ℕ) (a b : List State) (old new : List PaprReceipt) (rs : List Receipt) : Type 0 where
+  pub whole : trial_run goes a cs ≡ before_rest rs (trial_run goes b (drop i cs))
   pub on : (ss : List Receipt) → ending_of goes (rs ++ ss) ≡ ending_of goes ss
-  pub put : new ≡ placed old place (map shown_receipt rs)
+  pub put : new ≡ placed old 0 (map shown_receipt rs)
   pub tried : length rs ≡ i
   pub same : length b ≡ length a
+  pub inside : i ≤ length cs
 
 map-more : (rs : List Receipt) (r : Receipt) → map shown_receipt (rs ++ r ∷ []) ≡ map shown_receipt rs ++ shown_receipt r ∷ []
 map-more [] r = refl
 map-more (x ∷ rs) r = ap (λ z. shown_receipt x ∷ z) (map-more rs r)
 
-pub length-map_shown : (rs : List Receipt) → length (map shown_receipt rs) ≡ length rs
+length-map_shown : (rs : List Receipt) → length (map shown_receipt rs) ≡ length rs
 length-map_shown [] = refl
 length-map_shown (x ∷ rs) = ap suc (length-map_shown rs)
 
@@ -68,96 +75,61 @@ length-more : (rs : List Receipt) (r : Receipt) → length (rs ++ r ∷ []) ≡ 
 length-more [] r = refl
 length-more (x ∷ rs) r = omega (arith, length-more rs r)
 
-put_next : (old new : List PaprReceipt) (place i : ℕ) (rs : List Receipt) (r : Receipt) → new ≡ placed old place (map shown_receipt rs) → length rs ≡ i → set new (place + i) (shown_receipt r) ≡ placed old place (map shown_receipt (rs ++ r ∷ []))
-put_next old new place i rs r is tried =
-    let at : length (map shown_receipt rs) ≡ i = length-map_shown rs ∙ tried in
-    sym (ap (placed old place) (map-more rs r) ∙ placed-append (map shown_receipt rs) (shown_receipt r ∷ []) old place ∙ (λ k. set (sym is k) (place + at k) (shown_receipt r)))
+put_next : (old new : List PaprReceipt) (i : ℕ) (rs : List Receipt) (r : Receipt) → new ≡ placed old 0 (map shown_receipt rs) → length rs ≡ i → set new i (shown_receipt r) ≡ placed old 0 (map shown_receipt (rs ++ r ∷ []))
+put_next old new i rs r is tried =
+    let at : 0 + length (map shown_receipt rs) ≡ i = omega (arith, length-map_shown rs, tried) in
+    sym (ap (placed old 0) (map-more rs r) ∙ placed-append (map shown_receipt rs) (shown_receipt r ∷ []) old 0 ∙ (λ k. set (sym is k) (at k) (shown_receipt r)))
 
-pub starts : (goes : Answer → Bool) (op : Op) (first count place : ℕ) (a : List State) (old : List PaprReceipt) → IsSoFar goes op first count place 0 a a old old []
-starts goes op first count place a old = record {
-  whole = let e : count - 0 ≡ count = omega arith in let f : first + 0 ≡ first = omega arith in λ k. before_rest [] (rest_of goes op (sym f k) (sym e k) a);
-  on = λ ss. refl;
-  put = refl;
-  tried = refl;
-  same = refl;
-}
+pub starts : (goes : Answer → Bool) (cs : List Call) (a : List State) (old : List PaprReceipt) → IsSoFar goes cs 0 a a old old []
+starts goes cs a old = record { whole = refl; on = λ ss. refl; put = refl; tried = refl; same = refl; inside = omega arith }
 
-goes_whole : (goes : Answer → Bool) (op : Op) (first count i : ℕ) (a b : List State) (rs : List Receipt) (r : Receipt) → i < count → r ≡ receipt_at b (call op (first + i)) → goes r.answer ≡ true → rest_of goes op first count a ≡ before_rest rs (rest_of goes op (first + i) (count - i) b) → rest_of goes op first count a ≡ before_rest (rs ++ r ∷ []) (rest_of goes op (first + (i + 1)) (count - (i + 1)) (states_after b r))
-goes_whole goes op first count i a b rs r more is on whole =
-    let rest = rest_of goes op (first + (i + 1)) (count - (i + 1)) (states_after b r) in
-    let one : rest_of goes op (first + i) (count - i) b ≡ before_rest (r ∷ []) rest =
-    ap (trial_run goes b) (calls_step op first i count more) ∙ step_on goes b (call op (first + i)) (calls_from op (first + (i + 1)) (count - (i + 1))) r is on in
-    whole ∙ ap (before_rest rs) one ∙ ap (λ z. (z, rest.1)) (sym (append_assoc rs (r ∷ []) rest.0))
-
--- One more entry, whose answer goes on.
-pub so_far_goes : (goes : Answer → Bool) (op : Op) (first count place i : ℕ) (a b c : List State) (old new next : List PaprReceipt) (rs : List Receipt) (r : Receipt) → i < count → r ≡ receipt_at b (call op (first + i)) → c ≡ states_after b r → next ≡ set new (place + i) (shown_receipt r) → goes r.answer ≡ true → IsSoFar goes op first count place i a b old new rs → IsSoFar goes op first count place (i + 1) a c old next (rs ++ r ∷ [])
-so_far_goes goes op first count place i a b c old new next rs r more is after put on h = record {
-  whole = rw after (goes_whole goes op first count i a b rs r more is on h.whole);
-  on = λ ss. ap (ending_of goes) (append_assoc rs (r ∷ []) ss) ∙ h.on (r ∷ ss) ∙ ending-on goes r ss on;
-  put = put ∙ put_next old new place i rs r h.put h.tried;
-  tried = length-more rs r ∙ ap (λ n. n + 1) h.tried;
-  same = rw after (length-set b r.entry (after_of r) ∙ h.same);
-}
+-- One more call, whose answer goes on.
+pub so_far_goes : (goes : Answer → Bool) (cs : List Call) (i entry : ℕ) (op : Op) (a b c : List State) (old new next : List PaprReceipt) (rs : List Receipt) (r : Receipt) → call_at cs i ≡ Some (entry, op) → r ≡ receipt_at b (call op entry) → c ≡ states_after b r → next ≡ set new i (shown_receipt r) → goes r.answer ≡ true → IsSoFar goes cs i a b old new rs → IsSoFar goes cs (i + 1) a c old next (rs ++ r ∷ [])
+so_far_goes goes cs i entry op a b c old new next rs r at is after put on h =
+    let rest = trial_run goes (states_after b r) (drop (suc i) cs) in
+    let one : trial_run goes b (drop i cs) ≡ before_rest (r ∷ []) rest =
+    ap (trial_run goes b) (drop_at cs i entry op at) ∙ step_on goes b (call op entry) (drop (suc i) cs) r is on in
+    record {
+      whole = rw (add-one, after) (h.whole ∙ ap (before_rest rs) one ∙ ap (λ z. (z, rest.1)) (sym (append_assoc rs (r ∷ []) rest.0)));
+      on = λ ss. ap (ending_of goes) (append_assoc rs (r ∷ []) ss) ∙ h.on (r ∷ ss) ∙ ending-on goes r ss on;
+      put = put ∙ put_next old new i rs r h.put h.tried;
+      tried = omega (arith, length-more rs r, h.tried);
+      same = rw after (length-set b r.entry (after_of r) ∙ h.same);
+      inside = omega (arith, at_inside cs i (entry, op) at);
+    }
 
 -- ---- its end
 -- What is told of the whole trial.
-pub record IsTold (goes : Answer → Bool) (op : Op) (first count place tried : ℕ) (a c : List State) (old next : List PaprReceipt) (rs : List Receipt) (r : Receipt) : Type 0 where
-  pub whole : (rest_of goes op first count a).0 ≡ rs ++ r ∷ []
-  pub entries : c ≡ (rest_of goes op first count a).1
-  pub receipts : next ≡ placed old place (map shown_receipt (rest_of goes op first count a).0)
-  pub counted : tried ≡ length (rest_of goes op first count a).0
-  pub ending : ending_of goes (rest_of goes op first count a).0 ≡ (if goes r.answer then None else Some r)
-  pub alone : count ≡ 1 → (rest_of goes op first count a).0 ≡ r ∷ []
+pub record IsTold (goes : Answer → Bool) (cs : List Call) (count : ℕ) (a c : List State) (old next : List PaprReceipt) (last : Option Receipt) : Type 0 where
+  pub entries : c ≡ (trial_run goes a cs).1
+  pub receipts : next ≡ placed old 0 (map shown_receipt (trial_run goes a cs).0)
+  pub counted : count ≡ length (trial_run goes a cs).0
+  pub ending : last ≡ ending_of goes (trial_run goes a cs).0
 
-alone_is : (rs : List Receipt) (r : Receipt) (i count : ℕ) → length rs ≡ i → i < count → count ≡ 1 → rs ++ r ∷ [] ≡ r ∷ []
-alone_is [] r i count tried more one = refl
-alone_is (x ∷ rs) r i count tried more one = absurd (omega (arith, tried))
+-- The answer ends it.
+pub ends : (goes : Answer → Bool) (cs : List Call) (i entry : ℕ) (op : Op) (a b c : List State) (old new next : List PaprReceipt) (rs : List Receipt) (r : Receipt) → call_at cs i ≡ Some (entry, op) → r ≡ receipt_at b (call op entry) → c ≡ states_after b r → next ≡ set new i (shown_receipt r) → goes r.answer ≡ false → IsSoFar goes cs i a b old new rs → IsTold goes cs (i + 1) a c old next (Some r)
+ends goes cs i entry op a b c old new next rs r at is after put off h =
+    let all : trial_run goes a cs ≡ (rs ++ r ∷ [], states_after b r) =
+    h.whole ∙ ap (before_rest rs) (ap (trial_run goes b) (drop_at cs i entry op at) ∙ step_off goes b (call op entry) (drop (suc i) cs) r is off) in
+    let many : length (rs ++ r ∷ []) ≡ i + 1 = omega (arith, length-more rs r, h.tried) in
+    record {
+      entries = rw all after;
+      receipts = rw all (put ∙ put_next old new i rs r h.put h.tried);
+      counted = rw all (sym many);
+      ending = rw all (sym (h.on (r ∷ []) ∙ ending-off goes r [] off));
+    }
 
-told_by : (goes : Answer → Bool) (op : Op) (first count place i : ℕ) (a b c : List State) (old new next : List PaprReceipt) (rs : List Receipt) (r : Receipt) → i < count → c ≡ states_after b r → next ≡ set new (place + i) (shown_receipt r) → rest_of goes op first count a ≡ (rs ++ r ∷ [], states_after b r) → IsSoFar goes op first count place i a b old new rs → ending_of goes (r ∷ []) ≡ (if goes r.answer then None else Some r) → IsTold goes op first count place (i + 1) a c old next rs r
-told_by goes op first count place i a b c old new next rs r more after put all h ending = record {
-  whole = rw all refl;
-  entries = rw all after;
-  receipts = rw all (put ∙ put_next old new place i rs r h.put h.tried);
-  counted = rw all (sym (length-more rs r ∙ ap (λ n. n + 1) h.tried));
-  ending = rw all (h.on (r ∷ []) ∙ ending);
-  alone = λ one. rw all (alone_is rs r i count h.tried more one);
-}
+-- There is no further call.
+pub past_all : (goes : Answer → Bool) (cs : List Call) (i : ℕ) (a b : List State) (old new : List PaprReceipt) (rs : List Receipt) → call_at cs i ≡ None → IsSoFar goes cs i a b old new rs → IsTold goes cs i a b old new None
+past_all goes cs i a b old new rs none h =
+    let all : trial_run goes a cs ≡ (rs, b) =
+    h.whole ∙ ap (before_rest rs) (ap (trial_run goes b) (drop_none cs i none) ∙ no_more goes b) ∙ ap (λ z. (z, b)) (append-nil rs) in
+    record {
+      entries = rw all refl;
+      receipts = rw all h.put;
+      counted = rw all (sym h.tried);
+      ending = rw all (sym (ap (ending_of goes) (sym (append-nil rs)) ∙ h.on []));
+    }
 
-ending_alone : (goes : Answer → Bool) (r : Receipt) → ending_of goes (r ∷ []) ≡ (if goes r.answer then None else Some r)
-ending_alone goes r = at (cases_Bool (goes r.answer)) where
-  at : (goes r.answer ≡ true) ⊎ (goes r.answer ≡ false) → ending_of goes (r ∷ []) ≡ (if goes r.answer then None else Some r)
-  at (inl on) = rw on refl
-  at (inr off) = rw off refl
-
--- The entry's answer ends it, or there is no further entry.
-pub ends : (goes : Answer → Bool) (op : Op) (first count place i : ℕ) (a b c : List State) (old new next : List PaprReceipt) (rs : List Receipt) (r : Receipt) → i < count → r ≡ receipt_at b (call op (first + i)) → c ≡ states_after b r → next ≡ set new (place + i) (shown_receipt r) → (goes r.answer ≡ false) ⊎ (i + 1 ≡ count) → IsSoFar goes op first count place i a b old new rs → IsTold goes op first count place (i + 1) a c old next rs r
-ends goes op first count place i a b c old new next rs r more is after put end h =
-    told_by goes op first count place i a b c old new next rs r more after put (at end (cases_Bool (goes r.answer))) h (ending_alone goes r) where
-      at : (goes r.answer ≡ false) ⊎ (i + 1 ≡ count) → (goes r.answer ≡ true) ⊎ (goes r.answer ≡ false) → rest_of goes op first count a ≡ (rs ++ r ∷ [], states_after b r)
-      at end (inr off) =
-          h.whole ∙ ap (before_rest rs) (ap (trial_run goes b) (calls_step op first i count more) ∙ step_off goes b (call op (first + i)) (calls_from op (first + (i + 1)) (count - (i + 1))) r is off)
-      at (inl off) (inl on) = let e : false ≡ true = sym off ∙ on in cc
-      at (inr last) (inl on) =
-          let none : count - (i + 1) ≡ 0 = omega (arith, last) in
-          let whole : rest_of goes op first count a ≡ before_rest (rs ++ r ∷ []) (rest_of goes op (first + (i + 1)) 0 (states_after b r)) = rw none at (goes_whole goes op first count i a b rs r more is on h.whole) in
-          whole ∙ ap (before_rest (rs ++ r ∷ [])) (no_more goes (states_after b r)) ∙ ap (λ z. (z, states_after b r)) (append-nil (rs ++ r ∷ []))
-
--- ---- one entry
--- Its receipt is the one that the states give.
-pub alone_last : (op : Op) (entry : ℕ) (a : List State) (last : Receipt) → (rest_of (λ answer. true) op entry 1 a).0 ≡ last ∷ [] → last ≡ receipt_at a (call op entry)
-unfolding trial_run
-alone_last op entry a last alone = sym (ap (λ (rs : List Receipt). get_or rs 0 blank_receipt) alone)
-
--- And only that entry has another state.
-pub alone_after : (op : Op) (entry : ℕ) (a : List State) → (rest_of (λ answer. true) op entry 1 a).1 ≡ states_after a (receipt_at a (call op entry))
-unfolding trial_run
-alone_after op entry a = refl
-
--- As a run.
-pub alone_run : (op : Op) (entry : ℕ) (a b : List State) (last : Receipt) → entry < length a → (rest_of (λ answer. true) op entry 1 a).0 ≡ last ∷ [] → b ≡ (rest_of (λ answer. true) op entry 1 a).1 → IsRun a (last ∷ []) b
-alone_run op entry a b last inside alone after =
-    let is : last ≡ receipt_at a (call op entry) = alone_last op entry a last alone in
-    rw is (states_after a (receipt_at a (call op entry)), record { in_table = inside; before = refl; after = refl }, after ∙ alone_after op entry a)
-
-pub alone_of : (op : Op) (entry : ℕ) (a : List State) (last : Receipt) → (rest_of (λ answer. true) op entry 1 a).0 ≡ last ∷ [] → IsReceiptOf entry op last
-alone_of op entry a last alone = rw (alone_last op entry a last alone) (record { entry = refl; op = refl })
+pub past_last : (goes : Answer → Bool) (cs : List Call) (i : ℕ) (a b : List State) (old new : List PaprReceipt) (rs : List Receipt) → length cs ≤ i → IsSoFar goes cs i a b old new rs → IsTold goes cs i a b old new None
+past_last goes cs i a b old new rs past h = past_all goes cs i a b old new rs (at_end cs i past) h

@@ -6,7 +6,7 @@ use Rattle.power_addr.specs.Pages.{VirtualPage, page_of_address}
 use Rattle.hpte_fields.specs.Fields.{without_rc}
 use Rattle.entry_model.specs.State.{State}
 use Rattle.entry_model.specs.Receipt.{is_no_match, found_of, after_of}
-use Rattle.entry_model.specs.Trial.{trial_run}
+use Rattle.entry_model.specs.Trial.{Call, receipt_at, trial_run}
 use Rattle.entry_model.specs.declared.receipt.Receipt.{Receipt}
 use Rattle.hpt_walk.specs.Walk.{walk_calls}
 use Rattle.papr_c.specs.declared.receipts.PaprReceipt.{PaprReceipt}
@@ -70,6 +70,10 @@ outcome_of_walk order a m =
     else (refused_walk, m)
 
 -- ---- without a change
+-- The receipts of calls, each on its entry as it is, whatever the others answer.
+unfoldable pub each_as_is : List State → List Call → List Receipt
+each_as_is entries calls = map (receipt_at entries) calls
+
 -- What a walk of these entries would find, by the entry as it is; no receipt is told.
 abbrev pub probe_where :
     Option VirtualPage → Option Want → ℕ → PaprAccess → List State → PaprWalk

@@ -2,8 +2,8 @@ ghost use Rattle.std.specs.Prelude.{◌≡◌, ◌≤◌, length};
 ghost use Rattle.hpte_fields.specs.TableSize.{entry_count};
 ghost use Rattle.papr_c.specs.Lent.{is_table};
 
-use crate::trying::try_lent;
-use entry_model::{EntryState, EntryStore, GoesOn, Line, Op, Receipt};
+use crate::trying::make;
+use entry_model::{EntryState, EntryStore, Line, Op, Receipt};
 
 /// The orders of the smallest and of the largest table.
 const LEAST: u8 = 18;
@@ -62,7 +62,7 @@ impl<'a> EntryStore for LentTable<'a> {
     }
 
     fn apply(&mut self, entry: u32, op: Op) -> Receipt {
-        try_lent(self.entries, &op, entry, 1, GoesOn::Always, &mut [], 0).last
+        make(self.entries, &op, entry, &mut [], 0).0
     }
 
     fn apply_known(&mut self, known: &Line, op: Op) -> Option<Receipt> {

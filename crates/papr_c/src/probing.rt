@@ -1,57 +1,38 @@
-ghost use Rattle.std.specs.Prelude.{◌≡◌, ◌≤◌, ◌<◌, ◌+◌, ◌^◌, true, length};
+ghost use Rattle.std.specs.Prelude.{◌≡◌, ◌≤◌, ◌<◌, length};
+ghost use Rattle.std.specs.List.{AllByRecursion};
 ghost use Rattle.entry_model.specs.Receipt.{found_of};
-ghost use Rattle.papr_c.specs.Lent.{is_table};
-ghost use Rattle.papr_c.specs.Tried.{each_asked};
-ghost use Rattle.papr_c.specs.Walks.{outcome_of_probe, walk_run};
+ghost use Rattle.entry_model.specs.Trial.{Call};
+ghost use Rattle.hpt_walk.specs.PageCalls.{calls_of};
+ghost use Rattle.papr_c.specs.Walks.{each_as_is, outcome_of_probe};
 
 use crate::lent::is_table;
 use crate::trying::asked;
 use crate::walking::{NO_PAGE, PaprAccess, PaprWalk, want_of};
-use entry_model::{EntryState, GoesOn, Op, Receipt};
-use hpt_hash::groups;
-use hpt_walk::access_op;
-use hpte_fields::GROUP_SIZE;
+use call_trials::CallList;
+use entry_model::{EntryState, Receipt};
+use hpt_walk::PageCalls;
 use power_addr::Page;
-use storage_prot::Want;
 
-/// The receipt that an access would have of the first entry of a group, from `first` on, that
-/// translates its page.
+/// The receipt that a walk would have of the entry that translates its page.
 #[inline]
-fn find_in_group(entries: &[EntryState], op: &Op, first: u32) -> Option<Receipt>
-    requires in_table { first + 8 ≤ length entries.now }
-    requires small { first + 8 < 2 ^ 32 }
-    ensures { result ≡ found_of (each_asked op.now first 8 entries.now) }
+fn find(entries: &[EntryState], calls: &PageCalls) -> Option<Receipt>
+    requires in_table { AllByRecursion
+        (λ (c : Call). c.entry < length entries.now)
+        (calls_of calls.now) }
+    requires few { length (calls_of calls.now) ≤ 16 }
+    ensures { result ≡ found_of (each_as_is entries.now (calls_of calls.now)) }
 {
-    for i in 0..GROUP_SIZE {
-        let entry = first + i;
+    for made in 0..16 {
+        let Some((entry, op)) = calls.call_at(made) else {
+            return None;
+        };
         let before = entries[entry as usize];
-        let (receipt, _after) = asked(entry, &before, op);
-        if !GoesOn::WhileNoMatch.after(receipt.answer) {
+        let (receipt, _after) = asked(entry, &before, &op);
+        if !calls.goes_on_after(receipt.answer) {
             return Some(receipt);
         }
     }
     None
-}
-
-/// The receipt that an access would have of the entry that translates its page.
-fn find(
-    entries: &[EntryState],
-    order: u8,
-    page: &Page,
-    access: &PaprAccess,
-    want: Want,
-) -> Option<Receipt>
-    requires { is_table order entries.now ≡ true }
-    ensures { result ≡ found_of (walk_run order access.now page.now want entries.now).0 }
-{
-    let (key, no_execute, masks) = (access.key, access.no_execute, access.masks());
-    let (primary, secondary) = groups(page, order);
-    let op = access_op(page, key, no_execute, want, masks, false);
-    if let Some(receipt) = find_in_group(entries, &op, primary as u32 * GROUP_SIZE) {
-        return Some(receipt);
-    }
-    let op = access_op(page, key, no_execute, want, masks, true);
-    find_in_group(entries, &op, secondary as u32 * GROUP_SIZE)
 }
 
 /// What `papr_walk` would find of an access to `ea`, by the entries as they are, of which none
@@ -67,7 +48,9 @@ pub extern "C" fn papr_probe(entries: &[EntryState], order: u8, access: &PaprAcc
     if !is_table(entries, order) {
         return PaprWalk::refused();
     }
-    match find(entries, order, &page, access, want) {
+    let (key, no_execute, masks) = (access.key, access.no_execute, access.masks());
+    let calls = PageCalls::of(&page, order, want, key, no_execute, masks);
+    match find(entries, &calls) {
         Some(receipt) => PaprWalk::end(access, want, &receipt, &receipt.before, 0),
         None => PaprWalk::no_entry(NO_PAGE, 0),
     }

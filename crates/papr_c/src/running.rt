@@ -8,8 +8,8 @@ use crate::lent::LentTable;
 use crate::read::put_entries;
 use crate::receipts::{PaprReceipt, put_receipts};
 use crate::reply::{PaprReply, filled_count, hand_over};
-use crate::stale::any_stale;
-use crate::trying::try_lent;
+use crate::stale::{any_stale, ends_stale, is_stale};
+use crate::trying::{make, try_lent};
 use call_plan::{CallPlan, Told, Trial};
 use entry_model::{EntryState, Receipts};
 use h_update::h_bulk_remove_into;
@@ -33,22 +33,22 @@ fn try_trial(
         (plans.plan_of_trial trial.now)
         (memory entries.old words.old receipts.old) }
 {
-    let goes_on = trial.told.goes_on();
-    let (first, count) = (trial.first, trial.count);
-    let tried = try_lent(entries, &trial.op, first, count, goes_on, receipts, 0);
+    let room = receipts.len();
     match trial.told {
         Told::Entered => {
-            let told = h_enter::registers(&tried.ending(goes_on));
-            hand_over(&told, tried.count, tried.stale, words, receipts.len())
+            let tried = try_lent(entries, trial, receipts);
+            let stale = ends_stale(&tried.ending);
+            hand_over(&h_enter::registers(&tried.ending), tried.count, stale, words, room)
         }
         Told::Answer { shown } => {
-            let told = h_update::registers(&tried.last, shown);
-            hand_over(&told, tried.count, tried.stale, words, receipts.len())
+            let (receipt, _after) = make(entries, &trial.op, trial.first, receipts, 0);
+            let stale = is_stale(receipt.answer);
+            hand_over(&h_update::registers(&receipt, shown), 1, stale, words, room)
         }
         Told::Contents => {
-            let shown = put_entries(entries, first, count, words);
-            let filled = filled_count(receipts.len(), tried.count);
-            PaprReply::told(Rc::Success, shown, filled, tried.stale)
+            let tried = try_lent(entries, trial, receipts);
+            let shown = put_entries(entries, trial.first, trial.count, words);
+            PaprReply::told(Rc::Success, shown, filled_count(room, tried.count), false)
         }
     }
 }
@@ -74,7 +74,8 @@ fn remove_pairs(
     let registers = h_bulk_remove_into(&mut table, pairs, &mut made);
     let _put = put_receipts(made.as_slice(), receipts);
     let tried = made.as_slice().len() as u32;
-    hand_over(&registers, tried, any_stale(made.as_slice()), words, receipts.len())
+    let stale = any_stale(made.as_slice());
+    hand_over(&registers, tried, stale, words, receipts.len())
 }
 
 /// Makes a call on entries that are lent, and hands over what its receipts tell.

@@ -1,4 +1,5 @@
-ghost use Rattle.std.specs.Prelude.{◌≡◌};
+ghost use Rattle.std.specs.Prelude.{◌≡◌, false};
+ghost use Rattle.std.specs.Option.{option_map_or};
 ghost use Rattle.papr_c.specs.Stale as spec;
 
 use entry_model::{Answer, Receipt};
@@ -9,6 +10,17 @@ pub fn is_stale(answer: Answer) -> bool
     ensures { result ≡ spec.is_stale answer }
 {
     matches!(answer, Answer::Removed | Answer::Protected | Answer::Was)
+}
+
+/// Whether one may be, after the operation that ended a trial.
+#[inline]
+pub fn ends_stale(ending: &Option<Receipt>) -> bool
+    ensures { result ≡ option_map_or (λ r. spec.is_stale r.answer) ending.now false }
+{
+    match ending {
+        Some(receipt) => is_stale(receipt.answer),
+        None => false,
+    }
 }
 
 /// Whether one may be, after operations with these receipts.

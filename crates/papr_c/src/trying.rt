@@ -1,47 +1,27 @@
-ghost use Rattle.std.specs.Prelude.{◌≡◌, ◌≤◌, ◌<◌, ◌+◌, ◌^◌, [], ◌∷◌, length, map, set, if◌then◌else◌, Some, None};
+ghost use Rattle.std.specs.Prelude.{◌≡◌, ◌≤◌, ◌<◌, length, map, set, IfSome};
+ghost use Rattle.std.specs.List.{AllByRecursion};
 ghost use Rattle.entry_model.specs.Receipt.{after_of, receipt_of};
 ghost use Rattle.entry_model.specs.Run.{state_at, states_after};
-ghost use Rattle.entry_model.specs.Trial.{ending_of};
+ghost use Rattle.entry_model.specs.Trial.{Call, ending_of, trial_run};
 ghost use Rattle.papr_c.specs.Places.{placed, shown_receipt};
-ghost use Rattle.papr_c.specs.Stale.{any_stale};
-ghost use Rattle.papr_c.specs.Tried.{tried};
 
 use crate::receipts::{PaprReceipt, put_receipt};
-use crate::stale::is_stale;
-use entry_model::{Answer, EntryState, GoesOn, Op, Receipt, reply};
+use call_trials::CallList;
+use entry_model::{Answer, EntryState, Op, Receipt, reply};
 
 /// How a trial ended.
 #[derive(Clone, Copy)]
 pub struct Tried {
-    /// The receipt of the last entry that was tried.
-    pub last: Receipt,
-    /// Its state after that.
-    pub after: EntryState,
-    /// How many entries were tried.
-    pub count: u32,
-    /// Whether a cached translation of one of them may be one no more.
-    pub stale: bool,
-}
-
-impl Tried {
     /// The receipt after which the trial didn't go on, if there was one.
-    #[inline]
-    pub fn ending(&self, goes_on: GoesOn) -> Option<Receipt>
-        ensures { result
-            ≡ (if Rattle.entry_model.specs.Trial.goes_after goes_on self.now.last.answer
-            then None
-            else Some self.now.last) }
-    {
-        if goes_on.after(self.last.answer) {
-            None
-        } else {
-            Some(self.last)
-        }
-    }
+    pub ending: Option<Receipt>,
+    /// The state of its entry after it; where there was none, an empty one.
+    pub after: EntryState,
+    /// How many calls were made.
+    pub count: u32,
 }
 
-/// Gives an entry its state after an operation. An entry that was read or doesn't match is as it was,
-/// and isn't written: a walk goes past most of them.
+/// Gives an entry its state after an operation. An entry that was read or doesn't match is as it
+/// was, and isn't written: a walk goes past most of them.
 #[inline(always)]
 fn store(entries: &mut [EntryState], receipt: &Receipt, after: &EntryState)
     requires in_table { receipt.now.entry < length entries.old }
@@ -76,7 +56,7 @@ pub fn asked(entry: u32, before: &EntryState, op: &Op) -> (Receipt, EntryState)
 /// Makes an operation on an entry, and puts the receipt into the caller's place, where there is
 /// one. Gives the entry's state after it too.
 #[inline(always)]
-fn make(
+pub fn make(
     entries: &mut [EntryState],
     op: &Op,
     entry: u32,
@@ -96,53 +76,49 @@ fn make(
     (receipt, after)
 }
 
-/// Makes an operation on `count` entries, one behind the other from `first` on, as long as the
-/// answers go on. The receipts are put into the caller's places from `place` on, as far as these
-/// go.
+/// Makes calls on entries in turn, as long as the answers go on. The receipts are put into the
+/// caller's places, as far as these go.
 // In line, so that each caller has the part of `reply` that its operation needs, and no other.
 #[inline(always)]
-pub fn try_lent(
+pub fn try_lent<C: CallList>(
     entries: &mut [EntryState],
-    op: &Op,
-    first: u32,
-    count: u32,
-    goes_on: GoesOn,
+    calls: &C,
     receipts: &mut [PaprReceipt],
-    place: u32,
 ) -> Tried
-    requires some { 1 ≤ count }
-    requires in_table { first + count ≤ length entries.old }
-    requires small { first + count < 2 ^ 32 }
-    requires near { place + count < 2 ^ 32 }
-    ensures entries { entries.new ≡ (tried goes_on op.now first count entries.old).1 }
-    ensures receipts { receipts.new
-        ≡ placed
-        receipts.old
-        place
-        (map shown_receipt (tried goes_on op.now first count entries.old).0) }
-    ensures few { result.count ≤ count }
-    ensures count { result.count ≡ length (tried goes_on op.now first count entries.old).0 }
-    ensures ending { let goes = Rattle.entry_model.specs.Trial.goes_after goes_on in
-        ending_of goes (tried goes_on op.now first count entries.old).0
-        ≡ (if goes result.last.answer then None else Some result.last) }
-    ensures after { result.after ≡ after_of result.last }
-    ensures stale { result.stale ≡ any_stale (tried goes_on op.now first count entries.old).0 }
-    ensures alone { count ≡ 1
-        → (tried goes_on op.now first count entries.old).0 ≡ result.last ∷ [] }
+    requires in_table { AllByRecursion
+        (λ (c : Call). c.entry < length entries.old)
+        (C.calls calls.now) }
+    requires few { length (C.calls calls.now) ≤ 16 }
+    ensures entries { entries.new
+        ≡ (trial_run (C.goes_on calls.now) entries.old (C.calls calls.now)).1 }
+    ensures receipts { let made = (trial_run (C.goes_on calls.now) entries.old (C.calls calls.now)).0 in
+        receipts.new ≡ placed receipts.old 0 (map shown_receipt made) }
+    ensures count { result.count
+        ≡ length (trial_run (C.goes_on calls.now) entries.old (C.calls calls.now)).0 }
+    ensures ending { let goes = C.goes_on calls.now in
+        result.ending ≡ ending_of goes (trial_run goes entries.old (C.calls calls.now)).0 }
+    ensures after { IfSome result.ending (λ r. result.after ≡ after_of r) }
 {
-    let mut tried = 0;
-    let mut stale = false;
-    loop {
-        let (last, after) = make(entries, op, first + tried, receipts, place + tried);
-        tried += 1;
-        stale |= is_stale(last.answer);
-        if tried == count || !goes_on.after(last.answer) {
+    for made in 0..16 {
+        let Some((entry, op)) = calls.call_at(made) else {
             return Tried {
-                last,
+                ending: None,
+                after: EntryState::empty(0),
+                count: made,
+            };
+        };
+        let (receipt, after) = make(entries, &op, entry, receipts, made);
+        if !calls.goes_on_after(receipt.answer) {
+            return Tried {
+                ending: Some(receipt),
                 after,
-                count: tried,
-                stale,
+                count: made + 1,
             };
         }
+    }
+    Tried {
+        ending: None,
+        after: EntryState::empty(0),
+        count: 16,
     }
 }

@@ -1,5 +1,5 @@
-ghost use Rattle.std.specs.Prelude.{◌≡◌, if◌then◌else◌, Some, None};
-ghost use Rattle.entry_model.specs.Receipt.{after_of, is_no_match};
+ghost use Rattle.std.specs.Prelude.{◌≡◌, IfSome};
+ghost use Rattle.entry_model.specs.Receipt.{after_of};
 ghost use Rattle.papr_c.specs.WalkEnds.{masks_of, no_entry, refused_walk, refusal_number, end_at, walk_end};
 ghost use Rattle.papr_c.specs.Walks.{WalkMemory, want_of, walk_memory, outcome_of_walk};
 
@@ -7,12 +7,10 @@ use crate::lent::is_table;
 use crate::receipts::PaprReceipt;
 use crate::reply::filled_count;
 use crate::rights::{causes, rights};
-use crate::trying::{Tried, try_lent};
+use crate::trying::try_lent;
 use authority_mask::{MaskName, Masks};
-use entry_model::{Answer, EntryState, GoesOn, Receipt};
-use hpt_hash::groups;
-use hpt_walk::{access_op, logical_of};
-use hpte_fields::GROUP_SIZE;
+use entry_model::{Answer, EntryState, Receipt};
+use hpt_walk::{PageCalls, logical_of};
 use page_sizes::decode;
 use power_addr::Page;
 use storage_prot::Want;
@@ -194,19 +192,20 @@ impl PaprWalk {
         end
     }
 
-    /// The end by a trial on a page's secondary group.
-    fn by_trial(access: &PaprAccess, want: Want, tried: &Tried, receipts: u32) -> PaprWalk
-        requires { tried.now.after ≡ after_of tried.now.last }
-        ensures { result
-            ≡ walk_end
-            after_of
-            access.now
-            want
-            (if is_no_match tried.now.last.answer then None else Some tried.now.last)
-            receipts }
+    /// The end by the receipt that ended a walk, and the state that the walk left.
+    #[inline]
+    fn ended(
+        access: &PaprAccess,
+        want: Want,
+        ending: &Option<Receipt>,
+        after: &EntryState,
+        receipts: u32,
+    ) -> PaprWalk
+        requires { IfSome ending.now (λ r. after.now ≡ after_of r) }
+        ensures { result ≡ walk_end after_of access.now want ending.now receipts }
     {
-        match tried.ending(GoesOn::WhileNoMatch) {
-            Some(receipt) => PaprWalk::end(access, want, &receipt, &tried.after, receipts),
+        match ending {
+            Some(receipt) => PaprWalk::end(access, want, receipt, after, receipts),
             None => PaprWalk::no_entry(NO_PAGE, receipts),
         }
     }
@@ -231,28 +230,9 @@ pub extern "C" fn papr_walk(
     if !is_table(entries, order) {
         return PaprWalk::refused();
     }
-    let (primary, secondary) = groups(&page, order);
-    let (key, no_execute) = (access.key, access.no_execute);
-    let masks = access.masks();
-    let op = access_op(&page, key, no_execute, want, masks, false);
-    let goes_on = GoesOn::WhileNoMatch;
-    let first = primary as u32 * GROUP_SIZE;
-    let early = try_lent(entries, &op, first, GROUP_SIZE, goes_on, receipts, 0);
-    if let Some(receipt) = early.ending(goes_on) {
-        let count = filled_count(receipts.len(), early.count);
-        return PaprWalk::end(access, want, &receipt, &early.after, count);
-    }
-    let op = access_op(&page, key, no_execute, want, masks, true);
-    let first = secondary as u32 * GROUP_SIZE;
-    let late = try_lent(
-        entries,
-        &op,
-        first,
-        GROUP_SIZE,
-        goes_on,
-        receipts,
-        early.count,
-    );
-    let count = filled_count(receipts.len(), early.count + late.count);
-    PaprWalk::by_trial(access, want, &late, count)
+    let (key, no_execute, masks) = (access.key, access.no_execute, access.masks());
+    let calls = PageCalls::of(&page, order, want, key, no_execute, masks);
+    let tried = try_lent(entries, &calls, receipts);
+    let filled = filled_count(receipts.len(), tried.count);
+    PaprWalk::ended(access, want, &tried.ending, &tried.after, filled)
 }

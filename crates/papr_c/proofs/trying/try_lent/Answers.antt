@@ -1,52 +1,95 @@
-use Rattle.std.proofs.Common.{◌≡◌, ◌+◌, ◌++◌, [], ◌∷◌, true, false, ◌⊎◌, inl, inr, arith, ap, sym, ◌∙◌}
-use Rattle.entry_model.specs.Trial.{goes_after}
-use Rattle.papr_c.specs.Stale.{any_stale}
-use Rattle.papr_c.proofs.StaleTrials.{none_stale, stale_more}
-use Rattle.papr_c.proofs.SoFar.{IsTold, starts, so_far_goes, ends}
-use Rattle.papr_c.proofs.trying.try_lent.Goals.{then-tried-count-via-then-tried-count, then-tried-count-via-else-tried-count+then-not-after}
+use Rattle.std.proofs.Common.{◌≡◌, ◌<◌, ◌≤◌, ◌++◌, length, [], ◌∷◌, true, false, arith, sym, ◌∙◌}
+use Rattle.entry_model.specs.Trial.{Call}
+use Rattle.call_trials.proofs.BegunLaws.{at_has}
+use Rattle.papr_c.proofs.SoFar.{starts, so_far_goes, ends, past_all, past_last}
 use Rattle.papr_c.proofs.trying.try_lent.Goals as goal
 
-pub loop-tried-init : goal.loop-tried-init
-loop-tried-init c = record { more = omega (arith, c.requires.some); so_far = ([], starts _ _ _ _ _ _ _, none_stale) }
+pub loop-made-init : goal.loop-made-init
+loop-made-init g c = record { so_far = ([], starts _ _ _ _) }
 
-ended : (c : goal.Joined-then-tried-count) → (goes_after c.args.goes_on c.make-last.result.0.answer ≡ false) ⊎ (c.loop-tried.tried + 1 ≡ c.args.count)
-ended c = elim c.then-tried-count.branch [
-  | then-tried-count-via-then-tried-count w ↦ inr w.if-tried-count.true
-  | then-tried-count-via-else-tried-count+then-not-after w ↦ inl (let e = w.if-not-after.ensures in let f = w.after.ensures in cc)
-]
+pub call_at-requires : goal.call_at-requires
+call_at-requires g c = c.loop-made.invariant.so_far.1.inside
 
-told : (c : goal.Joined-then-tried-count) → IsTold (goes_after c.args.goes_on) c.args.op.now c.args.first c.args.count c.args.place (c.loop-tried.tried + 1) c.args.entries.now c.make-last.new.entries c.args.receipts.now c.make-last.new.receipts c.loop-tried.invariant.so_far.0 c.make-last.result.0
-told c =
-    ends _ _ _ _ _ _ _ c.loop-tried.entries _ _ c.loop-tried.receipts _ c.loop-tried.invariant.so_far.0 _ c.loop-tried.invariant.more c.make-last.ensures.receipt c.make-last.ensures.entries c.make-last.ensures.receipts (ended c) c.loop-tried.invariant.so_far.1
+pub make-receipt-requires : goal.make-receipt-requires
+make-receipt-requires g c =
+    rw c.loop-made.invariant.so_far.1.same
+    (at_has (λ (d : Call). d.entry < length c.args.entries.now) _ c.loop-made.made c.in-Some.entry c.in-Some.op c.requires.in_table (sym c.call_at.ensures ∙ c.in-Some.is))
 
-pub returns-then-tried-count-clause-entries : goal.returns-then-tried-count-clause-entries
-returns-then-tried-count-clause-entries c = (told c).entries
-
-pub returns-then-tried-count-clause-receipts : goal.returns-then-tried-count-clause-receipts
-returns-then-tried-count-clause-receipts c = (told c).receipts
-
-pub returns-then-tried-count-clause-count : goal.returns-then-tried-count-clause-count
-returns-then-tried-count-clause-count c = (told c).counted
-
-pub returns-then-tried-count-clause-ending : goal.returns-then-tried-count-clause-ending
-returns-then-tried-count-clause-ending c = (told c).ending
-
-pub returns-then-tried-count-clause-stale : goal.returns-then-tried-count-clause-stale
-returns-then-tried-count-clause-stale c = stale_more _ _ _ _ c.loop-tried.invariant.so_far.2 c.is_stale-stale.ensures ∙ sym (ap any_stale (told c).whole)
-
-pub returns-then-tried-count-clause-alone : goal.returns-then-tried-count-clause-alone
-returns-then-tried-count-clause-alone c = (told c).alone
-
-pub loop-tried-preserved : goal.loop-tried-preserved
-loop-tried-preserved c =
-    let r = c.make-last.result.0 in
-    let on : goes_after c.args.goes_on r.answer ≡ true = let e = c.if-not-after.ensures in let f = c.after.ensures in cc in
-    let other = c.if-tried-count.false in
+pub loop-made-preserved : goal.loop-made-preserved
+loop-made-preserved g c =
+    let goes = g.C.CallList.goes_on c.args.calls.now in
+    let r = c.make-receipt.result.0 in
+    let on : goes r.answer ≡ true = let e = c.if-not-goes_on_after.ensures in let f = c.goes_on_after.ensures in cc in
     record {
-      more = omega (arith, other, c.loop-tried.invariant.more);
       so_far = (
-        c.loop-tried.invariant.so_far.0 ++ r ∷ [],
-        so_far_goes _ _ _ _ _ _ _ c.loop-tried.entries _ _ c.loop-tried.receipts _ c.loop-tried.invariant.so_far.0 r c.loop-tried.invariant.more c.make-last.ensures.receipt c.make-last.ensures.entries c.make-last.ensures.receipts on c.loop-tried.invariant.so_far.1,
-        stale_more _ _ _ _ c.loop-tried.invariant.so_far.2 c.is_stale-stale.ensures,
+        c.loop-made.invariant.so_far.0 ++ r ∷ [],
+        so_far_goes goes _ _ _ _ _ c.loop-made.entries _ _ c.loop-made.receipts _ c.loop-made.invariant.so_far.0 r (sym c.call_at.ensures ∙ c.in-Some.is) c.make-receipt.ensures.receipt c.make-receipt.ensures.entries c.make-receipt.ensures.receipts on c.loop-made.invariant.so_far.1,
       );
     }
+
+-- ---- behind the last call
+pub returns-in_default-clause-entries : goal.returns-in_default-clause-entries
+returns-in_default-clause-entries g c =
+    (past_all _ _ _ _ _ _ _ _ (sym c.call_at.ensures ∙ c.in_default.is) c.loop-made.invariant.so_far.1).entries
+
+pub returns-in_default-clause-receipts : goal.returns-in_default-clause-receipts
+returns-in_default-clause-receipts g c =
+    (past_all _ _ _ _ _ _ _ _ (sym c.call_at.ensures ∙ c.in_default.is) c.loop-made.invariant.so_far.1).receipts
+
+pub returns-in_default-clause-count : goal.returns-in_default-clause-count
+returns-in_default-clause-count g c =
+    (past_all _ _ _ _ _ _ _ _ (sym c.call_at.ensures ∙ c.in_default.is) c.loop-made.invariant.so_far.1).counted
+
+pub returns-in_default-clause-ending : goal.returns-in_default-clause-ending
+returns-in_default-clause-ending g c =
+    (past_all _ _ _ _ _ _ _ _ (sym c.call_at.ensures ∙ c.in_default.is) c.loop-made.invariant.so_far.1).ending
+
+pub returns-clause-entries : goal.returns-clause-entries
+returns-clause-entries g c =
+    let past : length (g.C.CallList.calls c.args.calls.now) ≤ c.loop-made.made = omega (arith, c.requires.few) in
+    (past_last _ (g.C.CallList.calls c.args.calls.now) c.loop-made.made _ _ _ _ _ past c.loop-made.invariant.so_far.1).entries
+
+pub returns-clause-receipts : goal.returns-clause-receipts
+returns-clause-receipts g c =
+    let past : length (g.C.CallList.calls c.args.calls.now) ≤ c.loop-made.made = omega (arith, c.requires.few) in
+    (past_last _ (g.C.CallList.calls c.args.calls.now) c.loop-made.made _ _ _ _ _ past c.loop-made.invariant.so_far.1).receipts
+
+pub returns-clause-count : goal.returns-clause-count
+returns-clause-count g c =
+    let past : length (g.C.CallList.calls c.args.calls.now) ≤ c.loop-made.made = omega (arith, c.requires.few) in
+    let all : 16 ≡ c.loop-made.made = omega arith in
+    all ∙ (past_last _ (g.C.CallList.calls c.args.calls.now) c.loop-made.made _ _ _ _ _ past c.loop-made.invariant.so_far.1).counted
+
+pub returns-clause-ending : goal.returns-clause-ending
+returns-clause-ending g c =
+    let past : length (g.C.CallList.calls c.args.calls.now) ≤ c.loop-made.made = omega (arith, c.requires.few) in
+    (past_last _ (g.C.CallList.calls c.args.calls.now) c.loop-made.made _ _ _ _ _ past c.loop-made.invariant.so_far.1).ending
+
+-- ---- an answer after which it doesn't go on
+pub returns-then-not-goes_on_after-clause-entries : goal.returns-then-not-goes_on_after-clause-entries
+returns-then-not-goes_on_after-clause-entries g c =
+    let goes = g.C.CallList.goes_on c.args.calls.now in
+    let r = c.make-receipt.result.0 in
+    let off : goes r.answer ≡ false = let e = c.if-not-goes_on_after.ensures in let f = c.goes_on_after.ensures in cc in
+    (ends goes _ _ _ _ _ c.loop-made.entries _ _ c.loop-made.receipts _ _ r (sym c.call_at.ensures ∙ c.in-Some.is) c.make-receipt.ensures.receipt c.make-receipt.ensures.entries c.make-receipt.ensures.receipts off c.loop-made.invariant.so_far.1).entries
+
+pub returns-then-not-goes_on_after-clause-receipts : goal.returns-then-not-goes_on_after-clause-receipts
+returns-then-not-goes_on_after-clause-receipts g c =
+    let goes = g.C.CallList.goes_on c.args.calls.now in
+    let r = c.make-receipt.result.0 in
+    let off : goes r.answer ≡ false = let e = c.if-not-goes_on_after.ensures in let f = c.goes_on_after.ensures in cc in
+    (ends goes _ _ _ _ _ c.loop-made.entries _ _ c.loop-made.receipts _ _ r (sym c.call_at.ensures ∙ c.in-Some.is) c.make-receipt.ensures.receipt c.make-receipt.ensures.entries c.make-receipt.ensures.receipts off c.loop-made.invariant.so_far.1).receipts
+
+pub returns-then-not-goes_on_after-clause-count : goal.returns-then-not-goes_on_after-clause-count
+returns-then-not-goes_on_after-clause-count g c =
+    let goes = g.C.CallList.goes_on c.args.calls.now in
+    let r = c.make-receipt.result.0 in
+    let off : goes r.answer ≡ false = let e = c.if-not-goes_on_after.ensures in let f = c.goes_on_after.ensures in cc in
+    (ends goes _ _ _ _ _ c.loop-made.entries _ _ c.loop-made.receipts _ _ r (sym c.call_at.ensures ∙ c.in-Some.is) c.make-receipt.ensures.receipt c.make-receipt.ensures.entries c.make-receipt.ensures.receipts off c.loop-made.invariant.so_far.1).counted
+
+pub returns-then-not-goes_on_after-clause-ending : goal.returns-then-not-goes_on_after-clause-ending
+returns-then-not-goes_on_after-clause-ending g c =
+    let goes = g.C.CallList.goes_on c.args.calls.now in
+    let r = c.make-receipt.result.0 in
+    let off : goes r.answer ≡ false = let e = c.if-not-goes_on_after.ensures in let f = c.goes_on_after.ensures in cc in
+    (ends goes _ _ _ _ _ c.loop-made.entries _ _ c.loop-made.receipts _ _ r (sym c.call_at.ensures ∙ c.in-Some.is) c.make-receipt.ensures.receipt c.make-receipt.ensures.entries c.make-receipt.ensures.receipts off c.loop-made.invariant.so_far.1).ending

@@ -89,6 +89,9 @@ struct papr_reply {
     int64_t rc;                 /* an enum papr_rc */
     uint32_t words;             /* places filled */
     uint32_t receipts;          /* places filled */
+    bool stale;                 /* a cached translation may be one no more: an entry was removed or
+                                 * protected, or its R or C was cleared, whether or not its receipt
+                                 * had a place. Flush before the guest goes on. */
 };
 
 /* ---- granted memory */
@@ -220,11 +223,35 @@ enum papr_outcome {
     PAPR_WALK_IAMR = 5          /* IAMR refuses it, for the entry's key */
 };
 
+/* What the entry lets this processor do, and need not record: bits. A load or a fetch has to be
+ * recorded in R, and a store in C; so no right is told without R, and none to write without C. */
+enum papr_right {
+    PAPR_MAY_EXECUTE = 1,
+    PAPR_MAY_WRITE = 2,
+    PAPR_MAY_READ = 4
+};
+
+/* All that refuses an access: bits. */
+enum papr_cause {
+    PAPR_CAUSE_PROTECTION = 1,  /* the page's protection bits, for this key */
+    PAPR_CAUSE_NO_EXECUTE = 2,  /* a fetch, and the entry's N or G is set, or the segment's N */
+    PAPR_CAUSE_AMR = 4,
+    PAPR_CAUSE_IAMR = 8
+};
+
+/* What a walk found: all that a TLB keeps of the translation, also where it refuses the access. But for
+ * `outcome` and `receipts`, all is 0 where no entry translates the page. */
 struct papr_walk {
     uint64_t logical;           /* the logical address at PAPR_WALK_AT, else 0 */
-    uint32_t entry;             /* the entry that translates the page, where there is one, else 0 */
+    uint64_t dword0;            /* of the entry that translates the page */
+    uint64_t dword1;            /* as it is after the walk, with R and C */
+    uint32_t entry;             /* the index of the entry */
     uint32_t outcome;           /* an enum papr_outcome */
     uint32_t receipts;          /* places filled */
+    uint8_t base_shift;         /* log2 of its base page size */
+    uint8_t actual_shift;       /* log2 of the size of the real page */
+    uint8_t rights;             /* bits of enum papr_right, after the walk */
+    uint8_t causes;             /* bits of enum papr_cause; 0 at PAPR_WALK_AT */
 };
 
 /* Walks the page's primary and then its secondary group, up to the first entry that translates the
@@ -233,6 +260,52 @@ struct papr_walk papr_walk(struct papr_entry *entries, size_t count, uint8_t ord
                            const struct papr_access *access, struct papr_receipt *receipts,
                            size_t receipts_room);
 
+/* What papr_walk would find, by the entries as they are: it changes none, for a debugger or a fast path.
+ * `dword1` and `rights` are those without the access, and there are no receipts. */
+struct papr_walk papr_probe(const struct papr_entry *entries, size_t count, uint8_t order,
+                            const struct papr_access *access);
+
+/* ---- an entry decoded */
+
+/* Whether two doublewords translate a page at an index, or why they don't: the first of these that
+ * holds, PAPR_NO_INDEX before the others. */
+enum papr_decoding {
+    PAPR_PAGE = 0,
+    PAPR_EMPTY = 1,             /* V is clear */
+    PAPR_NO_SIZE = 2,           /* the doublewords encode no page size */
+    PAPR_NO_SEGMENT = 3,        /* B is above 1, or no page of that base size lies where the tag says */
+    PAPR_OTHER_GROUP = 4,       /* the page's group isn't the one of this index */
+    PAPR_NO_INDEX = 5           /* the order or the index is out of range */
+};
+
+/* What the doublewords say. The page's own fields are 0 but at PAPR_PAGE; `real` and the sizes are 0
+ * where no size is encoded; and with V clear all but `why` is 0. */
+struct papr_page {
+    uint64_t vsid;              /* of the page: its segment's number */
+    uint64_t page;              /* .. and the index of the base page in its segment */
+    uint64_t real;              /* the logical address of the real page */
+    uint8_t base_shift;         /* log2 of the base page size */
+    uint8_t actual_shift;       /* log2 of the size of the real page */
+    uint8_t key;                /* 0 to 31 */
+    uint8_t protection;         /* PP0, which counts 4, and PP */
+    uint8_t wimg;               /* W 8, I 4, M 2, G 1 */
+    bool one_tb;                /* of the page: its segment is one of 1 TB */
+    bool no_execute;            /* N or G is set, so fetches are refused */
+    bool bolted;
+    bool secondary;             /* H: it stands in its page's secondary group */
+    bool referenced;            /* R of dword1 */
+    bool changed;               /* C of dword1 */
+    uint32_t why;               /* an enum papr_decoding */
+};
+
+/* Decodes the two doublewords of an entry, as H_READ, a receipt and a walk have them, at the index ptex
+ * of a table of 2^order bytes. */
+struct papr_page papr_decode(uint8_t order, uint64_t ptex, uint64_t dword0, uint64_t dword1);
+
+/* What protection bits allow an access with this key: PAPR_MAY_READ and PAPR_MAY_WRITE. Reserved bits
+ * allow nothing. */
+uint8_t papr_rights(uint8_t protection, bool key);
+
 /* ---- the rehash */
 
 struct papr_rehash {
@@ -240,6 +313,7 @@ struct papr_rehash {
     uint32_t first;             /* at PAPR_H_PTEG_FULL the lower of the two old indices that meet */
     uint32_t second;            /* .. the higher one */
     uint32_t target;            /* .. and where, in the new table; else all three are 0 */
+    bool stale;                 /* at PAPR_H_SUCCESS: no cached translation is one of the new table */
 };
 
 /* Carries the bolted entries of one table over to another, as H_RESIZE_HPT_COMMIT does: each that
@@ -277,10 +351,11 @@ PAPR_AT(papr_receipt, entry, 16);
 PAPR_AT(papr_receipt, stamp, 20);
 PAPR_AT(papr_receipt, bits, 24);
 PAPR_AT(papr_receipt, answer, 25);
-PAPR_SIZE(papr_reply, 16);
+PAPR_SIZE(papr_reply, 24);
 PAPR_AT(papr_reply, rc, 0);
 PAPR_AT(papr_reply, words, 8);
 PAPR_AT(papr_reply, receipts, 12);
+PAPR_AT(papr_reply, stale, 16);
 PAPR_SIZE(papr_grant, 32);
 PAPR_AT(papr_grant, logical, 0);
 PAPR_AT(papr_grant, machine, 8);
@@ -306,16 +381,39 @@ PAPR_AT(papr_access, want, 33);
 PAPR_AT(papr_access, one_tb, 34);
 PAPR_AT(papr_access, key, 35);
 PAPR_AT(papr_access, no_execute, 36);
-PAPR_SIZE(papr_walk, 24);
+PAPR_SIZE(papr_walk, 40);
 PAPR_AT(papr_walk, logical, 0);
-PAPR_AT(papr_walk, entry, 8);
-PAPR_AT(papr_walk, outcome, 12);
-PAPR_AT(papr_walk, receipts, 16);
+PAPR_AT(papr_walk, dword0, 8);
+PAPR_AT(papr_walk, dword1, 16);
+PAPR_AT(papr_walk, entry, 24);
+PAPR_AT(papr_walk, outcome, 28);
+PAPR_AT(papr_walk, receipts, 32);
+PAPR_AT(papr_walk, base_shift, 36);
+PAPR_AT(papr_walk, actual_shift, 37);
+PAPR_AT(papr_walk, rights, 38);
+PAPR_AT(papr_walk, causes, 39);
+PAPR_SIZE(papr_page, 40);
+PAPR_AT(papr_page, vsid, 0);
+PAPR_AT(papr_page, page, 8);
+PAPR_AT(papr_page, real, 16);
+PAPR_AT(papr_page, base_shift, 24);
+PAPR_AT(papr_page, actual_shift, 25);
+PAPR_AT(papr_page, key, 26);
+PAPR_AT(papr_page, protection, 27);
+PAPR_AT(papr_page, wimg, 28);
+PAPR_AT(papr_page, one_tb, 29);
+PAPR_AT(papr_page, no_execute, 30);
+PAPR_AT(papr_page, bolted, 31);
+PAPR_AT(papr_page, secondary, 32);
+PAPR_AT(papr_page, referenced, 33);
+PAPR_AT(papr_page, changed, 34);
+PAPR_AT(papr_page, why, 36);
 PAPR_SIZE(papr_rehash, 24);
 PAPR_AT(papr_rehash, rc, 0);
 PAPR_AT(papr_rehash, first, 8);
 PAPR_AT(papr_rehash, second, 12);
 PAPR_AT(papr_rehash, target, 16);
+PAPR_AT(papr_rehash, stale, 20);
 
 #undef PAPR_AT
 #undef PAPR_SIZE

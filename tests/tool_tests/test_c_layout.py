@@ -30,6 +30,7 @@ STRUCTS = {
     "PaprRange": "papr_range",
     "PaprAccess": "papr_access",
     "PaprWalk": "papr_walk",
+    "PaprPage": "papr_page",
     "PaprRehash": "papr_rehash",
 }
 FUNCTIONS = (
@@ -43,6 +44,9 @@ FUNCTIONS = (
     "papr_h_clear_mod",
     "papr_h_bulk_remove",
     "papr_walk",
+    "papr_probe",
+    "papr_decode",
+    "papr_rights",
     "papr_rehash",
 )
 SCALARS = {
@@ -115,7 +119,7 @@ class Header:
         for name, body in re.findall(r"\bstruct (\w+) \{(.*?)\};", text, re.DOTALL):
             self.structs[name] = Struct([declared(field) for field in body.split(";") if field.strip()])
         self.functions: dict[str, Function] = {}
-        for result, name, given in re.findall(r"^(struct \w+) (\w+)\(([^()]*)\);", text, re.MULTILINE):
+        for result, name, given in re.findall(r"^((?:struct )?\w+) (\w+)\(([^()]*)\);", text, re.MULTILINE):
             self.functions[name] = Function([declared(it) for it in given.split(",")], result)
         self.enums: dict[str, dict[str, int]] = {}
         for name, body in re.findall(r"\benum (\w+) \{(.*?)\};", text, re.DOTALL):
@@ -202,6 +206,12 @@ def text_of(path: Path) -> str:
     return path.read_text(encoding="utf-8")
 
 
+def constants_of(name: str, type_: str) -> dict[str, int]:
+    """The constants of this type in one file of the sources."""
+    text = without_remarks(text_of(TOP / "crates" / "papr_c" / "src" / name))
+    return {it: int(number) for it, number in re.findall(rf"\bconst (\w+): {type_} = ([0-9]+);", text)}
+
+
 def in_capitals(name: str) -> str:
     """A name as C's constants have it."""
     return re.sub(r"(?<=[a-z])(?=[A-Z])", "_", name).upper()
@@ -264,10 +274,21 @@ class Constants(ToolTest):
         self.assertEqual(header().enums["papr_refusal"], expected)
 
     def test_the_numbers_of_outcomes_are_those_of_the_sources(self) -> None:
-        numbers = sources().numbers(r"\bconst (\w+): u32 = ([0-9]+);")
+        numbers = constants_of("walking.rt", "u32")
         numbers["AT"], numbers["PARAMETER"] = numbers.pop("ALLOWED"), numbers.pop("REFUSED")
         expected = {f"PAPR_WALK_{it}": n for it, n in numbers.items()}
         self.assertEqual(header().enums["papr_outcome"], expected)
+
+    def test_the_numbers_of_rights_and_causes_are_those_of_the_sources(self) -> None:
+        numbers = constants_of("rights.rt", "u8")
+        rights = {f"PAPR_MAY_{it}": numbers.pop(it) for it in ("READ", "WRITE", "EXECUTE")}
+        self.assertEqual(header().enums["papr_right"], rights)
+        self.assertEqual(header().enums["papr_cause"], {f"PAPR_CAUSE_{it}": n for it, n in numbers.items()})
+
+    def test_the_numbers_of_decodings_are_those_of_the_sources(self) -> None:
+        numbers = sources().numbers(r"\bNoPage::(\w+) => ([0-9]+),")
+        expected = {f"PAPR_{in_capitals(it)}": n for it, n in numbers.items()}
+        self.assertEqual(header().enums["papr_decoding"], {"PAPR_PAGE": 0, **expected})
 
     def test_the_return_codes_are_those_of_the_sources(self) -> None:
         codes = sources().numbers(r"\bRc::(\w+) => (-?[0-9]+),")
@@ -305,6 +326,9 @@ SWAPPED = (
     ("papr_receipt", "entry", "stamp"),
     ("papr_range", "granted", "is_io"),
     ("papr_walk", "entry", "receipts"),
+    ("papr_walk", "rights", "causes"),
+    ("papr_page", "base_shift", "actual_shift"),
+    ("papr_decode", "dword0", "dword1"),
     ("papr_access", "amr", "iamr"),
     ("papr_reply", "words", "receipts"),
     ("papr_h_remove", "ptex", "avpn"),

@@ -97,3 +97,21 @@ asked_off cs i entry op a r at is off =
 pub asked_none : (cs : List Call) (i : ℕ) (a : List State) → call_at cs i ≡ None → found_of (each_as_is a (drop i cs)) ≡ None
 unfolding each_as_is
 asked_none cs i a none = ap (λ (ds : List Call). found_of (each_as_is a ds)) (drop_none cs i none)
+
+-- ---- the operation of what is found
+found_of_access : (a : List State) (cs : List Call) (r : Receipt) → AllByRecursion (λ (c : Call). is_access c.op ≡ true) cs → found_of (each_as_is a cs) ≡ Some r → is_access r.op ≡ true
+unfolding each_as_is
+found_of_access a [] r all found = cc
+found_of_access a (c ∷ cs) r all found = at (cases_Bool (is_no_match (receipt_at a c).answer)) (found_of_access a cs r all.1) where
+  at : (is_no_match (receipt_at a c).answer ≡ true) ⊎ (is_no_match (receipt_at a c).answer ≡ false) → (found_of (each_as_is a cs) ≡ Some r → is_access r.op ≡ true) → is_access r.op ≡ true
+  at (inl on) rest = rest (sym (found-on (receipt_at a c) (each_as_is a cs) on) ∙ found)
+  at (inr off) rest =
+      let some : Some (receipt_at a c) ≡ Some r = sym (found-off (receipt_at a c) (each_as_is a cs) off) ∙ found in
+      let same : receipt_at a c ≡ r = cc in
+      subst (λ (x : Receipt). is_access x.op ≡ true) same all.0
+
+-- What a walk finds has the receipt of an access.
+pub found_access : (order : ℕ) (a : PaprAccess) (page : VirtualPage) (want : Want) (entries : List State) (r : Receipt) → found_of (walk_run order a page want entries).0 ≡ Some r → is_access r.op ≡ true
+found_access order a page want entries r found =
+    found_of_access entries (walk_calls order page (mode_of a want)) r (walk_accesses order a page want)
+    (probed order a page want entries (walk_calls order page (mode_of a want)) refl ∙ found)

@@ -10,3 +10,6 @@ pub mod DecodedPages
 pub mod ReservedBits
 pub mod StaleTrials
 pub mod FoundAsIs
+pub mod RightsLaws
+pub mod KeptTranslations
+pub mod Agreement

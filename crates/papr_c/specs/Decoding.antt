@@ -1,12 +1,12 @@
 -- What an entry's two doublewords say, and of which page.
-use Rattle.std.specs.Prelude.{ℕ, ◌-◌, ◌+◌, ◌%◌, ◌^◌, ◌==◌, ◌&&◌, nat_lt, nat_le, Bool, false, not, if◌then◌else◌, List, [], ◌∷◌, find, Option, Some, None, is_none}
+use Rattle.std.specs.Prelude.{◌≡◌, ◌↔◌, ℕ, ◌<◌, ◌-◌, ◌+◌, ◌%◌, ◌^◌, ◌==◌, ◌&&◌, nat_lt, nat_le, Bool, true, false, not, IsSome, if◌then◌else◌, List, [], ◌∷◌, find, Option, Some, None, is_none}
 use Rattle.std.specs.Option.{option_map_or}
 use Rattle.storage_prot.specs.Protection.{Permission, permission, may_read, may_write}
-use Rattle.power_addr.specs.Pages.{VirtualPage, is_base_shift}
+use Rattle.power_addr.specs.Pages.{VirtualPage, IsPage, is_base_shift, tag_of}
 use Rattle.page_sizes.specs.declared.size.PageSize.{PageSize}
 use Rattle.page_sizes.specs.Sizes.{size_of}
 use Rattle.hpte_fields.specs.TableSize.{entry_count}
-use Rattle.hpte_fields.specs.Fields.{is_valid, is_one_tb, is_bolted, is_secondary, is_referenced, is_changed, is_no_execute, segment_code, key_of, pp_of, wimg_of, frame_of}
+use Rattle.hpte_fields.specs.Fields.{is_valid, is_one_tb, is_bolted, is_secondary, is_referenced, is_changed, is_no_execute, segment_code, tag_field, key_of, pp_of, wimg_of, frame_of}
 use Rattle.hpt_hash.specs.Entries.{number_field, page_at}
 use Rattle.papr_c.specs.declared.decoding.PaprPage.{PaprPage}
 use Rattle.papr_c.specs.declared.decoding.NoPage.{NoPage}
@@ -129,3 +129,27 @@ rights_of_permission p = (if may_read p then 4 else 0) + (if may_write p then 2 
 -- What protection bits allow an access with this key.
 abbrev pub protection_rights : ℕ → Bool → ℕ
 protection_rights protection key = rights_of_permission (permission protection key)
+
+-- ---- what is proved of it
+-- A page of this base size lies where a tag says exactly where one has this tag.
+abbrev pub PlacesAreThoseOfPages : Type 0
+PlacesAreThoseOfPages =
+    (dword0 base : ℕ)
+    → dword0 < 2 ^ 64
+    → (has_place dword0 base ≡ true)
+    ↔ ((p : VirtualPage) × IsPage p × (p.shift ≡ base) × (tag_of p ≡ tag_field dword0))
+
+-- No cause holds exactly where the doublewords translate a page at an index in range.
+abbrev pub NoCauseExactlyAtPages : Type 0
+NoCauseExactlyAtPages =
+    (order ptex dword0 dword1 : ℕ)
+    → dword0 < 2 ^ 64
+    → (why_of order ptex dword0 dword1 ≡ 0) ↔ IsSome (page_here order ptex dword0 dword1)
+
+-- Then the base size that is said is the page's.
+abbrev pub BaseSizesAreThePages : Type 0
+BaseSizesAreThePages =
+    (order ptex dword0 dword1 : ℕ) (p : VirtualPage)
+    → dword0 < 2 ^ 64
+    → page_here order ptex dword0 dword1 ≡ Some p
+    → (decoded order ptex dword0 dword1).base_shift ≡ p.shift

@@ -10,6 +10,7 @@ mod decoding;
 mod enter;
 mod granting;
 mod grants;
+mod laws;
 mod lent;
 mod probing;
 mod read;

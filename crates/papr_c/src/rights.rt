@@ -36,8 +36,16 @@ pub extern "C" fn papr_rights(protection: u8, key: bool) -> u8
     if protection > 7 {
         return 0;
     }
-    let read = if allows(protection, key, false, Want::Load) { READ } else { 0 };
-    let write = if allows(protection, key, false, Want::Store) { WRITE } else { 0 };
+    let read = if allows(protection, key, false, Want::Load) {
+        READ
+    } else {
+        0
+    };
+    let write = if allows(protection, key, false, Want::Store) {
+        WRITE
+    } else {
+        0
+    };
     read + write
 }
 
@@ -65,9 +73,21 @@ fn has_right(state: &EntryState, access: &PaprAccess, want: Want) -> bool
 pub fn rights(state: &EntryState, access: &PaprAccess) -> u8
     ensures { result ≡ spec.rights_of state.now (mode_of access.now) }
 {
-    let read = if has_right(state, access, Want::Load) { READ } else { 0 };
-    let write = if has_right(state, access, Want::Store) { WRITE } else { 0 };
-    let execute = if has_right(state, access, Want::Fetch) { EXECUTE } else { 0 };
+    let read = if has_right(state, access, Want::Load) {
+        READ
+    } else {
+        0
+    };
+    let write = if has_right(state, access, Want::Store) {
+        WRITE
+    } else {
+        0
+    };
+    let execute = if has_right(state, access, Want::Fetch) {
+        EXECUTE
+    } else {
+        0
+    };
     read + write + execute
 }
 

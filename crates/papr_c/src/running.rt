@@ -38,7 +38,13 @@ fn try_trial(
         Told::Entered => {
             let tried = try_lent(entries, trial, receipts);
             let stale = ends_stale(&tried.ending);
-            hand_over(&h_enter::registers(&tried.ending), tried.count, stale, words, room)
+            hand_over(
+                &h_enter::registers(&tried.ending),
+                tried.count,
+                stale,
+                words,
+                room,
+            )
         }
         Told::Answer { shown } => {
             let (receipt, _after) = make(entries, &trial.op, trial.first, receipts, 0);

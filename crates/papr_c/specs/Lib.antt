@@ -9,3 +9,4 @@ pub mod WalkEnds
 pub mod Walks
 pub mod Rehash
 pub mod Decoding
+pub mod Hcalls

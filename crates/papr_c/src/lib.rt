@@ -10,6 +10,7 @@ mod decoding;
 mod enter;
 mod granting;
 mod grants;
+mod hcall;
 mod laws;
 mod lent;
 mod probing;

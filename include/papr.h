@@ -53,6 +53,7 @@ struct papr_entry {
 enum papr_rc {
     PAPR_H_SUCCESS = 0,
     PAPR_H_HARDWARE = -1,       /* the entry has changed 2^32 - 1 times, and can't change again */
+    PAPR_H_FUNCTION = -2,       /* the number isn't one of a call on entries (papr_hcall) */
     PAPR_H_PARAMETER = -4,
     PAPR_H_PTEG_FULL = -6,
     PAPR_H_NOT_FOUND = -7
@@ -198,6 +199,13 @@ struct papr_reply papr_h_bulk_remove(struct papr_entry *entries, size_t count, u
                                      const uint64_t *pairs, size_t pairs_count, uint64_t *words,
                                      size_t words_room, struct papr_receipt *receipts,
                                      size_t receipts_room);
+
+/* A call by its number, as register 3 has it: the seven above. `args` are registers 4 to 11; the words that
+ * the call gives take their place, from args[0] on, and the others stay. For another number
+ * PAPR_H_FUNCTION, whatever the table is, and nothing changes. */
+struct papr_reply papr_hcall(struct papr_entry *entries, size_t count, uint8_t order,
+                             const struct papr_grants *grants, uint64_t number, uint64_t args[8],
+                             struct papr_receipt *receipts, size_t receipts_room);
 
 /* ---- the walk */
 

@@ -263,6 +263,35 @@ static void calls(void)
     REPLY(papr_h_bulk_remove(table, COUNT, ORDER, pairs, 6, ROOM), PAPR_H_PARAMETER, 0, 0);
 }
 
+/* Calls by their numbers, with all eight words. */
+static void by_number(void)
+{
+    enum { H_REMOVE = 0x04, H_ENTER = 0x08, H_PROTECT = 0x18, H_BULK_REMOVE = 0x124, H_PUT_TCE = 0x20 };
+#define BY(number) papr_hcall(table, COUNT, ORDER, &list, number, words, receipts, RECEIPTS)
+    const uint64_t enter[WORDS] = {PAPR_EXACT, 0x45, 0x1001, 0x7012, 4, 5, 6, 7};
+    memcpy(words, enter, sizeof words);
+    REPLY(BY(H_ENTER), PAPR_H_SUCCESS, 1, 1);
+    IS(words[0], 0x45);
+    IS(words[1], 0x45);
+    IS(words[7], 7);
+    const uint64_t protect[WORDS] = {PAPR_AVPN | 1, 0x45, 0x1000};
+    memcpy(words, protect, sizeof words);
+    STALE(BY(H_PROTECT), PAPR_H_SUCCESS, 0, 1);
+    ENTRY(table[0x45], 0x1001, 0x7011, 2, true, false, false);
+    REPLY(BY(H_PUT_TCE), PAPR_H_FUNCTION, 0, 0);
+    IS(words[1], 0x45);
+    REPLY(papr_hcall(table, COUNT, ORDER + 1, &list, 0, words, receipts, RECEIPTS), PAPR_H_FUNCTION, 0, 0);
+    REPLY(papr_hcall(table, COUNT, ORDER + 1, &list, H_REMOVE, words, receipts, RECEIPTS), PAPR_H_PARAMETER, 0, 0);
+    STALE(BY(H_REMOVE), PAPR_H_SUCCESS, 2, 1);
+    IS(words[0], 0x1001);
+    IS(words[1], 0x7011);
+    const uint64_t pairs[WORDS] = {UINT64_C(0x4000000000000045), 1, UINT64_C(0xc000000000000000), 2, 3, 4, 5, 6};
+    memcpy(words, pairs, sizeof words);
+    REPLY(BY(H_BULK_REMOVE), PAPR_H_SUCCESS, 8, 1);
+    IS(words[0], UINT64_C(0x9000000000000045));
+    IS(words[7], 6);
+}
+
 /* Two bolted entries of a larger table that meet in the smaller one, and one that is carried over. */
 static int rehash(void)
 {
@@ -303,5 +332,6 @@ int main(void)
     tells();
     decoded();
     calls();
+    by_number();
     return rehash() || failures;
 }

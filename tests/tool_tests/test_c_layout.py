@@ -43,6 +43,7 @@ FUNCTIONS = (
     "papr_h_clear_ref",
     "papr_h_clear_mod",
     "papr_h_bulk_remove",
+    "papr_hcall",
     "papr_walk",
     "papr_probe",
     "papr_decode",
@@ -151,7 +152,7 @@ def in_c(name: str, type_: str) -> list[Named]:
     if by is not None:
         pointer = ("" if by[1] else "const ") + of_value(by[3]) + "*"
         return [(name, pointer), (COUNTS[name], "size_t")] if by[2] else [(name, pointer)]
-    array = re.fullmatch(r"\[(\w+); ([0-9]+)\]", type_)
+    array = re.fullmatch(r"(?:&mut )?\[(\w+); ([0-9]+)\]", type_)
     return [(name, f"{of_value(array[1])}[{array[2]}]" if array else of_value(type_))]
 
 
@@ -293,7 +294,7 @@ class Constants(ToolTest):
     def test_the_return_codes_are_those_of_the_sources(self) -> None:
         codes = sources().numbers(r"\bRc::(\w+) => (-?[0-9]+),")
         told = {f"PAPR_H_{in_capitals(it)}": n for it, n in codes.items()}
-        mine = ("Success", "Hardware", "Parameter", "PtegFull", "NotFound")
+        mine = ("Success", "Hardware", "Function", "Parameter", "PtegFull", "NotFound")
         expected = {name: told[name] for name in (f"PAPR_H_{in_capitals(it)}" for it in mine)}
         self.assertEqual(header().enums["papr_rc"], expected)
 

@@ -13,3 +13,4 @@ pub mod FoundAsIs
 pub mod RightsLaws
 pub mod KeptTranslations
 pub mod Agreement
+pub mod EndedTrials

@@ -62,7 +62,7 @@ impl<'a> EntryStore for LentTable<'a> {
     }
 
     fn apply(&mut self, entry: u32, op: Op) -> Receipt {
-        make(self.entries, &op, entry, &mut [], 0).0
+        make(self.entries, &op, entry, &mut [], 0)
     }
 
     fn apply_known(&mut self, known: &Line, op: Op) -> Option<Receipt> {

@@ -47,7 +47,7 @@ fn try_trial(
             )
         }
         Told::Answer { shown } => {
-            let (receipt, _after) = make(entries, &trial.op, trial.first, receipts, 0);
+            let receipt = make(entries, &trial.op, trial.first, receipts, 0);
             let stale = is_stale(receipt.answer);
             hand_over(&h_update::registers(&receipt, shown), 1, stale, words, room)
         }

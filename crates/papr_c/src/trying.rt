@@ -1,4 +1,4 @@
-ghost use Rattle.std.specs.Prelude.{◌≡◌, ◌≤◌, ◌<◌, length, map, set, IfSome};
+ghost use Rattle.std.specs.Prelude.{◌≡◌, ◌≤◌, ◌<◌, length, map, set};
 ghost use Rattle.std.specs.List.{AllByRecursion};
 ghost use Rattle.entry_model.specs.Receipt.{after_of, receipt_of};
 ghost use Rattle.entry_model.specs.Run.{state_at, states_after};
@@ -14,8 +14,6 @@ use entry_model::{Answer, EntryState, Op, Receipt, reply};
 pub struct Tried {
     /// The receipt after which the trial didn't go on, if there was one.
     pub ending: Option<Receipt>,
-    /// The state of its entry after it; where there was none, an empty one.
-    pub after: EntryState,
     /// How many calls were made.
     pub count: u32,
 }
@@ -54,7 +52,7 @@ pub fn asked(entry: u32, before: &EntryState, op: &Op) -> (Receipt, EntryState)
 }
 
 /// Makes an operation on an entry, and puts the receipt into the caller's place, where there is
-/// one. Gives the entry's state after it too.
+/// one.
 #[inline(always)]
 pub fn make(
     entries: &mut [EntryState],
@@ -62,18 +60,17 @@ pub fn make(
     entry: u32,
     receipts: &mut [PaprReceipt],
     place: u32,
-) -> (Receipt, EntryState)
+) -> Receipt
     requires { entry < length entries.old }
-    ensures receipt { result.0 ≡ receipt_of entry (state_at entries.old entry) op.now }
-    ensures after { result.1 ≡ after_of result.0 }
-    ensures entries { entries.new ≡ states_after entries.old result.0 }
-    ensures receipts { receipts.new ≡ set receipts.old place (shown_receipt result.0) }
+    ensures receipt { result ≡ receipt_of entry (state_at entries.old entry) op.now }
+    ensures entries { entries.new ≡ states_after entries.old result }
+    ensures receipts { receipts.new ≡ set receipts.old place (shown_receipt result) }
 {
     let before = entries[entry as usize];
     let (receipt, after) = asked(entry, &before, op);
     store(entries, &receipt, &after);
     put_receipt(&receipt, receipts, place);
-    (receipt, after)
+    receipt
 }
 
 /// Makes calls on entries in turn, as long as the answers go on. The receipts are put into the
@@ -97,28 +94,24 @@ pub fn try_lent<C: CallList>(
         ≡ length (trial_run (C.goes_on calls.now) entries.old (C.calls calls.now)).0 }
     ensures ending { let goes = C.goes_on calls.now in
         result.ending ≡ ending_of goes (trial_run goes entries.old (C.calls calls.now)).0 }
-    ensures after { IfSome result.ending (λ r. result.after ≡ after_of r) }
 {
     for made in 0..16 {
         let Some((entry, op)) = calls.call_at(made) else {
             return Tried {
                 ending: None,
-                after: EntryState::empty(0),
                 count: made,
             };
         };
-        let (receipt, after) = make(entries, &op, entry, receipts, made);
+        let receipt = make(entries, &op, entry, receipts, made);
         if !calls.goes_on_after(receipt.answer) {
             return Tried {
                 ending: Some(receipt),
-                after,
                 count: made + 1,
             };
         }
     }
     Tried {
         ending: None,
-        after: EntryState::empty(0),
         count: 16,
     }
 }

@@ -1,6 +1,5 @@
-ghost use Rattle.std.specs.Prelude.{◌≡◌, IfSome};
-ghost use Rattle.entry_model.specs.Receipt.{after_of};
-ghost use Rattle.papr_c.specs.WalkEnds.{masks_of, no_entry, refused_walk, refusal_number, end_at, walk_end};
+ghost use Rattle.std.specs.Prelude.{◌≡◌};
+ghost use Rattle.papr_c.specs.WalkEnds.{masks_of, no_entry, refused_walk, refusal_number, end_at};
 ghost use Rattle.papr_c.specs.Walks.{WalkMemory, want_of, walk_memory, outcome_of_walk};
 
 use crate::lent::is_table;
@@ -191,24 +190,6 @@ impl PaprWalk {
         }
         end
     }
-
-    /// The end by the receipt that ended a walk, and the state that the walk left.
-    #[inline]
-    fn ended(
-        access: &PaprAccess,
-        want: Want,
-        ending: &Option<Receipt>,
-        after: &EntryState,
-        receipts: u32,
-    ) -> PaprWalk
-        requires { IfSome ending.now (λ r. after.now ≡ after_of r) }
-        ensures { result ≡ walk_end after_of access.now want ending.now receipts }
-    {
-        match ending {
-            Some(receipt) => PaprWalk::end(access, want, receipt, after, receipts),
-            None => PaprWalk::no_entry(NO_PAGE, receipts),
-        }
-    }
 }
 
 /// An access to `ea` by the entry of its page: the walk of the page's two groups, which records R
@@ -234,5 +215,11 @@ pub extern "C" fn papr_walk(
     let calls = PageCalls::of(&page, order, want, key, no_execute, masks);
     let tried = try_lent(entries, &calls, receipts);
     let filled = filled_count(receipts.len(), tried.count);
-    PaprWalk::ended(access, want, &tried.ending, &tried.after, filled)
+    match tried.ending {
+        Some(receipt) => {
+            let now = entries[receipt.entry as usize];
+            PaprWalk::end(access, want, &receipt, &now, filled)
+        }
+        None => PaprWalk::no_entry(NO_PAGE, filled),
+    }
 }

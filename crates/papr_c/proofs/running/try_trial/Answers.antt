@@ -59,7 +59,7 @@ returns-in-Entered c =
 pub returns-in-Answer : goal.returns-in-Answer
 returns-in-Answer c =
     let t = c.args.trial.now in
-    let r = c.make-receipt.result.0 in
+    let r = c.make-receipt.result in
     let few : t.count ≤ 1 = subst (λ d. t.count ≤ most_of d) c.in-Answer.is c.requires.fits.few in
     let one : t.count ≡ 1 = omega (arith, few, c.requires.fits.some) in
     call_tried _ (plan_of_trial t) _ (r ∷ [], states_after c.args.entries.now r) c.registers-in-Answer.result.rc c.registers-in-Answer.result.words c.hand_over-in-Answer.result c.hand_over-in-Answer.new.words c.make-receipt.new.receipts c.make-receipt.new.entries

@@ -18,7 +18,7 @@ make-receipt-requires g c =
 pub loop-made-preserved : goal.loop-made-preserved
 loop-made-preserved g c =
     let goes = g.C.CallList.goes_on c.args.calls.now in
-    let r = c.make-receipt.result.0 in
+    let r = c.make-receipt.result in
     let on : goes r.answer ≡ true = let e = c.if-not-goes_on_after.ensures in let f = c.goes_on_after.ensures in cc in
     record {
       so_far = (
@@ -69,27 +69,27 @@ returns-clause-ending g c =
 pub returns-then-not-goes_on_after-clause-entries : goal.returns-then-not-goes_on_after-clause-entries
 returns-then-not-goes_on_after-clause-entries g c =
     let goes = g.C.CallList.goes_on c.args.calls.now in
-    let r = c.make-receipt.result.0 in
+    let r = c.make-receipt.result in
     let off : goes r.answer ≡ false = let e = c.if-not-goes_on_after.ensures in let f = c.goes_on_after.ensures in cc in
     (ends goes _ _ _ _ _ c.loop-made.entries _ _ c.loop-made.receipts _ _ r (sym c.call_at.ensures ∙ c.in-Some.is) c.make-receipt.ensures.receipt c.make-receipt.ensures.entries c.make-receipt.ensures.receipts off c.loop-made.invariant.so_far.1).entries
 
 pub returns-then-not-goes_on_after-clause-receipts : goal.returns-then-not-goes_on_after-clause-receipts
 returns-then-not-goes_on_after-clause-receipts g c =
     let goes = g.C.CallList.goes_on c.args.calls.now in
-    let r = c.make-receipt.result.0 in
+    let r = c.make-receipt.result in
     let off : goes r.answer ≡ false = let e = c.if-not-goes_on_after.ensures in let f = c.goes_on_after.ensures in cc in
     (ends goes _ _ _ _ _ c.loop-made.entries _ _ c.loop-made.receipts _ _ r (sym c.call_at.ensures ∙ c.in-Some.is) c.make-receipt.ensures.receipt c.make-receipt.ensures.entries c.make-receipt.ensures.receipts off c.loop-made.invariant.so_far.1).receipts
 
 pub returns-then-not-goes_on_after-clause-count : goal.returns-then-not-goes_on_after-clause-count
 returns-then-not-goes_on_after-clause-count g c =
     let goes = g.C.CallList.goes_on c.args.calls.now in
-    let r = c.make-receipt.result.0 in
+    let r = c.make-receipt.result in
     let off : goes r.answer ≡ false = let e = c.if-not-goes_on_after.ensures in let f = c.goes_on_after.ensures in cc in
     (ends goes _ _ _ _ _ c.loop-made.entries _ _ c.loop-made.receipts _ _ r (sym c.call_at.ensures ∙ c.in-Some.is) c.make-receipt.ensures.receipt c.make-receipt.ensures.entries c.make-receipt.ensures.receipts off c.loop-made.invariant.so_far.1).counted
 
 pub returns-then-not-goes_on_after-clause-ending : goal.returns-then-not-goes_on_after-clause-ending
 returns-then-not-goes_on_after-clause-ending g c =
     let goes = g.C.CallList.goes_on c.args.calls.now in
-    let r = c.make-receipt.result.0 in
+    let r = c.make-receipt.result in
     let off : goes r.answer ≡ false = let e = c.if-not-goes_on_after.ensures in let f = c.goes_on_after.ensures in cc in
     (ends goes _ _ _ _ _ c.loop-made.entries _ _ c.loop-made.receipts _ _ r (sym c.call_at.ensures ∙ c.in-Some.is) c.make-receipt.ensures.receipt c.make-receipt.ensures.entries c.make-receipt.ensures.receipts off c.loop-made.invariant.so_far.1).ending

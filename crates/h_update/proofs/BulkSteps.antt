@@ -126,7 +126,7 @@ closes order i pairs words receipts rest last more code so_far is trial told =
     }
 
 -- The words that a reply ends with.
-words_to_end : (n : ℕ) (pairs : List ℕ) → length pairs ≡ 8 → take (8 - n) (drop n pairs) ≡ drop n pairs
+pub words_to_end : (n : ℕ) (pairs : List ℕ) → length pairs ≡ 8 → take (8 - n) (drop n pairs) ≡ drop n pairs
 words_to_end n pairs eight = subst (λ m. take (m - n) (drop n pairs) ≡ drop n pairs) eight (take_rest pairs n)
 
 -- ---- how a call ends
@@ -141,7 +141,7 @@ ends_at_end order i pairs words receipts eight h asks so_far =
     (closes order i pairs words receipts _ _ [] rc.Success so_far first (end_trial order _ _ _ (sym asks)) (end_told order _ _ _ (sym asks)))
 
 -- A response, and the words that stay behind it.
-response_and_rest : (i answer : ℕ) (pairs words : List ℕ) → length pairs ≡ 8 → i < 4 → words ++ (answer ∷ get_or pairs (2 * i + 1) 0 ∷ words_of_pairs (pairs_of (words_from (i + 1) pairs))) ≡ (words ++ answer ∷ []) ++ take (8 - (2 * i + 1)) (drop (2 * i + 1) pairs)
+pub response_and_rest : (i answer : ℕ) (pairs words : List ℕ) → length pairs ≡ 8 → i < 4 → words ++ (answer ∷ get_or pairs (2 * i + 1) 0 ∷ words_of_pairs (pairs_of (words_from (i + 1) pairs))) ≡ (words ++ answer ∷ []) ++ take (8 - (2 * i + 1)) (drop (2 * i + 1) pairs)
 response_and_rest i answer pairs words eight h =
     let words_before : take (8 - (2 * i + 1)) (drop (2 * i + 1) pairs) ≡ get_or pairs (2 * i + 1) 0 ∷ words_of_pairs (pairs_of (words_from (i + 1) pairs)) = words_to_end (2 * i + 1) pairs eight ∙ second_word_on i pairs eight h ∙ ap (λ ws. get_or pairs (2 * i + 1) 0 ∷ ws) (sym (unchanged-words_from (i + 1) pairs eight)) in
     sym (append_assoc words (answer ∷ []) (take (8 - (2 * i + 1)) (drop (2 * i + 1) pairs)) ∙ ap (λ ws. words ++ (answer ∷ ws)) words_before)

@@ -6,3 +6,4 @@ pub mod Tame
 pub mod BulkCodes
 mod Rows
 pub mod Shown
+pub mod RemovalSteps

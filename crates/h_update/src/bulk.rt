@@ -53,7 +53,7 @@ const CHANGED: u8 = 0x04;
 
 /// What a pair of words asks.
 #[derive(Clone, Copy)]
-enum Asked {
+pub enum Asked {
     /// No more: the list ends here.
     End,
     /// To remove the entry where it passes the test.
@@ -78,7 +78,7 @@ fn test_of(request: u64, word: u64) -> Option<Test>
 
 /// What a pair asks of a table of this order.
 #[tactic(auto, using(crate::proofs::RequestBits::type_bits), unfolding(crate::specs::Bulk::asked_by))]
-fn asked_by(order: u8, request: u64, word: u64) -> Asked
+pub fn asked_by(order: u8, request: u64, word: u64) -> Asked
     requires low { 18 ≤ order }
     requires high { order ≤ 22 }
     ensures { result ≡ plans.asked_by order (record { request = request; word = word }) }
@@ -139,6 +139,39 @@ fn ended(rc: Rc, mut words: ReplyWords, unchanged: &[u64]) -> Registers
         words.push(*word);
     }
     Registers { rc, words }
+}
+
+/// What the receipts of a bulk removal tell: the code, and all eight words, with a response in place
+/// of each request that was taken up.
+pub fn removal_registers(order: u8, pairs: &[u64; 8], receipts: &[Receipt]) -> Registers
+    requires low { 18 ≤ order }
+    requires high { order ≤ 22 }
+    ensures { (result.rc, result.words)
+        ≡ plans.bulk_told order (plans.pairs_of pairs.now) receipts.now }
+{
+    let mut words = ReplyWords::new();
+    for i in 0..4 {
+        let (request, word) = (pairs[2 * i], pairs[2 * i + 1]);
+        match asked_by(order, request, word) {
+            Asked::End => return ended(Rc::Success, words, &pairs[2 * i..]),
+            Asked::Refused => {
+                words.push(response(ILL_FORMED, request));
+                return ended(Rc::Parameter, words, &pairs[2 * i + 1..]);
+            }
+            Asked::Remove { .. } => {
+                if i >= receipts.len() {
+                    return ended(Rc::Hardware, words, &pairs[2 * i..]);
+                }
+                let receipt = &receipts[i];
+                words.push(response(status(receipt), request));
+                if receipt.answer == Answer::Worn {
+                    return ended(Rc::Hardware, words, &pairs[2 * i + 1..]);
+                }
+                words.push(word);
+            }
+        }
+    }
+    ended(Rc::Success, words, &[])
 }
 
 /// [`h_bulk_remove`] with its receipts put into `receipts`, in place of what was there.

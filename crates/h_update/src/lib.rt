@@ -7,10 +7,12 @@
 
 mod bulk;
 mod read;
+mod removals;
 mod single;
 
-pub use bulk::{h_bulk_remove, h_bulk_remove_into};
+pub use bulk::{h_bulk_remove, h_bulk_remove_into, removal_registers};
 pub use read::{h_read, h_read_into, read_range};
+pub use removals::Removals;
 pub use single::{
     ShownWords, SingleCall, clear_mod_call, clear_ref_call, h_clear_mod, h_clear_mod_into,
     h_clear_ref, h_clear_ref_into, h_protect, h_protect_into, h_remove, h_remove_into,

@@ -14,6 +14,7 @@ use Rattle.call_trials.specs.Calls.{call_at}
 use Rattle.call_trials.proofs.BegunLaws.{at_end, at_inside}
 use Rattle.papr_c.specs.declared.receipts.PaprReceipt.{PaprReceipt}
 use Rattle.papr_c.specs.Places.{placed, shown_receipt}
+use Rattle.papr_c.specs.Tried.{LentPair, IsMadeAt, IsTriedLast}
 use Rattle.papr_c.proofs.Filling.{placed-append}
 
 -- The rest of the calls begins with this one.
@@ -133,3 +134,14 @@ past_all goes cs i a b old new rs none h =
 
 pub past_last : (goes : Answer → Bool) (cs : List Call) (i : ℕ) (a b : List State) (old new : List PaprReceipt) (rs : List Receipt) → length cs ≤ i → IsSoFar goes cs i a b old new rs → IsTold goes cs i a b old new None
 past_last goes cs i a b old new rs past h = past_all goes cs i a b old new rs (at_end cs i past) h
+
+-- One call more, or the end.
+pub so_far_next : (goes : Answer → Bool) (cs : List Call) (i : ℕ) (a : List State) (old : List PaprReceipt) (m : LentPair) → ((r : Receipt) × IsMadeAt goes cs i m r true) → ((rs : List Receipt) × IsSoFar goes cs i a m.before old m.places_before rs) → (rs : List Receipt) × IsSoFar goes cs (i + 1) a m.after old m.places_after rs
+so_far_next goes cs i a old m (r, made) (rs, h) =
+    (rs ++ r ∷ [], so_far_goes goes cs i made.entry made.op a m.before m.after old m.places_before m.places_after rs r made.at made.receipt made.after made.put made.goes_on h)
+
+pub told_last : (goes : Answer → Bool) (cs : List Call) (i : ℕ) (a : List State) (old : List PaprReceipt) (m : LentPair) (last : Option Receipt) (count : ℕ) → IsTriedLast goes cs i m last count → ((rs : List Receipt) × IsSoFar goes cs i a m.before old m.places_before rs) → IsTold goes cs count a m.after old m.places_after last
+told_last goes cs i a old m None count (none, (after, (put, counted))) (rs, h) =
+    rw (after, put, counted) (past_all goes cs i a m.before old m.places_before rs none h)
+told_last goes cs i a old m (Some r) count (made, counted) (rs, h) =
+    rw counted (ends goes cs i made.entry made.op a m.before m.after old m.places_before m.places_after rs r made.at made.receipt made.after made.put made.goes_on h)

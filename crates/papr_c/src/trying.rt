@@ -1,9 +1,10 @@
-ghost use Rattle.std.specs.Prelude.{◌≡◌, ◌≤◌, ◌<◌, length, map, set};
+ghost use Rattle.std.specs.Prelude.{◌≡◌, ◌≤◌, ◌<◌, ◌^◌, length, map, set};
 ghost use Rattle.std.specs.List.{AllByRecursion};
 ghost use Rattle.entry_model.specs.Receipt.{after_of, receipt_of};
 ghost use Rattle.entry_model.specs.Run.{state_at, states_after};
 ghost use Rattle.entry_model.specs.Trial.{Call, ending_of, trial_run};
 ghost use Rattle.papr_c.specs.Places.{placed, shown_receipt};
+ghost use Rattle.papr_c.specs.Tried.{IsTriedNext};
 
 use crate::receipts::{PaprReceipt, put_receipt};
 use call_trials::CallList;
@@ -73,6 +74,48 @@ pub fn make(
     receipt
 }
 
+/// Makes the call behind the first `made` on its entry, and puts its receipt into the caller's place,
+/// where there is one. Gives back how the trial ended, or `None` where the next call follows.
+#[inline(always)]
+fn try_next<C: CallList>(
+    entries: &mut [EntryState],
+    calls: &C,
+    receipts: &mut [PaprReceipt],
+    made: u32,
+) -> Option<Tried>
+    requires in_table { AllByRecursion
+        (λ (c : Call). c.entry < length entries.old)
+        (C.calls calls.now) }
+    requires near { made ≤ length (C.calls calls.now) }
+    requires small { made < 2 ^ 31 }
+    ensures { IsTriedNext
+        (C.goes_on calls.now)
+        (C.calls calls.now)
+        made
+        (record {
+          before = entries.old;
+          after = entries.new;
+          places_before = receipts.old;
+          places_after = receipts.new;
+        })
+        result }
+{
+    let Some((entry, op)) = calls.call_at(made) else {
+        return Some(Tried {
+            ending: None,
+            count: made,
+        });
+    };
+    let receipt = make(entries, &op, entry, receipts, made);
+    if calls.goes_on_after(receipt.answer) {
+        return None;
+    }
+    Some(Tried {
+        ending: Some(receipt),
+        count: made + 1,
+    })
+}
+
 /// Makes calls on entries in turn, as long as the answers go on. The receipts are put into the
 /// caller's places, as far as these go.
 // In line, so that each caller has the part of `reply` that its operation needs, and no other.
@@ -96,18 +139,44 @@ pub fn try_lent<C: CallList>(
         result.ending ≡ ending_of goes (trial_run goes entries.old (C.calls calls.now)).0 }
 {
     for made in 0..16 {
-        let Some((entry, op)) = calls.call_at(made) else {
-            return Tried {
-                ending: None,
-                count: made,
-            };
-        };
-        let receipt = make(entries, &op, entry, receipts, made);
-        if !calls.goes_on_after(receipt.answer) {
-            return Tried {
-                ending: Some(receipt),
-                count: made + 1,
-            };
+        if let Some(tried) = try_next(entries, calls, receipts, made) {
+            return tried;
+        }
+    }
+    Tried {
+        ending: None,
+        count: 16,
+    }
+}
+
+/// The same, eight calls by eight: the compiler then knows the group of each call of a walk.
+#[inline(always)]
+pub fn try_by_groups<C: CallList>(
+    entries: &mut [EntryState],
+    calls: &C,
+    receipts: &mut [PaprReceipt],
+) -> Tried
+    requires in_table { AllByRecursion
+        (λ (c : Call). c.entry < length entries.old)
+        (C.calls calls.now) }
+    requires few { length (C.calls calls.now) ≤ 16 }
+    ensures entries { entries.new
+        ≡ (trial_run (C.goes_on calls.now) entries.old (C.calls calls.now)).1 }
+    ensures receipts { let made = (trial_run (C.goes_on calls.now) entries.old (C.calls calls.now)).0 in
+        receipts.new ≡ placed receipts.old 0 (map shown_receipt made) }
+    ensures count { result.count
+        ≡ length (trial_run (C.goes_on calls.now) entries.old (C.calls calls.now)).0 }
+    ensures ending { let goes = C.goes_on calls.now in
+        result.ending ≡ ending_of goes (trial_run goes entries.old (C.calls calls.now)).0 }
+{
+    for made in 0..8 {
+        if let Some(tried) = try_next(entries, calls, receipts, made) {
+            return tried;
+        }
+    }
+    for made in 8..16 {
+        if let Some(tried) = try_next(entries, calls, receipts, made) {
+            return tried;
         }
     }
     Tried {

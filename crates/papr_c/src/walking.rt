@@ -6,7 +6,7 @@ use crate::lent::is_table;
 use crate::receipts::PaprReceipt;
 use crate::reply::filled_count;
 use crate::rights::{causes, rights};
-use crate::trying::try_lent;
+use crate::trying::try_by_groups;
 use authority_mask::{MaskName, Masks};
 use entry_model::{Answer, EntryState, Receipt};
 use hpt_walk::{PageCalls, logical_of};
@@ -213,7 +213,7 @@ pub extern "C" fn papr_walk(
     }
     let (key, no_execute, masks) = (access.key, access.no_execute, access.masks());
     let calls = PageCalls::of(&page, order, want, key, no_execute, masks);
-    let tried = try_lent(entries, &calls, receipts);
+    let tried = try_by_groups(entries, &calls, receipts);
     let filled = filled_count(receipts.len(), tried.count);
     match tried.ending {
         Some(receipt) => {

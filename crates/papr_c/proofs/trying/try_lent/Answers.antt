@@ -1,49 +1,49 @@
-use Rattle.std.proofs.Common.{◌≡◌, ◌<◌, ◌≤◌, ◌++◌, length, [], ◌∷◌, true, false, arith, sym, ◌∙◌}
+use Rattle.std.specs.Prelude.{None}
+use Rattle.std.specs.List.{AllByRecursion}
+use Rattle.std.proofs.Common.{◌≡◌, ◌<◌, ◌≤◌, length, [], arith, sym, subst, ◌∙◌}
 use Rattle.entry_model.specs.Trial.{Call}
-use Rattle.call_trials.proofs.BegunLaws.{at_has}
-use Rattle.papr_c.proofs.SoFar.{starts, so_far_goes, ends, past_all, past_last}
+use Rattle.papr_c.specs.Tried.{LentPair, IsTriedNext}
+use Rattle.papr_c.proofs.SoFar.{starts, so_far_next, told_last, past_last}
 use Rattle.papr_c.proofs.trying.try_lent.Goals as goal
 
 pub loop-made-init : goal.loop-made-init
 loop-made-init g c = record { so_far = ([], starts _ _ _ _) }
 
-pub call_at-requires : goal.call_at-requires
-call_at-requires g c = c.loop-made.invariant.so_far.1.inside
+-- ---- one call more
+pub try_next-requires-clause-in_table : goal.try_next-requires-clause-in_table
+try_next-requires-clause-in_table g c =
+    subst (λ n. AllByRecursion (λ (d : Call). d.entry < n) (g.C.CallList.calls c.args.calls.now)) (sym c.loop-made.invariant.so_far.1.same) c.requires.in_table
 
-pub make-receipt-requires : goal.make-receipt-requires
-make-receipt-requires g c =
-    rw c.loop-made.invariant.so_far.1.same
-    (at_has (λ (d : Call). d.entry < length c.args.entries.now) _ c.loop-made.made c.in-Some.entry c.in-Some.op c.requires.in_table (sym c.call_at.ensures ∙ c.in-Some.is))
+pub try_next-requires-clause-near : goal.try_next-requires-clause-near
+try_next-requires-clause-near g c = c.loop-made.invariant.so_far.1.inside
+
+pub returns-in-Some-clause-entries : goal.returns-in-Some-clause-entries
+returns-in-Some-clause-entries g c =
+    let m : LentPair = record { before = c.loop-made.entries; after = c.try_next.new.entries; places_before = c.loop-made.receipts; places_after = c.try_next.new.receipts } in
+    (told_last _ (g.C.CallList.calls c.args.calls.now) c.loop-made.made c.args.entries.now c.args.receipts.now m _ _ c.in-Some.ensures c.loop-made.invariant.so_far).entries
+
+pub returns-in-Some-clause-receipts : goal.returns-in-Some-clause-receipts
+returns-in-Some-clause-receipts g c =
+    let m : LentPair = record { before = c.loop-made.entries; after = c.try_next.new.entries; places_before = c.loop-made.receipts; places_after = c.try_next.new.receipts } in
+    (told_last _ (g.C.CallList.calls c.args.calls.now) c.loop-made.made c.args.entries.now c.args.receipts.now m _ _ c.in-Some.ensures c.loop-made.invariant.so_far).receipts
+
+pub returns-in-Some-clause-count : goal.returns-in-Some-clause-count
+returns-in-Some-clause-count g c =
+    let m : LentPair = record { before = c.loop-made.entries; after = c.try_next.new.entries; places_before = c.loop-made.receipts; places_after = c.try_next.new.receipts } in
+    (told_last _ (g.C.CallList.calls c.args.calls.now) c.loop-made.made c.args.entries.now c.args.receipts.now m _ _ c.in-Some.ensures c.loop-made.invariant.so_far).counted
+
+pub returns-in-Some-clause-ending : goal.returns-in-Some-clause-ending
+returns-in-Some-clause-ending g c =
+    let m : LentPair = record { before = c.loop-made.entries; after = c.try_next.new.entries; places_before = c.loop-made.receipts; places_after = c.try_next.new.receipts } in
+    (told_last _ (g.C.CallList.calls c.args.calls.now) c.loop-made.made c.args.entries.now c.args.receipts.now m _ _ c.in-Some.ensures c.loop-made.invariant.so_far).ending
 
 pub loop-made-preserved : goal.loop-made-preserved
 loop-made-preserved g c =
-    let goes = g.C.CallList.goes_on c.args.calls.now in
-    let r = c.make-receipt.result in
-    let on : goes r.answer ≡ true = let e = c.if-not-goes_on_after.ensures in let f = c.goes_on_after.ensures in cc in
-    record {
-      so_far = (
-        c.loop-made.invariant.so_far.0 ++ r ∷ [],
-        so_far_goes goes _ _ _ _ _ c.loop-made.entries _ _ c.loop-made.receipts _ c.loop-made.invariant.so_far.0 r (sym c.call_at.ensures ∙ c.in-Some.is) c.make-receipt.ensures.receipt c.make-receipt.ensures.entries c.make-receipt.ensures.receipts on c.loop-made.invariant.so_far.1,
-      );
-    }
+    let m : LentPair = record { before = c.loop-made.entries; after = c.try_next.new.entries; places_before = c.loop-made.receipts; places_after = c.try_next.new.receipts } in
+    let next : IsTriedNext (g.C.CallList.goes_on c.args.calls.now) (g.C.CallList.calls c.args.calls.now) c.loop-made.made m None = subst (IsTriedNext (g.C.CallList.goes_on c.args.calls.now) (g.C.CallList.calls c.args.calls.now) c.loop-made.made m) c.in_default.is c.try_next.ensures in
+    record { so_far = so_far_next _ (g.C.CallList.calls c.args.calls.now) c.loop-made.made c.args.entries.now c.args.receipts.now m next c.loop-made.invariant.so_far }
 
 -- ---- behind the last call
-pub returns-in_default-clause-entries : goal.returns-in_default-clause-entries
-returns-in_default-clause-entries g c =
-    (past_all _ _ _ _ _ _ _ _ (sym c.call_at.ensures ∙ c.in_default.is) c.loop-made.invariant.so_far.1).entries
-
-pub returns-in_default-clause-receipts : goal.returns-in_default-clause-receipts
-returns-in_default-clause-receipts g c =
-    (past_all _ _ _ _ _ _ _ _ (sym c.call_at.ensures ∙ c.in_default.is) c.loop-made.invariant.so_far.1).receipts
-
-pub returns-in_default-clause-count : goal.returns-in_default-clause-count
-returns-in_default-clause-count g c =
-    (past_all _ _ _ _ _ _ _ _ (sym c.call_at.ensures ∙ c.in_default.is) c.loop-made.invariant.so_far.1).counted
-
-pub returns-in_default-clause-ending : goal.returns-in_default-clause-ending
-returns-in_default-clause-ending g c =
-    (past_all _ _ _ _ _ _ _ _ (sym c.call_at.ensures ∙ c.in_default.is) c.loop-made.invariant.so_far.1).ending
-
 pub returns-clause-entries : goal.returns-clause-entries
 returns-clause-entries g c =
     let past : length (g.C.CallList.calls c.args.calls.now) ≤ c.loop-made.made = omega (arith, c.requires.few) in
@@ -64,32 +64,3 @@ pub returns-clause-ending : goal.returns-clause-ending
 returns-clause-ending g c =
     let past : length (g.C.CallList.calls c.args.calls.now) ≤ c.loop-made.made = omega (arith, c.requires.few) in
     (past_last _ (g.C.CallList.calls c.args.calls.now) c.loop-made.made _ _ _ _ _ past c.loop-made.invariant.so_far.1).ending
-
--- ---- an answer after which it doesn't go on
-pub returns-then-not-goes_on_after-clause-entries : goal.returns-then-not-goes_on_after-clause-entries
-returns-then-not-goes_on_after-clause-entries g c =
-    let goes = g.C.CallList.goes_on c.args.calls.now in
-    let r = c.make-receipt.result in
-    let off : goes r.answer ≡ false = let e = c.if-not-goes_on_after.ensures in let f = c.goes_on_after.ensures in cc in
-    (ends goes _ _ _ _ _ c.loop-made.entries _ _ c.loop-made.receipts _ _ r (sym c.call_at.ensures ∙ c.in-Some.is) c.make-receipt.ensures.receipt c.make-receipt.ensures.entries c.make-receipt.ensures.receipts off c.loop-made.invariant.so_far.1).entries
-
-pub returns-then-not-goes_on_after-clause-receipts : goal.returns-then-not-goes_on_after-clause-receipts
-returns-then-not-goes_on_after-clause-receipts g c =
-    let goes = g.C.CallList.goes_on c.args.calls.now in
-    let r = c.make-receipt.result in
-    let off : goes r.answer ≡ false = let e = c.if-not-goes_on_after.ensures in let f = c.goes_on_after.ensures in cc in
-    (ends goes _ _ _ _ _ c.loop-made.entries _ _ c.loop-made.receipts _ _ r (sym c.call_at.ensures ∙ c.in-Some.is) c.make-receipt.ensures.receipt c.make-receipt.ensures.entries c.make-receipt.ensures.receipts off c.loop-made.invariant.so_far.1).receipts
-
-pub returns-then-not-goes_on_after-clause-count : goal.returns-then-not-goes_on_after-clause-count
-returns-then-not-goes_on_after-clause-count g c =
-    let goes = g.C.CallList.goes_on c.args.calls.now in
-    let r = c.make-receipt.result in
-    let off : goes r.answer ≡ false = let e = c.if-not-goes_on_after.ensures in let f = c.goes_on_after.ensures in cc in
-    (ends goes _ _ _ _ _ c.loop-made.entries _ _ c.loop-made.receipts _ _ r (sym c.call_at.ensures ∙ c.in-Some.is) c.make-receipt.ensures.receipt c.make-receipt.ensures.entries c.make-receipt.ensures.receipts off c.loop-made.invariant.so_far.1).counted
-
-pub returns-then-not-goes_on_after-clause-ending : goal.returns-then-not-goes_on_after-clause-ending
-returns-then-not-goes_on_after-clause-ending g c =
-    let goes = g.C.CallList.goes_on c.args.calls.now in
-    let r = c.make-receipt.result in
-    let off : goes r.answer ≡ false = let e = c.if-not-goes_on_after.ensures in let f = c.goes_on_after.ensures in cc in
-    (ends goes _ _ _ _ _ c.loop-made.entries _ _ c.loop-made.receipts _ _ r (sym c.call_at.ensures ∙ c.in-Some.is) c.make-receipt.ensures.receipt c.make-receipt.ensures.entries c.make-receipt.ensures.receipts off c.loop-made.invariant.so_far.1).ending

@@ -1,0 +1,44 @@
+ghost use Rattle.std.specs.Prelude.{◌≡◌, ◌≤◌, length};
+
+use crate::bulk::{Asked, asked_by};
+use call_trials::CallList;
+use entry_model::{Answer, Op};
+
+/// The removals of H_BULK_REMOVE: what four pairs of words ask of a table of `2^order` bytes, up to
+/// the first pair that asks for none.
+#[derive(Clone, Copy)]
+pub struct Removals<'a> {
+    /// The binary logarithm of the table's size in bytes.
+    pub order: u8,
+    /// The pairs.
+    pub pairs: &'a [u64; 8],
+    pub ghost low: { 18 ≤ order },
+    pub ghost high: { order ≤ 22 },
+    pub ghost whole: { length pairs.now ≡ 8 },
+}
+
+impl<'a> CallList for Removals<'a> {
+    ghost use Rattle.h_update.specs.Bulk.{h_bulk_remove_plan};
+
+    ghost calls = { λ r. (h_bulk_remove_plan r.order r.pairs.now).calls };
+
+    ghost goes_on = { λ r. (h_bulk_remove_plan r.order r.pairs.now).goes_on };
+
+    fn call_at(&self, made: u32) -> Option<(u32, Op)> {
+        if made >= 4 {
+            return None;
+        }
+        let i = made as usize;
+        match asked_by(self.order, self.pairs[2 * i], self.pairs[2 * i + 1]) {
+            Asked::Remove { entry, test } => Some((entry, Op::Remove { test })),
+            Asked::End => None,
+            Asked::Refused => None,
+        }
+    }
+
+    #[inline]
+    #[tactic(auto, unfolding(crate::specs::Bulk::h_bulk_remove_plan))]
+    fn goes_on_after(&self, answer: Answer) -> bool {
+        !matches!(answer, Answer::Worn)
+    }
+}

@@ -1,0 +1,14 @@
+//! Hypervisor calls on a table that several threads share, by a pass and with no waiting. Where another
+//! pass has the next entry, a call is held up: its caller keeps the plan and the receipts so far, and
+//! makes the rest later.
+#![tactic(auto)]
+
+mod passing;
+mod plans;
+mod tried;
+mod trying;
+
+pub use passing::Passing;
+pub use plans::try_plan;
+pub use tried::TriedStore;
+pub use trying::try_calls;

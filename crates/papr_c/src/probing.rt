@@ -27,7 +27,7 @@ fn find(entries: &[EntryState], calls: &PageCalls) -> Option<Receipt>
             return None;
         };
         let before = entries[entry as usize];
-        let (receipt, _after) = asked(entry, &before, &op);
+        let (receipt, _after) = asked(entry, before, &op);
         if !calls.goes_on_after(receipt.answer) {
             return Some(receipt);
         }

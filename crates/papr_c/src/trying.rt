@@ -38,14 +38,14 @@ fn store(entries: &mut [EntryState], receipt: &Receipt, after: &EntryState)
 
 /// The receipt of an operation on an entry in this state, and the entry's state after it.
 #[inline(always)]
-pub fn asked(entry: u32, before: &EntryState, op: &Op) -> (Receipt, EntryState)
-    ensures receipt { result.0 ≡ receipt_of entry before.now op.now }
+pub fn asked(entry: u32, before: EntryState, op: &Op) -> (Receipt, EntryState)
+    ensures receipt { result.0 ≡ receipt_of entry before op.now }
     ensures after { result.1 ≡ after_of result.0 }
 {
-    let (answer, after) = reply(before, op);
+    let (answer, after) = reply(&before, op);
     let receipt = Receipt {
         entry,
-        before: *before,
+        before,
         op: *op,
         answer,
     };
@@ -68,7 +68,7 @@ pub fn make(
     ensures receipts { receipts.new ≡ set receipts.old place (shown_receipt result) }
 {
     let before = entries[entry as usize];
-    let (receipt, after) = asked(entry, &before, op);
+    let (receipt, after) = asked(entry, before, op);
     store(entries, &receipt, &after);
     put_receipt(&receipt, receipts, place);
     receipt

@@ -17,8 +17,9 @@ use Rattle.papr_c.specs.declared.decoding.NoPage.TheVariants.{Empty, NoSize, NoS
 abbrev pub is_index : ℕ → ℕ → Bool
 is_index order ptex = nat_le 18 order && nat_le order 22 && nat_lt ptex (entry_count order)
 
--- A page of this base size lies where the tag says: B is the code of a segment's size, such a segment
--- has pages of that size, and the address bits of the tag that lie inside the page are clear.
+-- A page of this base size lies where the tag says: B is the code of a segment's size, such a
+-- segment has pages of that size, and the address bits of the tag that lie inside the page are
+-- clear.
 abbrev pub has_place : ℕ → ℕ → Bool
 has_place dword0 base =
     nat_le (segment_code dword0) 1

@@ -13,8 +13,8 @@ use Rattle.h_update.specs.Bulk.{h_bulk_remove_plan}
 use Rattle.papr_c.specs.declared.reply.PaprReply.{PaprReply}
 use Rattle.papr_c.specs.Calls.{LentMemory, outcome_of_call}
 
--- The plan of a call on entries of a table of 2 ^ order bytes, under these grants, with its words; of
--- another call there is none.
+-- The plan of a call on entries of a table of 2 ^ order bytes, under these grants, with its words;
+-- of another call there is none.
 abbrev pub plan_of_hcall : ℕ → List Grant → List ℕ → Hcall → Option Plan
 plan_of_hcall order grants ws Enter =
     Some (h_enter_plan order grants (slice_index ws 0) (slice_index ws 1) (slice_index ws 2) (slice_index ws 3))

@@ -17,13 +17,13 @@ use Rattle.hpt_walk.specs.Walk.{access_op, h_bit}
 abbrev pub is_recorded : State → Want → Bool
 is_recorded s want = s.referenced && (s.changed || not (is_store want))
 
--- The entry allows the access, and has nothing to record of it. So a store to a page whose C is clear
--- has no right: it has to walk, which sets C.
+-- The entry allows the access, and has nothing to record of it. So a store to a page whose C is
+-- clear has no right: it has to walk, which sets C.
 abbrev pub has_right : State → AccessMode → Bool
 has_right s mode = is_allowed s mode && not (masks_refuse s mode) && is_recorded s mode.want
 
--- The rights of the accesses that want each of the three, and ask else the same: read counts 4, write 2
--- and execute 1.
+-- The rights of the accesses that want each of the three, and ask else the same: read counts 4,
+-- write 2 and execute 1.
 abbrev pub rights_of : State → (Want → AccessMode) → ℕ
 rights_of s mode =
     (if has_right s (mode Load) then 4 else 0)

@@ -19,8 +19,8 @@ is_stale other = false
 unfoldable pub any_stale : List Receipt → Bool
 any_stale rs = list_any (λ (r : Receipt). is_stale r.answer) rs
 
--- Where no receipt of a call says so, each entry that was valid has what it had, and R and C were at most
--- set.
+-- Where no receipt of a call says so, each entry that was valid has what it had, and R and C were
+-- at most set.
 abbrev pub UnstaleKeepsTranslations : Type 0
 UnstaleKeepsTranslations =
     (plan : Plan) (entries : List State) (entry : ℕ)

@@ -59,8 +59,8 @@ abbrev pub actual_shift_of : State → ℕ
 actual_shift_of s = option_map_or (λ (size : PageSize). size.actual) (size_of s.dword0 s.dword1) 0
 
 -- By the receipt of the entry that was found, which now is in this state: the access is allowed, at
--- this logical address, or the entry or a mask refuses it, for these causes. In each case the words,
--- the sizes and the rights are those of the entry as it is now.
+-- this logical address, or the entry or a mask refuses it, for these causes. In each case the
+-- words, the sizes and the rights are those of the entry as it is now.
 abbrev pub end_at : PaprAccess → Want → Receipt → State → ℕ → PaprWalk
 end_at a want r now receipts = record {
   logical = if is_at r.answer then logical_of a.ea r.before else 0;

@@ -46,8 +46,8 @@ abbrev pub walk_run :
 walk_run order a page want entries =
     trial_run is_no_match entries (walk_calls order page (mode_of a want))
 
--- By the receipts, and the entries after them: the words and the rights are those of the entry as the
--- walk left it.
+-- By the receipts, and the entries after them: the words and the rights are those of the entry as
+-- the walk left it.
 abbrev pub walked_by :
     PaprAccess → Want → WalkMemory → List Receipt × List State → PaprWalk × WalkMemory
 walked_by a want m run = (

@@ -52,7 +52,8 @@ pub struct PaprPage {
     pub referenced: bool,
     /// C: the page was changed.
     pub changed: bool,
-    /// 0 where the entry translates a page at this index, else the number of the reason why it doesn't.
+    /// 0 where the entry translates a page at this index, else the number of the reason why it
+    /// doesn't.
     pub why: u32,
 }
 
@@ -120,7 +121,8 @@ fn has_place(dword0: u64, base: u8) -> bool
     number % (1 << base.saturating_sub(LOWEST_BIT)) == 0
 }
 
-/// The page that the doublewords translate at this index, or the first reason why they translate none.
+/// The page that the doublewords translate at this index, or the first reason why they translate
+/// none.
 fn found_here(order: u8, ptex: u64, dword0: u64, dword1: u64) -> Result<Page, NoPage>
     ensures page { IfOk
         result

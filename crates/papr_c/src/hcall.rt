@@ -13,9 +13,9 @@ use crate::single::{papr_h_clear_mod, papr_h_clear_ref, papr_h_protect, papr_h_r
 use entry_model::EntryState;
 use papr_codes::{Hcall, Rc};
 
-/// A hypervisor call by its number, register 3, with its words in `args` as in registers 4 to 11. The
-/// words that it gives take their place, from register 4 on. H_FUNCTION for a number that isn't one of a
-/// call on entries; then nothing changes.
+/// A hypervisor call by its number, register 3, with its words in `args` as in registers 4 to 11.
+/// The words that it gives take their place, from register 4 on. H_FUNCTION for a number that isn't
+/// one of a call on entries; then nothing changes.
 #[unsafe(no_mangle)]
 pub extern "C" fn papr_hcall(
     entries: &mut [EntryState],

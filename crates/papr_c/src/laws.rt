@@ -20,8 +20,8 @@ pub fn probes_agree_with_walks()
     ensures { ProbesAgreeWithWalks }
 {}
 
-/// Where a reply isn't stale, each entry that was valid has the words that it had, and R and C were at
-/// most set.
+/// Where a reply isn't stale, each entry that was valid has the words that it had, and R and C were
+/// at most set.
 pub fn unstale_keeps_translations()
     ensures { UnstaleKeepsTranslations }
 {}

@@ -7,7 +7,8 @@ use entry_model::Registers;
 use papr_codes::Rc;
 
 /// What a hypervisor call answers: its return code, as register 3 has it, how many of the caller's
-/// places for words and for receipts were filled, and whether cached translations have to be dropped.
+/// places for words and for receipts were filled, and whether cached translations have to be
+/// dropped.
 #[repr(C)]
 #[derive(Clone, Copy)]
 pub struct PaprReply {
@@ -35,8 +36,8 @@ impl PaprReply {
         }
     }
 
-    /// A code, how many of the caller's places are filled, and whether a cached translation may be one
-    /// no more.
+    /// A code, how many of the caller's places are filled, and whether a cached translation may be
+    /// one no more.
     #[inline]
     pub fn told(rc: Rc, words: u32, receipts: u32, stale: bool) -> PaprReply
         ensures { result

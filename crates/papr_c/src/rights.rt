@@ -26,8 +26,9 @@ const AMR: u8 = 4;
 
 const IAMR: u8 = 8;
 
-/// What the protection bits of a page (PP0 counts 4) allow an access whose segment has this key: read
-/// counts 4, and write 2. Bits that the architecture reserves, and numbers above 7, allow nothing.
+/// What the protection bits of a page (PP0 counts 4) allow an access whose segment has this key:
+/// read counts 4, and write 2. Bits that the architecture reserves, and numbers above 7, allow
+/// nothing.
 #[tactic(auto, using(crate::proofs::ReservedBits::nothing_past))]
 #[unsafe(no_mangle)]
 pub extern "C" fn papr_rights(protection: u8, key: bool) -> u8
@@ -91,8 +92,8 @@ pub fn rights(state: &EntryState, access: &PaprAccess) -> u8
     read + write + execute
 }
 
-/// All causes for which an entry of the page refuses an access: protection counts 1, no-execute 2, AMR
-/// 4 and IAMR 8.
+/// All causes for which an entry of the page refuses an access: protection counts 1, no-execute 2,
+/// AMR 4 and IAMR 8.
 pub fn causes(state: &EntryState, access: &PaprAccess, want: Want) -> u8
     ensures { result ≡ spec.causes_of state.now (mode_of access.now want) }
 {

@@ -74,8 +74,9 @@ pub fn make(
     receipt
 }
 
-/// Makes the call behind the first `made` on its entry, and puts its receipt into the caller's place,
-/// where there is one. Gives back how the trial ended, or `None` where the next call follows.
+/// Makes the call behind the first `made` on its entry, and puts its receipt into the caller's
+/// place, where there is one. Gives back how the trial ended, or `None` where the next call
+/// follows.
 #[inline(always)]
 fn try_next<C: CallList>(
     entries: &mut [EntryState],

@@ -151,8 +151,6 @@ impl PaprWalk {
     }
 
     /// The end by the receipt of an entry that translates the page, and is in this state now.
-    // In line, so that the loop of a walk keeps each entry's fields in registers.
-    #[inline(always)]
     pub fn end(
         access: &PaprAccess,
         want: Want,

@@ -152,7 +152,14 @@ static uint64_t sum;
         sum += side##_walk(side, COUNT, ORDER, &a, r, 16).logical;                                                     \
     }                                                                                                                  \
     static void side##_hit(long i) { side##_walks(0x5000 | (i & 0xfff)); }                                             \
-    static void side##_miss(long i) { side##_walks(0x7000 | (i & 0xfff)); }
+    static void side##_miss(long i) { side##_walks(0x7000 | (i & 0xfff)); }                                            \
+    static void side##_probes(uint64_t ea)                                                                             \
+    {                                                                                                                  \
+        struct papr_access a = {.ea = ea, .vsid = 1, .shift = 12};                                                     \
+        sum += side##_probe(side, COUNT, ORDER, &a).logical;                                                           \
+    }                                                                                                                  \
+    static void side##_probe_hit(long i) { side##_probes(0x5000 | (i & 0xfff)); }                                      \
+    static void side##_probe_miss(long i) { side##_probes(0x7000 | (i & 0xfff)); }
 
 RUNS(papr)
 RUNS(plain)
@@ -239,15 +246,15 @@ static bool same(void)
     size_t words = draw(3) ? 8 : draw(9), room = draw(3) ? 16 : draw(17);
     uint8_t order = draw(50) ? ORDER : (uint8_t)draw(64);
     struct papr_receipt r[2][16];
-    struct papr_reply replies[2] = {{0, 0, 0}, {0, 0, 0}};
-    struct papr_walk walks[2] = {{0, 0, 0, 0}, {0, 0, 0, 0}};
+    struct papr_reply replies[2];
+    struct papr_walk walks[2];
     uint64_t pteh = draw(4) << 12 | draw(8) | (draw(20) ? 0 : draw(4) << 62);
     uint64_t ptel = lows[draw(7)] | draw(16) << 28 | (draw(4) ? 0x10 : draw(0x1000)) | draw(2) << 63 | draw(4);
     struct papr_access a = {draw(0x40000), draw(3), draw(3) ? 0 : draw(4) << 62, draw(3) ? 0 : draw(4) << 62,
                             (uint8_t)(draw(4) ? 12 : draw(40)), (uint8_t)draw(4), !draw(6), draw(2), !draw(4)};
     for (int i = 0; i < 8; i++)
         pairs[i] = i & 1 ? draw(3) << 12 : (draw(9) ? UINT64_C(1) : draw(4)) << 62 | draw(4) << 56 | draw(60);
-    memset(r, 0, sizeof r);
+    memset(r, 0, sizeof r), memset(replies, 0, sizeof replies), memset(walks, 0, sizeof walks);
 #define BOTH(into, call, ...) into[0] = papr_##call(papr, COUNT, order, __VA_ARGS__ w[0], words, r[0], room), \
                               into[1] = plain_##call(plain, COUNT, order, __VA_ARGS__ w[1], words, r[1], room)
     switch (draw(8)) {
@@ -258,15 +265,18 @@ static bool same(void)
     case 4: BOTH(replies, h_clear_mod, flags, ptex, ); break;
     case 5: BOTH(replies, h_bulk_remove, pairs, 8, ); break;
     case 6:
+        walks[0] = papr_probe(papr, COUNT, order, &a);
+        walks[1] = plain_probe(plain, COUNT, order, &a);
+        if (memcmp(&walks[0], &walks[1], sizeof walks[0]))
+            return false;
         walks[0] = papr_walk(papr, COUNT, order, &a, r[0], room);
         walks[1] = plain_walk(plain, COUNT, order, &a, r[1], room);
         break;
     default: BOTH(replies, h_enter, &grants, flags, ptex, pteh, ptel, ); break;
     }
     return replies[0].rc == replies[1].rc && replies[0].words == replies[1].words &&
-           replies[0].receipts == replies[1].receipts && walks[0].logical == walks[1].logical &&
-           walks[0].entry == walks[1].entry && walks[0].outcome == walks[1].outcome &&
-           walks[0].receipts == walks[1].receipts && !memcmp(w[0], w[1], sizeof w[0]) &&
+           replies[0].receipts == replies[1].receipts && replies[0].stale == replies[1].stale &&
+           !memcmp(&walks[0], &walks[1], sizeof walks[0]) && !memcmp(w[0], w[1], sizeof w[0]) &&
            !memcmp(r[0], r[1], sizeof r[0]) && !memcmp(papr, plain, 96 * sizeof *papr);
 }
 
@@ -317,6 +327,8 @@ int main(void)
     MEASURE("H_READ", reads, 1);
     MEASURE("walk that hits at once", hit, 1);
     MEASURE("walk that finds nothing", miss, 1);
+    measure("probe that hits at once", (void (*const[3])(long)){papr_probe_hit, plain_probe_hit, NULL}, 1);
+    measure("probe that finds nothing", (void (*const[3])(long)){papr_probe_miss, plain_probe_miss, NULL}, 1);
     measure("H_BULK_REMOVE of four", (void (*const[3])(long)){papr_bulk, plain_bulk, NULL}, 1);
     free(papr), free(plain), free(bare);
     return 0;

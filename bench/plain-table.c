@@ -14,7 +14,13 @@ static bool is_table(size_t count, uint8_t order)
 
 static struct papr_reply answered(int64_t rc, uint32_t words, uint32_t receipts)
 {
-    return (struct papr_reply){rc, words, receipts};
+    return (struct papr_reply){rc, words, receipts, false};
+}
+
+/* The answer of a call that removed or protected an entry, or cleared its R or C. */
+static struct papr_reply stale(uint32_t words, uint32_t receipts)
+{
+    return (struct papr_reply){PAPR_H_SUCCESS, words, receipts, true};
 }
 
 static uint64_t second(const struct papr_entry *e)
@@ -143,7 +149,7 @@ struct papr_reply plain_h_remove(struct papr_entry *entries, size_t count, uint8
     uint32_t made = put(receipts, receipts_room, 0, e, (uint32_t)ptex, PAPR_REMOVED);
     uint32_t shown = put_words(words, words_room, 2, e->dword0, second(e));
     *e = (struct papr_entry){.stamp = e->stamp + 1};
-    return answered(PAPR_H_SUCCESS, shown, made);
+    return stale(shown, made);
 }
 
 struct papr_reply plain_h_protect(struct papr_entry *entries, size_t count, uint8_t order, uint64_t flags,
@@ -162,7 +168,7 @@ struct papr_reply plain_h_protect(struct papr_entry *entries, size_t count, uint
     e->dword1 = (e->dword1 & ~UINT64_C(0xb000000000000e07)) | (flags & 0xe07) | (flags & 0x100) << 55 |
                 (flags & 0x3000) << 48;
     e->stamp++;
-    return answered(PAPR_H_SUCCESS, 0, made);
+    return stale(0, made);
 }
 
 struct papr_reply plain_h_read(struct papr_entry *entries, size_t count, uint8_t order, uint64_t flags,
@@ -202,7 +208,7 @@ static struct papr_reply cleared(struct papr_entry *entries, size_t count, uint8
     else
         e->referenced = false;
     e->stamp++;
-    return answered(PAPR_H_SUCCESS, shown, made);
+    return stale(shown, made);
 }
 
 struct papr_reply plain_h_clear_ref(struct papr_entry *entries, size_t count, uint8_t order, uint64_t flags,
@@ -231,6 +237,7 @@ struct papr_reply plain_h_bulk_remove(struct papr_entry *entries, size_t count, 
         return answered(PAPR_H_PARAMETER, 0, 0);
     int64_t rc = PAPR_H_SUCCESS;
     uint32_t made = 0, i = 0;
+    bool removed = false;
     for (; i < 8 && rc == PAPR_H_SUCCESS && pairs[i] >> 62 != 3; i += 2) {
         uint64_t kept = pairs[i] & UINT64_C(0x03ffffffffffffff), index = pairs[i] << 8 >> 8, status = 0xa0;
         unsigned flags = pairs[i] >> 56 & 3;
@@ -247,8 +254,10 @@ struct papr_reply plain_h_bulk_remove(struct papr_entry *entries, size_t count, 
                 status = 0x80u | (unsigned)e->referenced << 3 | (unsigned)e->changed << 2;
             }
             made = put(receipts, receipts_room, made, e, (uint32_t)index, answer);
-            if (answer == PAPR_REMOVED)
+            if (answer == PAPR_REMOVED) {
                 *e = (struct papr_entry){.stamp = e->stamp + 1};
+                removed = true;
+            }
         }
         if (i < words_room)
             words[i] = status << 56 | kept;
@@ -257,34 +266,55 @@ struct papr_reply plain_h_bulk_remove(struct papr_entry *entries, size_t count, 
     }
     for (; i < 8 && i < words_room; i++)
         words[i] = pairs[i];
-    return answered(rc, words_room < 8 ? (uint32_t)words_room : 8, made);
+    return (struct papr_reply){rc, words_room < 8 ? (uint32_t)words_room : 8, made, removed};
 }
 
 /* ---- the walk */
 
-static bool is_allowed(const struct papr_entry *e, const struct papr_access *a)
+/* Whether the page's protection bits let this key in. */
+static bool lets_in(const struct papr_entry *e, bool key, unsigned want)
 {
     unsigned pp = (unsigned)(e->dword1 >> 63) << 2 | (unsigned)(e->dword1 & 3);
-    if (a->want == 2 && (a->no_execute || e->dword1 & 0xc))
-        return false;
-    if (!a->key)
-        return a->want == 1 ? pp < 3 : pp < 4 || pp == 6;
-    return a->want == 1 ? pp == 2 : pp == 1 || pp == 2 || pp == 3;
+    if (!key)
+        return want == 1 ? pp < 3 : pp < 4 || pp == 6;
+    return want == 1 ? pp == 2 : pp == 1 || pp == 2 || pp == 3;
 }
 
-/* The mask that refuses an access that protection allows, as an outcome; PAPR_WALK_AT where none does. */
-static uint32_t by_masks(const struct papr_entry *e, const struct papr_access *a)
+/* All that refuses an access: bits of enum papr_cause. */
+static unsigned causes(const struct papr_entry *e, const struct papr_access *a, unsigned want)
 {
     unsigned key = (unsigned)(e->dword1 >> 60 & 3) << 3 | (unsigned)(e->dword1 >> 9 & 7), shift = 62 - 2 * key;
-    if (a->want == 2)
-        return a->iamr >> shift & 1 ? PAPR_WALK_IAMR : PAPR_WALK_AT;
-    return a->amr >> shift & (a->want == 1 ? 2 : 1) ? PAPR_WALK_AMR : PAPR_WALK_AT;
+    unsigned found = lets_in(e, a->key, want) ? 0 : PAPR_CAUSE_PROTECTION;
+    if (want == 2)
+        return found | (a->no_execute || e->dword1 & 0xc ? PAPR_CAUSE_NO_EXECUTE : 0) |
+               (a->iamr >> shift & 1 ? PAPR_CAUSE_IAMR : 0);
+    return found | (a->amr >> shift & (want == 1 ? 2 : 1) ? PAPR_CAUSE_AMR : 0);
 }
 
-struct papr_walk plain_walk(struct papr_entry *entries, size_t count, uint8_t order,
-                            const struct papr_access *a, struct papr_receipt *receipts, size_t receipts_room)
+/* What the entry lets the processor do, and need not record. */
+static unsigned rights(const struct papr_entry *e, const struct papr_access *a)
 {
-    struct papr_walk walk = {0, 0, PAPR_WALK_PARAMETER, 0};
+    if (!e->referenced)
+        return 0;
+    return (causes(e, a, 0) ? 0 : PAPR_MAY_READ) | (!e->changed || causes(e, a, 1) ? 0 : PAPR_MAY_WRITE) |
+           (causes(e, a, 2) ? 0 : PAPR_MAY_EXECUTE);
+}
+
+static uint32_t outcome(unsigned found)
+{
+    if (!found)
+        return PAPR_WALK_AT;
+    if (found & (PAPR_CAUSE_PROTECTION | PAPR_CAUSE_NO_EXECUTE))
+        return PAPR_WALK_DENIED;
+    return found & PAPR_CAUSE_AMR ? PAPR_WALK_AMR : PAPR_WALK_IAMR;
+}
+
+/* A walk, or what one would find: then nothing is recorded. */
+static inline struct papr_walk walked(struct papr_entry *entries, size_t count, uint8_t order,
+                                      const struct papr_access *a, struct papr_receipt *receipts,
+                                      size_t receipts_room, bool records)
+{
+    struct papr_walk walk = {.outcome = PAPR_WALK_PARAMETER};
     bool fits = a->shift == 12 || a->shift == 16 || a->shift == 24 || (a->one_tb && a->shift == 34);
     if (!is_table(count, order) || !fits || a->want > 2 || a->vsid >> (a->one_tb ? 38 : 50))
         return walk;
@@ -303,18 +333,38 @@ struct papr_walk plain_walk(struct papr_entry *entries, size_t count, uint8_t or
                 continue;
             }
             walk.entry = (uint32_t)i;
-            walk.outcome = is_allowed(e, a) ? by_masks(e, a) : PAPR_WALK_DENIED;
+            walk.causes = (uint8_t)causes(e, a, a->want);
+            walk.outcome = outcome(walk.causes);
             walk.receipts = put(receipts, receipts_room, walk.receipts, e, (uint32_t)i,
                                 walk.outcome == PAPR_WALK_AT ? PAPR_AT
                                 : walk.outcome == PAPR_WALK_DENIED ? PAPR_DENIED : PAPR_MASKED);
-            if (walk.outcome != PAPR_WALK_AT)
-                return walk;
-            e->referenced = true;
-            e->changed = e->changed || a->want == 1;
-            walk.logical = frame(e->dword1, size.actual) | (a->ea & ((UINT64_C(1) << size.actual) - 1));
+            if (walk.outcome == PAPR_WALK_AT) {
+                if (records) {
+                    e->referenced = true;
+                    e->changed = e->changed || a->want == 1;
+                }
+                walk.logical = frame(e->dword1, size.actual) | (a->ea & ((UINT64_C(1) << size.actual) - 1));
+            }
+            walk.dword0 = e->dword0;
+            walk.dword1 = second(e);
+            walk.base_shift = size.base;
+            walk.actual_shift = size.actual;
+            walk.rights = (uint8_t)rights(e, a);
             return walk;
         }
     }
     walk.outcome = PAPR_WALK_NO_PAGE;
     return walk;
+}
+
+struct papr_walk plain_walk(struct papr_entry *entries, size_t count, uint8_t order,
+                            const struct papr_access *access, struct papr_receipt *receipts, size_t receipts_room)
+{
+    return walked(entries, count, order, access, receipts, receipts_room, true);
+}
+
+struct papr_walk plain_probe(const struct papr_entry *entries, size_t count, uint8_t order,
+                             const struct papr_access *access)
+{
+    return walked((struct papr_entry *)entries, count, order, access, NULL, 0, false);
 }

@@ -31,5 +31,7 @@ struct papr_reply plain_h_bulk_remove(struct papr_entry *entries, size_t count, 
                                       size_t words_room, struct papr_receipt *receipts, size_t receipts_room);
 struct papr_walk plain_walk(struct papr_entry *entries, size_t count, uint8_t order,
                             const struct papr_access *access, struct papr_receipt *receipts, size_t receipts_room);
+struct papr_walk plain_probe(const struct papr_entry *entries, size_t count, uint8_t order,
+                             const struct papr_access *access);
 
 #endif

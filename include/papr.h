@@ -46,7 +46,7 @@ extern "C" {
 /* One number, which rises with each version. */
 #define PAPR_VERSION ((PAPR_VERSION_MAJOR << 16) | (PAPR_VERSION_MINOR << 8) | PAPR_VERSION_PATCH)
 
-/* The version of the library, which is PAPR_VERSION where header and library belong together. */
+/* The version of the library, which is PAPR_VERSION if header and library belong together. */
 uint32_t papr_version(void);
 
 /* ---- the table */
@@ -72,6 +72,7 @@ enum papr_rc {
     PAPR_H_CLOSED = 2,          /* no table of the order is pending */
     PAPR_H_LONG_BUSY = 9900,    /* the next entries are ready: call again for the rest */
     PAPR_H_HARDWARE = -1,       /* the entry has changed 2^32 - 1 times, and can't change again */
+    PAPR_H_FUNCTION = -2,       /* the number isn't one of a call on entries (papr_hcall) */
     PAPR_H_PARAMETER = -4,
     PAPR_H_PTEG_FULL = -6,
     PAPR_H_NOT_FOUND = -7,
@@ -110,6 +111,9 @@ struct papr_reply {
     int64_t rc;                 /* an enum papr_rc */
     uint32_t words;             /* places filled */
     uint32_t receipts;          /* places filled */
+    bool stale;                 /* a cached translation may no longer be valid: an entry was removed or
+                                 * protected, or its R or C was cleared, whether or not its receipt was
+                                 * written. Flush before the guest goes on. */
 };
 
 /* ---- granted memory */
@@ -219,6 +223,13 @@ struct papr_reply papr_h_bulk_remove(struct papr_entry *entries, size_t count, u
                                      size_t words_room, struct papr_receipt *receipts,
                                      size_t receipts_room);
 
+/* A call by its number, as register 3 has it: one of the seven above. `args` are registers 4 to 11; the
+ * words that the call gives are written over them, from args[0] on, and the others are unchanged. For
+ * another number PAPR_H_FUNCTION, whatever the table is, and nothing changes. */
+struct papr_reply papr_hcall(struct papr_entry *entries, size_t count, uint8_t order,
+                             const struct papr_grants *grants, uint64_t number, uint64_t args[8],
+                             struct papr_receipt *receipts, size_t receipts_room);
+
 /* ---- the walk */
 
 /* An access, in a segment that the caller has looked up. */
@@ -243,11 +254,35 @@ enum papr_outcome {
     PAPR_WALK_IAMR = 5          /* IAMR refuses it, for the entry's key */
 };
 
+/* What the entry lets this processor do, and need not record: bits. A load or a fetch has to be
+ * recorded in R, and a store in C; so there is no right without R, and none to write without C. */
+enum papr_right {
+    PAPR_MAY_EXECUTE = 1,
+    PAPR_MAY_WRITE = 2,
+    PAPR_MAY_READ = 4
+};
+
+/* All that refuses an access: bits. */
+enum papr_cause {
+    PAPR_CAUSE_PROTECTION = 1,  /* the page's protection bits, for this key */
+    PAPR_CAUSE_NO_EXECUTE = 2,  /* a fetch, and the entry's N or G is set, or the segment's N */
+    PAPR_CAUSE_AMR = 4,
+    PAPR_CAUSE_IAMR = 8
+};
+
+/* What a walk found: all that a TLB keeps of the translation, also if it refuses the access. If no entry
+ * translates the page, all is 0 except `outcome` and `receipts`. */
 struct papr_walk {
     uint64_t logical;           /* the logical address at PAPR_WALK_AT, else 0 */
-    uint32_t entry;             /* the entry that translates the page, if there is one, else 0 */
+    uint64_t dword0;            /* of the entry that translates the page */
+    uint64_t dword1;            /* as it is after the walk, with R and C */
+    uint32_t entry;             /* the index of the entry */
     uint32_t outcome;           /* an enum papr_outcome */
     uint32_t receipts;          /* places filled */
+    uint8_t base_shift;         /* log2 of its base page size */
+    uint8_t actual_shift;       /* log2 of the size of the real page */
+    uint8_t rights;             /* bits of enum papr_right, after the walk */
+    uint8_t causes;             /* bits of enum papr_cause; 0 at PAPR_WALK_AT */
 };
 
 /* Walks the page's primary and then its secondary group, up to the first entry that translates the
@@ -256,6 +291,52 @@ struct papr_walk papr_walk(struct papr_entry *entries, size_t count, uint8_t ord
                            const struct papr_access *access, struct papr_receipt *receipts,
                            size_t receipts_room);
 
+/* What papr_walk would find, in the entries as they are: it changes none, for a debugger or a fast path.
+ * `dword1` and `rights` are those without the access, and there are no receipts. */
+struct papr_walk papr_probe(const struct papr_entry *entries, size_t count, uint8_t order,
+                            const struct papr_access *access);
+
+/* ---- an entry decoded */
+
+/* Whether two doublewords translate a page at an index, or why they don't: the first of these that
+ * holds, PAPR_NO_INDEX before the others. */
+enum papr_decoding {
+    PAPR_PAGE = 0,
+    PAPR_EMPTY = 1,             /* V is clear */
+    PAPR_NO_SIZE = 2,           /* the doublewords encode no page size */
+    PAPR_NO_SEGMENT = 3,        /* B is above 1, or no page of that base size lies where the tag says */
+    PAPR_OTHER_GROUP = 4,       /* the page's group isn't that of this index */
+    PAPR_NO_INDEX = 5           /* the order or the index is out of range */
+};
+
+/* What the doublewords say. The page's own fields are 0 except at PAPR_PAGE; `real` and the sizes are 0
+ * if no size is encoded; and with V clear all is 0 except `why`. */
+struct papr_page {
+    uint64_t vsid;              /* of the page: its segment's number */
+    uint64_t page;              /* .. and the index of the base page in its segment */
+    uint64_t real;              /* the logical address of the real page */
+    uint8_t base_shift;         /* log2 of the base page size */
+    uint8_t actual_shift;       /* log2 of the size of the real page */
+    uint8_t key;                /* 0 to 31 */
+    uint8_t protection;         /* PP0, which counts 4, and PP */
+    uint8_t wimg;               /* W 8, I 4, M 2, G 1 */
+    bool one_tb;                /* of the page: its segment is one of 1 TB */
+    bool no_execute;            /* N or G is set, so fetches are refused */
+    bool bolted;
+    bool secondary;             /* H: it is in its page's secondary group */
+    bool referenced;            /* R of dword1 */
+    bool changed;               /* C of dword1 */
+    uint32_t why;               /* an enum papr_decoding */
+};
+
+/* Decodes the two doublewords of an entry, as H_READ, a receipt and a walk have them, at the index ptex
+ * of a table of 2^order bytes. */
+struct papr_page papr_decode(uint8_t order, uint64_t ptex, uint64_t dword0, uint64_t dword1);
+
+/* What protection bits allow an access with this key: PAPR_MAY_READ and PAPR_MAY_WRITE. Reserved bits
+ * allow nothing. */
+uint8_t papr_rights(uint8_t protection, bool key);
+
 /* ---- the rehash */
 
 struct papr_rehash {
@@ -263,6 +344,7 @@ struct papr_rehash {
     uint32_t first;             /* at PAPR_H_PTEG_FULL the lower of the two old indices that collide */
     uint32_t second;            /* .. the higher one */
     uint32_t target;            /* .. and their index in the new table; else all three are 0 */
+    bool stale;                 /* at PAPR_H_SUCCESS: no cached translation is one of the new table */
 };
 
 /* Carries the bolted entries of one table to another, as H_RESIZE_HPT_COMMIT does: each that
@@ -274,38 +356,39 @@ struct papr_rehash papr_rehash(const struct papr_entry *entries, size_t count, u
 
 /* ---- the resize calls */
 
-/* What is pending between two resize calls. All zero is nothing; the calls write it, and read one that
- * no call left as nothing. */
+/* What is pending between two resize calls. All zero is nothing. The calls write it; they read a struct
+ * that no call left as nothing pending. */
 struct papr_resize {
     uint32_t ready;             /* entries of the pending table that are ready, from the first on */
     uint8_t order;              /* it has 2^order bytes */
     bool pending;
 };
 
-/* H_RESIZE_HPT_PREPARE with these flags and this shift, of which `limit` is the highest: makes a table
- * of 2^shift bytes ready in `into`, 16,384 entries at each call, which are empty then. PAPR_H_SUCCESS
- * where all are ready, else PAPR_H_LONG_BUSY. PAPR_H_PARAMETER for a flag, or for a shift that is not
- * 0 nor from 18 to 46, and PAPR_H_RESOURCE for one above the limit or above 22: nothing changes then.
- * Shift 0 drops what is pending; so does another shift than that of the pending table, and a new one
- * is begun. PAPR_H_NO_MEM where `into_count` isn't 2^(shift - 4): nothing is pending then. The memory
- * is lent for the call alone: lend the same at each call up to the commit. */
+/* H_RESIZE_HPT_PREPARE with these flags and this shift; `limit` is the highest shift that is allowed.
+ * Makes a table of 2^shift bytes ready in `into`, 16,384 entries at each call, which are empty then.
+ * PAPR_H_SUCCESS if all are ready, else PAPR_H_LONG_BUSY. PAPR_H_PARAMETER: there is a flag, or the
+ * shift isn't 0 nor from 18 to 46; PAPR_H_RESOURCE: it is above the limit or above 22; nothing changes
+ * then. Shift 0 drops what is pending; a shift other than that of the pending table drops it and begins
+ * a new one. PAPR_H_NO_MEM: `into_count` isn't 2^(shift - 4); nothing is pending then. The memory is
+ * lent for this call only: lend the same at each call up to the commit. */
 int64_t papr_resize_prepare(struct papr_resize *resize, uint8_t limit, uint64_t flags, uint64_t shift,
                             struct papr_entry *into, size_t into_count);
 
 /* H_RESIZE_HPT_COMMIT with these flags and this shift: carries the bolted entries of the current table
- * over into the pending one, as papr_rehash does. At PAPR_H_SUCCESS `into` is the current table from
- * then on, and no cached translation is one any more. At PAPR_H_PTEG_FULL the current table stays. At
- * both nothing is pending. PAPR_H_PARAMETER for a flag, a shift that is not from 18 to 46, another
- * order or count of the current table, or an `into_count` that isn't 2^(shift - 4); PAPR_H_CLOSED where
- * no table of that shift is pending; PAPR_H_BUSY where it isn't ready: nothing changes then. */
+ * to the pending one, as papr_rehash does. At PAPR_H_SUCCESS `into` is the current table from then on,
+ * and no cached translation is valid any more. At PAPR_H_PTEG_FULL the current table stays. After both
+ * nothing is pending. PAPR_H_PARAMETER: there is a flag, the shift isn't from 18 to 46, the current
+ * table's order isn't from 18 to 22, its count isn't 2^(order - 4), or `into_count` isn't
+ * 2^(shift - 4); PAPR_H_CLOSED: no table of that shift is pending; PAPR_H_BUSY: it isn't ready. At
+ * these three nothing changes. */
 struct papr_rehash papr_resize_commit(struct papr_resize *resize, const struct papr_entry *entries,
                                       size_t count, uint8_t order, struct papr_entry *into,
                                       size_t into_count, uint64_t flags, uint64_t shift);
 
 /* ---- segments */
 
-/* One slot of a segment lookaside buffer. All zero is an invalid one. The other fields of a valid one
- * are as papr_access has them. */
+/* One slot of a segment lookaside buffer. All zero is an invalid slot. The other fields of a valid slot
+ * are as in papr_access. */
 struct papr_slot {
     uint64_t esid;              /* upper 36 bits of its addresses; of a segment of 1 TB 24 of them count */
     uint64_t vsid;
@@ -330,33 +413,33 @@ enum papr_slb_refusal {
     PAPR_SLB_PAGE_SIZE = 3      /* L and LP are no base page size of such a segment */
 };
 
-/* slbmte: writes the slot that rb names, with the segment that both words describe, or without V in rb
- * with none. An enum papr_slb_refusal; what is refused changes nothing. */
+/* slbmte: writes the slot that rb names, with the segment that both words describe, or with no segment
+ * if V in rb is clear. Gives an enum papr_slb_refusal; if it refuses, nothing changes. */
 uint32_t papr_slb_mte(struct papr_slb *slb, uint64_t rb, uint64_t rs);
 
 /* Makes all 32 slots invalid. */
 void papr_slb_clear(struct papr_slb *slb);
 
-/* The slot of the segment in which an effective address lies: the lowest valid one that has it. Its
- * `valid` is false where none has. */
+/* The slot of the segment in which an effective address lies: the lowest valid slot that has it. If none
+ * has it, `valid` is false. */
 struct papr_slot papr_slb_find(const struct papr_slb *slb, uint64_t ea);
 
 /* ---- DMA windows */
 
-/* In these calls `entries` are those of a window: one for each of its `pages` pages of 4,096 bytes, of
- * which the first has the bus address `base`. All zero is a window in which nothing is set. There is such
- * a window where `base` is a multiple of 4,096, `pages` from 1 to 16,384, and the end not above 2^60. */
+/* In these calls `entries` are those of a window: one for each of its `pages` pages of 4,096 bytes, the
+ * first of which has the bus address `base`. All zero is a window in which nothing is set. There is such
+ * a window if `base` is a multiple of 4,096, `pages` is from 1 to 16,384, and the end isn't above 2^60. */
 
 /* H_PUT_TCE: sets the translation control entry of the page that has the bus address `ioba`, over any
- * that is there. One that permits neither a read (1) nor a write (2) empties it. No word. Up to two
- * receipts. PAPR_H_PARAMETER where there is no such window or page, or for an entry whose page no single
- * grant of main storage holds; PAPR_H_HARDWARE. */
+ * that is there. A `tce` that permits neither a read (1) nor a write (2) empties the entry. No word. Up to
+ * two receipts. PAPR_H_PARAMETER: there is no such window or page, or no single grant of main storage
+ * holds the page of the `tce`; PAPR_H_HARDWARE. */
 struct papr_reply papr_put_tce(struct papr_entry *entries, size_t pages, uint64_t base,
                                const struct papr_grants *grants, uint64_t ioba, uint64_t tce,
                                struct papr_receipt *receipts, size_t receipts_room);
 
-/* H_GET_TCE: the word is the page's translation control entry, or 0 where none is set.
- * PAPR_H_PARAMETER where there is no such window or page. */
+/* H_GET_TCE: the word is the page's translation control entry, or 0 if none is set.
+ * PAPR_H_PARAMETER: there is no such window or page. */
 struct papr_reply papr_get_tce(struct papr_entry *entries, size_t pages, uint64_t base, uint64_t ioba,
                                uint64_t *words, size_t words_room, struct papr_receipt *receipts,
                                size_t receipts_room);
@@ -370,26 +453,26 @@ enum papr_device_outcome {
 };
 
 struct papr_device {
-    uint64_t address;           /* the machine address, at PAPR_DEVICE_UNGRANTED the logical one, else 0 */
+    uint64_t address;           /* the machine address; at PAPR_DEVICE_UNGRANTED the logical one, else 0 */
     uint32_t outcome;           /* an enum papr_device_outcome */
     uint32_t receipts;          /* places filled: never more than 1 */
 };
 
-/* A device's read or write at a bus address, by the page's entry, which stays as it is. */
+/* A device's read or write at a bus address, by the page's entry, which is unchanged. */
 struct papr_device papr_device(struct papr_entry *entries, size_t pages, uint64_t base,
                                const struct papr_grants *grants, uint64_t ioba, bool write,
                                struct papr_receipt *receipts, size_t receipts_room);
 
 /* ---- entries as bytes */
 
-/* Entries as bytes are 16 each: doubleword 0 and then doubleword 1 with R and C, each with its most
- * significant byte first. An empty entry is 16 zeros. The layout is that of the Power ISA. */
+/* An entry is 16 bytes: doubleword 0 and then doubleword 1 with R and C, each with its most significant
+ * byte first. An empty entry is 16 zeros. The layouts are those of two versions of the Power ISA. */
 enum papr_layout {
-    PAPR_LAYOUT_OLD = 0,        /* version 2.07: B stands in doubleword 0 */
-    PAPR_LAYOUT_NEW = 1         /* version 3.0: B stands in doubleword 1 */
+    PAPR_LAYOUT_OLD = 0,        /* version 2.07: B is in doubleword 0 */
+    PAPR_LAYOUT_NEW = 1         /* version 3.0: B is in doubleword 1 */
 };
 
-/* Why entries aren't transferred. */
+/* Why no entries are transferred. */
 enum papr_transfer_refusal {
     PAPR_TRANSFERRED = 0,
     PAPR_TRANSFER_ARGUMENTS = 1, /* order, count, layout, range, or too few bytes */
@@ -402,16 +485,15 @@ struct papr_transfer {
     uint32_t refusal;           /* an enum papr_transfer_refusal */
 };
 
-/* Writes `number` entries of a table from `first` on into the first 16 * number bytes of `out`. Stamps
- * are left out. Where one is refused nothing is written. */
+/* Writes `number` entries of a table, from `first` on, into the first 16 * number bytes of `out`, without
+ * their stamps. If one is refused, nothing is written. */
 struct papr_transfer papr_export(const struct papr_entry *entries, size_t count, uint8_t order,
                                  uint8_t layout, size_t first, size_t number, uint8_t *out,
                                  size_t out_size);
 
-/* Reads `number` entries from bytes into a table from `first` on. Each is what H_ENTER stores of its two
- * doublewords, at stamp 0, or empty where V is clear; what stood there is dropped, and no cached
- * translation of it is one any more. Where one is refused nothing at all changes: all are tried before
- * the first is put. */
+/* Reads `number` entries from bytes into a table, from `first` on. Each is what H_ENTER stores of its two
+ * doublewords, at stamp 0, or empty if V is clear. The old entries are lost, and no cached translation of
+ * them is valid any more. If one is refused, nothing changes: all are tried before the first is put. */
 struct papr_transfer papr_import(struct papr_entry *entries, size_t count, uint8_t order,
                                  const struct papr_grants *grants, uint8_t layout, size_t first,
                                  size_t number, const uint8_t *bytes, size_t bytes_size);
@@ -444,10 +526,11 @@ PAPR_AT(papr_receipt, entry, 16);
 PAPR_AT(papr_receipt, stamp, 20);
 PAPR_AT(papr_receipt, bits, 24);
 PAPR_AT(papr_receipt, answer, 25);
-PAPR_SIZE(papr_reply, 16);
+PAPR_SIZE(papr_reply, 24);
 PAPR_AT(papr_reply, rc, 0);
 PAPR_AT(papr_reply, words, 8);
 PAPR_AT(papr_reply, receipts, 12);
+PAPR_AT(papr_reply, stale, 16);
 PAPR_SIZE(papr_grant, 32);
 PAPR_AT(papr_grant, logical, 0);
 PAPR_AT(papr_grant, machine, 8);
@@ -473,16 +556,39 @@ PAPR_AT(papr_access, want, 33);
 PAPR_AT(papr_access, one_tb, 34);
 PAPR_AT(papr_access, key, 35);
 PAPR_AT(papr_access, no_execute, 36);
-PAPR_SIZE(papr_walk, 24);
+PAPR_SIZE(papr_walk, 40);
 PAPR_AT(papr_walk, logical, 0);
-PAPR_AT(papr_walk, entry, 8);
-PAPR_AT(papr_walk, outcome, 12);
-PAPR_AT(papr_walk, receipts, 16);
+PAPR_AT(papr_walk, dword0, 8);
+PAPR_AT(papr_walk, dword1, 16);
+PAPR_AT(papr_walk, entry, 24);
+PAPR_AT(papr_walk, outcome, 28);
+PAPR_AT(papr_walk, receipts, 32);
+PAPR_AT(papr_walk, base_shift, 36);
+PAPR_AT(papr_walk, actual_shift, 37);
+PAPR_AT(papr_walk, rights, 38);
+PAPR_AT(papr_walk, causes, 39);
+PAPR_SIZE(papr_page, 40);
+PAPR_AT(papr_page, vsid, 0);
+PAPR_AT(papr_page, page, 8);
+PAPR_AT(papr_page, real, 16);
+PAPR_AT(papr_page, base_shift, 24);
+PAPR_AT(papr_page, actual_shift, 25);
+PAPR_AT(papr_page, key, 26);
+PAPR_AT(papr_page, protection, 27);
+PAPR_AT(papr_page, wimg, 28);
+PAPR_AT(papr_page, one_tb, 29);
+PAPR_AT(papr_page, no_execute, 30);
+PAPR_AT(papr_page, bolted, 31);
+PAPR_AT(papr_page, secondary, 32);
+PAPR_AT(papr_page, referenced, 33);
+PAPR_AT(papr_page, changed, 34);
+PAPR_AT(papr_page, why, 36);
 PAPR_SIZE(papr_rehash, 24);
 PAPR_AT(papr_rehash, rc, 0);
 PAPR_AT(papr_rehash, first, 8);
 PAPR_AT(papr_rehash, second, 12);
 PAPR_AT(papr_rehash, target, 16);
+PAPR_AT(papr_rehash, stale, 20);
 PAPR_SIZE(papr_resize, 8);
 PAPR_AT(papr_resize, ready, 0);
 PAPR_AT(papr_resize, order, 4);

@@ -13,7 +13,7 @@ struct Making { index: usize, refusal: u32 }
 #[repr(C)] #[derive(Clone, Copy, Default, Debug)]
 struct Receipt { dword0: u64, dword1: u64, entry: u32, stamp: u32, bits: u8, answer: u8 }
 #[repr(C)]
-struct Reply { rc: i64, words: u32, receipts: u32 }
+struct Reply { rc: i64, words: u32, receipts: u32, stale: bool }
 
 #[link(name = "papr", kind = "static")]
 extern "C" {

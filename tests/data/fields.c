@@ -20,11 +20,13 @@ static void is(int line, const char *what, uint64_t got, uint64_t wanted)
         IS((at).dword0, d0); IS((at).dword1, d1); IS((at).entry, e); \
         IS((at).stamp, s); IS((at).bits, b); IS((at).answer, a); \
     } while (0)
-#define REPLY(call, code, w, r) \
+#define ANSWER(call, code, w, r, old) \
     do { \
         struct papr_reply reply = call; \
-        IS(reply.rc, code); IS(reply.words, w); IS(reply.receipts, r); \
+        IS(reply.rc, code); IS(reply.words, w); IS(reply.receipts, r); IS(reply.stale, old); \
     } while (0)
+#define REPLY(call, code, w, r) ANSWER(call, code, w, r, false)
+#define STALE(call, code, w, r) ANSWER(call, code, w, r, true)
 #define ENTRY(at, d0, d1, s, v, r, c) \
     do { \
         IS((at).dword0, d0); IS((at).dword1, d1); IS((at).stamp, s); \
@@ -34,6 +36,12 @@ static void is(int line, const char *what, uint64_t got, uint64_t wanted)
     do { \
         struct papr_walk walked = call; \
         IS(walked.logical, l); IS(walked.entry, e); IS(walked.outcome, o); IS(walked.receipts, r); \
+    } while (0)
+#define TELLS(call, o, d0, d1, b, a, may, why) \
+    do { \
+        struct papr_walk walked = call; \
+        IS(walked.outcome, o); IS(walked.dword0, d0); IS(walked.dword1, d1); IS(walked.base_shift, b); \
+        IS(walked.actual_shift, a); IS(walked.rights, may); IS(walked.causes, why); \
     } while (0)
 
 enum { ORDER = 18, COUNT = 1 << 14, WORDS = 8, RECEIPTS = 16 };
@@ -143,6 +151,81 @@ static void other_pages(void)
     WALK(papr_walk(table, COUNT, ORDER, &access, receipts, RECEIPTS), 0x6678, 8, PAPR_WALK_AT, 1);
     access.key = true;
     WALK(papr_walk(table, COUNT, ORDER, &access, receipts, RECEIPTS), 0, 8, PAPR_WALK_DENIED, 1);
+    TELLS(papr_probe(table, COUNT, ORDER, &access), PAPR_WALK_DENIED, UINT64_C(0x4000000001000001), 0x6110, 12, 12, 0,
+          PAPR_CAUSE_PROTECTION);
+}
+
+/* A page of 4 KB in one of 64 KB, of key 9: what is told of it, and that a first store has to walk. */
+static void tells(void)
+{
+    enum { LOAD_AND_FETCH = PAPR_MAY_READ | PAPR_MAY_EXECUTE, ALL = LOAD_AND_FETCH | PAPR_MAY_WRITE };
+    const uint64_t first = 0x3005, second = UINT64_C(0x1000000000017212);
+    struct papr_access access = {.ea = 0x5678, .vsid = 3, .shift = 12};
+    REPLY(papr_h_enter(table, COUNT, ORDER, &list, PAPR_EXACT, 0x33, first, second, ROOM), PAPR_H_SUCCESS, 1, 1);
+    WALK(papr_probe(table, COUNT, ORDER, &access), 0x15678, 0x33, PAPR_WALK_AT, 0);
+    TELLS(papr_probe(table, COUNT, ORDER, &access), PAPR_WALK_AT, first, second, 12, 16, 0, 0);
+    ENTRY(table[0x33], first, second, 1, true, false, false);
+    TELLS(papr_walk(table, COUNT, ORDER, &access, receipts, 0), PAPR_WALK_AT, first, second | 0x100, 12, 16,
+          LOAD_AND_FETCH, 0);
+    access.want = 1;
+    TELLS(papr_probe(table, COUNT, ORDER, &access), PAPR_WALK_AT, first, second | 0x100, 12, 16, LOAD_AND_FETCH, 0);
+    TELLS(papr_walk(table, COUNT, ORDER, &access, receipts, 0), PAPR_WALK_AT, first, second | 0x180, 12, 16, ALL, 0);
+    access.amr = UINT64_C(2) << 44;
+    TELLS(papr_walk(table, COUNT, ORDER, &access, receipts, 0), PAPR_WALK_AMR, first, second | 0x180, 12, 16,
+          LOAD_AND_FETCH, PAPR_CAUSE_AMR);
+    access.want = 2;
+    access.iamr = UINT64_C(1) << 44;
+    access.no_execute = true;
+    TELLS(papr_walk(table, COUNT, ORDER, &access, receipts, 0), PAPR_WALK_DENIED, first, second | 0x180, 12, 16,
+          PAPR_MAY_READ, PAPR_CAUSE_NO_EXECUTE | PAPR_CAUSE_IAMR);
+    access.vsid = 4;
+    TELLS(papr_walk(table, COUNT, ORDER, &access, receipts, 0), PAPR_WALK_NO_PAGE, 0, 0, 0, 0, 0, 0);
+    access.want = 3;
+    TELLS(papr_probe(table, COUNT, ORDER, &access), PAPR_WALK_PARAMETER, 0, 0, 0, 0, 0, 0);
+}
+
+/* Doublewords of which one says one thing, and another another. */
+static void decoded(void)
+{
+    struct papr_page page = papr_decode(ORDER, 0x33, 0x3005, UINT64_C(0x1000000000017292));
+    IS(page.vsid, 3);
+    IS(page.page, 5);
+    IS(page.real, 0x10000);
+    IS(page.base_shift, 12);
+    IS(page.actual_shift, 16);
+    IS(page.key, 9);
+    IS(page.protection, 2);
+    IS(page.wimg, 2);
+    IS(page.one_tb || page.no_execute || page.bolted || page.secondary || page.referenced, false);
+    IS(page.changed, true);
+    IS(page.why, PAPR_PAGE);
+    page = papr_decode(ORDER, 0xe0, UINT64_C(0x4000000015240015), UINT64_C(0x8000000400003112));
+    IS(page.vsid, 0x15);
+    IS(page.page, 9);
+    IS(page.real, UINT64_C(0x400000000));
+    IS(page.base_shift, 34);
+    IS(page.protection, 6);
+    IS(page.one_tb && page.bolted && page.referenced, true);
+    IS(page.no_execute || page.secondary || page.changed, false);
+    page = papr_decode(ORDER, 0x3fd8, 0x1003, 0x3016);
+    IS(page.vsid, 1);
+    IS(page.page, 5);
+    IS(page.secondary && page.no_execute, true);
+    IS(page.why, PAPR_PAGE);
+    page = papr_decode(ORDER, COUNT, 0x1001, 0x3012);
+    IS(page.why, PAPR_NO_INDEX);
+    IS(page.real, 0x3000);
+    IS(page.vsid, 0);
+    IS(papr_decode(ORDER - 1, 0, 0x1001, 0x3012).why, PAPR_NO_INDEX);
+    IS(papr_decode(ORDER, 0x20, 0x1000, 0x3012).why, PAPR_EMPTY);
+    IS(papr_decode(ORDER, 0x20, 0x1000, 0x3012).real, 0);
+    IS(papr_decode(ORDER, 0x20, 0x1005, 0x2010).why, PAPR_NO_SIZE);
+    IS(papr_decode(ORDER, 0x20, UINT64_C(0x8000000000001001), 0x3012).why, PAPR_NO_SEGMENT);
+    IS(papr_decode(ORDER, 0x400, 0x1015, 0x11012).why, PAPR_OTHER_GROUP);
+    IS(papr_rights(2, true), PAPR_MAY_READ | PAPR_MAY_WRITE);
+    IS(papr_rights(1, true), PAPR_MAY_READ);
+    IS(papr_rights(6, true), 0);
+    IS(papr_rights(8, false), 0);
 }
 
 /* The other calls, whose arguments all differ. */
@@ -154,30 +237,59 @@ static void calls(void)
     IS(words[4], 0x1001);
     IS(words[5], 0x3192);
     RECEIPT(receipts[2], 0x1001, 0x3192, 0x22, 1, 3, PAPR_READ);
-    REPLY(papr_h_clear_ref(table, COUNT, ORDER, 5, 0x22, ROOM), PAPR_H_SUCCESS, 1, 1);
+    STALE(papr_h_clear_ref(table, COUNT, ORDER, 5, 0x22, ROOM), PAPR_H_SUCCESS, 1, 1);
     IS(words[0], 0x3192);
     ENTRY(table[0x22], 0x1001, 0x3012, 2, true, false, true);
-    REPLY(papr_h_clear_mod(table, COUNT, ORDER, 5, 0x22, ROOM), PAPR_H_SUCCESS, 1, 1);
+    STALE(papr_h_clear_mod(table, COUNT, ORDER, 5, 0x22, ROOM), PAPR_H_SUCCESS, 1, 1);
     IS(words[0], 0x3092);
     RECEIPT(receipts[0], 0x1001, 0x3092, 0x22, 2, 1, PAPR_WAS);
     ENTRY(table[0x22], 0x1001, 0x3012, 3, true, false, false);
     REPLY(papr_h_protect(table, COUNT, ORDER, PAPR_AVPN | 3, 0x22, 0x2000, ROOM), PAPR_H_NOT_FOUND, 0, 1);
-    REPLY(papr_h_protect(table, COUNT, ORDER, PAPR_AVPN | 3, 0x22, 0x1000, ROOM), PAPR_H_SUCCESS, 0, 1);
+    STALE(papr_h_protect(table, COUNT, ORDER, PAPR_AVPN | 3, 0x22, 0x1000, ROOM), PAPR_H_SUCCESS, 0, 1);
     ENTRY(table[0x22], 0x1001, 0x3013, 4, true, false, false);
     REPLY(papr_h_remove(table, COUNT, ORDER, PAPR_AVPN, 0x22, 0x2000, ROOM), PAPR_H_NOT_FOUND, 0, 1);
     RECEIPT(receipts[0], 0x1001, 0x3013, 0x22, 4, 0, PAPR_NOTFOUND);
-    REPLY(papr_h_remove(table, COUNT, ORDER, PAPR_AVPN, 0x22, 0x1000, ROOM), PAPR_H_SUCCESS, 2, 1);
+    STALE(papr_h_remove(table, COUNT, ORDER, PAPR_AVPN, 0x22, 0x1000, ROOM), PAPR_H_SUCCESS, 2, 1);
     IS(words[0], 0x1001);
     IS(words[1], 0x3013);
     RECEIPT(receipts[0], 0x1001, 0x3013, 0x22, 4, 0, PAPR_REMOVED);
     ENTRY(table[0x22], 0, 0, 5, false, false, false);
     const uint64_t pairs[8] = {UINT64_C(0x4200000000000021), 0x2000, UINT64_C(0xc000000000000000), 7};
-    REPLY(papr_h_bulk_remove(table, COUNT, ORDER, pairs, 8, ROOM), PAPR_H_SUCCESS, 8, 1);
+    STALE(papr_h_bulk_remove(table, COUNT, ORDER, pairs, 8, ROOM), PAPR_H_SUCCESS, 8, 1);
     IS(words[0], UINT64_C(0x8200000000000021));
     IS(words[1], 0x2000);
     IS(words[3], 7);
     RECEIPT(receipts[0], 0x2001, 0x4012, 0x21, 1, 0, PAPR_REMOVED);
     REPLY(papr_h_bulk_remove(table, COUNT, ORDER, pairs, 6, ROOM), PAPR_H_PARAMETER, 0, 0);
+}
+
+/* Calls by their numbers, with all eight words. */
+static void by_number(void)
+{
+    enum { H_REMOVE = 0x04, H_ENTER = 0x08, H_PROTECT = 0x18, H_BULK_REMOVE = 0x124, H_PUT_TCE = 0x20 };
+#define BY(number) papr_hcall(table, COUNT, ORDER, &list, number, words, receipts, RECEIPTS)
+    const uint64_t enter[WORDS] = {PAPR_EXACT, 0x45, 0x1001, 0x7012, 4, 5, 6, 7};
+    memcpy(words, enter, sizeof words);
+    REPLY(BY(H_ENTER), PAPR_H_SUCCESS, 1, 1);
+    IS(words[0], 0x45);
+    IS(words[1], 0x45);
+    IS(words[7], 7);
+    const uint64_t protect[WORDS] = {PAPR_AVPN | 1, 0x45, 0x1000};
+    memcpy(words, protect, sizeof words);
+    STALE(BY(H_PROTECT), PAPR_H_SUCCESS, 0, 1);
+    ENTRY(table[0x45], 0x1001, 0x7011, 2, true, false, false);
+    REPLY(BY(H_PUT_TCE), PAPR_H_FUNCTION, 0, 0);
+    IS(words[1], 0x45);
+    REPLY(papr_hcall(table, COUNT, ORDER + 1, &list, 0, words, receipts, RECEIPTS), PAPR_H_FUNCTION, 0, 0);
+    REPLY(papr_hcall(table, COUNT, ORDER + 1, &list, H_REMOVE, words, receipts, RECEIPTS), PAPR_H_PARAMETER, 0, 0);
+    STALE(BY(H_REMOVE), PAPR_H_SUCCESS, 2, 1);
+    IS(words[0], 0x1001);
+    IS(words[1], 0x7011);
+    const uint64_t pairs[WORDS] = {UINT64_C(0x4000000000000045), 1, UINT64_C(0xc000000000000000), 2, 3, 4, 5, 6};
+    memcpy(words, pairs, sizeof words);
+    REPLY(BY(H_BULK_REMOVE), PAPR_H_SUCCESS, 8, 1);
+    IS(words[0], UINT64_C(0x9000000000000045));
+    IS(words[7], 6);
 }
 
 /* Two bolted entries of a larger table that meet in the smaller one, and one that is carried over. */
@@ -191,6 +303,7 @@ static int rehash(void)
           PAPR_H_SUCCESS, 1, 1);
     struct papr_rehash made = papr_rehash(from, FROM_COUNT, FROM_ORDER, table, COUNT, ORDER);
     IS(made.rc, PAPR_H_SUCCESS);
+    IS(made.stale, true);
     IS(made.first, 0);
     IS(made.second, 0);
     IS(made.target, 0);
@@ -200,6 +313,7 @@ static int rehash(void)
           PAPR_H_SUCCESS, 1, 1);
     made = papr_rehash(from, FROM_COUNT, FROM_ORDER, table, COUNT, ORDER);
     IS(made.rc, PAPR_H_PTEG_FULL);
+    IS(made.stale, false);
     IS(made.first, 0x4023);
     IS(made.second, 0x8023);
     IS(made.target, 0x23);
@@ -371,7 +485,10 @@ int main(void)
     enter();
     walk();
     other_pages();
+    tells();
+    decoded();
     calls();
+    by_number();
     transfers();
     segments();
     windows();

@@ -30,6 +30,7 @@ STRUCTS = {
     "PaprRange": "papr_range",
     "PaprAccess": "papr_access",
     "PaprWalk": "papr_walk",
+    "PaprPage": "papr_page",
     "PaprRehash": "papr_rehash",
     "PaprResize": "papr_resize",
     "PaprSlot": "papr_slot",
@@ -48,7 +49,11 @@ FUNCTIONS = (
     "papr_h_clear_ref",
     "papr_h_clear_mod",
     "papr_h_bulk_remove",
+    "papr_hcall",
     "papr_walk",
+    "papr_probe",
+    "papr_decode",
+    "papr_rights",
     "papr_rehash",
     "papr_resize_prepare",
     "papr_resize_commit",
@@ -138,7 +143,7 @@ class Header:
         for name, body in re.findall(r"\bstruct (\w+) \{(.*?)\};", text, re.DOTALL):
             self.structs[name] = Struct([declared(field) for field in body.split(";") if field.strip()])
         self.functions: dict[str, Function] = {}
-        for result, name, given in re.findall(r"^(struct \w+|\w+) (\w+)\(([^()]*)\);", text, re.MULTILINE):
+        for result, name, given in re.findall(r"^((?:struct )?\w+) (\w+)\(([^()]*)\);", text, re.MULTILINE):
             parameters = [] if given == "void" else given.split(",")
             self.functions[name] = Function([declared(it) for it in parameters], result)
         self.enums: dict[str, dict[str, int]] = {}
@@ -173,7 +178,7 @@ def in_c(name: str, type_: str) -> list[Named]:
     if by is not None:
         pointer = ("" if by[1] else "const ") + of_value(by[3]) + "*"
         return [(name, pointer), (COUNTS[name], "size_t")] if by[2] else [(name, pointer)]
-    array = re.fullmatch(r"\[(\w+); ([0-9]+)\]", type_)
+    array = re.fullmatch(r"(?:&mut )?\[(\w+); ([0-9]+)\]", type_)
     return [(name, f"{of_value(array[1])}[{array[2]}]" if array else of_value(type_))]
 
 
@@ -228,6 +233,12 @@ def laid_out(structs: dict[str, Struct], name: str) -> tuple[int, int, dict[str,
 def text_of(path: Path) -> str:
     """A file's text."""
     return path.read_text(encoding="utf-8")
+
+
+def constants_of(name: str, type_: str) -> dict[str, int]:
+    """The constants of this type in one file of the sources."""
+    text = without_remarks(text_of(TOP / "crates" / "papr_c" / "src" / name))
+    return {it: int(number) for it, number in re.findall(rf"\bconst (\w+): {type_} = ([0-9]+);", text)}
 
 
 def in_capitals(name: str) -> str:
@@ -292,9 +303,7 @@ class Constants(ToolTest):
         self.assertEqual(header().enums["papr_refusal"], expected)
 
     def test_the_numbers_of_outcomes_are_those_of_the_sources(self) -> None:
-        numbers = sources().numbers(r"\bconst (\w+): u32 = ([0-9]+);")
-        for name in PARTS:
-            del numbers[name]
+        numbers = constants_of("walking.rt", "u32")
         numbers["AT"], numbers["PARAMETER"] = numbers.pop("ALLOWED"), numbers.pop("REFUSED")
         expected = {f"PAPR_WALK_{it}": n for it, n in numbers.items()}
         self.assertEqual(header().enums["papr_outcome"], expected)
@@ -326,6 +335,17 @@ class Constants(ToolTest):
         version = [numbers[name] for name in PARTS]
         self.assertEqual(header().version, version)
         self.assertEqual(text_of(TOP / "VERSION").strip(), ".".join(map(str, version)))
+
+    def test_the_numbers_of_rights_and_causes_are_those_of_the_sources(self) -> None:
+        numbers = constants_of("rights.rt", "u8")
+        rights = {f"PAPR_MAY_{it}": numbers.pop(it) for it in ("READ", "WRITE", "EXECUTE")}
+        self.assertEqual(header().enums["papr_right"], rights)
+        self.assertEqual(header().enums["papr_cause"], {f"PAPR_CAUSE_{it}": n for it, n in numbers.items()})
+
+    def test_the_numbers_of_decodings_are_those_of_the_sources(self) -> None:
+        numbers = sources().numbers(r"\bNoPage::(\w+) => ([0-9]+),")
+        expected = {f"PAPR_{in_capitals(it)}": n for it, n in numbers.items()}
+        self.assertEqual(header().enums["papr_decoding"], {"PAPR_PAGE": 0, **expected})
 
     def test_the_return_codes_are_those_of_the_sources(self) -> None:
         codes = sources().numbers(r"\bRc::(\w+) => (-?[0-9]+),")
@@ -363,6 +383,9 @@ SWAPPED = (
     ("papr_receipt", "entry", "stamp"),
     ("papr_range", "granted", "is_io"),
     ("papr_walk", "entry", "receipts"),
+    ("papr_walk", "rights", "causes"),
+    ("papr_page", "base_shift", "actual_shift"),
+    ("papr_decode", "dword0", "dword1"),
     ("papr_access", "amr", "iamr"),
     ("papr_reply", "words", "receipts"),
     ("papr_transfer", "index", "refusal"),

@@ -254,10 +254,10 @@ class Installing(ToolTest):
         library = write_script(self.folder / "library", A_LIBRARY)
         program = write_script(self.folder / "program", STAND_IN)
         words: list[Word] = ["make", "-s", "-C", TOP, f"DESTDIR={tree}", f"PREFIX={prefix}"]
-        self.assert_ran(run(*words, "install", f"PROGRAM={program}", f"LIBRARY={library}"))
+        self.assert_ran(run(*words, "install", f"PROGRAM={program}", f"LIBRARY={library}", f"SHARED={library}"))
         installed = Path(f"{tree}{prefix}")
         self.assert_same_folder(installed / "share" / "doc", self.usr / "share" / "doc")
-        self.assertIn(f"prefix={prefix}\n", text_of(installed / "lib" / "pkgconfig" / "papr_c.pc"))
+        self.assertIn(f"prefix={prefix}\n", text_of(installed / "lib" / "pkgconfig" / "papr.pc"))
         self.assert_ran(run(installed / "bin" / "papr", "run"), "stand-in\n")
         self.assert_help(installed / "bin" / "papr-why")
         self.assert_ran(run(*words, "uninstall"))
@@ -268,13 +268,13 @@ class Installing(ToolTest):
     def test_pkg_config_names_folders_with_blanks(self) -> None:
         tree = self.folder / "a tree"
         library = write_script(self.folder / "library", A_LIBRARY)
-        ran = run("make", "-s", "-C", TOP, f"PREFIX={tree}", "install-library", f"LIBRARY={library}")
-        self.assert_ran(ran)
+        given = (f"LIBRARY={library}", f"SHARED={library}")
+        self.assert_ran(run("make", "-s", "-C", TOP, f"PREFIX={tree}", "install-library", *given))
         variables = {"PKG_CONFIG_PATH": str(tree / "lib" / "pkgconfig")}
-        flags = run("pkg-config", "--cflags", "--libs", "papr_c", environment=variables)
+        flags = run("pkg-config", "--cflags", "--libs", "papr", environment=variables)
         self.assert_ran(flags, out=None)
         named = run("sh", "-c", f"printf '%s\\n' {flags.out.strip()}").out.splitlines()
-        self.assertEqual(named, [f"-I{tree}/include", f"-L{tree}/lib", "-lpapr_c"])
+        self.assertEqual(named, [f"-I{tree}/include", f"-L{tree}/lib", "-lpapr"])
 
 
 @needs("make")

@@ -10,3 +10,12 @@ pub mod SlotSearch
 pub mod PoolPrepares
 pub mod PoolCommits
 pub mod Tces
+pub mod PagePlaces
+pub mod DecodedPages
+pub mod ReservedBits
+pub mod StaleTrials
+pub mod FoundAsIs
+pub mod RightsLaws
+pub mod KeptTranslations
+pub mod Agreement
+pub mod EndedTrials

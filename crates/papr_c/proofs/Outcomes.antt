@@ -11,8 +11,7 @@ use Rattle.entry_model.specs.Run.{states_after, IsRun}
 use Rattle.entry_model.specs.Replies.{reply_with}
 use Rattle.storage_prot.specs.declared.want.Want.{Want}
 use Rattle.power_addr.specs.Pages.{VirtualPage}
-use Rattle.entry_model.specs.Receipt.{is_no_match, found_of}
-use Rattle.entry_model.specs.Reply.{access_mode}
+use Rattle.entry_model.specs.Receipt.{after_of, is_no_match, found_of}
 use Rattle.entry_model.specs.Trial.{Call, call, receipt_at, Plan, IsReplyOf, plan_of_code, plan_run, reply_by, trial_run}
 use Rattle.entry_model.specs.declared.hreply.Registers.{Registers}
 use Rattle.entry_model.specs.declared.receipt.Receipt.{Receipt}
@@ -28,7 +27,9 @@ use Rattle.papr_c.specs.declared.walking.PaprAccess.{PaprAccess}
 use Rattle.papr_c.specs.declared.walking.PaprWalk.{PaprWalk}
 use Rattle.papr_c.specs.Lent.{is_table}
 use Rattle.papr_c.specs.Calls.{LentMemory, memory, reply_told, outcome_by, outcome_where}
-use Rattle.papr_c.specs.Walks.{masks_of, WalkMemory, walk_memory, page_of, want_of, walk_end, walked_by, outcome_of_walk}
+use Rattle.papr_c.specs.Stale.{any_stale}
+use Rattle.papr_c.specs.WalkEnds.{mode_of, walk_end}
+use Rattle.papr_c.specs.Walks.{WalkMemory, walk_memory, page_of, want_of, walked_by, outcome_of_walk}
 
 -- What was handed over, and the entries that the receipts led to.
 pub record IsHandedOver (registers : Registers) (rs : List Receipt) (m : LentMemory) (told : PaprReply) (words : List ℕ) (receipts : List PaprReceipt) : Type 0 where
@@ -44,15 +45,15 @@ call_is fits plan m registers rs reply words receipts lent now after fit is run 
     rw fit (told ∙ ap (outcome_by m) made)
 
 -- A walk whose arguments fit leaves what its calls do on the entries that were lent.
-pub walk_is : (order : ℕ) (a : PaprAccess) (page : VirtualPage) (want : Want) (m : WalkMemory) (cs : List Call) (found : Option Receipt) (count : ℕ) (told : PaprWalk) (places : List PaprReceipt) (after : List State) → is_table order m.entries ≡ true → page_of a ≡ Some page → want_of a.want ≡ Some want → cs ≡ walk_calls order page (access_mode a.key a.no_execute want (masks_of a)) → found ≡ found_of (trial_run is_no_match m.entries cs).0 → count ≡ min (length m.receipts) (length (trial_run is_no_match m.entries cs).0) → told ≡ walk_end a.ea found count → places ≡ placed m.receipts 0 (map shown_receipt (trial_run is_no_match m.entries cs).0) → after ≡ (trial_run is_no_match m.entries cs).1 → (told, walk_memory after places) ≡ outcome_of_walk order a m
+pub walk_is : (order : ℕ) (a : PaprAccess) (page : VirtualPage) (want : Want) (m : WalkMemory) (cs : List Call) (found : Option Receipt) (count : ℕ) (told : PaprWalk) (places : List PaprReceipt) (after : List State) → is_table order m.entries ≡ true → page_of a ≡ Some page → want_of a.want ≡ Some want → cs ≡ walk_calls order page (mode_of a want) → found ≡ found_of (trial_run is_no_match m.entries cs).0 → count ≡ min (length m.receipts) (length (trial_run is_no_match m.entries cs).0) → told ≡ walk_end after_of a want found count → places ≡ placed m.receipts 0 (map shown_receipt (trial_run is_no_match m.entries cs).0) → after ≡ (trial_run is_no_match m.entries cs).1 → (told, walk_memory after places) ≡ outcome_of_walk order a m
 walk_is order a page want m cs found count told places after fit at_page wants calls is counted ended put kept =
     let x = trial_run is_no_match m.entries cs in
     let in_places : places ≡ filled m.receipts (map shown_receipt x.0) = put ∙ placed_filled (map shown_receipt x.0) m.receipts in
-    let here : (told, walk_memory after places) ≡ walked_by a.ea m x = rw (ended, is, counted, in_places, kept) refl in
-    rw (fit, at_page, wants) (here ∙ ap (λ (ds : List Call). walked_by a.ea m (trial_run is_no_match m.entries ds)) calls)
+    let here : (told, walk_memory after places) ≡ walked_by a want m x = rw (ended, is, counted, in_places, kept) refl in
+    rw (fit, at_page, wants) (here ∙ ap (λ (ds : List Call). walked_by a want m (trial_run is_no_match m.entries ds)) calls)
 
 -- A call whose arguments fit leaves what its trial does on the entries that were lent.
-pub call_tried : (fits : Bool) (plan : Plan) (m : LentMemory) (x : List Receipt × List State) (rc : Rc) (ws : List ℕ) (reply : PaprReply) (words : List ℕ) (receipts : List PaprReceipt) (after : List State) → fits ≡ true → x ≡ trial_run plan.goes_on m.entries plan.calls → (rc, ws) ≡ plan.told x.0 → reply ≡ record { rc = rc_code rc; words = min (length m.words) (length ws); receipts = min (length m.receipts) (length x.0) } → words ≡ filled m.words ws → receipts ≡ placed m.receipts 0 (map shown_receipt x.0) → after ≡ x.1 → (reply, memory after words receipts) ≡ outcome_where fits plan m
+pub call_tried : (fits : Bool) (plan : Plan) (m : LentMemory) (x : List Receipt × List State) (rc : Rc) (ws : List ℕ) (reply : PaprReply) (words : List ℕ) (receipts : List PaprReceipt) (after : List State) → fits ≡ true → x ≡ trial_run plan.goes_on m.entries plan.calls → (rc, ws) ≡ plan.told x.0 → reply ≡ record { rc = rc_code rc; words = min (length m.words) (length ws); receipts = min (length m.receipts) (length x.0); stale = any_stale x.0 } → words ≡ filled m.words ws → receipts ≡ placed m.receipts 0 (map shown_receipt x.0) → after ≡ x.1 → (reply, memory after words receipts) ≡ outcome_where fits plan m
 unfolding plan_run
 call_tried fits plan m x rc ws reply words receipts after fit is told replied in_words in_receipts kept =
     let put : receipts ≡ filled m.receipts (map shown_receipt x.0) = in_receipts ∙ placed_filled (map shown_receipt x.0) m.receipts in
@@ -61,12 +62,12 @@ call_tried fits plan m x rc ws reply words receipts after fit is told replied in
     rw fit (here ∙ by ∙ ap (λ (z : List Receipt × List State). outcome_by m (reply_by plan z.0, z.1)) is)
 
 -- A call that is answered by itself changes nothing.
-pub coded : (fits : Bool) (rc : Rc) (m : LentMemory) → fits ≡ true → (record { rc = rc_code rc; words = 0; receipts = 0 }, m) ≡ outcome_where fits (plan_of_code rc) m
-unfolding plan_run trial_run
+pub coded : (fits : Bool) (rc : Rc) (m : LentMemory) → fits ≡ true → (record { rc = rc_code rc; words = 0; receipts = 0; stale = false }, m) ≡ outcome_where fits (plan_of_code rc) m
+unfolding plan_run trial_run any_stale
 coded fits rc m fit =
     let no_words : min (length m.words) 0 ≡ 0 = omega arith in
     let no_receipts : min (length m.receipts) 0 ≡ 0 = omega arith in
-    rw fit (λ k. (record { rc = rc_code rc; words = sym no_words k; receipts = sym no_receipts k }, memory m.entries (sym (filled-nil m.words) k) (sym (filled-nil m.receipts) k)))
+    rw fit (λ k. (record { rc = rc_code rc; words = sym no_words k; receipts = sym no_receipts k; stale = false }, memory m.entries (sym (filled-nil m.words) k) (sym (filled-nil m.receipts) k)))
 
 -- The trial of one call that is made on one entry.
 pub alone : (op : Op) (entry : ℕ) (a : List State) (r : Receipt) → r ≡ receipt_at a (call op entry) → (r ∷ [], states_after a r) ≡ trial_run (λ answer. true) a (call op entry ∷ [])

@@ -1,6 +1,6 @@
 -- H_READ's words, entry by entry.
 use Rattle.std.specs.Prelude.{flat_map}
-use Rattle.std.proofs.Common.{◌≡◌, ℕ, zero, suc, ◌+◌, ◌*◌, List, [], ◌∷◌, ◌++◌, length, set, true, arith, subst, sym, ap, ◌∙◌, refl}
+use Rattle.std.proofs.Common.{◌≡◌, ℕ, zero, suc, ◌+◌, ◌*◌, List, [], ◌∷◌, ◌++◌, length, set, true, false, arith, subst, sym, ap, ◌∙◌, refl}
 use Rattle.std.proofs.lemmas.List.{set-get_or}
 use Rattle.entry_model.specs.State.{State, empty_state}
 use Rattle.entry_model.specs.Reply.{words_of}
@@ -11,6 +11,7 @@ use Rattle.entry_model.specs.declared.receipt.Receipt.{Receipt}
 use Rattle.entry_model.proofs.TrialSteps.{calls_from}
 use Rattle.h_update.specs.Single.{both_words}
 use Rattle.papr_c.specs.Places.{placed}
+use Rattle.papr_c.specs.Stale.{any_stale}
 use Rattle.papr_c.specs.Tried.{words_of_entries}
 use Rattle.papr_c.proofs.Filling.{placed-append}
 
@@ -27,10 +28,11 @@ pub record IsRead (a : List State) (first count : ℕ) : Type 0 where
   pub entries : (read_all first count a).1 ≡ a
   pub words : flat_map both_words (read_all first count a).0 ≡ words_of_entries a first count
   pub many : length (read_all first count a).0 ≡ count
+  pub fresh : any_stale (read_all first count a).0 ≡ false
 
 pub reads : (a : List State) (first count : ℕ) → IsRead a first count
-unfolding trial_run
-reads a first zero = record { entries = refl; words = refl; many = refl }
+unfolding trial_run any_stale
+reads a first zero = record { entries = refl; words = refl; many = refl; fresh = refl }
 reads a first (suc count) =
     let r = receipt_at a (call Read first) in
     let cs = calls_from Read (first + 1) count in
@@ -40,6 +42,7 @@ reads a first (suc count) =
       entries = subst (λ b. (trial_run (λ answer. true) b cs).1 ≡ a) (sym stays) rest.entries;
       words = subst (λ b. both_words r ++ flat_map both_words (trial_run (λ answer. true) b cs).0 ≡ words_of_entries a first (suc count)) (sym stays) (ap (λ ws. both_words r ++ ws) rest.words);
       many = subst (λ b. suc (length (trial_run (λ answer. true) b cs).0) ≡ suc count) (sym stays) (ap suc rest.many);
+      fresh = subst (λ b. any_stale (trial_run (λ answer. true) b cs).0 ≡ false) (sym stays) rest.fresh;
     }
 
 pub words-length : (a : List State) (first count : ℕ) → length (words_of_entries a first count) ≡ 2 * count

@@ -18,7 +18,7 @@ use Rattle.papr_c.specs.Tried.{LentPair, IsMadeAt, IsTriedLast}
 use Rattle.papr_c.proofs.Filling.{placed-append}
 
 -- The rest of the calls begins with this one.
-drop_at : (cs : List Call) (i entry : ℕ) (op : Op) → call_at cs i ≡ Some (entry, op) → drop i cs ≡ call op entry ∷ drop (suc i) cs
+pub drop_at : (cs : List Call) (i entry : ℕ) (op : Op) → call_at cs i ≡ Some (entry, op) → drop i cs ≡ call op entry ∷ drop (suc i) cs
 drop_at [] i entry op at = cc
 drop_at (c ∷ cs) zero entry op at =
     let same : (c.entry, c.op) ≡ (entry, op) = cc in
@@ -26,7 +26,7 @@ drop_at (c ∷ cs) zero entry op at =
 drop_at (c ∷ cs) (suc i) entry op at = drop_at cs i entry op at
 
 -- There is no rest.
-drop_none : (cs : List Call) (i : ℕ) → call_at cs i ≡ None → drop i cs ≡ []
+pub drop_none : (cs : List Call) (i : ℕ) → call_at cs i ≡ None → drop i cs ≡ []
 drop_none [] zero none = refl
 drop_none [] (suc i) none = refl
 drop_none (c ∷ cs) zero none = cc
@@ -37,20 +37,20 @@ abbrev pub before_rest : List Receipt → List Receipt × List State → List Re
 before_rest rs rest = (rs ++ rest.0, rest.1)
 
 -- One call, and its answer goes on.
-step_on : (goes : Answer → Bool) (a : List State) (c : Call) (cs : List Call) (r : Receipt) → r ≡ receipt_at a c → goes r.answer ≡ true → trial_run goes a (c ∷ cs) ≡ before_rest (r ∷ []) (trial_run goes (states_after a r) cs)
+pub step_on : (goes : Answer → Bool) (a : List State) (c : Call) (cs : List Call) (r : Receipt) → r ≡ receipt_at a c → goes r.answer ≡ true → trial_run goes a (c ∷ cs) ≡ before_rest (r ∷ []) (trial_run goes (states_after a r) cs)
 unfolding trial_run
 step_on goes a c cs r is on =
     let on' : goes (receipt_at a c).answer ≡ true = rw is at on in
     rw (is, on') refl
 
 -- One call, and its answer ends the trial.
-step_off : (goes : Answer → Bool) (a : List State) (c : Call) (cs : List Call) (r : Receipt) → r ≡ receipt_at a c → goes r.answer ≡ false → trial_run goes a (c ∷ cs) ≡ (r ∷ [], states_after a r)
+pub step_off : (goes : Answer → Bool) (a : List State) (c : Call) (cs : List Call) (r : Receipt) → r ≡ receipt_at a c → goes r.answer ≡ false → trial_run goes a (c ∷ cs) ≡ (r ∷ [], states_after a r)
 unfolding trial_run
 step_off goes a c cs r is off =
     let off' : goes (receipt_at a c).answer ≡ false = rw is at off in
     rw (is, off') refl
 
-no_more : (goes : Answer → Bool) (a : List State) → trial_run goes a [] ≡ ([], a)
+pub no_more : (goes : Answer → Bool) (a : List State) → trial_run goes a [] ≡ ([], a)
 unfolding trial_run
 no_more goes a = refl
 

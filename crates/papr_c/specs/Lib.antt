@@ -1,8 +1,11 @@
 pub mod Lent
 pub mod Places
 pub mod Tried
+pub mod Stale
 pub mod Calls
 pub mod Grants
+pub mod Rights
+pub mod WalkEnds
 pub mod Walks
 pub mod Rehash
 pub mod Resizing
@@ -11,3 +14,5 @@ pub mod Version
 pub mod Segments
 pub mod ResizeLaw
 pub mod Windows
+pub mod Decoding
+pub mod Hcalls

@@ -1,5 +1,5 @@
 -- What a rehash of C leaves: its answer, and the entries of the new table.
-use Rattle.std.specs.Prelude.{ℕ, ◌&&◌, if◌then◌else◌, List, replicate, Option, Some, None}
+use Rattle.std.specs.Prelude.{ℕ, ◌&&◌, true, false, if◌then◌else◌, List, replicate, Option, Some, None}
 use Rattle.hpte_fields.specs.TableSize.{entry_count}
 use Rattle.papr_codes.specs.ReturnCodes.{rc_code}
 use Rattle.papr_codes.specs.declared.codes.Rc.{Rc}
@@ -11,18 +11,32 @@ use Rattle.papr_c.specs.declared.rehashing.PaprRehash.{PaprRehash}
 use Rattle.papr_c.specs.Lent.{is_table}
 
 -- ---- answers
--- A code, and no collision.
-abbrev pub without_collision : Rc → PaprRehash
-without_collision rc = record { rc = rc_code rc; first = 0; second = 0; target = 0 }
+-- The code of a rehash that isn't made, and nothing else.
+abbrev pub refused_rehash : Rc → PaprRehash
+refused_rehash rc = record {
+  rc = rc_code rc;
+  first = 0;
+  second = 0;
+  target = 0;
+  stale = false;
+}
 
--- H_SUCCESS, or H_PTEG_FULL and the two entries that would meet.
+-- H_SUCCESS, after which no cached translation is one of the new table, or H_PTEG_FULL and the two
+-- entries that would meet.
 abbrev pub rehash_told : Option Collision → PaprRehash
-rehash_told None = without_collision Success
+rehash_told None = record {
+  rc = rc_code Success;
+  first = 0;
+  second = 0;
+  target = 0;
+  stale = true;
+}
 rehash_told (Some c) = record {
   rc = rc_code PtegFull;
   first = c.first;
   second = c.second;
   target = c.target;
+  stale = false;
 }
 
 -- ---- outcomes
@@ -39,4 +53,4 @@ outcome_of_rehash from entries to into =
       rehash_told (collision_of from to entries),
       table_after (collision_of from to entries) from to entries,
     )
-    else (without_collision Parameter, into)
+    else (refused_rehash Parameter, into)

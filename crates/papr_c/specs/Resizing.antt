@@ -12,7 +12,7 @@ use Rattle.hpt_resize.specs.Resize.{is_prepare_request, commit_refusal}
 use Rattle.papr_c.specs.declared.rehashing.PaprRehash.{PaprRehash}
 use Rattle.papr_c.specs.declared.resizing.PaprResize.{PaprResize}
 use Rattle.papr_c.specs.Lent.{is_table}
-use Rattle.papr_c.specs.Rehash.{without_collision, rehash_told, table_after}
+use Rattle.papr_c.specs.Rehash.{refused_rehash, rehash_told, table_after}
 
 -- What a resize call may change: what is pending, and the memory that is lent for its table.
 pub record ResizeMemory : Type 0 where
@@ -96,11 +96,11 @@ committed order entries shift =
 -- Where nothing refuses it, and the memory is that of a table of the pending order.
 abbrev pub commit_where :
     Option Rc → ℕ → List State → ℕ → ResizeMemory → PaprRehash × ResizeMemory
-commit_where (Some rc) order entries shift m = (without_collision rc, m)
+commit_where (Some rc) order entries shift m = (refused_rehash rc, m)
 commit_where None order entries shift m =
     if length m.into == entry_count shift
     then committed order entries shift
-    else (without_collision Parameter, m)
+    else (refused_rehash Parameter, m)
 
 -- H_RESIZE_HPT_COMMIT with these flags and this order, of a current table of 2 ^ order bytes. A
 -- refusal changes nothing.
@@ -109,4 +109,4 @@ unfoldable pub outcome_of_resize_commit :
 outcome_of_resize_commit order entries flags shift m =
     if is_table order entries
     then commit_where (commit_refusal flags shift (pending_of m.resize)) order entries shift m
-    else (without_collision Parameter, m)
+    else (refused_rehash Parameter, m)

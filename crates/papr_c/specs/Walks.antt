@@ -1,23 +1,20 @@
 -- What a walk of C leaves: what it found, the entries, and the places for receipts.
-use Rattle.std.specs.Prelude.{ℕ, ◌==◌, if◌then◌else◌, List, length, map, min, Option, Some, None}
+use Rattle.std.specs.Prelude.{◌≡◌, ℕ, ◌==◌, if◌then◌else◌, List, length, map, min, Option, Some, None}
 use Rattle.storage_prot.specs.declared.want.Want.{Want}
 use Rattle.storage_prot.specs.declared.want.Want.TheVariants.{Load, Store, Fetch}
-use Rattle.authority_mask.specs.declared.masks.Masks.{Masks}
-use Rattle.authority_mask.specs.declared.masks.MaskName.{MaskName}
-use Rattle.authority_mask.specs.declared.masks.MaskName.TheVariants.{Amr, Iamr}
 use Rattle.power_addr.specs.Pages.{VirtualPage, page_of_address}
+use Rattle.hpte_fields.specs.Fields.{without_rc}
 use Rattle.entry_model.specs.State.{State}
-use Rattle.entry_model.specs.Reply.{access_mode}
-use Rattle.entry_model.specs.Receipt.{is_no_match, is_at, found_of}
-use Rattle.entry_model.specs.Trial.{trial_run}
+use Rattle.entry_model.specs.Receipt.{is_no_match, found_of, after_of}
+use Rattle.entry_model.specs.Trial.{Call, receipt_at, trial_run}
 use Rattle.entry_model.specs.declared.receipt.Receipt.{Receipt}
 use Rattle.hpt_walk.specs.Walk.{walk_calls}
-use Rattle.hpt_walk.specs.Access.{logical_of, refusing_mask}
 use Rattle.papr_c.specs.declared.receipts.PaprReceipt.{PaprReceipt}
 use Rattle.papr_c.specs.declared.walking.PaprAccess.{PaprAccess}
 use Rattle.papr_c.specs.declared.walking.PaprWalk.{PaprWalk}
 use Rattle.papr_c.specs.Lent.{is_table}
 use Rattle.papr_c.specs.Places.{filled, shown_receipt}
+use Rattle.papr_c.specs.WalkEnds.{mode_of, refused_walk, walk_end}
 
 -- The memory that a walk may change: the entries, and the places for receipts.
 pub record WalkMemory : Type 0 where
@@ -41,69 +38,28 @@ want_of want =
 abbrev pub page_of : PaprAccess → Option VirtualPage
 page_of a = page_of_address a.one_tb a.vsid a.shift a.ea
 
--- The masks of the access's processor.
-abbrev pub masks_of : PaprAccess → Masks
-masks_of a = record { amr = a.amr; iamr = a.iamr }
-
--- ---- what is told
--- A walk that isn't made.
-abbrev pub refused_walk : PaprWalk
-refused_walk = record { logical = 0; entry = 0; outcome = 3; receipts = 0 }
-
--- The number of an access that this mask refuses; by none, protection refuses it.
-abbrev pub refusal_number : Option MaskName → ℕ
-refusal_number None = 1
-refusal_number (Some Amr) = 4
-refusal_number (Some Iamr) = 5
-
--- The end of a walk by the receipt that was found: allowed, at this logical address, or refused by
--- the entry or by a mask.
-abbrev pub end_at : ℕ → Receipt → ℕ → PaprWalk
-end_at ea r receipts =
-    if is_at r.answer
-    then
-    record {
-      logical = logical_of ea r.before;
-      entry = r.entry;
-      outcome = 0;
-      receipts = receipts;
-    }
-    else
-    record {
-      logical = 0;
-      entry = r.entry;
-      outcome = refusal_number (refusing_mask r);
-      receipts = receipts;
-    }
-
--- The end by the receipt that was found, if there was one.
-abbrev pub walk_end : ℕ → Option Receipt → ℕ → PaprWalk
-walk_end ea None receipts = record { logical = 0; entry = 0; outcome = 2; receipts = receipts }
-walk_end ea (Some r) receipts = end_at ea r receipts
-
--- The end of a walk with these receipts, and how many places they fill.
-abbrev pub walk_told : ℕ → List Receipt → List PaprReceipt → PaprWalk
-walk_told ea rs places = walk_end ea (found_of rs) (min (length places) (length rs))
-
 -- ---- outcomes
--- By the receipts, and the entries after them.
-abbrev pub walked_by : ℕ → WalkMemory → List Receipt × List State → PaprWalk × WalkMemory
-walked_by ea m run = (
-  walk_told ea run.0 m.receipts,
+-- The walk of a page's groups, in walk order, up to the first entry that translates the page: its
+-- receipts, and the entries after them.
+abbrev pub walk_run :
+    ℕ → PaprAccess → VirtualPage → Want → List State → List Receipt × List State
+walk_run order a page want entries =
+    trial_run is_no_match entries (walk_calls order page (mode_of a want))
+
+-- By the receipts, and the entries after them: the words and the rights are those of the entry as
+-- the walk left it.
+abbrev pub walked_by :
+    PaprAccess → Want → WalkMemory → List Receipt × List State → PaprWalk × WalkMemory
+walked_by a want m run = (
+  walk_end after_of a want (found_of run.0) (min (length m.receipts) (length run.0)),
   walk_memory run.1 (filled m.receipts (map shown_receipt run.0)),
 )
-
--- The walk of a page's groups, in walk order, up to the first entry that translates the page.
-abbrev pub walk_of_page :
-    ℕ → PaprAccess → VirtualPage → Want → WalkMemory → PaprWalk × WalkMemory
-walk_of_page order a page want m =
-    let calls = walk_calls order page (access_mode a.key a.no_execute want (masks_of a)) in
-    walked_by a.ea m (trial_run is_no_match m.entries calls)
 
 -- Where there is a page and a kind of access.
 abbrev pub walk_where :
     Option VirtualPage → Option Want → ℕ → PaprAccess → WalkMemory → PaprWalk × WalkMemory
-walk_where (Some page) (Some want) order a m = walk_of_page order a page want m
+walk_where (Some page) (Some want) order a m =
+    walked_by a want m (walk_run order a page want m.entries)
 walk_where page want order a m = (refused_walk, m)
 
 -- Arguments out of range, and entries that are no table, are refused, and nothing changes.
@@ -112,3 +68,41 @@ outcome_of_walk order a m =
     if is_table order m.entries
     then walk_where (page_of a) (want_of a.want) order a m
     else (refused_walk, m)
+
+-- ---- without a change
+-- The receipts of calls, each on its entry as it is, whatever the others answer.
+unfoldable pub each_as_is : List State → List Call → List Receipt
+each_as_is entries calls = map (receipt_at entries) calls
+
+-- What a walk of these entries would find, by the entry as it is; no receipt is told.
+abbrev pub probe_where :
+    Option VirtualPage → Option Want → ℕ → PaprAccess → List State → PaprWalk
+probe_where (Some page) (Some want) order a entries =
+    let found = found_of (walk_run order a page want entries).0 in
+    walk_end (λ r. r.before) a want found 0
+probe_where page want order a entries = refused_walk
+
+-- Of the same arguments as a walk.
+abbrev pub outcome_of_probe : ℕ → PaprAccess → List State → PaprWalk
+outcome_of_probe order a entries =
+    if is_table order entries
+    then probe_where (page_of a) (want_of a.want) order a entries
+    else refused_walk
+
+-- ---- the two
+-- They tell the same but for R and C, the rights that depend on these, and the receipts.
+pub record Agree (walk probe : PaprWalk) : Type 0 where
+  pub logical : probe.logical ≡ walk.logical
+  pub entry : probe.entry ≡ walk.entry
+  pub outcome : probe.outcome ≡ walk.outcome
+  pub causes : probe.causes ≡ walk.causes
+  pub base_shift : probe.base_shift ≡ walk.base_shift
+  pub actual_shift : probe.actual_shift ≡ walk.actual_shift
+  pub dword0 : probe.dword0 ≡ walk.dword0
+  pub dword1 : without_rc probe.dword1 ≡ without_rc walk.dword1
+
+-- So of each table and each access.
+abbrev pub ProbesAgreeWithWalks : Type 0
+ProbesAgreeWithWalks =
+    (order : ℕ) (a : PaprAccess) (m : WalkMemory)
+    → Agree (outcome_of_walk order a m).0 (outcome_of_probe order a m.entries)

@@ -12,6 +12,7 @@ use entry_model::EntryState;
 /// H_BULK_REMOVE (LoPAR): takes four pairs of words, each a request to remove an entry and the word
 /// of its test. The words are all eight, with a response in place of each request that was taken
 /// up.
+#[inline(always)]
 #[unsafe(no_mangle)]
 pub extern "C" fn papr_h_bulk_remove(
     entries: &mut [EntryState],

@@ -1,6 +1,46 @@
 //! Laws of the library. Each function does nothing, and its contract is the law.
 
+ghost use Rattle.papr_c.specs.Decoding.{PlacesAreThoseOfPages, NoCauseExactlyAtPages, BaseSizesAreThePages};
 ghost use Rattle.papr_c.specs.ResizeLaw.{IsPrepareOfPool, IsCommitOfPool};
+ghost use Rattle.papr_c.specs.Rights.{RightsAreWhatStays, NoCauseExactlyWhereAllowed};
+ghost use Rattle.papr_c.specs.Stale.{UnstaleKeepsTranslations};
+ghost use Rattle.papr_c.specs.Walks.{ProbesAgreeWithWalks};
+
+/// A right is told exactly where the entry would allow such an access and stay as it is.
+pub fn rights_are_what_stays()
+    ensures { RightsAreWhatStays }
+{}
+
+/// No cause is told exactly where the entry of the page allows the access.
+pub fn no_cause_exactly_where_allowed()
+    ensures { NoCauseExactlyWhereAllowed }
+{}
+
+/// A probe tells what a walk of the same entries tells, but for R and C.
+pub fn probes_agree_with_walks()
+    ensures { ProbesAgreeWithWalks }
+{}
+
+/// Where a reply isn't stale, each entry that was valid has the words that it had, and R and C were
+/// at most set.
+pub fn unstale_keeps_translations()
+    ensures { UnstaleKeepsTranslations }
+{}
+
+/// A page of a base size lies where a tag says exactly where a page of that size has the tag.
+pub fn places_are_those_of_pages()
+    ensures { PlacesAreThoseOfPages }
+{}
+
+/// No reason is told exactly where doublewords translate a page at an index in range.
+pub fn no_cause_exactly_at_pages()
+    ensures { NoCauseExactlyAtPages }
+{}
+
+/// Then the base page size that is told is the page's.
+pub fn base_sizes_are_the_pages()
+    ensures { BaseSizesAreThePages }
+{}
 
 /// `papr_resize_prepare` is H_RESIZE_HPT_PREPARE over a pool that has a block for a table exactly
 /// where memory for it is lent.

@@ -6,21 +6,26 @@
 #![tactic(auto)]
 
 mod bulk;
+mod decoding;
 mod enter;
 mod exporting;
 mod granting;
 mod grants;
+mod hcall;
 mod importing;
 mod laws;
 mod lent;
+mod probing;
 mod read;
 mod receipts;
 mod rehashing;
 mod reply;
 mod resizing;
+mod rights;
 mod running;
 mod segments;
 mod single;
+mod stale;
 mod transfer;
 mod trying;
 mod version;

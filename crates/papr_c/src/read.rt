@@ -30,6 +30,7 @@ pub fn put_entries(entries: &[EntryState], first: u32, count: u32, places: &mut 
 
 /// H_READ (LoPAR): the words are the two doublewords of the entry `ptex`, or under H_READ_4 those
 /// of the four entries that it lies among.
+#[inline(always)]
 #[unsafe(no_mangle)]
 pub extern "C" fn papr_h_read(
     entries: &mut [EntryState],

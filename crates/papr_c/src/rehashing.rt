@@ -2,7 +2,7 @@ ghost use Rattle.std.specs.Prelude.{◌≡◌, ◌≤◌, length, replicate};
 ghost use Rattle.entry_model.specs.State.{empty_state};
 ghost use Rattle.hpte_fields.specs.TableSize.{entry_count};
 ghost use Rattle.hpt_resize.specs.Rehash.{collision_of};
-ghost use Rattle.papr_c.specs.Rehash.{without_collision, rehash_told, table_after, outcome_of_rehash};
+ghost use Rattle.papr_c.specs.Rehash.{refused_rehash, rehash_told, table_after, outcome_of_rehash};
 
 use crate::lent::is_table;
 use entry_model::EntryState;
@@ -21,18 +21,21 @@ pub struct PaprRehash {
     pub second: u32,
     /// The index in the new table.
     pub target: u32,
+    /// Whether cached translations have to be dropped: after a success none is one of the new table.
+    pub stale: bool,
 }
 
 impl PaprRehash {
-    /// An answer with no collision.
-    pub fn of(rc: Rc) -> PaprRehash
-        ensures { result ≡ without_collision rc }
+    /// A refusal with this code: no rehash is made.
+    pub fn refused(rc: Rc) -> PaprRehash
+        ensures { result ≡ refused_rehash rc }
     {
         PaprRehash {
             rc: rc.code(),
             first: 0,
             second: 0,
             target: 0,
+            stale: false,
         }
     }
 }
@@ -65,7 +68,13 @@ pub fn carry(
 {
     clear(into);
     match rehash_into(order, into_order, entries, into) {
-        Ok(()) => PaprRehash::of(Rc::Success),
+        Ok(()) => PaprRehash {
+            rc: Rc::Success.code(),
+            first: 0,
+            second: 0,
+            target: 0,
+            stale: true,
+        },
         Err(collision) => {
             clear(into);
             PaprRehash {
@@ -73,6 +82,7 @@ pub fn carry(
                 first: collision.first,
                 second: collision.second,
                 target: collision.target,
+                stale: false,
             }
         }
     }
@@ -91,7 +101,7 @@ pub extern "C" fn papr_rehash(
     ensures { (result, into.new) ≡ outcome_of_rehash order entries.now into_order into.old }
 {
     if !is_table(entries, order) || !is_table(into, into_order) {
-        return PaprRehash::of(Rc::Parameter);
+        return PaprRehash::refused(Rc::Parameter);
     }
     carry(entries, order, into, into_order)
 }

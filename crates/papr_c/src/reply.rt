@@ -6,8 +6,9 @@ ghost use Rattle.papr_c.specs.Calls.{refused_reply};
 use entry_model::Registers;
 use papr_codes::Rc;
 
-/// What a hypervisor call answers: its return code, as register 3 has it, and how many of the
-/// caller's places for words and for receipts were filled.
+/// What a hypervisor call answers: its return code, as register 3 has it, how many of the caller's
+/// places for words and for receipts were filled, and whether cached translations have to be
+/// dropped.
 #[repr(C)]
 #[derive(Clone, Copy)]
 pub struct PaprReply {
@@ -17,6 +18,9 @@ pub struct PaprReply {
     pub words: u32,
     /// How many receipts were written.
     pub receipts: u32,
+    /// Whether a cached translation may be one no more: an entry was removed or protected, or its R
+    /// or C was cleared. It doesn't matter how many receipts were written.
+    pub stale: bool,
 }
 
 impl PaprReply {
@@ -28,23 +32,27 @@ impl PaprReply {
             rc: Rc::Parameter.code(),
             words: 0,
             receipts: 0,
+            stale: false,
         }
     }
 
-    /// A code, and how many of the caller's places are filled.
+    /// A code, how many of the caller's places are filled, and whether a cached translation may be
+    /// one no more.
     #[inline]
-    pub fn told(rc: Rc, words: u32, receipts: u32) -> PaprReply
+    pub fn told(rc: Rc, words: u32, receipts: u32, stale: bool) -> PaprReply
         ensures { result
             ≡ record {
               rc = rc_code rc;
               words = words;
               receipts = receipts;
+              stale = stale;
             } }
     {
         PaprReply {
             rc: rc.code(),
             words,
             receipts,
+            stale,
         }
     }
 }
@@ -76,12 +84,19 @@ fn put_words(made: &[u64], places: &mut [u64]) -> u32
 /// Puts what a call left in registers into the caller's places, as far as these go. The receipts
 /// of the entries that it tried were put already.
 #[inline]
-pub fn hand_over(registers: &Registers, tried: u32, words: &mut [u64], room: usize) -> PaprReply
+pub fn hand_over(
+    registers: &Registers,
+    tried: u32,
+    stale: bool,
+    words: &mut [u64],
+    room: usize,
+) -> PaprReply
     ensures reply { result
         ≡ record {
           rc = rc_code registers.now.rc;
           words = min (length words.old) (length registers.now.words);
           receipts = min room tried;
+          stale = stale;
         } }
     ensures words { words.new ≡ filled words.old registers.now.words }
 {
@@ -89,6 +104,7 @@ pub fn hand_over(registers: &Registers, tried: u32, words: &mut [u64], room: usi
         rc: registers.rc.code(),
         words: put_words(registers.words.as_slice(), words),
         receipts: filled_count(room, tried),
+        stale,
     }
 }
 

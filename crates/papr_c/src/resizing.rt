@@ -169,14 +169,14 @@ pub extern "C" fn papr_resize_commit(
         (resize_memory resize.old into.old) }
 {
     if !is_table(entries, order) {
-        return PaprRehash::of(Rc::Parameter);
+        return PaprRehash::refused(Rc::Parameter);
     }
     let into_order = match resize.refusal(flags, shift) {
         Ok(order) => order,
-        Err(rc) => return PaprRehash::of(rc),
+        Err(rc) => return PaprRehash::refused(rc),
     };
     if into.len() != entry_count(into_order) as usize {
-        return PaprRehash::of(Rc::Parameter);
+        return PaprRehash::refused(Rc::Parameter);
     }
     *resize = PaprResize::NOTHING;
     carry(entries, order, into, into_order)

@@ -8,6 +8,7 @@ use crate::lent::LentTable;
 use crate::read::put_entries;
 use crate::receipts::{PaprReceipt, put_receipts};
 use crate::reply::{PaprReply, filled_count, hand_over};
+use crate::stale::{any_stale, ends_stale, is_stale};
 use crate::trying::{make, try_lent};
 use call_plan::{CallPlan, Told, Trial};
 use entry_model::{EntryState, Receipts};
@@ -36,16 +37,24 @@ fn try_trial(
     match trial.told {
         Told::Entered => {
             let tried = try_lent(entries, trial, receipts);
-            hand_over(&h_enter::registers(&tried.ending), tried.count, words, room)
+            let stale = ends_stale(&tried.ending);
+            hand_over(
+                &h_enter::registers(&tried.ending),
+                tried.count,
+                stale,
+                words,
+                room,
+            )
         }
         Told::Answer { shown } => {
             let receipt = make(entries, &trial.op, trial.first, receipts, 0);
-            hand_over(&h_update::registers(&receipt, shown), 1, words, room)
+            let stale = is_stale(receipt.answer);
+            hand_over(&h_update::registers(&receipt, shown), 1, stale, words, room)
         }
         Told::Contents => {
             let tried = try_lent(entries, trial, receipts);
             let shown = put_entries(entries, trial.first, trial.count, words);
-            PaprReply::told(Rc::Success, shown, filled_count(room, tried.count))
+            PaprReply::told(Rc::Success, shown, filled_count(room, tried.count), false)
         }
     }
 }
@@ -71,7 +80,8 @@ fn remove_pairs(
     let registers = h_bulk_remove_into(&mut table, pairs, &mut made);
     let _put = put_receipts(made.as_slice(), receipts);
     let tried = made.as_slice().len() as u32;
-    hand_over(&registers, tried, words, receipts.len())
+    let stale = any_stale(made.as_slice());
+    hand_over(&registers, tried, stale, words, receipts.len())
 }
 
 /// Makes a call on entries that are lent, and hands over what its receipts tell.
@@ -92,7 +102,7 @@ pub fn run_lent(
         (memory entries.old words.old receipts.old) }
 {
     match plan {
-        CallPlan::Code { rc } => PaprReply::told(*rc, 0, 0),
+        CallPlan::Code { rc } => PaprReply::told(*rc, 0, 0, false),
         CallPlan::Tries { trial } => try_trial(entries, order, trial, words, receipts),
         CallPlan::Removes { order: _, pairs } => {
             remove_pairs(entries, order, pairs, words, receipts)

@@ -11,6 +11,7 @@ use entry_model::EntryState;
 
 /// H_REMOVE (LoPAR): empties the entry `ptex` where it passes the test that `flags` ask for, by
 /// `avpn`. The words are its two doublewords before.
+#[inline(always)]
 #[unsafe(no_mangle)]
 pub extern "C" fn papr_h_remove(
     entries: &mut [EntryState],
@@ -36,6 +37,7 @@ pub extern "C" fn papr_h_remove(
 
 /// H_PROTECT (LoPAR): gives the entry `ptex` the protection in `flags`, where it passes the test by
 /// `avpn` that they ask for. There are no words.
+#[inline(always)]
 #[unsafe(no_mangle)]
 pub extern "C" fn papr_h_protect(
     entries: &mut [EntryState],
@@ -61,6 +63,7 @@ pub extern "C" fn papr_h_protect(
 
 /// H_CLEAR_REF (LoPAR): clears R of the entry `ptex`. The word is its doubleword 1 before. `flags`
 /// are ignored.
+#[inline(always)]
 #[unsafe(no_mangle)]
 pub extern "C" fn papr_h_clear_ref(
     entries: &mut [EntryState],
@@ -85,6 +88,7 @@ pub extern "C" fn papr_h_clear_ref(
 
 /// H_CLEAR_MOD (LoPAR): clears C of the entry `ptex`. The word is its doubleword 1 before. `flags`
 /// are ignored.
+#[inline(always)]
 #[unsafe(no_mangle)]
 pub extern "C" fn papr_h_clear_mod(
     entries: &mut [EntryState],

@@ -36,6 +36,22 @@ fn store(entries: &mut [EntryState], receipt: &Receipt, after: &EntryState)
     }
 }
 
+/// The receipt of an operation on an entry in this state, and the entry's state after it.
+#[inline(always)]
+pub fn asked(entry: u32, before: EntryState, op: &Op) -> (Receipt, EntryState)
+    ensures receipt { result.0 ≡ receipt_of entry before op.now }
+    ensures after { result.1 ≡ after_of result.0 }
+{
+    let (answer, after) = reply(&before, op);
+    let receipt = Receipt {
+        entry,
+        before,
+        op: *op,
+        answer,
+    };
+    (receipt, after)
+}
+
 /// Makes an operation on an entry, and puts the receipt into the caller's place, where there is
 /// one.
 #[inline(always)]
@@ -52,20 +68,15 @@ pub fn make(
     ensures receipts { receipts.new ≡ set receipts.old place (shown_receipt result) }
 {
     let before = entries[entry as usize];
-    let (answer, after) = reply(&before, op);
-    let receipt = Receipt {
-        entry,
-        before,
-        op: *op,
-        answer,
-    };
+    let (receipt, after) = asked(entry, before, op);
     store(entries, &receipt, &after);
     put_receipt(&receipt, receipts, place);
     receipt
 }
 
-/// Makes the call behind the first `made` on its entry, and puts its receipt into the caller's place,
-/// where there is one. Gives back how the trial ended, or `None` where the next call follows.
+/// Makes the call behind the first `made` on its entry, and puts its receipt into the caller's
+/// place, where there is one. Gives back how the trial ended, or `None` where the next call
+/// follows.
 #[inline(always)]
 fn try_next<C: CallList>(
     entries: &mut [EntryState],

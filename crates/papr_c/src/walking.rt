@@ -1,13 +1,17 @@
 ghost use Rattle.std.specs.Prelude.{◌≡◌};
-ghost use Rattle.papr_c.specs.Walks.{WalkMemory, want_of, walk_memory, refused_walk, refusal_number, walk_end, walk_told, outcome_of_walk};
+ghost use Rattle.papr_c.specs.WalkEnds.{masks_of, no_entry, refused_walk, refusal_number, end_at};
+ghost use Rattle.papr_c.specs.Walks.{WalkMemory, want_of, walk_memory, outcome_of_walk};
 
 use crate::lent::is_table;
 use crate::receipts::PaprReceipt;
 use crate::reply::filled_count;
+use crate::rights::{causes, rights};
 use crate::trying::try_by_groups;
 use authority_mask::{MaskName, Masks};
+use call_plan::PageCalls;
 use entry_model::{Answer, EntryState, Receipt};
 use hpt_walk::logical_of;
+use page_sizes::decode;
 use power_addr::Page;
 use storage_prot::Want;
 
@@ -18,7 +22,7 @@ const ALLOWED: u32 = 0;
 const DENIED: u32 = 1;
 
 /// No entry translates the page.
-const NO_PAGE: u32 = 2;
+pub const NO_PAGE: u32 = 2;
 
 /// The arguments are out of range, and no entry was tried.
 const REFUSED: u32 = 3;
@@ -54,12 +58,17 @@ pub struct PaprAccess {
     pub no_execute: bool,
 }
 
-/// What a walk found.
+/// What a walk found: all that a processor keeps of a translation, or why there is none. What isn't
+/// told is 0.
 #[repr(C)]
 #[derive(Clone, Copy)]
 pub struct PaprWalk {
     /// The logical address, where the access is allowed; else 0.
     pub logical: u64,
+    /// Doubleword 0 of the entry that translates the page.
+    pub dword0: u64,
+    /// Its doubleword 1 after the walk, with R and C.
+    pub dword1: u64,
     /// The index of the entry that translates the page, where there is one; else 0.
     pub entry: u32,
     /// 0 where the access is allowed, 1 where the entry's protection refuses it, 2 where no entry
@@ -68,9 +77,33 @@ pub struct PaprWalk {
     pub outcome: u32,
     /// How many of the caller's places for receipts were filled.
     pub receipts: u32,
+    /// The entry's base page size, as a binary logarithm of bytes.
+    pub base_shift: u8,
+    /// The size of the real page.
+    pub actual_shift: u8,
+    /// What the entry lets this processor do after the walk, and need not record: read counts 4, write
+    /// 2 and execute 1. So there is none without R, and none to write without C.
+    pub rights: u8,
+    /// All causes for which the access is refused: the protection bits count 1; N or G, or the
+    /// segment's N, 2; AMR 4; IAMR 8.
+    pub causes: u8,
 }
 
-fn want_of(want: u8) -> Option<Want>
+impl PaprAccess {
+    /// The masks of the access's processor.
+    #[inline]
+    pub fn masks(&self) -> Masks
+        ensures { result ≡ masks_of self.now }
+    {
+        Masks {
+            amr: self.amr,
+            iamr: self.iamr,
+        }
+    }
+}
+
+/// What the number of an access wants.
+pub fn want_of(want: u8) -> Option<Want>
     ensures { result ≡ Rattle.papr_c.specs.Walks.want_of want }
 {
     match want {
@@ -93,51 +126,70 @@ fn refusal(mask: Option<MaskName>) -> u32
 }
 
 impl PaprWalk {
-    /// No entry was tried.
-    fn refused() -> PaprWalk
-        ensures { result ≡ refused_walk }
+    /// An outcome without an entry.
+    pub fn no_entry(outcome: u32, receipts: u32) -> PaprWalk
+        ensures { result ≡ no_entry outcome receipts }
     {
         PaprWalk {
             logical: 0,
+            dword0: 0,
+            dword1: 0,
             entry: 0,
-            outcome: REFUSED,
-            receipts: 0,
+            outcome,
+            receipts,
+            base_shift: 0,
+            actual_shift: 0,
+            rights: 0,
+            causes: 0,
         }
     }
 
-    /// The end of a walk that found this.
-    fn end(ea: u64, found: &Option<Receipt>, receipts: u32) -> PaprWalk
-        ensures { result ≡ walk_end ea found.now receipts }
+    /// No entry was tried.
+    pub fn refused() -> PaprWalk
+        ensures { result ≡ refused_walk }
     {
-        let Some(receipt) = found else {
-            return PaprWalk {
-                logical: 0,
-                entry: 0,
-                outcome: NO_PAGE,
-                receipts,
-            };
+        PaprWalk::no_entry(REFUSED, 0)
+    }
+
+    /// The end by the receipt of an entry that translates the page, and is in this state now.
+    pub fn end(
+        access: &PaprAccess,
+        want: Want,
+        receipt: &Receipt,
+        now: &EntryState,
+        receipts: u32,
+    ) -> PaprWalk
+        ensures { result ≡ end_at access.now want receipt.now now.now receipts }
+    {
+        let (dword0, dword1) = now.words();
+        let (base_shift, actual_shift) = match decode(now.dword0, now.dword1) {
+            Some(size) => (size.base, size.actual),
+            None => (0, 0),
         };
-        let entry = receipt.entry;
+        let mut end = PaprWalk {
+            logical: 0,
+            dword0,
+            dword1,
+            entry: receipt.entry,
+            outcome: DENIED,
+            receipts,
+            base_shift,
+            actual_shift,
+            rights: rights(now, access),
+            causes: 0,
+        };
         match receipt.answer {
-            Answer::At => PaprWalk {
-                logical: logical_of(ea, &receipt.before),
-                entry,
-                outcome: ALLOWED,
-                receipts,
-            },
-            Answer::Masked => PaprWalk {
-                logical: 0,
-                entry,
-                outcome: refusal(receipt.mask()),
-                receipts,
-            },
-            _ => PaprWalk {
-                logical: 0,
-                entry,
-                outcome: DENIED,
-                receipts,
-            },
+            Answer::At => {
+                end.outcome = ALLOWED;
+                end.logical = logical_of(access.ea, &receipt.before);
+            }
+            Answer::Masked => {
+                end.outcome = refusal(receipt.mask());
+                end.causes = causes(&receipt.before, access, want);
+            }
+            _ => end.causes = causes(&receipt.before, access, want),
         }
+        end
     }
 }
 
@@ -160,12 +212,15 @@ pub extern "C" fn papr_walk(
     if !is_table(entries, order) {
         return PaprWalk::refused();
     }
-    let masks = Masks {
-        amr: access.amr,
-        iamr: access.iamr,
-    };
-    let calls = PageCalls::of(&page, order, want, access.key, access.no_execute, masks);
+    let (key, no_execute, masks) = (access.key, access.no_execute, access.masks());
+    let calls = PageCalls::of(&page, order, want, key, no_execute, masks);
     let tried = try_by_groups(entries, &calls, receipts);
     let filled = filled_count(receipts.len(), tried.count);
-    PaprWalk::end(access.ea, &tried.ending, filled)
+    match tried.ending {
+        Some(receipt) => {
+            let now = entries[receipt.entry as usize];
+            PaprWalk::end(access, want, &receipt, &now, filled)
+        }
+        None => PaprWalk::no_entry(NO_PAGE, filled),
+    }
 }

@@ -12,6 +12,7 @@ ghost use Rattle.papr_c.specs.Windows.{window_of, page_entry, outcome_of_tce, de
 use crate::grants::PaprGrants;
 use crate::receipts::PaprReceipt;
 use crate::reply::{PaprReply, filled_count, put_word};
+use crate::stale::is_stale;
 use crate::trying::make;
 use bus_window::Window;
 use dma_window::{entering, tce_of};
@@ -152,7 +153,8 @@ fn clear(entries: &mut [EntryState], entry: u32, receipts: &mut [PaprReceipt]) -
 {
     let room = receipts.len();
     let removed = make(entries, &REMOVAL, entry, receipts, 0);
-    PaprReply::told(code_of(removed.answer), 0, filled_count(room, 1))
+    let stale = is_stale(removed.answer);
+    PaprReply::told(code_of(removed.answer), 0, filled_count(room, 1), stale)
 }
 
 /// Empties an entry, and makes this operation on it.
@@ -168,11 +170,13 @@ fn replace(
 {
     let room = receipts.len();
     let removed = make(entries, &REMOVAL, entry, receipts, 0);
+    let stale = is_stale(removed.answer);
     if is_worn(removed.answer) {
-        return PaprReply::told(Rc::Hardware, 0, filled_count(room, 1));
+        return PaprReply::told(Rc::Hardware, 0, filled_count(room, 1), stale);
     }
     let entered = make(entries, op, entry, receipts, 1);
-    PaprReply::told(code_of(entered.answer), 0, filled_count(room, 2))
+    let again = is_stale(entered.answer);
+    PaprReply::told(code_of(entered.answer), 0, filled_count(room, 2), stale || again)
 }
 
 /// H_PUT_TCE on the entry of a page.
@@ -249,7 +253,7 @@ pub extern "C" fn papr_get_tce(
     let shown = filled_count(words.len(), 1);
     let read = make(entries, &Op::Read, entry, receipts, 0);
     put_word(tce_of(&read.before), words, 0);
-    PaprReply::told(Rc::Success, shown, filled)
+    PaprReply::told(Rc::Success, shown, filled, false)
 }
 
 /// Where a device's access ends by the page's TCE.

@@ -10,7 +10,7 @@ returns c =
     c.h_bulk_remove_into-registers.ensures.made.made.run
     c.lend-table.ensures.entries
     (record {
-      reply = rw (c.put_receipts-put.auto.places, c.as_slice-2.ensures.value) at c.hand_over.ensures.reply;
+      reply = rw (c.put_receipts-put.auto.places, c.as_slice-2.ensures.value, c.any_stale-stale.ensures, c.as_slice-3.ensures.value) at c.hand_over.ensures.reply;
       in_words = c.hand_over.ensures.words;
       in_receipts = rw c.as_slice.ensures.value at c.put_receipts-put.ensures.filled;
     })

@@ -1,7 +1,10 @@
 use Rattle.std.specs.Prelude.{map}
-use Rattle.std.proofs.Common.{◌≡◌, ◌≤◌, min, length, [], ◌∷◌, refl, arith, ap, sym, subst, ◌∙◌}
+use Rattle.std.specs.Option.{option_map_or}
+use Rattle.std.proofs.Common.{◌≡◌, ◌≤◌, min, length, [], ◌∷◌, Option, Bool, false, refl, arith, ap, sym, subst, ◌∙◌}
 use Rattle.papr_codes.specs.ReturnCodes.{rc_code}
 use Rattle.papr_codes.specs.declared.codes.Rc.TheVariants.{Success}
+use Rattle.entry_model.specs.Receipt.{is_taken}
+use Rattle.entry_model.specs.declared.receipt.Receipt.{Receipt}
 use Rattle.entry_model.specs.Run.{states_after}
 use Rattle.entry_model.specs.Trial.{ending_of, goes_after, trial_run}
 use Rattle.entry_model.specs.declared.operation.Op.TheVariants.{Read}
@@ -11,11 +14,17 @@ use Rattle.h_enter.proofs.Search.{told_is}
 use Rattle.call_plan.specs.Plans.{goes_of, told_of, most_of, plan_of_trial, IsToldOf}
 use Rattle.call_plan.proofs.TrialCalls.{trial_in}
 use Rattle.papr_c.specs.Places.{placed, shown_receipt}
+use Rattle.papr_c.specs.Stale.{is_stale, any_stale}
 use Rattle.papr_c.specs.Tried.{words_of_entries}
 use Rattle.papr_c.proofs.Filling.{placed_filled}
 use Rattle.papr_c.proofs.Outcomes.{alone, call_tried, calls_inside}
 use Rattle.papr_c.proofs.Reading.{read_all, reads, words-length}
+use Rattle.papr_c.proofs.StaleTrials.{stale_alone, stale_entered}
 use Rattle.papr_c.proofs.running.try_trial.Goals as goal
+
+-- Whether the receipt that ended a trial says so.
+abbrev ends_so : Option Receipt → Bool
+ends_so ending = option_map_or (λ (r : Receipt). is_stale r.answer) ending false
 
 pub try_lent-tried-requires-clause-in_table : goal.try_lent-tried-requires-clause-in_table
 try_lent-tried-requires-clause-in_table c =
@@ -28,6 +37,12 @@ pub returns-in-Entered : goal.returns-in-Entered
 returns-in-Entered c =
     let t = c.args.trial.now in
     let x = trial_run (goes_after (goes_of t.told)) c.args.entries.now (calls_from t.op t.first t.count) in
+    let goes : goes_after (goes_of t.told) ≡ is_taken = ap (λ d. goes_after (goes_of d)) c.in-Entered.is in
+    let stale : c.ends_stale-stale.result ≡ any_stale x.0 =
+    c.ends_stale-stale.ensures
+    ∙ ap ends_so (c.try_lent-tried.ensures.ending ∙ ap (λ g. ending_of g (trial_run g c.args.entries.now (calls_from t.op t.first t.count)).0) goes)
+    ∙ stale_entered c.args.entries.now (calls_from t.op t.first t.count)
+    ∙ ap (λ g. any_stale (trial_run g c.args.entries.now (calls_from t.op t.first t.count)).0) (sym goes) in
     call_tried _ _ _ x c.registers.result.rc c.registers.result.words c.hand_over.result c.hand_over.new.words c.try_lent-tried.new.receipts c.try_lent-tried.new.entries
     c.requires.table
     refl
@@ -36,7 +51,7 @@ returns-in-Entered c =
     ∙ ap (λ d. told_by_ending (ending_of (goes_after (goes_of d)) x.0)) c.in-Entered.is
     ∙ told_is x.0
     ∙ ap (λ d. told_of d x.0) (sym c.in-Entered.is))
-    (rw c.try_lent-tried.ensures.count at c.hand_over.ensures.reply)
+    (rw (c.try_lent-tried.ensures.count, stale) at c.hand_over.ensures.reply)
     c.hand_over.ensures.words
     c.try_lent-tried.ensures.receipts
     c.try_lent-tried.ensures.entries
@@ -52,7 +67,7 @@ returns-in-Answer c =
     (alone t.op t.first c.args.entries.now r c.make-receipt.ensures.receipt
     ∙ λ k. trial_run (goes_after (goes_of (sym c.in-Answer.is k))) c.args.entries.now (calls_from t.op t.first (sym one k)))
     (c.registers-in-Answer.ensures ∙ ap (λ d. told_of d (r ∷ [])) (sym c.in-Answer.is))
-    c.hand_over-in-Answer.ensures.reply
+    (rw (c.is_stale-stale.ensures, stale_alone r) at c.hand_over-in-Answer.ensures.reply)
     c.hand_over-in-Answer.ensures.words
     c.make-receipt.ensures.receipts
     c.make-receipt.ensures.entries
@@ -81,7 +96,7 @@ returns-in-Contents c =
     c.requires.table
     (sym same)
     (ap (λ z. (Success, z)) (sym read.words) ∙ ap (λ d. told_of d x.0) (sym c.in-Contents.is))
-    (c.told.ensures ∙ λ k. record { rc = rc_code Success; words = shown k; receipts = filled k })
+    (c.told.ensures ∙ λ k. record { rc = rc_code Success; words = shown k; receipts = filled k; stale = sym read.fresh k })
     (c.put_entries-shown.ensures.put ∙ ap (λ e. placed c.args.words.now 0 (words_of_entries e t.first t.count)) stays ∙ placed_filled ws c.args.words.now)
     (c.try_lent-tried-in-Contents.ensures.receipts ∙ ap (λ z. placed c.args.receipts.now 0 (map shown_receipt z.0)) same)
     (c.try_lent-tried-in-Contents.ensures.entries ∙ ap (λ z. z.1) same)

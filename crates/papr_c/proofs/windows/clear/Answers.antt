@@ -8,6 +8,7 @@ use Rattle.dma_window.specs.Calls.{clear_plan}
 use Rattle.dma_window.specs.Entries.{no_test}
 use Rattle.papr_c.specs.Calls.{memory}
 use Rattle.papr_c.proofs.Outcomes.{call_tried}
+use Rattle.papr_c.proofs.StaleTrials.{stale_alone}
 use Rattle.papr_c.proofs.Tces.{one_call}
 use Rattle.papr_c.proofs.windows.clear.Goals as goal
 
@@ -19,7 +20,7 @@ returns c =
     refl
     (one_call (λ answer. not (is_worn answer)) (Remove no_test) c.args.entry entries r c.make-removed.ensures.receipt)
     (ap (λ rc. (rc, [])) c.code_of.ensures)
-    (c.told.ensures ∙ ap (λ n. record { rc = rc_code c.code_of.result; words = 0; receipts = n }) c.filled_count.ensures)
+    (c.told.ensures ∙ λ k. record { rc = rc_code c.code_of.result; words = 0; receipts = c.filled_count.ensures k; stale = (c.is_stale-stale.ensures ∙ stale_alone r) k })
     refl
     c.make-removed.ensures.receipts
     c.make-removed.ensures.entries

@@ -1,15 +1,18 @@
 use Rattle.std.specs.Prelude.{map}
-use Rattle.std.proofs.Common.{◌≡◌, [], ◌∷◌, true, refl, ap, sym, ◌∙◌}
+use Rattle.std.proofs.Common.{◌≡◌, [], ◌∷◌, true, false, refl, ap, sym, ◌∙◌}
 use Rattle.std.specs.Option.{option_map_or}
 use Rattle.papr_codes.specs.ReturnCodes.{rc_code}
 use Rattle.papr_codes.specs.declared.codes.Rc.TheVariants.{Success}
 use Rattle.entry_model.specs.Run.{states_after}
 use Rattle.entry_model.specs.declared.operation.Op.TheVariants.{Read}
+use Rattle.entry_model.specs.declared.receipt.Receipt.{Receipt}
 use Rattle.dma_window.specs.Calls.{get_plan_at, get_tce_plan}
 use Rattle.papr_c.specs.Calls.{memory}
 use Rattle.papr_c.specs.Places.{placed, filled}
+use Rattle.papr_c.specs.Stale.{is_stale, any_stale}
 use Rattle.papr_c.proofs.Filling.{placed_filled}
 use Rattle.papr_c.proofs.Outcomes.{call_tried}
+use Rattle.papr_c.proofs.StaleTrials.{stale_alone}
 use Rattle.papr_c.proofs.Tces.{one_call, no_page, has_page}
 use Rattle.papr_c.proofs.windows.papr_get_tce.Goals as goal
 
@@ -27,11 +30,12 @@ returns c =
     let entries = c.args.entries.now in
     let m = memory entries c.args.words.now c.args.receipts.now in
     let ws = c.tce_of.result ∷ [] in
+    let fresh : false ≡ any_stale (r ∷ []) = ap (λ (q : Receipt). is_stale q.answer) (sym c.make-read.ensures.receipt) ∙ stale_alone r in
     call_tried true (get_plan_at c.in-Some.entry) m (r ∷ [], states_after entries r) Success ws c.told.result c.put_word.new.places c.make-read.new.receipts c.make-read.new.entries
     refl
     (one_call (λ answer. true) Read c.in-Some.entry entries r c.make-read.ensures.receipt)
     (ap (λ w. (Success, w ∷ [])) c.tce_of.ensures)
-    (c.told.ensures ∙ λ k. record { rc = rc_code Success; words = c.filled_count-shown.ensures k; receipts = c.filled_count-filled.ensures k })
+    (c.told.ensures ∙ λ k. record { rc = rc_code Success; words = c.filled_count-shown.ensures k; receipts = c.filled_count-filled.ensures k; stale = fresh k })
     (c.put_word.ensures ∙ placed_filled ws c.args.words.now)
     c.make-read.ensures.receipts
     c.make-read.ensures.entries

@@ -1,4 +1,4 @@
-use Rattle.std.specs.Prelude.{not}
+use Rattle.std.specs.Prelude.{not, ◌||◌}
 use Rattle.std.proofs.Common.{◌≡◌, [], ◌∷◌, List, set, true, false, refl, ap, sym, ◌∙◌}
 use Rattle.papr_codes.specs.ReturnCodes.{rc_code}
 use Rattle.papr_codes.specs.declared.codes.Rc.{Rc}
@@ -13,7 +13,9 @@ use Rattle.dma_window.specs.Calls.{replace_plan, code_of}
 use Rattle.dma_window.specs.Entries.{no_test}
 use Rattle.papr_c.specs.Calls.{memory}
 use Rattle.papr_c.specs.Places.{shown_receipt}
+use Rattle.papr_c.specs.Stale.{any_stale}
 use Rattle.papr_c.proofs.Outcomes.{call_tried}
+use Rattle.papr_c.proofs.StaleTrials.{stale_alone, stale_pair}
 use Rattle.papr_c.proofs.Tces.{first_ends, two_calls}
 use Rattle.papr_c.proofs.windows.replace.Goals as goal
 
@@ -31,7 +33,7 @@ returns-then-is_worn c =
     refl
     (first_ends (λ answer. not (is_worn answer)) (Remove no_test) c.args.op.now c.args.entry entries r c.make-removed.ensures.receipt (ap not worn))
     (ap (λ rc. (rc, [])) (worn_code r.answer worn))
-    (c.told.ensures ∙ ap (λ n. record { rc = rc_code Hardware; words = 0; receipts = n }) c.filled_count.ensures)
+    (c.told.ensures ∙ λ k. record { rc = rc_code Hardware; words = 0; receipts = c.filled_count.ensures k; stale = (c.is_stale-stale.ensures ∙ stale_alone r) k })
     refl
     c.make-removed.ensures.receipts
     c.make-removed.ensures.entries
@@ -42,12 +44,13 @@ returns c =
     let s = c.make-entered.result in
     let entries = c.args.entries.now in
     let goes : is_worn r.answer ≡ false = sym c.is_worn.ensures ∙ c.if-is_worn.false in
+    let stale : (c.is_stale-stale.result || c.is_stale-again.result) ≡ any_stale (r ∷ s ∷ []) = (λ k. c.is_stale-stale.ensures k || c.is_stale-again.ensures k) ∙ stale_pair r s in
     let next : s ≡ receipt_of c.args.entry (state_at (states_after entries r) c.args.entry) c.args.op.now = c.make-entered.ensures.receipt ∙ ap (λ (xs : List State). receipt_of c.args.entry (state_at xs c.args.entry) c.args.op.now) c.make-removed.ensures.entries in
     call_tried true (replace_plan c.args.entry c.args.op.now) (memory entries [] c.args.receipts.now) (r ∷ s ∷ [], states_after (states_after entries r) s) c.code_of.result [] c.told-2.result [] c.make-entered.new.receipts c.make-entered.new.entries
     refl
     (two_calls (λ answer. not (is_worn answer)) (Remove no_test) c.args.op.now c.args.entry entries r s c.make-removed.ensures.receipt (ap not goes) next)
     (ap (λ rc. (rc, [])) c.code_of.ensures)
-    (c.told-2.ensures ∙ ap (λ n. record { rc = rc_code c.code_of.result; words = 0; receipts = n }) c.filled_count-2.ensures)
+    (c.told-2.ensures ∙ λ k. record { rc = rc_code c.code_of.result; words = 0; receipts = c.filled_count-2.ensures k; stale = stale k })
     refl
     (c.make-entered.ensures.receipts ∙ ap (λ ps. set ps 1 (shown_receipt s)) c.make-removed.ensures.receipts)
     (c.make-entered.ensures.entries ∙ ap (λ (xs : List State). states_after xs s) c.make-removed.ensures.entries)

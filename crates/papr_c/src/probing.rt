@@ -1,0 +1,57 @@
+ghost use Rattle.std.specs.Prelude.{◌≡◌, ◌≤◌, ◌<◌, length};
+ghost use Rattle.std.specs.List.{AllByRecursion};
+ghost use Rattle.entry_model.specs.Receipt.{found_of};
+ghost use Rattle.entry_model.specs.Trial.{Call};
+ghost use Rattle.call_plan.specs.PageCalls.{calls_of};
+ghost use Rattle.papr_c.specs.Walks.{each_as_is, outcome_of_probe};
+
+use crate::lent::is_table;
+use crate::trying::asked;
+use crate::walking::{NO_PAGE, PaprAccess, PaprWalk, want_of};
+use call_trials::CallList;
+use entry_model::{EntryState, Receipt};
+use call_plan::PageCalls;
+use power_addr::Page;
+
+/// The receipt that a walk would have of the entry that translates its page.
+#[inline]
+fn find(entries: &[EntryState], calls: &PageCalls) -> Option<Receipt>
+    requires in_table { AllByRecursion
+        (λ (c : Call). c.entry < length entries.now)
+        (calls_of calls.now) }
+    requires few { length (calls_of calls.now) ≤ 16 }
+    ensures { result ≡ found_of (each_as_is entries.now (calls_of calls.now)) }
+{
+    for made in 0..16 {
+        let Some((entry, op)) = calls.call_at(made) else {
+            return None;
+        };
+        let before = entries[entry as usize];
+        let (receipt, _after) = asked(entry, before, &op);
+        if !calls.goes_on_after(receipt.answer) {
+            return Some(receipt);
+        }
+    }
+    None
+}
+
+/// What `papr_walk` would find of an access to `ea`, by the entries as they are, of which none
+/// changes. `dword1` and the rights are those without the access, and there are no receipts.
+#[unsafe(no_mangle)]
+pub extern "C" fn papr_probe(entries: &[EntryState], order: u8, access: &PaprAccess) -> PaprWalk
+    ensures { result ≡ outcome_of_probe order access.now entries.now }
+{
+    let page = Page::of_address(access.one_tb, access.vsid, access.shift, access.ea);
+    let (Some(page), Some(want)) = (page, want_of(access.want)) else {
+        return PaprWalk::refused();
+    };
+    if !is_table(entries, order) {
+        return PaprWalk::refused();
+    }
+    let (key, no_execute, masks) = (access.key, access.no_execute, access.masks());
+    let calls = PageCalls::of(&page, order, want, key, no_execute, masks);
+    match find(entries, &calls) {
+        Some(receipt) => PaprWalk::end(access, want, &receipt, &receipt.before, 0),
+        None => PaprWalk::no_entry(NO_PAGE, 0),
+    }
+}

@@ -1,7 +1,11 @@
 //! Tests of the running table below the hypervisor calls, the walk and a processor's accesses, which
 //! know nothing of it: they are generic over stores, and run over passes with their contracts as they
-//! are.
+//! are. And a caller of [`pass_calls`], by whose clauses its own follow.
 #![tactic(auto)]
+
+mod trying;
+
+pub use trying::call_within;
 
 #[cfg(test)]
 mod tests;

@@ -1,8 +1,7 @@
 -- A probe and a walk of the same entries tell the same but for R and C.
 use Rattle.std.specs.Prelude.{if◌then◌else◌}
-use Rattle.std.specs.List.{AllByRecursion}
 use Rattle.std.specs.Option.{option_map_or}
-use Rattle.std.proofs.Common.{◌≡◌, ℕ, List, [], ◌∷◌, Bool, true, false, Option, Some, None, refl, ap, sym, ◌∙◌, ◌⊎◌, inl, inr, bit_and, bit_or}
+use Rattle.std.proofs.Common.{◌≡◌, ℕ, Bool, true, false, Option, Some, None, refl, ap, sym, ◌∙◌, ◌⊎◌, inl, inr, bit_and, bit_or}
 use Rattle.std.specs.Int.Bits.{or_zero_r}
 use Rattle.std.proofs.lemmas.Bool.{cases_Bool}
 use Rattle.storage_prot.specs.declared.want.Want.{Want}
@@ -13,15 +12,13 @@ use Rattle.hpte_fields.specs.Fields.{with_rc, without_rc}
 use Rattle.hpte_fields.proofs.Masks.{mask_of_or}
 use Rattle.entry_model.specs.State.{State, OnlyRaisesBits}
 use Rattle.entry_model.specs.declared.receipt.Receipt.{Receipt}
-use Rattle.entry_model.specs.Receipt.{after_of, is_access, is_no_match, found_of}
-use Rattle.entry_model.specs.Trial.{Call, receipt_at}
+use Rattle.entry_model.specs.Receipt.{after_of, is_access, found_of}
 use Rattle.entry_model.proofs.OperationLaws.{access_further}
-use Rattle.hpt_walk.proofs.Found.{found-on, found-off}
 use Rattle.papr_c.specs.declared.walking.PaprAccess.{PaprAccess}
 use Rattle.papr_c.specs.Lent.{is_table}
 use Rattle.papr_c.specs.WalkEnds.{walk_end, end_at}
-use Rattle.papr_c.specs.Walks.{Agree, WalkMemory, each_as_is, page_of, want_of, walk_run, walk_where, probe_where, outcome_of_walk, outcome_of_probe}
-use Rattle.papr_c.proofs.FoundAsIs.{probed, found_access}
+use Rattle.papr_c.specs.Walks.{Agree, WalkMemory, page_of, want_of, walk_run, walk_where, probe_where, outcome_of_walk, outcome_of_probe}
+use Rattle.papr_c.proofs.FoundAsIs.{found_access}
 
 -- ---- R and C apart
 no_referenced : (b : Bool) → bit_and (if b then 0x100 else 0) 0xFFFFFFFFFFFFFE7F ≡ 0

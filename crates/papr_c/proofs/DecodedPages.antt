@@ -1,13 +1,13 @@
 -- The page of doublewords at an index, and the first cause where there is none.
 use Rattle.std.specs.Prelude.{IsSome, IsSomeAnd, ◌↔◌, is_some, if◌then◌else◌}
 use Rattle.std.specs.Option.{option_map_or}
-use Rattle.std.proofs.Common.{◌≡◌, ◌≢◌, ℕ, ◌/◌, ◌<◌, ◌≤◌, ◌^◌, Bool, true, false, Option, Some, None, arith, ap, sym, ◌∙◌, refl, subst, ◌⊎◌, inl, inr}
+use Rattle.std.proofs.Common.{◌≡◌, ℕ, ◌<◌, ◌^◌, Bool, true, false, Option, Some, None, ap, sym, ◌∙◌, refl, subst, ◌⊎◌, inl, inr}
 use Rattle.std.proofs.lemmas.Bool.{cases_Bool, true≢false, false≢true}
-use Rattle.power_addr.specs.Pages.{VirtualPage, IsPage, tag_of}
+use Rattle.power_addr.specs.Pages.{VirtualPage}
 use Rattle.page_sizes.specs.declared.size.PageSize.{PageSize}
 use Rattle.page_sizes.specs.Sizes.{size_of}
-use Rattle.hpte_fields.specs.Fields.{is_valid, tag_field}
-use Rattle.hpt_hash.specs.Entries.{IsPageOf, page_at}
+use Rattle.hpte_fields.specs.Fields.{is_valid}
+use Rattle.hpt_hash.specs.Entries.{page_at}
 use Rattle.hpt_hash.proofs.PageLemmas.{page_at-sound}
 use Rattle.papr_c.specs.declared.decoding.NoPage.{NoPage}
 use Rattle.papr_c.specs.declared.decoding.NoPage.TheVariants.{Empty, NoSize, NoSegment, OtherGroup, NoIndex}

@@ -1,8 +1,8 @@
 -- What a walk of entries finds, by each of them as it is.
 use Rattle.std.specs.Prelude.{map, slice_set}
-use Rattle.std.proofs.Common.{◌≡◌, ℕ, ◌+◌, ◌-◌, ◌*◌, ◌<◌, ◌≤◌, List, [], ◌∷◌, ◌++◌, drop, Bool, true, false, Option, Some, None, arith, refl, ap, sym, subst, ◌∙◌, ◌⊎◌, inl, inr}
+use Rattle.std.proofs.Common.{◌≡◌, ℕ, ◌+◌, ◌*◌, List, [], ◌∷◌, ◌++◌, drop, Bool, true, false, Option, Some, None, refl, ap, sym, subst, ◌∙◌, ◌⊎◌, inl, inr}
 use Rattle.std.specs.List.{AllByRecursion, range_with_len}
-use Rattle.std.proofs.lemmas.Bool.{cases_Bool, false≢true}
+use Rattle.std.proofs.lemmas.Bool.{cases_Bool}
 use Rattle.std.proofs.Math.Numerals.{add-one}
 use Rattle.std.proofs.lemmas.List.{set-get_or}
 use Rattle.storage_prot.specs.declared.want.Want.{Want}
@@ -14,11 +14,11 @@ use Rattle.entry_model.specs.declared.operation.Answer.TheVariants.{NoMatch}
 use Rattle.entry_model.specs.declared.operation.Op.{Op}
 use Rattle.entry_model.specs.declared.receipt.Receipt.{Receipt}
 use Rattle.entry_model.specs.Receipt.{after_of, is_access, is_at, is_no_match, found_of}
-use Rattle.entry_model.specs.Run.{state_at, states_after}
+use Rattle.entry_model.specs.Run.{states_after}
 use Rattle.entry_model.specs.Trial.{Call, call, receipt_at, trial_run}
 use Rattle.entry_model.proofs.OperationLaws.{access_undone}
 use Rattle.hpt_walk.specs.Walk.{access_op, group_calls, walk_calls}
-use Rattle.hpt_walk.proofs.Found.{found-on, found-off, found_joined}
+use Rattle.hpt_walk.proofs.Found.{found-on, found-off}
 use Rattle.papr_c.specs.declared.walking.PaprAccess.{PaprAccess}
 use Rattle.papr_c.specs.declared.walking.PaprWalk.{PaprWalk}
 use Rattle.papr_c.specs.Lent.{is_table}

@@ -1,9 +1,9 @@
 -- A page of a base size lies where a tag says exactly where the tag is one of such a page.
 use Rattle.std.specs.Prelude.{◌==◌, ◌&&◌, nat_le}
-use Rattle.std.proofs.Common.{◌≡◌, ℕ, ◌+◌, ◌-◌, ◌*◌, ◌/◌, ◌%◌, ◌^◌, ◌<◌, ◌≤◌, Bool, true, false, arith, ap, sym, ◌∙◌, refl, subst, ◌⊎◌, inl, inr}
+use Rattle.std.proofs.Common.{◌≡◌, ℕ, ◌+◌, ◌-◌, ◌*◌, ◌/◌, ◌%◌, ◌^◌, ◌<◌, ◌≤◌, Bool, true, false, arith, sym, ◌∙◌, refl, subst, ◌⊎◌, inl, inr}
 use Rattle.std.proofs.lemmas.Bool.{and_parts, cases_Bool, eqb-true, eqb-false, eq-eqb, le-leb, leb-true}
 use Rattle.std.specs.Int.Bits.{and_high}
-use Rattle.power_addr.specs.Pages.{VirtualPage, IsPage, virtual_page, is_base_shift, offset_bits, vsid_bits, virtual_address, tag_of, segment_code_of}
+use Rattle.power_addr.specs.Pages.{VirtualPage, IsPage, virtual_page, is_base_shift, offset_bits, virtual_address, tag_of, segment_code_of}
 use Rattle.power_addr.proofs.Ranges.{IsKind, small_4k, small_64k, small_16m, large_4k, large_64k, large_16m, large_16g, kind_of, virtual_address-lt}
 use Rattle.power_addr.proofs.Tags.{tag_of-parts, segment_code-le}
 use Rattle.hpte_fields.specs.Fields.{is_one_tb, segment_code, tag_field}

@@ -1,8 +1,8 @@
 -- Protection bits that have no row allow nothing.
-use Rattle.std.proofs.Common.{◌≡◌, ℕ, ◌<◌, Bool, true, false, arith, refl}
+use Rattle.std.proofs.Common.{◌≡◌, ℕ, ◌<◌, Bool, arith, refl}
 use Rattle.std.proofs.lemmas.Bool.{ne_eqb}
 use Rattle.storage_prot.specs.Protection.{Permission, permission, rows}
-use Rattle.papr_c.specs.Decoding.{rights_of_permission, protection_rights}
+use Rattle.papr_c.specs.Decoding.{protection_rights}
 
 past_rows : (protection : ℕ) (key : Bool) → 7 < protection → permission protection key ≡ Permission.Nothing
 unfolding permission rows

@@ -1,6 +1,6 @@
 -- What an entry's rights and causes say of its answers.
 use Rattle.std.specs.Prelude.{◌↔◌, ◌&&◌, ◌||◌, not, if◌then◌else◌, is_some}
-use Rattle.std.proofs.Common.{◌≡◌, ℕ, ◌+◌, Bool, true, false, Option, Some, None, arith, refl, ap, sym, subst, ◌∙◌, ◌⊎◌, inl, inr}
+use Rattle.std.proofs.Common.{◌≡◌, ℕ, ◌+◌, Bool, true, false, Option, Some, None, arith, refl, ap, sym, ◌∙◌, ◌⊎◌, inl, inr}
 use Rattle.std.proofs.lemmas.Bool.{and_parts, cases_Bool, not-true}
 use Rattle.storage_prot.specs.declared.want.Want.{Want}
 use Rattle.storage_prot.specs.declared.want.Want.TheVariants.{Load, Store, Fetch}
@@ -52,11 +52,11 @@ right_stays s mode right =
 stays_right : (s : State) (mode : AccessMode) → answer_of_match s mode ≡ (At, s) → has_right s mode ≡ true
 stays_right s mode e = at (cases_Bool (is_allowed s mode)) (cases_Bool (masks_refuse s mode)) where
   at : (is_allowed s mode ≡ true) ⊎ (is_allowed s mode ≡ false) → (masks_refuse s mode ≡ true) ⊎ (masks_refuse s mode ≡ false) → has_right s mode ≡ true
-  at (inl fine) (inl masked) = let clash : (Masked, s) ≡ (At, s) = rw (fine, masked) at e in let x : Masked ≡ At = ap (λ (z : Answer × State). z.0) clash in cc
+  at (inl fine) (inl masked) = let clash : Masked ≡ At = ap (λ (z : Answer × State). z.0) (rw (fine, masked) at e) in cc
   at (inl fine) (inr free) =
       let same : (At, touched_state s mode.want) ≡ (At, s) = rw (fine, free) at e in
       rw (fine, free) (same_touched s mode.want (ap (λ (z : Answer × State). z.1) same))
-  at (inr denied) masks = let clash : (Denied, s) ≡ (At, s) = rw denied at e in let x : Denied ≡ At = ap (λ (z : Answer × State). z.0) clash in cc
+  at (inr denied) masks = let clash : Denied ≡ At = ap (λ (z : Answer × State). z.0) (rw denied at e) in cc
 
 pub rights_stay : (s : State) (page : VirtualPage) (mode : AccessMode) (secondary : Bool) → Translates s page secondary → (has_right s mode ≡ true) ↔ (reply_of s (access_op page mode secondary) ≡ (At, s))
 rights_stay s page mode secondary match =

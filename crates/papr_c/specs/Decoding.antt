@@ -1,5 +1,5 @@
 -- What an entry's two doublewords say, and of which page.
-use Rattle.std.specs.Prelude.{◌≡◌, ◌↔◌, ℕ, ◌<◌, ◌-◌, ◌+◌, ◌%◌, ◌^◌, ◌==◌, ◌&&◌, nat_lt, nat_le, Bool, true, false, not, IsSome, if◌then◌else◌, List, [], ◌∷◌, find, Option, Some, None, is_none}
+use Rattle.std.specs.Prelude.{◌≡◌, ◌↔◌, ℕ, ◌<◌, ◌-◌, ◌+◌, ◌%◌, ◌^◌, ◌==◌, ◌&&◌, nat_lt, nat_le, Bool, true, false, not, IsSome, if◌then◌else◌, [], ◌∷◌, find, Option, Some, None, is_none}
 use Rattle.std.specs.Option.{option_map_or}
 use Rattle.storage_prot.specs.Protection.{Permission, permission, may_read, may_write}
 use Rattle.power_addr.specs.Pages.{VirtualPage, IsPage, is_base_shift, tag_of}

@@ -1,5 +1,5 @@
 -- What a walk tells of the entry that it found.
-use Rattle.std.specs.Prelude.{ℕ, Bool, if◌then◌else◌, Option, Some, None}
+use Rattle.std.specs.Prelude.{ℕ, if◌then◌else◌, Option, Some, None}
 use Rattle.std.specs.Option.{option_map_or}
 use Rattle.storage_prot.specs.declared.want.Want.{Want}
 use Rattle.authority_mask.specs.declared.masks.Masks.{Masks}

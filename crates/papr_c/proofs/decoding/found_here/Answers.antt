@@ -1,7 +1,5 @@
-use Rattle.std.proofs.Common.{◌≡◌, true, false, Some, None, rules, sym, ◌∙◌}
-use Rattle.page_sizes.specs.Sizes.{size_of}
+use Rattle.std.proofs.Common.{◌≡◌, true, false, sym, ◌∙◌}
 use Rattle.hpte_fields.specs.Fields.{is_valid}
-use Rattle.hpt_hash.specs.Entries.{page_at}
 use Rattle.papr_c.specs.Decoding.{is_index, has_place}
 use Rattle.papr_c.proofs.DecodedPages.{no_index, empty, no_size, no_segment, other_group, page_found}
 use Rattle.papr_c.proofs.decoding.found_here.Goals as goal

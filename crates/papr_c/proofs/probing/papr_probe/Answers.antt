@@ -1,4 +1,4 @@
-use Rattle.std.proofs.Common.{◌≡◌, Option, Some, None, rules, sym, ◌∙◌}
+use Rattle.std.proofs.Common.{Some, None, rules, sym, ◌∙◌}
 use Rattle.papr_c.proofs.Outcomes.{calls_inside}
 use Rattle.papr_c.proofs.FoundAsIs.{probe_is}
 use Rattle.papr_c.proofs.probing.papr_probe.Goals as goal

@@ -1,8 +1,7 @@
-use Rattle.std.proofs.Common.{◌≡◌, Some, None, rules, ap, sym, subst, ◌∙◌, ◌<◌, length}
+use Rattle.std.proofs.Common.{◌≡◌, Some, None, rules, ap, sym, subst, ◌∙◌}
 use Rattle.std.proofs.lemmas.List.{get_or_read}
 use Rattle.entry_model.specs.State.{State, empty_state}
 use Rattle.entry_model.specs.Receipt.{after_of, is_no_match}
-use Rattle.entry_model.specs.Run.{state_at}
 use Rattle.call_plan.specs.PageCalls.{calls_of}
 use Rattle.papr_c.specs.WalkEnds.{end_at}
 use Rattle.papr_c.proofs.EndedTrials.{IsLeft, ended_left}

@@ -122,6 +122,6 @@ class Choice:
         if self.page is not None and not chosen:
             message = f"no receipt of page {self.page[0]:#x}:{self.page[1]:#x}"
             if self.known.order(0) is None:
-                message += "; no page is known without an order, which --order or --trace tells"
+                message += "; no page is known without an order, which --order or --trace gives"
             raise Bad(message)
         return chosen

@@ -48,8 +48,8 @@ look at a run
   picture      a picture of a whole run
   diff         compare two texts of replies, by line and by entry
 
-A file may be - for standard input, which is the default, and may end in .xz, .gz, .bz2 or .zst.
-The first six commands take -o FILE: the output goes there, whole or not at all.
+The first six read standard input where no file or - is named, expand a file whose name ends in .xz, .gz,
+.bz2 or .zst, and take -o FILE: the output goes there, whole or not at all.
 Manual pages: papr(1), papr-NAME(1) for a command, papr-trace(5) and papr-replies(5) for the formats.
 END
 }

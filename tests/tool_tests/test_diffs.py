@@ -60,6 +60,18 @@ class Differences(ToolTest):
         for path in (self.folder / "one", EXAMPLES / "sharing.replies", DATA / "windows.replies"):
             self.assert_ran(run(DIFF, path, path))
 
+    def test_the_first_difference_is_that_of_the_history(self) -> None:
+        """Processors beside each other may have a later line answered by an earlier state."""
+        text = "4 0 H_READ 0 0x1 0x2 | 0x20.1.{0}.read\n5 1 H_ENTER 0 0x20 | 0x20.0.{0}.entered\n"
+        (self.folder / "one").write_text(text.format(0), encoding="ascii")
+        (self.folder / "other").write_text(text.format(1), encoding="ascii")
+        told = "entry 0x20: 2 and 2 receipts\n" + "".join(
+            f"  {sign} line 5, processor 1: H_ENTER entered; before: stamp 0, R 0, C {changed}\n"
+            for sign, changed in (("-", 0), ("+", 1))
+        )
+        ran = run(DIFF, "one", "other", folder=self.folder)
+        self.assert_ran(ran, f"{told}0 lines and 1 entry differ\n", status=1)
+
     def test_receipts_of_windows(self) -> None:
         """They are of no entry of the page table."""
         windows = (DATA / "windows.replies").read_text()

@@ -381,10 +381,16 @@ class Signals(LauncherTest):
         for words in (["run"], ["run", "t"]):
             path = self.file("t", "stays\n")
             with open(path, "rb") as given:
-                begun = subprocess.Popen([self.usr / "bin" / "papr", *words], stdin=given, cwd=self.folder)
+                begun = subprocess.Popen(
+                    [self.usr / "bin" / "papr", *words], stdin=given, cwd=self.folder, start_new_session=True
+                )
             time.sleep(1)
             begun.send_signal(number)
             self.assertEqual(begun.wait(20), -number)
+            # No process of the group is left.
+            time.sleep(0.2)
+            with self.assertRaises(ProcessLookupError):
+                os.killpg(begun.pid, 0)
 
     def test_a_loop_around_the_command_ends_at_an_interrupt(self) -> None:
         """As at a terminal: all of the group get the signal."""

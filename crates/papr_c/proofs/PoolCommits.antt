@@ -32,6 +32,7 @@ not_success rc p flags shift refused is = at p (cases_Bool (is_commit_request fl
   by t (inr other) ready e = let told : pending_refusal shift (Some t) ≡ Some Closed = rw other refl in absurd (cc)
   by t (inl same) (inl ready) e = let told : pending_refusal shift (Some t) ≡ None = rw (same, ready) refl in absurd (cc)
   by t (inl same) (inr busy) e = let told : pending_refusal shift (Some t) ≡ Some Busy = rw (same, busy) refl in absurd (cc)
+
   at : (q : Option PendingTable) → (is_commit_request flags shift ≡ true) ⊎ (is_commit_request flags shift ≡ false) → commit_refusal flags shift q ≡ Some Success → ⊥
   at q (inr bad) e = let told : commit_refusal flags shift q ≡ Some Parameter = rw bad refl in absurd (cc)
   at None (inl asked) e = let told : commit_refusal flags shift None ≡ Some Closed = rw asked refl in absurd (cc)

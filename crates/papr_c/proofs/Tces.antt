@@ -43,8 +43,8 @@ two_calls goes op other e entries r s is on next =
     ∙ ap (λ (q : Receipt). (q ∷ (trial_run goes (states_after entries q) (call other e ∷ [])).0, (trial_run goes (states_after entries q) (call other e ∷ [])).1)) is
     ∙ sym (goes_on here)
   where
-  goes_on : goes (receipt_of e (state_at entries e) op).answer ≡ true → trial_run goes entries (call op e ∷ call other e ∷ []) ≡ (receipt_of e (state_at entries e) op ∷ (trial_run goes (states_after entries (receipt_of e (state_at entries e) op)) (call other e ∷ [])).0, (trial_run goes (states_after entries (receipt_of e (state_at entries e) op)) (call other e ∷ [])).1)
-  goes_on h = rw h refl
+    goes_on : goes (receipt_of e (state_at entries e) op).answer ≡ true → trial_run goes entries (call op e ∷ call other e ∷ []) ≡ (receipt_of e (state_at entries e) op ∷ (trial_run goes (states_after entries (receipt_of e (state_at entries e) op)) (call other e ∷ [])).0, (trial_run goes (states_after entries (receipt_of e (state_at entries e) op)) (call other e ∷ [])).1)
+    goes_on h = rw h refl
 
 -- A page that the window lacks.
 pub no_page : (base ioba : ℕ) (m : LentMemory) (p : ℕ → Plan) → page_entry base m.entries ioba ≡ None → (refused_reply, m) ≡ outcome_of_tce base (λ w. option_map_or p (entry_at w ioba) (plan_of_code Parameter)) m

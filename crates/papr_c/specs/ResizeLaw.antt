@@ -31,8 +31,8 @@ IsPrepareOfPool =
     (limit flags shift : ℕ) (m : ResizeMemory) (pool : PoolState)
     → HasLentBlock shift m pool
     → let here = outcome_of_resize_prepare limit flags shift m in
-      let there = outcome_of_prepare (min limit 22) flags shift (pending_of m.resize) pool in
-      (here.0 ≡ rc_code there.rc) × (resize_of (pending_of here.1.resize) ≡ resize_of there.pending)
+    let there = outcome_of_prepare (min limit 22) flags shift (pending_of m.resize) pool in
+    (here.0 ≡ rc_code there.rc) × (resize_of (pending_of here.1.resize) ≡ resize_of there.pending)
 
 -- Over lent memory that is that of a table of the order wherever nothing else refuses the commit, and
 -- a current table with these entries, both calls of H_RESIZE_HPT_COMMIT answer one code and leave one
@@ -43,7 +43,7 @@ IsCommitOfPool =
     → is_table table.order table.states ≡ true
     → (commit_refusal flags shift (pending_of m.resize) ≡ None → length m.into ≡ entry_count shift)
     → let here = outcome_of_resize_commit table.order table.states flags shift m in
-      let there = outcome_of_commit flags shift (pending_of m.resize) pool table in
-      (here.0.rc ≡ rc_code there.rc)
-      × (resize_of (pending_of here.1.resize) ≡ resize_of there.pending)
-      × (there.rc ≡ Success → here.1.into ≡ there.table.states)
+    let there = outcome_of_commit flags shift (pending_of m.resize) pool table in
+    (here.0.rc ≡ rc_code there.rc)
+    × (resize_of (pending_of here.1.resize) ≡ resize_of there.pending)
+    × (there.rc ≡ Success → here.1.into ≡ there.table.states)

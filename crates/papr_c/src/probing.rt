@@ -8,9 +8,9 @@ ghost use Rattle.papr_c.specs.Walks.{each_as_is, outcome_of_probe};
 use crate::lent::is_table;
 use crate::trying::asked;
 use crate::walking::{NO_PAGE, PaprAccess, PaprWalk, want_of};
+use call_plan::PageCalls;
 use call_trials::CallList;
 use entry_model::{EntryState, Receipt};
-use call_plan::PageCalls;
 use power_addr::Page;
 
 /// The receipt that a walk would have of the entry that translates its page.

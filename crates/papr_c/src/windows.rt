@@ -176,7 +176,12 @@ fn replace(
     }
     let entered = make(entries, op, entry, receipts, 1);
     let again = is_stale(entered.answer);
-    PaprReply::told(code_of(entered.answer), 0, filled_count(room, 2), stale || again)
+    PaprReply::told(
+        code_of(entered.answer),
+        0,
+        filled_count(room, 2),
+        stale || again,
+    )
 }
 
 /// H_PUT_TCE on the entry of a page.

@@ -1,16 +1,14 @@
 -- H_RESIZE_HPT_PREPARE over lent memory is that over a pool.
-use Rattle.std.specs.Prelude.{◌==◌, ◌&&◌, not, nat_le, nat_lt, is_some}
-use Rattle.std.proofs.Common.{◌≡◌, ℕ, ℤ, ◌+◌, ◌≤◌, ◌<◌, min, List, length, Bool, true, false, Option, Some, None, arith, refl, ap, sym, ◌∙◌, inl, inr, ◌⊎◌}
+use Rattle.std.specs.Prelude.{◌==◌, nat_le, nat_lt, is_some}
+use Rattle.std.proofs.Common.{◌≡◌, ℕ, ℤ, ◌≤◌, min, length, true, false, Option, Some, None, arith, refl, ◌∙◌, inl, inr, ◌⊎◌}
 use Rattle.std.proofs.lemmas.Bool.{cases_Bool, eqb-true}
 use Rattle.hpte_fields.specs.TableSize.{entry_count}
 use Rattle.hpt_pool.specs.Pool.{PoolState, lowest_place}
-use Rattle.entry_model.specs.State.{State}
 use Rattle.papr_codes.specs.ReturnCodes.{rc_code}
 use Rattle.papr_codes.specs.declared.codes.Rc.TheVariants.{NoMem}
 use Rattle.hpt_resize.specs.Pending.{PendingTable, no_entries, with_more_ready}
-use Rattle.hpt_resize.specs.Resize.{PrepareOutcome, is_prepare_request, is_pending, pool_without, prepare_outcome, new_table_outcome, start_outcome, advance_outcome, outcome_of_prepare}
-use Rattle.papr_c.specs.declared.resizing.PaprResize.{PaprResize}
-use Rattle.papr_c.specs.Resizing.{ResizeMemory, resize_memory, nothing_pending, with_pending, pending_of, is_pending_table, table_of_order, prepared, outcome_of_resize_prepare}
+use Rattle.hpt_resize.specs.Resize.{PrepareOutcome, is_prepare_request, is_pending, pool_without, new_table_outcome, start_outcome, advance_outcome, outcome_of_prepare}
+use Rattle.papr_c.specs.Resizing.{ResizeMemory, resize_memory, nothing_pending, with_pending, pending_of, table_of_order, prepared, outcome_of_resize_prepare}
 use Rattle.papr_c.specs.ResizeLaw.{HasLentBlock, IsPrepareOfPool, resize_of}
 
 -- What C has of a table is that table.
@@ -32,6 +30,7 @@ fitting shift m pool low high block = at (pending_of m.resize) block where
   new : (p : Option PendingTable) (o : Option ℕ) → lowest_place (pool_without p pool) shift ≡ o → is_some o ≡ true → AreAlike (prepared (no_entries shift 0) m.into) (advance_outcome (new_table_outcome shift (pool_without p pool) (lowest_place (pool_without p pool) shift)) (new_table_outcome shift (pool_without p pool) (lowest_place (pool_without p pool) shift)).pending)
   new p None is there = absurd (cc)
   new p (Some place) is there = rw is (refl, ready_back (with_more_ready (no_entries shift 0)) low high (omega arith))
+
   at : (p : Option PendingTable) → is_some (lowest_place (pool_without p pool) shift) ≡ true → AreAlike (prepared (table_of_order shift p) m.into) (advance_outcome (start_outcome shift p pool) (start_outcome shift p pool).pending)
   at None there = new None (lowest_place (pool_without None pool) shift) refl there
   at (Some t) there = by (cases_Bool (t.order == shift)) where
@@ -48,6 +47,7 @@ lacking shift m pool lent short = at (cases_Bool (is_pending shift (pending_of m
   none : (o : Option ℕ) → lowest_place (pool_without (pending_of m.resize) pool) shift ≡ o → is_some o ≡ false → is_pending shift (pending_of m.resize) ≡ false → AreAlike (rc_code NoMem, resize_memory nothing_pending m.into) (advance_outcome (start_outcome shift (pending_of m.resize) pool) (start_outcome shift (pending_of m.resize) pool).pending)
   none (Some place) is there other = absurd (cc)
   none None is there other = rw (other, is) (refl, refl)
+
   at : (is_pending shift (pending_of m.resize) ≡ true) ⊎ (is_pending shift (pending_of m.resize) ≡ false) → AreAlike (rc_code NoMem, resize_memory nothing_pending m.into) (advance_outcome (start_outcome shift (pending_of m.resize) pool) (start_outcome shift (pending_of m.resize) pool).pending)
   at (inl same) = let whole : (length m.into == entry_count shift) ≡ true = grind (arith, lent.stands same) in absurd (cc)
   at (inr other) = none (lowest_place (pool_without (pending_of m.resize) pool) shift) refl (lent.block ∙ short) other

@@ -1,9 +1,8 @@
 -- The resize calls of C are those of a pool: what the lent memory is to them, a block of the pool is
 -- to the calls of hpt_resize.
-use Rattle.std.specs.Prelude.{◌≡◌, ℕ, ◌==◌, true, min, List, length, Option, None, Some, is_some}
+use Rattle.std.specs.Prelude.{◌≡◌, ℕ, ◌==◌, true, min, length, Option, None, Some, is_some}
 use Rattle.hpte_fields.specs.TableSize.{entry_count}
 use Rattle.hpt_pool.specs.Pool.{PoolState, lowest_place}
-use Rattle.entry_model.specs.State.{State}
 use Rattle.papr_codes.specs.ReturnCodes.{rc_code}
 use Rattle.papr_codes.specs.declared.codes.Rc.TheVariants.{Success}
 use Rattle.hpt_resize.specs.Pending.{PendingTable}
@@ -31,8 +30,8 @@ IsPrepareOfPool =
     (limit flags shift : ℕ) (m : ResizeMemory) (pool : PoolState)
     → HasLentBlock shift m pool
     → let here = outcome_of_resize_prepare limit flags shift m in
-      let there = outcome_of_prepare (min limit 22) flags shift (pending_of m.resize) pool in
-      (here.0 ≡ rc_code there.rc) × (resize_of (pending_of here.1.resize) ≡ resize_of there.pending)
+    let there = outcome_of_prepare (min limit 22) flags shift (pending_of m.resize) pool in
+    (here.0 ≡ rc_code there.rc) × (resize_of (pending_of here.1.resize) ≡ resize_of there.pending)
 
 -- Over lent memory that is that of a table of the order wherever nothing else refuses the commit, and
 -- a current table with these entries, both calls of H_RESIZE_HPT_COMMIT answer one code and leave one
@@ -43,7 +42,7 @@ IsCommitOfPool =
     → is_table table.order table.states ≡ true
     → (commit_refusal flags shift (pending_of m.resize) ≡ None → length m.into ≡ entry_count shift)
     → let here = outcome_of_resize_commit table.order table.states flags shift m in
-      let there = outcome_of_commit flags shift (pending_of m.resize) pool table in
-      (here.0.rc ≡ rc_code there.rc)
-      × (resize_of (pending_of here.1.resize) ≡ resize_of there.pending)
-      × (there.rc ≡ Success → here.1.into ≡ there.table.states)
+    let there = outcome_of_commit flags shift (pending_of m.resize) pool table in
+    (here.0.rc ≡ rc_code there.rc)
+    × (resize_of (pending_of here.1.resize) ≡ resize_of there.pending)
+    × (there.rc ≡ Success → here.1.into ≡ there.table.states)

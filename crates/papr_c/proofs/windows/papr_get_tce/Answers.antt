@@ -1,13 +1,10 @@
-use Rattle.std.specs.Prelude.{map}
-use Rattle.std.proofs.Common.{◌≡◌, [], ◌∷◌, true, refl, ap, sym, ◌∙◌}
-use Rattle.std.specs.Option.{option_map_or}
+use Rattle.std.proofs.Common.{[], ◌∷◌, true, refl, ap, sym, ◌∙◌}
 use Rattle.papr_codes.specs.ReturnCodes.{rc_code}
 use Rattle.papr_codes.specs.declared.codes.Rc.TheVariants.{Success}
 use Rattle.entry_model.specs.Run.{states_after}
 use Rattle.entry_model.specs.declared.operation.Op.TheVariants.{Read}
 use Rattle.dma_window.specs.Calls.{get_plan_at, get_tce_plan}
 use Rattle.papr_c.specs.Calls.{memory}
-use Rattle.papr_c.specs.Places.{placed, filled}
 use Rattle.papr_c.proofs.Filling.{placed_filled}
 use Rattle.papr_c.proofs.Outcomes.{call_tried}
 use Rattle.papr_c.proofs.Tces.{one_call, no_page, has_page}

@@ -10,3 +10,4 @@ pub mod SlotSearch
 pub mod PoolPrepares
 pub mod PoolCommits
 pub mod Tces
+pub mod RoundTrip

@@ -11,3 +11,4 @@ pub mod Version
 pub mod Segments
 pub mod ResizeLaw
 pub mod Windows
+pub mod TransferLaw

@@ -1,22 +1,22 @@
 -- What is exported is imported as the same entry.
-use Rattle.std.specs.Prelude.{◌==◌, ◌&&◌}
+use Rattle.std.specs.Prelude.{◌==◌}
 use Rattle.std.specs.Option.{option_map}
 use Rattle.std.specs.Int.Bits.{and_mask}
-use Rattle.std.proofs.Common.{◌≡◌, ℕ, ◌+◌, ◌*◌, ◌/◌, ◌%◌, ◌^◌, ◌<◌, List, ◌++◌, drop, Bool, true, false, Option, Some, None, Ok, bit_and, arith, refl, ap, sym, subst, ◌∙◌, inl, inr, ◌⊎◌}
+use Rattle.std.proofs.Common.{◌≡◌, ℕ, ◌*◌, ◌/◌, ◌%◌, ◌^◌, ◌<◌, List, ◌++◌, drop, true, false, Option, Some, None, Ok, bit_and, arith, refl, ap, sym, subst, ◌∙◌, inl, inr, ◌⊎◌}
+use Rattle.std.proofs.Math.Seq.{drop-append_seam}
 use Rattle.std.proofs.lemmas.Bool.{cases_Bool}
 use Rattle.byteorder.specs.Endian.{big_bytes}
 use Rattle.byteorder.specs.Numbers.{big_number-reads_back}
 use Rattle.frame_grants.specs.declared.grant.Grant.{Grant}
-use Rattle.hpte_fields.specs.Fields.{is_valid, with_rc}
-use Rattle.page_grants.specs.Suited.{entered_words}
-use Rattle.entry_model.specs.State.{State, empty_state, IsCanonicalState}
-use Rattle.entry_model.specs.Reply.{words_of, entered_state}
+use Rattle.hpte_fields.specs.Fields.{is_valid}
+use Rattle.entry_model.specs.State.{State}
+use Rattle.entry_model.specs.Reply.{words_of}
 use Rattle.hpt_resize.proofs.StateBack.{state_back}
-use Rattle.table_image.specs.Layouts.{words_of_bytes, laid_out, read_words, fits_new, new_words, cleared_bit, unheld, segment_place}
+use Rattle.table_image.specs.Layouts.{words_of_bytes, laid_out, read_words, new_words, cleared_bit, unheld, segment_place}
 use Rattle.table_image.specs.declared.layout.Layout.{Layout}
 use Rattle.table_image.specs.declared.layout.Layout.TheVariants.{Old, New}
 use Rattle.table_image.proofs.BitFields.{place_fits, segment_back, first_back, stays_cleared, none_left, second_back}
-use Rattle.papr_c.specs.Transfers.{entry_bytes, entry_of_bytes, entry_of_words, entered_where, entered_by}
+use Rattle.papr_c.specs.Transfers.{entry_bytes, entry_of_bytes, entry_of_words}
 use Rattle.papr_c.specs.TransferLaw.{IsGranted, IsRoundTrip}
 
 -- What a layout makes of two doublewords: words of 64 bits, which are read as these, with the same V.
@@ -57,7 +57,7 @@ back Old v w small fits clear laid =
     subst (AreBack Old v) is (record { first = small; second = fits; read = rw clear refl; valid = refl })
 
 -- The bytes of two doublewords are read as these.
-bytes_back : (w : ℕ × ℕ) (rest : List ℕ) → w.0 < 2 ^ 64 → w.1 < 2 ^ 64 → words_of_bytes (drop (16 * 0) ((big_bytes 8 w.0 ++ big_bytes 8 w.1) ++ rest)) ≡ w
+bytes_back : (w : ℕ × ℕ) (rest : List ℕ) → w.0 < 2 ^ 64 → w.1 < 2 ^ 64 → words_of_bytes (((big_bytes 8 w.0 ++ big_bytes 8 w.1) ++ rest)) ≡ w
 bytes_back w rest small fits =
     rw (big_number-reads_back 8 w.0 (big_bytes 8 w.1 ++ rest) small, big_number-reads_back 8 w.1 rest fits) refl
 
@@ -82,16 +82,18 @@ empty_back grants layout s w g b invalid =
     }))
 
 pub round_trip : IsRoundTrip
-round_trip grants layout s bytes rest g told = at (laid_out layout (words_of s)) refl where
+round_trip grants layout s front bytes rest i long g told = at (laid_out layout (words_of s)) refl where
   by : (w : ℕ × ℕ) → AreBack layout (words_of s) w → (s.valid ≡ true) ⊎ (s.valid ≡ false) → entry_of_words grants layout w ≡ Ok (record s { stamp = 0 })
   by w b (inl valid) = valid_back grants layout s w g b valid
   by w b (inr invalid) = empty_back grants layout s w g b invalid
-  at : (o : Option (ℕ × ℕ)) → laid_out layout (words_of s) ≡ o → entry_of_bytes grants layout (bytes ++ rest) 0 ≡ Ok (record s { stamp = 0 })
+
+  at : (o : Option (ℕ × ℕ)) → laid_out layout (words_of s) ≡ o → entry_of_bytes grants layout (front ++ (bytes ++ rest)) i ≡ Ok (record s { stamp = 0 })
   at None laid = let none : entry_bytes layout s ≡ None = rw laid refl in absurd (cc)
   at (Some w) laid =
       let b = back layout (words_of s) w g.first g.second g.cleared laid in
       let some : entry_bytes layout s ≡ Some (big_bytes 8 w.0 ++ big_bytes 8 w.1) = ap (option_map (λ (x : ℕ × ℕ). big_bytes 8 x.0 ++ big_bytes 8 x.1)) laid in
       let is : bytes ≡ big_bytes 8 w.0 ++ big_bytes 8 w.1 = cc in
-      ap (λ (bs : List ℕ). entry_of_bytes grants layout (bs ++ rest) 0) is
+      let behind : drop (16 * i) (front ++ (bytes ++ rest)) ≡ bytes ++ rest = ap (λ n. drop n (front ++ (bytes ++ rest))) (sym long) ∙ drop-append_seam front (bytes ++ rest) in
+      ap (λ (bs : List ℕ). entry_of_words grants layout (words_of_bytes bs)) (behind ∙ ap (λ (bs : List ℕ). bs ++ rest) is)
       ∙ ap (entry_of_words grants layout) (bytes_back w rest b.first b.second)
       ∙ by w b (cases_Bool s.valid)

@@ -1,5 +1,5 @@
 -- What is exported is imported as the same entry, but for its stamp.
-use Rattle.std.specs.Prelude.{◌≡◌, ℕ, ◌<◌, ◌^◌, List, ◌++◌, Option, Some, Ok, bit_and, true}
+use Rattle.std.specs.Prelude.{◌≡◌, ℕ, ◌<◌, ◌^◌, ◌*◌, List, ◌++◌, length, Some, Ok, bit_and, true}
 use Rattle.frame_grants.specs.declared.grant.Grant.{Grant}
 use Rattle.hpte_fields.specs.Fields.{is_valid, stored_second}
 use Rattle.page_grants.specs.Suited.{entered_words}
@@ -20,10 +20,12 @@ pub record IsGranted (grants : List Grant) (s : State) : Type 0 where
   pub stored : s.valid ≡ true → stored_second s.dword1 ≡ s.dword1
   pub entered : s.valid ≡ true → entered_words grants s.dword0 (words_of s).1 ≡ Some (words_of s)
 
--- In both layouts its bytes, whatever follows them, are imported as this entry at stamp 0.
+-- In both layouts its bytes, behind those of i others and whatever follows them, are imported as this
+-- entry at stamp 0.
 abbrev pub IsRoundTrip : Type 0
 IsRoundTrip =
-    (grants : List Grant) (layout : Layout) (s : State) (bytes rest : List ℕ)
+    (grants : List Grant) (layout : Layout) (s : State) (front bytes rest : List ℕ) (i : ℕ)
+    → length front ≡ 16 * i
     → IsGranted grants s
     → entry_bytes layout s ≡ Some bytes
-    → entry_of_bytes grants layout (bytes ++ rest) 0 ≡ Ok (record s { stamp = 0 })
+    → entry_of_bytes grants layout (front ++ (bytes ++ rest)) i ≡ Ok (record s { stamp = 0 })

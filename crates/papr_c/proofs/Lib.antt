@@ -19,3 +19,4 @@ pub mod RightsLaws
 pub mod KeptTranslations
 pub mod Agreement
 pub mod EndedTrials
+pub mod RoundTrip

@@ -1,22 +1,18 @@
 -- H_RESIZE_HPT_COMMIT over lent memory is that over a pool.
-use Rattle.std.specs.Prelude.{◌==◌, ◌&&◌, nat_le, is_some}
-use Rattle.std.proofs.Common.{◌≡◌, ℕ, List, length, Bool, true, false, Option, Some, None, arith, refl, ap, sym, subst, ◌∙◌, inl, inr, ◌⊎◌}
+use Rattle.std.specs.Prelude.{◌==◌}
+use Rattle.std.proofs.Common.{◌≡◌, ℕ, length, true, false, Option, Some, None, arith, refl, ap, sym, subst, ◌∙◌, inl, inr, ◌⊎◌}
 use Rattle.std.proofs.lemmas.Bool.{cases_Bool, eqb-true}
 use Rattle.hpte_fields.specs.TableSize.{entry_count}
 use Rattle.hpt_pool.specs.Pool.{PoolState}
-use Rattle.entry_model.specs.State.{State}
 use Rattle.papr_codes.specs.ReturnCodes.{rc_code}
 use Rattle.papr_codes.specs.declared.codes.Rc.{Rc}
 use Rattle.papr_codes.specs.declared.codes.Rc.TheVariants.{Success, Parameter, Closed, Busy}
 use Rattle.hpt_resize.specs.declared.carry.Collision.{Collision}
 use Rattle.hpt_resize.specs.Pending.{PendingTable, is_ready}
 use Rattle.hpt_resize.specs.Rehash.{collision_of, rehashed_states}
-use Rattle.hpt_resize.specs.Resize.{Table, CommitOutcome, commit_refusal, pending_refusal, is_commit_request, answer_outcome, complete_outcome, carry_outcome, outcome_of_commit}
+use Rattle.hpt_resize.specs.Resize.{Table, CommitOutcome, commit_refusal, pending_refusal, is_commit_request, complete_outcome, carry_outcome, outcome_of_commit}
 use Rattle.papr_c.specs.declared.rehashing.PaprRehash.{PaprRehash}
-use Rattle.papr_c.specs.declared.resizing.PaprResize.{PaprResize}
-use Rattle.papr_c.specs.Lent.{is_table}
-use Rattle.papr_c.specs.Rehash.{rehash_told, table_after}
-use Rattle.papr_c.specs.Resizing.{ResizeMemory, resize_memory, nothing_pending, pending_of, is_pending_table, committed, commit_where, outcome_of_resize_commit}
+use Rattle.papr_c.specs.Resizing.{ResizeMemory, pending_of, committed, outcome_of_resize_commit}
 use Rattle.papr_c.specs.ResizeLaw.{IsCommitOfPool, resize_of}
 
 -- Both answer one code, leave one table pending, and at H_SUCCESS one table.

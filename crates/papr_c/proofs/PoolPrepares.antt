@@ -1,16 +1,14 @@
 -- H_RESIZE_HPT_PREPARE over lent memory is that over a pool.
-use Rattle.std.specs.Prelude.{◌==◌, ◌&&◌, not, nat_le, nat_lt, is_some}
-use Rattle.std.proofs.Common.{◌≡◌, ℕ, ℤ, ◌+◌, ◌≤◌, ◌<◌, min, List, length, Bool, true, false, Option, Some, None, arith, refl, ap, sym, ◌∙◌, inl, inr, ◌⊎◌}
+use Rattle.std.specs.Prelude.{◌==◌, nat_le, nat_lt, is_some}
+use Rattle.std.proofs.Common.{◌≡◌, ℕ, ℤ, ◌≤◌, min, length, true, false, Option, Some, None, arith, refl, ◌∙◌, inl, inr, ◌⊎◌}
 use Rattle.std.proofs.lemmas.Bool.{cases_Bool, eqb-true}
 use Rattle.hpte_fields.specs.TableSize.{entry_count}
 use Rattle.hpt_pool.specs.Pool.{PoolState, lowest_place}
-use Rattle.entry_model.specs.State.{State}
 use Rattle.papr_codes.specs.ReturnCodes.{rc_code}
 use Rattle.papr_codes.specs.declared.codes.Rc.TheVariants.{NoMem}
 use Rattle.hpt_resize.specs.Pending.{PendingTable, no_entries, with_more_ready}
-use Rattle.hpt_resize.specs.Resize.{PrepareOutcome, is_prepare_request, is_pending, pool_without, prepare_outcome, new_table_outcome, start_outcome, advance_outcome, outcome_of_prepare}
-use Rattle.papr_c.specs.declared.resizing.PaprResize.{PaprResize}
-use Rattle.papr_c.specs.Resizing.{ResizeMemory, resize_memory, nothing_pending, with_pending, pending_of, is_pending_table, table_of_order, prepared, outcome_of_resize_prepare}
+use Rattle.hpt_resize.specs.Resize.{PrepareOutcome, is_prepare_request, is_pending, pool_without, new_table_outcome, start_outcome, advance_outcome, outcome_of_prepare}
+use Rattle.papr_c.specs.Resizing.{ResizeMemory, resize_memory, nothing_pending, with_pending, pending_of, table_of_order, prepared, outcome_of_resize_prepare}
 use Rattle.papr_c.specs.ResizeLaw.{HasLentBlock, IsPrepareOfPool, resize_of}
 
 -- What C has of a table is that table.

@@ -1,11 +1,10 @@
 -- The lowest slot of C that has an address is that of slb_model.
 use Rattle.std.specs.Prelude.{filter_map}
-use Rattle.std.proofs.Common.{◌≡◌, ℕ, zero, suc, ◌+◌, ◌<◌, List, [], ◌∷◌, length, get_or, map, find, Option, Some, None, Bool, true, false, arith, refl, ap, sym, ◌∙◌, inl, inr, ◌⊎◌}
+use Rattle.std.proofs.Common.{◌≡◌, ℕ, zero, suc, ◌<◌, List, [], ◌∷◌, length, get_or, map, find, Option, Some, None, true, false, arith, refl, ap, sym, ◌∙◌, inl, inr, ◌⊎◌}
 use Rattle.std.proofs.lemmas.Bool.{cases_Bool}
 use Rattle.std.specs.Option.{option_map_or}
 use Rattle.slb_model.specs.declared.slot.Slot.{Slot}
 use Rattle.slb_model.specs.Slots.{covers}
-use Rattle.slb_model.specs.Buffer.{valid_slots}
 use Rattle.papr_c.specs.declared.segments.PaprSlot.{PaprSlot}
 use Rattle.papr_c.specs.Segments.{slot_of, slot_told, covering, slot_at}
 

@@ -1,9 +1,7 @@
 -- Calls on one entry of a window.
-use Rattle.std.specs.Prelude.{◌&&◌, nat_le, nat_lt, not}
 use Rattle.std.specs.Option.{option_map_or}
-use Rattle.std.proofs.Common.{◌≡◌, ℕ, ◌+◌, ◌-◌, ◌*◌, ◌/◌, ◌<◌, List, [], ◌∷◌, length, Bool, true, false, Option, Some, None, refl, ap, sym, ◌∙◌, inl, inr, ◌⊎◌, arith}
+use Rattle.std.proofs.Common.{◌≡◌, ℕ, List, [], ◌∷◌, Bool, true, false, Some, None, refl, ap, sym, ◌∙◌, inl, inr, ◌⊎◌}
 use Rattle.std.proofs.lemmas.Bool.{cases_Bool}
-use Rattle.papr_codes.specs.ReturnCodes.{rc_code}
 use Rattle.papr_codes.specs.declared.codes.Rc.TheVariants.{Parameter}
 use Rattle.bus_window.specs.Windows.{is_window, entry_at}
 use Rattle.entry_model.specs.State.{State}
@@ -13,7 +11,6 @@ use Rattle.entry_model.specs.Trial.{Plan, call, plan_of_code, trial_run}
 use Rattle.entry_model.specs.declared.operation.Answer.{Answer}
 use Rattle.entry_model.specs.declared.operation.Op.{Op}
 use Rattle.entry_model.specs.declared.receipt.Receipt.{Receipt}
-use Rattle.papr_c.specs.declared.reply.PaprReply.{PaprReply}
 use Rattle.papr_c.specs.Calls.{LentMemory, refused_reply, outcome_where}
 use Rattle.papr_c.specs.Windows.{window_of, page_entry, outcome_of_tce}
 use Rattle.papr_c.proofs.Outcomes.{coded}

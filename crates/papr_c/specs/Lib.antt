@@ -16,3 +16,4 @@ pub mod ResizeLaw
 pub mod Windows
 pub mod Decoding
 pub mod Hcalls
+pub mod TransferLaw

@@ -1,9 +1,8 @@
 -- The resize calls of C are those of a pool: what the lent memory is to them, a block of the pool is
 -- to the calls of hpt_resize.
-use Rattle.std.specs.Prelude.{◌≡◌, ℕ, ◌==◌, true, min, List, length, Option, None, Some, is_some}
+use Rattle.std.specs.Prelude.{◌≡◌, ℕ, ◌==◌, true, min, length, Option, None, Some, is_some}
 use Rattle.hpte_fields.specs.TableSize.{entry_count}
 use Rattle.hpt_pool.specs.Pool.{PoolState, lowest_place}
-use Rattle.entry_model.specs.State.{State}
 use Rattle.papr_codes.specs.ReturnCodes.{rc_code}
 use Rattle.papr_codes.specs.declared.codes.Rc.TheVariants.{Success}
 use Rattle.hpt_resize.specs.Pending.{PendingTable}

@@ -1,6 +1,6 @@
 -- The two resize calls of C, over memory that the caller lends for the table that is made ready:
 -- their answers, what is pending after them, and that memory.
-use Rattle.std.specs.Prelude.{ℕ, ℤ, ◌+◌, ◌-◌, ◌==◌, ◌&&◌, not, Bool, true, false, nat_lt, nat_le, min, if◌then◌else◌, List, ◌++◌, length, take, drop, replicate, Option, Some, None}
+use Rattle.std.specs.Prelude.{ℕ, ℤ, ◌-◌, ◌==◌, ◌&&◌, not, Bool, true, false, nat_lt, nat_le, min, if◌then◌else◌, List, ◌++◌, length, take, drop, replicate, Option, Some, None}
 use Rattle.hpte_fields.specs.TableSize.{entry_count}
 use Rattle.papr_codes.specs.ReturnCodes.{rc_code}
 use Rattle.papr_codes.specs.declared.codes.Rc.{Rc}

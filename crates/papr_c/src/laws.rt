@@ -4,6 +4,7 @@ ghost use Rattle.papr_c.specs.Decoding.{PlacesAreThoseOfPages, NoCauseExactlyAtP
 ghost use Rattle.papr_c.specs.ResizeLaw.{IsPrepareOfPool, IsCommitOfPool};
 ghost use Rattle.papr_c.specs.Rights.{RightsAreWhatStays, NoCauseExactlyWhereAllowed};
 ghost use Rattle.papr_c.specs.Stale.{UnstaleKeepsTranslations};
+ghost use Rattle.papr_c.specs.TransferLaw.{IsRoundTrip};
 ghost use Rattle.papr_c.specs.Walks.{ProbesAgreeWithWalks};
 
 /// A right is told exactly where the entry would allow such an access and stay as it is.
@@ -51,4 +52,9 @@ pub fn prepares_as_over_a_pool()
 /// `papr_resize_commit` is H_RESIZE_HPT_COMMIT over any pool.
 pub fn commits_as_over_a_pool()
     ensures { IsCommitOfPool }
+{}
+
+/// What `papr_export` writes of an entry, `papr_import` makes the same entry of, but for its stamp.
+pub fn entries_come_back()
+    ensures { IsRoundTrip }
 {}

@@ -1,4 +1,4 @@
-use Rattle.std.proofs.Common.{◌≡◌, ◌+◌, ◌∙◌, ap, sym, arith, true, false, ℕ, Bool}
+use Rattle.std.proofs.Common.{◌≡◌, ◌+◌, sym, arith, true, false, ℕ, Bool}
 use Rattle.std.proofs.lemmas.List.{get_or_read}
 use Rattle.entry_model.specs.State.{empty_state}
 use Rattle.entry_model.specs.Run.{state_at}

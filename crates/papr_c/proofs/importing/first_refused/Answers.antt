@@ -1,4 +1,4 @@
-use Rattle.std.proofs.Common.{◌≡◌, ◌+◌, ◌∙◌, ap, sym, arith, true, false, ℕ, Bool}
+use Rattle.std.proofs.Common.{◌≡◌, sym, arith, true, false, ℕ, Bool}
 use Rattle.std.specs.Prelude.{is_err}
 use Rattle.papr_c.specs.Grants.{listed}
 use Rattle.papr_c.specs.Transfers.{entry_of_bytes}

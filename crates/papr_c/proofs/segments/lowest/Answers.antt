@@ -1,4 +1,4 @@
-use Rattle.std.proofs.Common.{◌≡◌, ◌<◌, None, ap, sym, arith, rules}
+use Rattle.std.proofs.Common.{None, ap, sym, arith}
 use Rattle.papr_c.specs.Segments.{slot_told}
 use Rattle.papr_c.proofs.SlotSearch.{first_found, none_found}
 use Rattle.papr_c.proofs.segments.lowest.Goals as goal

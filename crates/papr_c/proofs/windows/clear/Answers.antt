@@ -1,5 +1,5 @@
 use Rattle.std.specs.Prelude.{not}
-use Rattle.std.proofs.Common.{◌≡◌, [], ◌∷◌, true, refl, ap, ◌∙◌}
+use Rattle.std.proofs.Common.{[], ◌∷◌, true, refl, ap, ◌∙◌}
 use Rattle.papr_codes.specs.ReturnCodes.{rc_code}
 use Rattle.entry_model.specs.Receipt.{is_worn}
 use Rattle.entry_model.specs.Run.{states_after}

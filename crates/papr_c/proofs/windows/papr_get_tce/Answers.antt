@@ -1,6 +1,4 @@
-use Rattle.std.specs.Prelude.{map}
 use Rattle.std.proofs.Common.{◌≡◌, [], ◌∷◌, true, false, refl, ap, sym, ◌∙◌}
-use Rattle.std.specs.Option.{option_map_or}
 use Rattle.papr_codes.specs.ReturnCodes.{rc_code}
 use Rattle.papr_codes.specs.declared.codes.Rc.TheVariants.{Success}
 use Rattle.entry_model.specs.Run.{states_after}
@@ -8,7 +6,6 @@ use Rattle.entry_model.specs.declared.operation.Op.TheVariants.{Read}
 use Rattle.entry_model.specs.declared.receipt.Receipt.{Receipt}
 use Rattle.dma_window.specs.Calls.{get_plan_at, get_tce_plan}
 use Rattle.papr_c.specs.Calls.{memory}
-use Rattle.papr_c.specs.Places.{placed, filled}
 use Rattle.papr_c.specs.Stale.{is_stale, any_stale}
 use Rattle.papr_c.proofs.Filling.{placed_filled}
 use Rattle.papr_c.proofs.Outcomes.{call_tried}

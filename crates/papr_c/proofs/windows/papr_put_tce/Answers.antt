@@ -1,4 +1,4 @@
-use Rattle.std.proofs.Common.{◌≡◌, [], ap, sym, ◌∙◌}
+use Rattle.std.proofs.Common.{[], ap, sym, ◌∙◌}
 use Rattle.dma_window.specs.Calls.{put_plan_at, put_tce_plan}
 use Rattle.papr_c.specs.Calls.{memory}
 use Rattle.papr_c.specs.Grants.{listed}

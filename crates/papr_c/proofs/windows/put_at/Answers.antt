@@ -1,5 +1,5 @@
 use Rattle.std.specs.Prelude.{◌||◌}
-use Rattle.std.proofs.Common.{◌≡◌, [], true, false, refl, ap, sym, ◌∙◌, arith}
+use Rattle.std.proofs.Common.{◌≡◌, [], true, false, refl, ap, ◌∙◌, arith}
 use Rattle.papr_codes.specs.declared.codes.Rc.TheVariants.{Parameter}
 use Rattle.entry_model.specs.Trial.{Plan, plan_of_code}
 use Rattle.dma_window.specs.Calls.{put_plan_at}

@@ -1,7 +1,6 @@
 use Rattle.std.specs.Prelude.{not, ◌||◌}
 use Rattle.std.proofs.Common.{◌≡◌, [], ◌∷◌, List, set, true, false, refl, ap, sym, ◌∙◌}
 use Rattle.papr_codes.specs.ReturnCodes.{rc_code}
-use Rattle.papr_codes.specs.declared.codes.Rc.{Rc}
 use Rattle.papr_codes.specs.declared.codes.Rc.TheVariants.{Hardware}
 use Rattle.entry_model.specs.State.{State}
 use Rattle.entry_model.specs.Receipt.{is_worn, receipt_of}

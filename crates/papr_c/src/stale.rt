@@ -1,4 +1,4 @@
-ghost use Rattle.std.specs.Prelude.{◌≡◌, false};
+ghost use Rattle.std.specs.Prelude.{◌≡◌, ◌||◌, false};
 ghost use Rattle.std.specs.Option.{option_map_or};
 ghost use Rattle.papr_c.specs.Stale as spec;
 
@@ -10,6 +10,14 @@ pub fn is_stale(answer: Answer) -> bool
     ensures { result ≡ spec.is_stale answer }
 {
     matches!(answer, Answer::Removed | Answer::Protected | Answer::Was)
+}
+
+/// Whether one may be, after two operations with these answers.
+#[inline]
+pub fn either_stale(first: Answer, second: Answer) -> bool
+    ensures { result ≡ (spec.is_stale first || spec.is_stale second) }
+{
+    is_stale(first) || is_stale(second)
 }
 
 /// Whether one may be, after the operation that ended a trial.

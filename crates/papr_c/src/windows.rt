@@ -12,7 +12,7 @@ ghost use Rattle.papr_c.specs.Windows.{window_of, page_entry, outcome_of_tce, de
 use crate::grants::PaprGrants;
 use crate::receipts::PaprReceipt;
 use crate::reply::{PaprReply, filled_count, put_word};
-use crate::stale::is_stale;
+use crate::stale::{either_stale, is_stale};
 use crate::trying::make;
 use bus_window::Window;
 use dma_window::{entering, tce_of};
@@ -175,13 +175,8 @@ fn replace(
         return PaprReply::told(Rc::Hardware, 0, filled_count(room, 1), stale);
     }
     let entered = make(entries, op, entry, receipts, 1);
-    let again = is_stale(entered.answer);
-    PaprReply::told(
-        code_of(entered.answer),
-        0,
-        filled_count(room, 2),
-        stale || again,
-    )
+    let stale = either_stale(removed.answer, entered.answer);
+    PaprReply::told(code_of(entered.answer), 0, filled_count(room, 2), stale)
 }
 
 /// H_PUT_TCE on the entry of a page.

@@ -1,4 +1,4 @@
-use Rattle.std.specs.Prelude.{not, ◌||◌}
+use Rattle.std.specs.Prelude.{not}
 use Rattle.std.proofs.Common.{◌≡◌, [], ◌∷◌, List, set, true, false, refl, ap, sym, ◌∙◌}
 use Rattle.papr_codes.specs.ReturnCodes.{rc_code}
 use Rattle.papr_codes.specs.declared.codes.Rc.TheVariants.{Hardware}
@@ -43,7 +43,7 @@ returns c =
     let s = c.make-entered.result in
     let entries = c.args.entries.now in
     let goes : is_worn r.answer ≡ false = sym c.is_worn.ensures ∙ c.if-is_worn.false in
-    let stale : (c.is_stale-stale.result || c.is_stale-again.result) ≡ any_stale (r ∷ s ∷ []) = (λ k. c.is_stale-stale.ensures k || c.is_stale-again.ensures k) ∙ stale_pair r s in
+    let stale : c.either_stale-stale.result ≡ any_stale (r ∷ s ∷ []) = c.either_stale-stale.ensures ∙ stale_pair r s in
     let next : s ≡ receipt_of c.args.entry (state_at (states_after entries r) c.args.entry) c.args.op.now = c.make-entered.ensures.receipt ∙ ap (λ (xs : List State). receipt_of c.args.entry (state_at xs c.args.entry) c.args.op.now) c.make-removed.ensures.entries in
     call_tried true (replace_plan c.args.entry c.args.op.now) (memory entries [] c.args.receipts.now) (r ∷ s ∷ [], states_after (states_after entries r) s) c.code_of.result [] c.told-2.result [] c.make-entered.new.receipts c.make-entered.new.entries
     refl

@@ -475,7 +475,7 @@ static void windows(void)
     REPLY(papr_put_tce(pages, 3, base, &list, 0x8000, 0x100001, receipts, RECEIPTS), PAPR_H_PARAMETER, 0, 0);
     REPLY(papr_put_tce(pages, 3, base, &list, 0x6000, 0x4001, receipts, RECEIPTS), PAPR_H_PARAMETER, 0, 0);
     REPLY(papr_get_tce(pages, 0, base, base, ROOM), PAPR_H_PARAMETER, 0, 0);
-    REPLY(papr_put_tce(pages, 3, base, &list, 0x8000, 0, receipts, RECEIPTS), PAPR_H_SUCCESS, 0, 1);
+    STALE(papr_put_tce(pages, 3, base, &list, 0x8000, 0, receipts, RECEIPTS), PAPR_H_SUCCESS, 0, 1);
     IS(pages[1].valid, false);
 }
 

@@ -358,6 +358,7 @@ static int resize(void)
     IS(made.rc, PAPR_H_PARAMETER);
     made = papr_resize_commit(&r, from, COUNT, ORDER, into, LARGE, 0, LARGE_ORDER);
     IS(made.rc, PAPR_H_SUCCESS);
+    IS(made.stale, true);
     ENTRY(into[0x4023], 0x1091, 0x3012, 0, true, false, false);
     IS(r.pending, false);
     made = papr_resize_commit(&r, from, COUNT, ORDER, into, LARGE, 0, LARGE_ORDER);

@@ -14,9 +14,9 @@ SHARES = {1: 1.0, 2: 0.68, 3: 0.56, 4: 0.5}
 BUSY = {1: 1.0, 2: 1.7, 3: 2.2, 4: 2.6}
 # How long a proof takes goes by the length of its source. What each pays before the first thing of its own,
 # and compiling and linking the program, are as much as these bytes, and by one processor.
-STARTING, LINKING = 4_500, 25_000
+STARTING, LINKING = 4_500, 30_000
 # The long proofs that take more or less than their length tells, by what they take of it.
-WEIGHTS = {"trace_runner": 1.9, "reply_text": 1.5, "lpar_set": 1.4, "entry_lock": 0.7}
+WEIGHTS = {"trace_runner": 1.9, "reply_text": 1.5, "lpar_set": 1.4, "papr_top": 1.4, "entry_lock": 0.7}
 ENDED = 1e-6  # what is left at most of a proof that has ended, against rounding
 
 

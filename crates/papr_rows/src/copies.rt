@@ -3,8 +3,8 @@
 use crate::miss::Miss;
 use std::io::Write;
 
-/// Puts so many copies of a pattern behind a text. In it `{8+2}` stands for a number, which is 8 in the
-/// first copy and 2 more in each further one; `{0x8+2}` is written in hexadecimal.
+/// Puts so many copies of a pattern behind a text. In it `{8+2}` stands for a number, which is 8 in
+/// the first copy and 2 more in each further one; `{0x8+2}` is written in hexadecimal.
 pub fn push_copies(out: &mut Vec<u8>, pattern: &str, times: usize) -> Result<(), Miss> {
     for copy in 0..times as u64 {
         for piece in pattern.split('{') {

@@ -1,5 +1,5 @@
--- The resize calls of C are those of a pool: what the lent memory is to them, a block of the pool is
--- to the calls of hpt_resize.
+-- The resize calls of C are those of a pool: what the lent memory is to them, a block of the pool
+-- is to the calls of hpt_resize.
 use Rattle.std.specs.Prelude.{◌≡◌, ℕ, ◌==◌, true, min, length, Option, None, Some, is_some}
 use Rattle.hpte_fields.specs.TableSize.{entry_count}
 use Rattle.hpt_pool.specs.Pool.{PoolState, lowest_place}
@@ -33,9 +33,9 @@ IsPrepareOfPool =
     let there = outcome_of_prepare (min limit 22) flags shift (pending_of m.resize) pool in
     (here.0 ≡ rc_code there.rc) × (resize_of (pending_of here.1.resize) ≡ resize_of there.pending)
 
--- Over lent memory that is that of a table of the order wherever nothing else refuses the commit, and
--- a current table with these entries, both calls of H_RESIZE_HPT_COMMIT answer one code and leave one
--- table pending; at H_SUCCESS the memory holds what is the current table then.
+-- Over lent memory that is that of a table of the order wherever nothing else refuses the commit,
+-- and a current table with these entries, both calls of H_RESIZE_HPT_COMMIT answer one code and
+-- leave one table pending; at H_SUCCESS the memory holds what is the current table then.
 abbrev pub IsCommitOfPool : Type 0
 IsCommitOfPool =
     (flags shift : ℕ) (m : ResizeMemory) (pool : PoolState) (table : Table)

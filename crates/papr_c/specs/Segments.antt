@@ -58,8 +58,8 @@ refusal_number (Some bad.Slot) = 1
 refusal_number (Some bad.SegmentSize) = 2
 refusal_number (Some bad.PageSize) = 3
 
--- The slots after the two words: the one that the first names is what both describe, or invalid where
--- V is clear. What is refused changes none.
+-- The slots after the two words: the one that the first names is what both describe, or invalid
+-- where V is clear. What is refused changes none.
 abbrev pub slots_by : Option BadSlb → List PaprSlot → ℕ → ℕ → List PaprSlot
 slots_by (Some refused) slots rb rs = slots
 slots_by None slots rb rs =

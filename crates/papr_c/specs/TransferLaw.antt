@@ -9,8 +9,8 @@ use Rattle.table_image.specs.Layouts.{cleared_bit}
 use Rattle.table_image.specs.declared.layout.Layout.{Layout}
 use Rattle.papr_c.specs.Transfers.{entry_bytes, entry_of_bytes}
 
--- An entry of a table: written in the one way, of doublewords of 64 bits, and where it is valid one of
--- words that H_ENTER stores as they are, of a page that the grants hold.
+-- An entry of a table: written in the one way, of doublewords of 64 bits, and where it is valid one
+-- of words that H_ENTER stores as they are, of a page that the grants hold.
 pub record IsGranted (grants : List Grant) (s : State) : Type 0 where
   pub canonical : IsCanonicalState s
   pub first : s.dword0 < 2 ^ 64
@@ -20,8 +20,8 @@ pub record IsGranted (grants : List Grant) (s : State) : Type 0 where
   pub stored : s.valid ≡ true → stored_second s.dword1 ≡ s.dword1
   pub entered : s.valid ≡ true → entered_words grants s.dword0 (words_of s).1 ≡ Some (words_of s)
 
--- In both layouts its bytes, behind those of i others and whatever follows them, are imported as this
--- entry at stamp 0.
+-- In both layouts its bytes, behind those of i others and whatever follows them, are imported as
+-- this entry at stamp 0.
 abbrev pub IsRoundTrip : Type 0
 IsRoundTrip =
     (grants : List Grant) (layout : Layout) (s : State) (front bytes rest : List ℕ) (i : ℕ)

@@ -1,4 +1,5 @@
--- H_PUT_TCE, H_GET_TCE and a device's access, of C: over the entries of a window, one for each page.
+-- H_PUT_TCE, H_GET_TCE and a device's access, of C: over the entries of a window, one for each
+-- page.
 use Rattle.std.specs.Prelude.{ℕ, Bool, if◌then◌else◌, List, [], ◌∷◌, length, map, min, Option, Some, None}
 use Rattle.frame_grants.specs.declared.grant.Grant.{Grant}
 use Rattle.bus_window.specs.Windows.{BusWindow, bus_window, is_window, entry_at}
@@ -26,8 +27,8 @@ abbrev pub page_entry : ℕ → List State → ℕ → Option ℕ
 page_entry base entries ioba =
     if is_window (window_of base entries) then entry_at (window_of base entries) ioba else None
 
--- A call on the entries of a window; where there can be no such window it is H_PARAMETER, and nothing
--- changes.
+-- A call on the entries of a window; where there can be no such window it is H_PARAMETER, and
+-- nothing changes.
 abbrev pub outcome_of_tce : ℕ → (BusWindow → Plan) → LentMemory → PaprReply × LentMemory
 outcome_of_tce base plan m =
     outcome_where (is_window (window_of base m.entries)) (plan (window_of base m.entries)) m

@@ -21,7 +21,8 @@ pub struct PaprRehash {
     pub second: u32,
     /// The index in the new table.
     pub target: u32,
-    /// Whether cached translations have to be dropped: after a success none is one of the new table.
+    /// Whether cached translations have to be dropped: after a success none is one of the new
+    /// table.
     pub stale: bool,
 }
 

@@ -72,8 +72,8 @@ pub struct PaprWalk {
     /// The index of the entry that translates the page, where there is one; else 0.
     pub entry: u32,
     /// 0 where the access is allowed, 1 where the entry's protection refuses it, 2 where no entry
-    /// translates the page, 3 where the arguments are out of range, 4 where AMR refuses the access, 5
-    /// where IAMR does.
+    /// translates the page, 3 where the arguments are out of range, 4 where AMR refuses the access,
+    /// 5 where IAMR does.
     pub outcome: u32,
     /// How many of the caller's places for receipts were filled.
     pub receipts: u32,
@@ -81,8 +81,8 @@ pub struct PaprWalk {
     pub base_shift: u8,
     /// The size of the real page.
     pub actual_shift: u8,
-    /// What the entry lets this processor do after the walk, and need not record: read counts 4, write
-    /// 2 and execute 1. So there is none without R, and none to write without C.
+    /// What the entry lets this processor do after the walk, and need not record: read counts 4,
+    /// write 2 and execute 1. So there is none without R, and none to write without C.
     pub rights: u8,
     /// All causes for which the access is refused: the protection bits count 1; N or G, or the
     /// segment's N, 2; AMR 4; IAMR 8.

@@ -205,8 +205,8 @@ fn put_at(
 }
 
 /// H_PUT_TCE (LoPAR) on the entries of a window, one for each page of 4,096 bytes from the bus
-/// address `base` on: sets the TCE of the page at `ioba`, over any that is there. A TCE that permits
-/// nothing empties the entry. There are no words.
+/// address `base` on: sets the TCE of the page at `ioba`, over any that is there. A TCE that
+/// permits nothing empties the entry. There are no words.
 #[tactic(auto, unfolding(dma_window::specs::Calls::put_tce_plan))]
 #[unsafe(no_mangle)]
 pub extern "C" fn papr_put_tce(

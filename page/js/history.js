@@ -30,6 +30,7 @@ const REFUSED = [GREY, [], "refused, or not found"];
 const REFUSALS = new Set(["taken", "notfound", "nomatch", "denied", "masked", "worn"]);
 const STRIPS = ["#5fbf9f", SKY, ORANGE]; // valid, R, C
 const NAMES = ["valid", "R", "C", "stamp"];
+const UNKNOWN = "the replies don't tell";
 
 function lookOf(receipt) {
   if (receipt.isChange) return LOOKS[receipt.answer];
@@ -243,14 +244,16 @@ function centred(words, x, y, kind) {
 }
 
 // The marks that occur, with words.
-function legend(receipts, width, top) {
+function legend(receipts, hasUnknown, width, top) {
   let [x, y, out] = [24, top, ""];
   const looks = new Map();
   for (const receipt of receipts) if (!looks.has(lookOf(receipt)[2])) looks.set(lookOf(receipt)[2], receipt);
+  if (hasUnknown) looks.set(UNKNOWN, null);
   for (const [words, receipt] of looks) {
     const taken = 34 + 6.4 * words.length;
     if (x + taken > width) [x, y] = [24, y + LEGEND_ROW];
-    out += mark(receipt, x, y) + text(words, x + 15, y + 4);
+    const unknown = () => box(x - 9, y - 8, 18, 16, "strip unknown") + text("?", x, y + 4, 'text-anchor="middle" class="small"');
+    out += (receipt === null ? unknown() : mark(receipt, x, y)) + text(words, x + 15, y + 4);
     x += taken;
   }
   return [`<g class="legend">${out}</g>`, y + LEGEND_ROW];
@@ -271,7 +274,9 @@ export function drawHistory(receipts, selected) {
     drawn += band.draw(selected);
     end = band.end;
   }
-  const [marks, height] = legend(receipts, width, end + 10);
+  const spans = bands.flatMap((parts) => parts.flatMap((part) => part.spans));
+  const hasUnknown = spans.some(({ valid, bits }) => valid === null || bits === null);
+  const [marks, height] = legend(receipts, hasUnknown, width, end + 10);
   const sizes = `width="${width}" height="${height}" viewBox="0 ${HEAD} ${width} ${height - HEAD}"`;
   return `<svg ${sizes} role="img">${drawn}${marks}</svg>`;
 }

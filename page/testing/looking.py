@@ -14,6 +14,7 @@ import grants
 from common import Bad
 from crates import TOP
 from opened import IS_DONE, Opened
+from refusals import Refused, form_of, rules_of
 
 EXAMPLES = TOP / "examples"
 CONTROL = 2
@@ -90,17 +91,17 @@ def shows(opened: Opened, status: str, words: str = "") -> None:
 
 
 def refusals(opened: Opened) -> None:
-    """A refused line is marked at its place, and its rule and its form are told as tools/why tells them."""
-    why = tool("why")
+    """A refused line is marked at its place, with its rule and its form as FORMATS.md has them."""
     formats = (TOP / "docs" / "FORMATS.md").read_text(encoding="utf-8")
     for text, line, reason in REFUSED:
         opened.trace(text)
         shows(opened, f"2: line {line} is refused: {reason}", repr(text))
         told = opened.texts("#told p")
-        wanted = [f"rule: {why.rule_of(formats, reason, False)}"]
         lines = text.split("\n")[:-1]
+        refused = Refused(line, reason, lines, "run")
+        wanted = [f"rule: {rules_of(formats, refused)}"]
         if line <= len(lines):
-            wanted.append(f"form: {why.form_of(why.forms_of(formats), lines[line - 1])}")
+            wanted.append(f"form: {form_of(formats, refused)}")
             need("refused" in opened.classes("trace", line), f"line {line} isn't marked in {text!r}")
             need(opened.count("#trace .refused") == 1, f"{text!r}: marks")
         need(told == wanted, f"{text!r}: {told} in place of {wanted}")
@@ -114,14 +115,13 @@ def refusals(opened: Opened) -> None:
 
 def set_refusals(opened: Opened) -> None:
     """Of a set the rules and forms are a set's."""
-    why = tool("why")
     formats = (TOP / "docs" / "FORMATS.md").read_text(encoding="utf-8")
     for text, reason in (("9 order 18\n", "lpar"), ("0 order\n", "count"), ("shared 1\n", "count")):
         line = 1
         opened.trace(text, "set")
         told = opened.texts("#told p")
-        rule, form = why.rule_of(formats, reason, True), why.form_in_set(formats, text.strip())
-        wanted = [f"rule: {rule}", f"form: {form}"]
+        refused = Refused(line, reason, [text.strip()], "set")
+        wanted = [f"rule: {rules_of(formats, refused)}", f"form: {form_of(formats, refused)}"]
         shows(opened, f"2: line {line} is refused: {reason}", repr(text))
         need(told == wanted, f"{text!r}: {told} in place of {wanted}")
 

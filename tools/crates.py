@@ -51,6 +51,11 @@ def folders_of(name: str) -> list[Path]:
     return [part for part in (CRATES / name / it for it in PARTS) if part.is_dir()]
 
 
+def sources_of(name: str) -> list[Path]:
+    """The folders of a crate that its program is built from: its code and its definitions."""
+    return [part for part in folders_of(name) if part.name != "proofs"]
+
+
 def files_of(name: str) -> Iterator[Path]:
     """The files that a crate's proof and its library rest on."""
     return (f for part in folders_of(name) for f in part.rglob("*") if f.is_file())

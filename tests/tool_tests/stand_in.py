@@ -102,6 +102,13 @@ class Checkout:
         self.source(name).write_text(self.source(name).read_text() + text)
         self.touch(name)
 
+    def add(self, name: str, file: str, text: str) -> None:
+        """Adds a file to a crate, later than what was built by the clock of files."""
+        time.sleep(0.01)
+        added = self.top / "crates" / name / file
+        added.parent.mkdir(exist_ok=True)
+        added.write_text(text)
+
     def touch(self, name: str) -> None:
         """Makes a crate's source newer than what was built."""
         time.sleep(0.01)

@@ -173,6 +173,22 @@ class Kept(WrapperTest):
         self.assertIn("building the program: 0 of 4 crates to prove\n", ran.err)
         self.assertEqual(self.checkout.proved(), [])
 
+    def test_a_definition_that_changes_is_built_at_the_next_run(self) -> None:
+        """The program was proved by the definitions that were there."""
+        self.checkout.add("low", "specs/Low.antt", "-- a definition\n")
+        ran = self.checkout.papr("run")
+        self.assert_ran_program(ran)
+        self.assertIn("low", self.checkout.proved())
+
+    def test_a_proof_that_changes_waits_for_the_next_build(self) -> None:
+        """The program stays as it is, and starts at once; a build proves the crate."""
+        self.checkout.add("low", "proofs/Low.antt", "-- another proof\n")
+        ran = self.checkout.papr("run")
+        self.assert_ran_program(ran)
+        self.assertNotIn("building", ran.err)
+        built = self.checkout.build()
+        self.assertIn("building the program: 4 crates to prove", built.err)
+
     def test_another_kit_proves_all(self) -> None:
         """A proof rests on the toolchain too."""
         (self.checkout.kit / "KIT-ID").write_text("another kit\n")

@@ -1,0 +1,148 @@
+"""Tests of what is built for aarch64, which qemu-aarch64 runs: it answers as the program and the libraries here do."""
+
+import re
+import tempfile
+import unittest
+from pathlib import Path
+from typing import ClassVar
+
+from .support import DATA, EXAMPLES, PROGRAM, TOP, Ran, Text, ToolTest, Word, for_each, needs, needs_program, run
+from .support import run_bytes, write_script
+
+VERSION = (TOP / "VERSION").read_text(encoding="ascii").strip()
+BUILT, SHARED = TOP / "out" / "aarch64", f"libpapr.so.{VERSION}"
+COMPILER, SYSTEM = "aarch64-linux-gnu-gcc", Path("/usr/aarch64-linux-gnu")
+TRACES = sorted(path.stem for path in EXAMPLES.glob("*.trace"))
+STRICT = ("-std=gnu11", "-O2", "-Wall", "-Wextra", "-Werror", f"-I{TOP / 'include'}")
+WORDS = (
+    "",
+    "run",
+    "run run",
+    "image new",
+    "image old new",
+    "set",
+    "check",
+    "drill 1 1000",
+    "drill 1",
+    "drill 1 100001",
+    "usage",
+    "run a b c",
+)
+
+
+def emulated(program: Path, folder: Path) -> Path:
+    """A script that runs a program of aarch64."""
+    text = f"#!/bin/sh\nexec qemu-aarch64 -L '{SYSTEM}' -E LD_LIBRARY_PATH='{BUILT}' '{program}' \"$@\"\n"
+    return write_script(folder / f"run-{program.name}", text)
+
+
+@needs(COMPILER, "qemu-aarch64")
+@unittest.skipUnless((BUILT / "papr").is_file(), "nothing is built for aarch64 (make aarch64)")
+class Aarch64Test(ToolTest):
+    """A test of what is built for aarch64."""
+
+
+class Program(Aarch64Test):
+    """The program over the library of the program on bytes."""
+
+    def setUp(self) -> None:
+        super().setUp()
+        self.papr = emulated(BUILT / "papr", self.folder)
+
+    def shell(self, command: str) -> Ran:
+        """Runs a line of the shell, in which $0 is the program."""
+        return run("sh", "-c", command, self.papr)
+
+    @needs("xz")
+    def test_it_writes_the_bytes_of_all_examples(self) -> None:
+        ran = run(EXAMPLES / "check", "--serial", self.papr)
+        self.assert_ran(ran, out=None)
+        self.assertRegex(ran.out.splitlines()[-1], r"\A[0-9]{3} passed, 0 failed\Z")
+
+    @needs_program
+    @for_each(*WORDS)
+    def test_it_ends_as_the_program_does_with_the_words(self, words: str) -> None:
+        """On an input, and on none."""
+        inputs: tuple[Text, ...] = (EXAMPLES / "image-new.trace", "", "begin\nfrob\n")
+        for given in inputs:
+            wanted = run(PROGRAM, *words.split(), given=given)
+            self.assert_ran(run(self.papr, *words.split(), given=given), wanted.out, status=wanted.status)
+
+    @needs_program
+    def test_an_empty_word_is_no_word_of_a_command(self) -> None:
+        for words in (("run", ""), ("", "run"), ("",)):
+            wanted = run(PROGRAM, *words, given="begin\n")
+            self.assert_ran(run(self.papr, *words, given="begin\n"), wanted.out, status=wanted.status)
+
+    @needs_program
+    @for_each((1 << 24), (1 << 24) + 1, (1 << 24) + 5000)
+    def test_an_input_of_so_many_bytes(self, length: int) -> None:
+        given = b"begin\n" + b"#" * (length - 7) + b"\n"
+        wanted = run(PROGRAM, "run", given=given)
+        self.assert_ran(run(self.papr, "run", given=given), wanted.out, status=wanted.status)
+
+    def test_replies_of_more_bytes_than_there_was_room_for(self) -> None:
+        """A dump writes each entry that was entered, which a short line did."""
+        entered = "".join(f"0 H_ENTER 0 {index} 1 18\n" for index in range(0, 1 << 14, 8))
+        given = f"order 18\nram 0x0 0x2000000000 0x40000000\nbegin\n{entered}" + "dump\n" * 16
+        ran = run(self.papr, "run", given=given)
+        self.assert_ran(ran, out=None)
+        self.assertEqual(ran.out.count("\n"), 2048 + 16 + 16 * 2048)
+        self.assertGreater(len(ran.out), 24 * len(given) + (1 << 16))
+
+    def test_words_that_are_no_command_need_no_input(self) -> None:
+        ran = self.shell("sleep 600 | timeout 60 \"$0\" frob & wait $!; status=$?; kill %1; exit $status")
+        self.assertEqual((ran.status, ran.out), (1, "papr: usage\n"))
+
+    def test_what_cannot_be_read_or_written(self) -> None:
+        trace = EXAMPLES / "first.trace"
+        self.assertEqual(self.shell('"$0" run </').status, 3)
+        self.assertEqual(self.shell('"$0" run <&-').status, 3)
+        self.assertEqual(self.shell(f'"$0" run <"{trace}" >/dev/full').status, 4)
+
+
+class Library(Aarch64Test):
+    """The archive and the shared object of the library for C."""
+
+    programs: ClassVar[Path]
+
+    @classmethod
+    def setUpClass(cls) -> None:
+        """Builds the replayer of examples/c and the program of fields over each, once for the class."""
+        super().setUpClass()
+        work = tempfile.TemporaryDirectory(prefix="papr-aarch64-")
+        cls.addClassCleanup(work.cleanup)
+        cls.programs = Path(work.name)
+        replayer = sorted((EXAMPLES / "c").glob("*.c"))
+        for way in ("archive", "shared"):
+            library: list[Word] = [BUILT / "libpapr.a"] if way == "archive" else [f"-L{BUILT}", "-lpapr"]
+            for name, sources in (("replay", replayer), ("fields", [DATA / "fields.c"])):
+                ran = run(COMPILER, *STRICT, *sources, *library, "-o", cls.programs / f"{name}-{way}")
+                if (ran.status, ran.err) != (0, ""):
+                    raise OSError(f"{name} doesn't build: {ran.err}")
+
+    def run_program(self, name: str, given: Text = "") -> Ran:
+        """Runs one of the programs."""
+        return run(emulated(self.programs / name, self.folder), given=given)
+
+    @for_each("archive", "shared")
+    def test_each_field_has_the_value_that_its_call_gives_it(self, way: str) -> None:
+        self.assert_ran(self.run_program(f"fields-{way}"))
+
+    @for_each(*TRACES)
+    def test_the_replayer_writes_what_papr_writes_of(self, name: str) -> None:
+        replies = (EXAMPLES / f"{name}.replies").read_text(encoding="ascii")
+        status = 2 if replies.startswith("papr: ") else 0
+        for way in ("archive", "shared"):
+            ran = self.run_program(f"replay-{way}", EXAMPLES / f"{name}.trace")
+            self.assert_ran(ran, replies, status=status)
+
+    @needs("aarch64-linux-gnu-nm", "aarch64-linux-gnu-readelf")
+    def test_the_shared_object_exports_the_functions_of_the_header(self) -> None:
+        told = run_bytes("aarch64-linux-gnu-nm", "-D", "--defined-only", BUILT / SHARED).decode().splitlines()
+        header = (TOP / "include" / "papr.h").read_text(encoding="ascii")
+        declared = sorted(set(re.findall(r"\b(papr_[a-z_0-9]+)\(", header)))
+        self.assertEqual([line.split()[1:] for line in told], [["T", name] for name in declared])
+        head = run("aarch64-linux-gnu-readelf", "-h", "-d", BUILT / SHARED).out
+        self.assertIn(f"[libpapr.so.{VERSION.split('.')[0]}]", head)
+        self.assertIn("AArch64", head)

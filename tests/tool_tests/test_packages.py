@@ -194,6 +194,7 @@ class Installing(ToolTest):
         program = write_script(Path(work.name) / "program", STAND_IN)
         library = write_script(Path(work.name) / "library", A_LIBRARY)
         make("install", cls.tree, f"PROGRAM={program}", f"LIBRARY={library}", f"SHARED={library}")
+        make("install-bytes-library", cls.tree, f"BYTES_LIBRARY={library}")
 
     def run_installed(self, command: str, *words: Word) -> Ran:
         """Runs a command from the tree."""
@@ -203,8 +204,11 @@ class Installing(ToolTest):
         for name in ("libpapr.a", f"libpapr.so.{VERSION}", f"libpapr.so.{VERSION.split('.')[0]}", "libpapr.so"):
             self.assertEqual(text_of(self.usr / "lib" / name), A_LIBRARY)
         self.assert_same_file(self.usr / "include" / "papr.h", TOP / "include" / "papr.h")
-        described = text_of(self.usr / "lib" / "pkgconfig" / "papr.pc").splitlines()
-        self.assertEqual([line for line in described if line.startswith("Version")], [f"Version: {VERSION}"])
+        self.assertEqual(text_of(self.usr / "lib" / "libpapr_bytes.a"), A_LIBRARY)
+        self.assert_same_file(self.usr / "include" / "papr_bytes.h", TOP / "include" / "papr_bytes.h")
+        for name in ("papr", "papr_bytes"):
+            described = text_of(self.usr / "lib" / "pkgconfig" / f"{name}.pc").splitlines()
+            self.assertEqual([line for line in described if line.startswith("Version")], [f"Version: {VERSION}"])
 
     def test_make_install_puts_the_program_the_documents_and_the_examples(self) -> None:
         self.assertEqual(text_of(self.usr / "libexec" / "papr" / "papr"), STAND_IN)

@@ -69,7 +69,7 @@ class Committed:
     """The checkout, in a folder of its own, and how its commands are run."""
 
     def __init__(self, folder: Path, names: list[str]) -> None:
-        self.top, self.kit = folder / "checkout", folder / "kit"
+        self.top, self.kit = folder / "a checkout", folder / "kit"
         for name in names:
             if (TOP / name).is_file():
                 (self.top / name).parent.mkdir(parents=True, exist_ok=True)
@@ -105,9 +105,11 @@ class Committed:
         (self.top / "out" / "build.kit").write_text(f"{KIT}\n", encoding="ascii")
 
     def put_aarch64(self) -> None:
-        """Puts texts where the files for aarch64 are built."""
+        """Puts what is built here for aarch64 where it is built, or texts that stand for it."""
         for place in AARCH64:
             write_script(self.top / place, f"aarch64 {place.name}\n")
+            if (TOP / place).is_file():
+                shutil.copy(TOP / place, self.top / place)
 
     @property
     def note(self) -> Path:

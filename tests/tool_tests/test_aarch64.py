@@ -2,16 +2,15 @@
 
 import re
 import tempfile
-import unittest
 from pathlib import Path
 from typing import ClassVar
 
-from .support import DATA, EXAMPLES, PROGRAM, TOP, Ran, Text, ToolTest, Word, for_each, needs, needs_program, run
-from .support import run_bytes, write_script
+from .emulator import BUILT, COMPILER, emulated, needs_aarch64
+from .support import DATA, EXAMPLES, PROGRAM, TOP, Ran, Text, ToolTest, Word, for_each, needs, needs_program
+from .support import run, run_bytes
 
 VERSION = (TOP / "VERSION").read_text(encoding="ascii").strip()
-BUILT, SHARED = TOP / "out" / "aarch64", f"libpapr.so.{VERSION}"
-COMPILER, SYSTEM = "aarch64-linux-gnu-gcc", Path("/usr/aarch64-linux-gnu")
+SHARED = f"libpapr.so.{VERSION}"
 TRACES = sorted(path.stem for path in EXAMPLES.glob("*.trace"))
 STRICT = ("-std=gnu11", "-O2", "-Wall", "-Wextra", "-Werror", f"-I{TOP / 'include'}")
 WORDS = (
@@ -30,19 +29,8 @@ WORDS = (
 )
 
 
-def emulated(program: Path, folder: Path) -> Path:
-    """A script that runs a program of aarch64."""
-    text = f"#!/bin/sh\nexec qemu-aarch64 -L '{SYSTEM}' -E LD_LIBRARY_PATH='{BUILT}' '{program}' \"$@\"\n"
-    return write_script(folder / f"run-{program.name}", text)
-
-
-@needs(COMPILER, "qemu-aarch64")
-@unittest.skipUnless((BUILT / "papr").is_file(), "nothing is built for aarch64 (make aarch64)")
-class Aarch64Test(ToolTest):
-    """A test of what is built for aarch64."""
-
-
-class Program(Aarch64Test):
+@needs_aarch64
+class Program(ToolTest):
     """The program over the library of the program on bytes."""
 
     def setUp(self) -> None:
@@ -101,7 +89,8 @@ class Program(Aarch64Test):
         self.assertEqual(self.shell(f'"$0" run <"{trace}" >/dev/full').status, 4)
 
 
-class Library(Aarch64Test):
+@needs_aarch64
+class Library(ToolTest):
     """The archive and the shared object of the library for C."""
 
     programs: ClassVar[Path]

@@ -12,9 +12,9 @@ from pathlib import Path
 from typing import ClassVar
 
 from .committed import PROGRAM_TEXT, SHARED, VERSION, make_libraries
+from .installed import COMMANDS, FORMATS
 from .support import DATA, DOCS, EXAMPLES, LIBRARY, PROGRAM, TOP, Ran, ToolTest, Word, for_each, needs
 from .support import needs_library, needs_program, run, run_bytes, write_script
-from .test_packages import COMMANDS, FORMATS
 
 MAJOR = VERSION.split(".", maxsplit=1)[0]
 PACKAGES = ("papr", f"libpapr{MAJOR}", "libpapr-dev")

@@ -7,23 +7,10 @@ import tempfile
 from pathlib import Path
 from typing import ClassVar
 
-from .installed import make
+from .installed import COMMANDS, FORMATS, make
 from .support import DATA, DOCS, EXAMPLES, TOP, Ran, ToolTest, Word, for_each, needs, run, write_script
 
-COMMANDS = (
-    "papr-from-qemu",
-    "papr-history",
-    "papr-picture",
-    "papr-receipts",
-    "papr-why",
-    "papr-bad-line",
-    "papr-cut",
-    "papr-entries",
-    "papr-decode",
-    "papr-diff",
-)
 WORDS = ["run", "par", "check", "set", "image", "drill"]
-FORMATS = ("papr-trace", "papr-replies")
 VERSION = (TOP / "VERSION").read_text(encoding="ascii").strip()
 BASH, ZSH, FISH = (TOP / "completions" / f"papr.{shell}" for shell in ("bash", "zsh", "fish"))
 

@@ -9,13 +9,15 @@ import shutil
 import tempfile
 import unittest
 from pathlib import Path
-from typing import ClassVar
+from typing import Callable, ClassVar
 
 from .committed import AARCH64, CRATES, KIT, NAMES, SAID, SHARED, VERSION, Committed
 from .committed import listed, make_libraries, without_make
+from .emulator import COMPILER, emulated, needs_aarch64
 from .support import BYTES_LIBRARY, DATA, EXAMPLES, LIBRARY, PROGRAM, ToolTest, for_each, needs
-from .support import needs_bytes_library, needs_library, needs_program, run
+from .support import needs_bytes_library, needs_library, needs_program, run, write_script
 
+Runner = Callable[[Path], Path]
 AGAIN = "run tools/gate"
 FILES = listed()
 needs_git = unittest.skipIf(FILES is None, "this is no checkout of git")
@@ -161,6 +163,11 @@ class Refused(CommittedTest):
         self.assert_no_release("this is no checkout of git with a commit, and a release is made of one")
 
 
+def names_in(folder: Path) -> list[str]:
+    """The files of a release but for wheels, of which there are as many as there are bindings."""
+    return sorted(path.name for path in folder.iterdir() if path.suffix != ".whl")
+
+
 def expected_names() -> list[str]:
     """The files of a release with all its parts."""
     archives = [f"papr-{VERSION}-{machine}.tar.xz" for machine in ("aarch64", "x86_64")]
@@ -216,9 +223,7 @@ class Released(ToolTest):
         return found
 
     def test_its_parts(self) -> None:
-        names = sorted(path.name for path in self.checkout.released.iterdir())
-        wheels = [name for name in names if name.endswith(".whl")]
-        self.assertEqual([name for name in names if name not in wheels], expected_names())
+        self.assertEqual(names_in(self.checkout.released), expected_names())
 
     @needs("sha256sum")
     def test_the_sums_are_those_of_all_parts(self) -> None:
@@ -290,18 +295,36 @@ class Released(ToolTest):
         self.assert_ran(ran, (EXAMPLES / "first.replies").read_text(encoding="ascii"))
         self.assert_help(tree / "bin" / "papr-why")
 
+    def assert_libraries_are_found(self, tree: Path, compiler: str, runner: Runner) -> None:
+        """Programs in C are compiled against both libraries of a tarball by pkg-config, and run."""
+        variables = {"PKG_CONFIG_PATH": str(tree / "lib" / "pkgconfig")}
+        for name, source in (("papr", DATA / "fields.c"), ("papr_bytes", EXAMPLES / "c" / "bytes" / "call.c")):
+            flags = run("pkg-config", "--cflags", "--libs", name, environment=variables).out.strip()
+            self.assert_ran(run("sh", "-c", f'{compiler} "$0" {flags} -o "$1"', source, self.folder / name))
+        self.assert_ran(run(runner(self.folder / "papr")))
+        ran = run(runner(self.folder / "papr_bytes"), given=EXAMPLES / "first.trace")
+        self.assert_ran(ran, (EXAMPLES / "first.replies").read_text(encoding="ascii"))
+
     @needs("pkg-config")
     @needs_library
     @needs_bytes_library
     def test_pkg_config_finds_the_libraries_of_a_tarball(self) -> None:
         tree = self.unpack(f"papr-{VERSION}-x86_64.tar.xz")
-        variables = {"PKG_CONFIG_PATH": str(tree / "lib" / "pkgconfig"), "LD_LIBRARY_PATH": str(tree / "lib")}
-        for name, source in (("papr", DATA / "fields.c"), ("papr_bytes", EXAMPLES / "c" / "bytes" / "call.c")):
-            flags = run("pkg-config", "--cflags", "--libs", name, environment=variables).out.strip()
-            self.assert_ran(run("sh", "-c", f'cc "$0" {flags} -o "$1"', source, self.folder / name))
-        self.assert_ran(run(self.folder / "papr", environment=variables))
-        ran = run(self.folder / "papr_bytes", given=EXAMPLES / "first.trace", environment=variables)
-        self.assert_ran(ran, (EXAMPLES / "first.replies").read_text(encoding="ascii"))
+
+        def with_libraries(program: Path) -> Path:
+            text = f"#!/bin/sh\nLD_LIBRARY_PATH='{tree / 'lib'}' exec '{program}'\n"
+            return write_script(self.folder / f"run-{program.name}", text)
+
+        self.assert_libraries_are_found(tree, "cc", with_libraries)
+
+    @needs("pkg-config")
+    @needs_aarch64
+    def test_the_tarball_for_aarch64_by_the_emulator(self) -> None:
+        tree = self.unpack(f"papr-{VERSION}-aarch64.tar.xz")
+        papr = emulated(tree / "libexec" / "papr" / "papr", self.folder)
+        ran = run(papr, "run", given=EXAMPLES / "resize.trace")
+        self.assert_ran(ran, (EXAMPLES / "resize.replies").read_text(encoding="ascii"))
+        self.assert_libraries_are_found(tree, COMPILER, lambda it: emulated(it, self.folder, tree / "lib"))
 
 
 @needs_git
@@ -318,16 +341,13 @@ class Parts(CommittedTest):
         ran = self.checkout.release()
         told = "release: nothing for aarch64: where the gate ran there was no compiler for it\n"
         self.assert_ran(ran, out=None, err=told)
-        names = [path.name for path in self.checkout.released.iterdir()]
-        self.assertEqual(sorted(names), [name for name in expected_names() if "aarch64" not in name])
+        wanted = [name for name in expected_names() if "aarch64" not in name]
+        self.assertEqual(names_in(self.checkout.released), wanted)
 
     def test_a_wheel_where_there_is_a_binding(self) -> None:
         """The command that makes it takes the folder."""
         wheel = 'echo "wheel $SOURCE_DATE_EPOCH" >"$1/papr-1-py3-none-any.whl"'
-        write = self.checkout.top / "bindings" / "python" / "build-wheel"
-        write.parent.mkdir(parents=True, exist_ok=True)
-        write.write_text(f"#!/bin/sh\n{wheel}\n", encoding="ascii")
-        write.chmod(0o755)
+        write_script(self.checkout.top / "bindings" / "python" / "build-wheel", f"#!/bin/sh\n{wheel}\n")
         self.checkout.git("add", "--all")
         self.checkout.git("commit", "--quiet", "--message", "A binding")
         self.checkout.gate()

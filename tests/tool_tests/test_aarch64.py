@@ -1,13 +1,16 @@
 """Tests of what is built for aarch64, which qemu-aarch64 runs: it answers as the program and the libraries here do."""
 
 import re
+import shutil
+import sys
 import tempfile
 from pathlib import Path
 from typing import ClassVar
 
 from .emulator import BUILT, COMPILER, emulated, needs_aarch64
+from .stand_in import Checkout
 from .support import DATA, EXAMPLES, PROGRAM, TOP, Ran, Text, ToolTest, Word, for_each, needs, needs_program
-from .support import run, run_bytes
+from .support import run, run_bytes, write_script
 
 VERSION = (TOP / "VERSION").read_text(encoding="ascii").strip()
 SHARED = f"libpapr.so.{VERSION}"
@@ -27,6 +30,34 @@ WORDS = (
     "usage",
     "run a b c",
 )
+
+
+class Without(ToolTest):
+    """A build where there is no cross compiler."""
+
+    def setUp(self) -> None:
+        super().setUp()
+        self.checkout = Checkout(self.folder)
+        shutil.copy(TOP / "VERSION", self.checkout.top)
+        shutil.copytree(TOP / "tools" / "aarch64", self.checkout.top / "tools" / "aarch64")
+        self.built = write_script(self.checkout.top / "out" / "aarch64" / "papr", "")
+        (self.folder / "bin").mkdir()
+        (self.folder / "bin" / "python3").symlink_to(sys.executable)
+
+    def build(self, *words: str) -> Ran:
+        """Runs the build with no command but Python."""
+        tool = self.checkout.top / "tools" / "aarch64" / "build-aarch64"
+        return run(tool, *words, environment={"PATH": str(self.folder / "bin")})
+
+    def test_it_is_refused(self) -> None:
+        told = f"build-aarch64: {COMPILER} isn't here; Debian's package gcc-aarch64-linux-gnu has it"
+        self.assert_refused(self.build(), told)
+        self.assertTrue(self.built.exists())
+
+    def test_where_it_need_not_be_built_nothing_older_is_left(self) -> None:
+        told = f"build-aarch64: nothing is built for aarch64: {COMPILER} isn't here\n"
+        self.assert_ran(self.build("--if-possible"), err=told)
+        self.assertFalse(self.built.parent.exists())
 
 
 @needs_aarch64

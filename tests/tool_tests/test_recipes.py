@@ -38,7 +38,6 @@ LEFT_OUT = {
     "apt-get install": "needs a network, and runs a guest for a minute",
     "rt new": "needs the toolchain: test_library makes that crate and runs it",
     "make library": "proves the library: minutes; test_c_library links it",
-    "make aarch64": "proves the libraries: minutes; test_aarch64 runs what it builds",
     "make bytes-library": "proves the library: minutes; test_c_library calls it",
     "tools/qemu-shadow/build": "needs a network, and builds QEMU",
     "bench/speed": "measures for minutes",

@@ -3,15 +3,20 @@
 #   make                          build the program where it is missing or older than its sources
 #   make check                    run the examples and the tests of the tools
 #   make install PREFIX=/usr      build both and install; DESTDIR is put in front of every path. install-program leaves
-#                                 out the library for C, install-library installs it alone
+#                                 out the library for C, install-library installs it alone; install-bytes-library installs
+#                                 the library of the program on bytes, which `make install` leaves out
 #   make library                  build both libraries for C: the calls (include/papr.h), as an archive, where it is missing or
 #                                 older than its sources, and as a shared object, out/lib/libpapr.so.0; and the whole program on
 #                                 bytes (include/papr_bytes.h)
 #   make bytes-library            build the second of these alone
+#   make aarch64                  build the libraries and the program for aarch64 too, in out/aarch64
 #   make page                     build docs/papr.html, in which the program runs in a browser
 #   make uninstall PREFIX=/usr    take away what install put there
 #   make dist                     the committed sources as out/dist/papr-VERSION.tar.gz
-#   make deb                      a Debian package of the program, out/dist/papr_VERSION_ARCHITECTURE.deb
+#   make deb                      Debian packages of the program and the library for C: papr, libpapr0 and libpapr-dev, in
+#                                 out/dist
+#   make gate                     run .ci/run, and note for a release that this tree passed
+#   make release                  all that a release has, in out/dist, of a tree that passed; it needs no toolchain
 
 PREFIX ?= /usr/local
 DESTDIR ?=
@@ -19,7 +24,8 @@ own_program = crates/papr_main/out/papr_main
 own_library = crates/papr_c/out/libpapr_c.a
 PROGRAM ?= $(own_program)
 LIBRARY ?= $(own_library)
-BYTES_LIBRARY ?= crates/papr_bytes/out/libpapr_bytes.a
+own_bytes_library = crates/papr_bytes/out/libpapr_bytes.a
+BYTES_LIBRARY ?= $(own_bytes_library)
 INSTALL ?= install
 VERSION := $(shell cat VERSION)
 own_shared = out/lib/libpapr.so.$(VERSION)
@@ -37,7 +43,10 @@ exampledir = $(docdir)/examples
 bashdir = $(share)/bash-completion/completions
 zshdir = $(share)/zsh/site-functions
 fishdir = $(share)/fish/vendor_completions.d
-libdir = $(DESTDIR)$(PREFIX)/lib
+# The folder of libraries, which some systems have a name of their own for, and the prefix that pkg-config gives.
+lib ?= lib
+pc_prefix ?= $(PREFIX)
+libdir = $(DESTDIR)$(PREFIX)/$(lib)
 includedir = $(DESTDIR)$(PREFIX)/include
 dist = out/dist
 
@@ -52,13 +61,15 @@ modules = $(addprefix tools/,choosing.py common.py decoding.py grants.py known.p
     launcher.bash telling.bash)
 pages = man/papr.1 $(commands:%=man/%.1)
 formats = man/papr-trace.5 man/papr-replies.5
-examples = $(filter-out examples/c examples/rust,$(wildcard examples/*))
+examples = $(filter-out examples/c examples/cmake examples/rust,$(wildcard examples/*))
 sources_c = $(wildcard examples/c/*.[ch])
+sources_cmake = $(wildcard examples/cmake/*)
 sources_rust = $(wildcard examples/rust/*)
 texts = README.md CHANGELOG.md CONTRIBUTING.md LICENSE-APACHE LICENSE-MIT
 documents = $(wildcard docs/*.md docs/*.svg docs/*.html docs/*.png)
 
-.PHONY: all check install install-program install-library library bytes-library page uninstall dist deb $(own_program) $(own_library)
+.PHONY: all check install install-program install-library install-bytes-library library bytes-library aarch64 page \
+    uninstall dist deb gate release $(own_program) $(own_library) $(own_bytes_library)
 
 all $(own_program):
 	./papr run <examples/first.trace >/dev/null
@@ -75,30 +86,39 @@ library: $(own_shared) bytes-library
 $(own_shared): $(LIBRARY) include/papr.h
 	tools/shared-library $(LIBRARY) $@
 
-# Both prove the crates below first, as ./papr does.
-bytes-library:
-	page/build-page --library $(BYTES_LIBRARY)
+# These prove the crates below first, as ./papr does.
+bytes-library: $(BYTES_LIBRARY)
+
+$(own_bytes_library):
+	page/build-page --library $@
+
+aarch64:
+	tools/aarch64/build-aarch64
 
 page:
 	page/build-page
 
-define pc_file
-prefix=$(PREFIX)
-libdir=$${prefix}/lib
+# The text for pkg-config of a library: $(call pc_text,NAME,DESCRIPTION)
+define pc_text
+prefix=$(pc_prefix)
+libdir=$${prefix}/$(lib)
 includedir=$${prefix}/include
 
-Name: papr
-Description: the hypervisor side of the hashed page table of a paravirtual Power guest, proved
+Name: $(1)
+Description: $(2)
 Version: $(VERSION)
-Libs: -L"$${libdir}" -lpapr
+Libs: -L"$${libdir}" -l$(1)
 Cflags: -I"$${includedir}"
 endef
-export pc_file
+comma = ,
+pc_file = $(call pc_text,papr,the hypervisor side of the hashed page table of a paravirtual Power guest$(comma) proved)
+bytes_pc_file = $(call pc_text,papr_bytes,the program papr as one function on bytes$(comma) proved)
+export pc_file bytes_pc_file
 
 install: install-program install-library
 
 install-library: $(LIBRARY) $(SHARED)
-	$(INSTALL) -d "$(libdir)/pkgconfig" "$(includedir)" "$(exampledir)/c" "$(exampledir)/rust"
+	$(INSTALL) -d "$(libdir)/pkgconfig" "$(includedir)" "$(exampledir)/c" "$(exampledir)/cmake" "$(exampledir)/rust"
 	$(INSTALL) -m 644 $(LIBRARY) "$(libdir)/libpapr.a"
 	$(INSTALL) -m 644 $(SHARED) "$(libdir)/libpapr.so.$(VERSION)"
 	ln -sf libpapr.so.$(VERSION) "$(libdir)/$(soname)"
@@ -106,10 +126,17 @@ install-library: $(LIBRARY) $(SHARED)
 	$(INSTALL) -m 644 include/papr.h "$(includedir)/papr.h"
 	printf '%s\n' "$$pc_file" >"$(libdir)/pkgconfig/papr.pc"
 	$(INSTALL) -m 644 $(sources_c) "$(exampledir)/c"
+	$(INSTALL) -m 644 $(sources_cmake) "$(exampledir)/cmake"
 	$(INSTALL) -m 644 $(sources_rust) "$(exampledir)/rust"
 
+install-bytes-library: $(BYTES_LIBRARY)
+	$(INSTALL) -d "$(libdir)/pkgconfig" "$(includedir)"
+	$(INSTALL) -m 644 $(BYTES_LIBRARY) "$(libdir)/libpapr_bytes.a"
+	$(INSTALL) -m 644 include/papr_bytes.h "$(includedir)/papr_bytes.h"
+	printf '%s\n' "$$bytes_pc_file" >"$(libdir)/pkgconfig/papr_bytes.pc"
+
 # The version, the commit, and the toolchain that proved the program, a line each.
-commit = $(shell { test -e .git && git describe --always --dirty --exclude '*' || cat COMMIT; } 2>/dev/null)
+commit = $(shell { test -e .git && git describe --always --abbrev=12 --dirty --exclude '*' || cat COMMIT; } 2>/dev/null)
 kit = $(shell cat out/build.kit 2>/dev/null)
 
 install-program: $(PROGRAM)
@@ -145,21 +172,28 @@ uninstall:
 	$(call remove,$(zshdir),_papr)
 	$(call remove,$(fishdir),papr.fish $(addsuffix .fish,$(commands)))
 	$(call remove,$(tooldir),$(notdir $(tool_files) $(modules)) version __pycache__/*)
-	$(call remove,$(docdir),$(texts) $(documents) $(examples) $(sources_c) $(sources_rust))
+	$(call remove,$(docdir),$(texts) $(documents) $(examples) $(sources_c) $(sources_cmake) $(sources_rust))
 	$(call remove,$(libdir),libpapr.a libpapr.so.$(VERSION) $(soname) libpapr.so pkgconfig/papr.pc)
-	$(call remove,$(includedir),papr.h)
-	for folder in "$(exampledir)/c" "$(exampledir)/rust" "$(exampledir)" "$(docdir)/docs" "$(docdir)" \
+	$(call remove,$(libdir),libpapr_bytes.a pkgconfig/papr_bytes.pc)
+	$(call remove,$(includedir),papr.h papr_bytes.h)
+	for folder in "$(exampledir)/c" "$(exampledir)/cmake" "$(exampledir)/rust" "$(exampledir)" "$(docdir)/docs" "$(docdir)" \
 	    "$(tooldir)/__pycache__" "$(tooldir)" "$(programdir)"; do rmdir "$$folder" 2>/dev/null || true; done
 
 # Of a checkout of git what is committed; of what was unpacked all but what was made.
 dist:
 	mkdir -p "$(dist)"
 	if [ -e .git ]; then \
-	    git archive --format=tar.gz --prefix=papr-$(VERSION)/ -o "$(dist)/papr-$(VERSION).tar.gz" HEAD; \
+	    git -c core.abbrev=12 -c tar.umask=0022 archive --format=tar.gz --prefix=papr-$(VERSION)/ -o "$(dist)/papr-$(VERSION).tar.gz" HEAD; \
 	else \
 	    tar -czf "$(dist)/papr-$(VERSION).tar.gz" --exclude=out --exclude=__pycache__ --exclude=.git \
 	        --transform='s,^\.,papr-$(VERSION),' .; \
 	fi
 
-deb: $(PROGRAM)
-	tools/debian $(VERSION) $(PROGRAM) "$(dist)"
+deb: $(PROGRAM) $(LIBRARY) $(SHARED)
+	tools/debian $(VERSION) $(PROGRAM) $(LIBRARY) $(SHARED) "$(dist)"
+
+gate:
+	tools/gate
+
+release:
+	tools/release "$(dist)"

@@ -498,8 +498,7 @@ struct papr_transfer papr_import(struct papr_entry *entries, size_t count, uint8
                                  const struct papr_grants *grants, uint8_t layout, size_t first,
                                  size_t number, const uint8_t *bytes, size_t bytes_size);
 
-/* ---- the layout of the structs, as the library for x86-64 has it: asserted from C11 and from C++11
- * on */
+/* ---- the layout of the structs, on x86-64 and on aarch64: asserted from C11 and C++11 on */
 
 #if defined(__cplusplus) && __cplusplus >= 201103L
 #define PAPR_TEST static_assert

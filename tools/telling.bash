@@ -113,7 +113,7 @@ version() {
     if [ -f "$tools/build" ]; then
         read -r number <"$top/VERSION"
         if [ -e "$top/.git" ]; then
-            commit=$(git -C "$top" describe --always --dirty --exclude '*' 2>/dev/null)
+            commit=$(git -C "$top" describe --always --abbrev=12 --dirty --exclude '*' 2>/dev/null)
         else
             { read -r commit <"$top/COMMIT"; } 2>/dev/null
         fi

@@ -7,6 +7,20 @@ from typing import ClassVar
 
 from .support import PROGRAM, TOP, Ran, Text, ToolTest, Word, needs, needs_program, run
 
+COMMANDS = (
+    "papr-from-qemu",
+    "papr-history",
+    "papr-picture",
+    "papr-receipts",
+    "papr-why",
+    "papr-bad-line",
+    "papr-cut",
+    "papr-entries",
+    "papr-decode",
+    "papr-diff",
+)
+FORMATS = ("papr-trace", "papr-replies")
+
 
 def make(target: str, tree: Path, *words: str) -> None:
     """Installs into a tree, or takes away; an error where make fails or says anything."""

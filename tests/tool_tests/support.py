@@ -16,6 +16,7 @@ TOP = Path(__file__).resolve().parents[2]
 TOOLS, EXAMPLES, DOCS, DATA = TOP / "tools", TOP / "examples", TOP / "docs", TOP / "tests" / "data"
 PROGRAM = Path(os.environ.get("PAPR_PROGRAM", TOP / "crates/papr_main/out/papr_main"))
 LIBRARY = Path(os.environ.get("PAPR_LIBRARY", TOP / "crates/papr_c/out/libpapr_c.a"))
+BYTES_LIBRARY = TOP / "crates/papr_bytes/out/libpapr_bytes.a"
 
 PATIENCE = 900  # seconds that a command may take
 SHOWN = 60  # lines of a difference
@@ -114,6 +115,12 @@ def needs_library(test: Test) -> Test:
     return unittest.skipUnless(
         LIBRARY.is_file(), f"the library for C is not built: {LIBRARY} is missing (make library)"
     )(test)
+
+
+def needs_bytes_library(test: Test) -> Test:
+    """Skips a test, or the tests of a class, where the library of the program on bytes isn't built."""
+    told = f"the program on bytes is not built: {BYTES_LIBRARY} is missing (make bytes-library)"
+    return unittest.skipUnless(BYTES_LIBRARY.is_file(), told)(test)
 
 
 def for_each(*values: object) -> Callable[[Test], Test]:

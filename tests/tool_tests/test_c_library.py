@@ -10,7 +10,8 @@ import tempfile
 from pathlib import Path
 from typing import ClassVar
 
-from .support import DATA, EXAMPLES, LIBRARY, TOP, ToolTest, for_each, needs, needs_library, run, run_bytes
+from .support import BYTES_LIBRARY, DATA, EXAMPLES, LIBRARY, TOP, ToolTest, for_each, needs, needs_bytes_library
+from .support import needs_library, run, run_bytes
 
 INCLUDE = TOP / "include"
 STRICT = ("-Wall", "-Wextra", "-Werror", f"-I{INCLUDE}")
@@ -29,6 +30,45 @@ static_assert(sizeof(struct papr_receipt) == 32, "receipt");
 static_assert(sizeof(struct papr_grants) == 64 * 32 + 8, "grants");
 static_assert(sizeof(struct papr_access) == 40, "access");
 """
+# And those of the library of the program on bytes.
+SIZES_OF_BYTES = """\
+#include <papr_bytes.h>
+#ifndef __cplusplus
+#define static_assert _Static_assert
+#endif
+static_assert(sizeof(struct papr_bytes_end) == 16, "end");
+"""
+# A program in C++ over both libraries: it enters a page and walks to it, and runs a trace.
+IN_CPP = """\
+#include <papr.h>
+#include <papr_bytes.h>
+#include <cstdio>
+#include <string>
+#include <vector>
+
+int main()
+{
+    const papr_grant ram = {0, 0x2000000000, 0x40000000, false};
+    std::vector<papr_entry> table(1 << 14);
+    papr_grants grants = {};
+    papr_make_grants(&ram, 1, 0x1000000000, 24, &grants);
+    papr_reply reply = papr_h_enter(
+        table.data(), table.size(), 18, &grants, 0, 0x20, 0x1001, 0x3012, nullptr, 0, nullptr, 0);
+    papr_access load = {};
+    load.ea = 0x5678;
+    load.vsid = 1;
+    load.shift = 12;
+    papr_walk walk = papr_walk(table.data(), table.size(), 18, &load, nullptr, 0);
+    std::printf("%d %d %#llx\\n", papr_version() == PAPR_VERSION, static_cast<int>(reply.rc),
+                static_cast<unsigned long long>(walk.logical));
+    const std::string trace = "begin\\n0 H_READ 0 0\\n";
+    std::string replies(1000, ' ');
+    papr_bytes_end end = papr_bytes(
+        "run", nullptr, nullptr, trace.data(), trace.size(), &replies[0], replies.size());
+    std::printf("%u %s", end.status, replies.substr(0, end.length).c_str());
+    return 0;
+}
+"""
 
 ENTERED = """\
 0 [27] [Receipt { dword0: 0, dword1: 0, entry: 39, stamp: 0, bits: 0, answer: 0 }]
@@ -38,13 +78,14 @@ valid: 1
 
 
 class Header(ToolTest):
-    """The header stands by itself, and its structs have the library's sizes."""
+    """Each header stands by itself, and its structs have the library's sizes."""
 
     def assert_compiles(self, compiler: str, standard: str, name: str) -> None:
-        """A file that includes the header, and nothing else, compiles without a warning."""
-        source = self.folder / name
-        source.write_text(SIZES, encoding="ascii")
-        self.assert_ran(run(compiler, standard, *STRICT, "-Wpedantic", "-fsyntax-only", source))
+        """A file that includes one header, and nothing else, compiles without a warning."""
+        for text in (SIZES, SIZES_OF_BYTES):
+            source = self.folder / name
+            source.write_text(text, encoding="ascii")
+            self.assert_ran(run(compiler, standard, *STRICT, "-Wpedantic", "-fsyntax-only", source))
 
     @needs("cc")
     @for_each("c11", "c17")
@@ -52,9 +93,20 @@ class Header(ToolTest):
         self.assert_compiles("cc", f"-std={standard}", "alone.c")
 
     @needs("c++")
-    @for_each("c++11", "c++17")
+    @for_each("c++11", "c++17", "c++20")
     def test_the_header_by_itself_in_cpp(self, standard: str) -> None:
         self.assert_compiles("c++", f"-std={standard}", "alone.cc")
+
+    @needs("c++")
+    @needs_library
+    @needs_bytes_library
+    @for_each("c++11", "c++20")
+    def test_a_program_over_both_libraries_in_cpp(self, standard: str) -> None:
+        source, program = self.folder / "both.cc", self.folder / "both"
+        source.write_text(IN_CPP, encoding="ascii")
+        words = (f"-std={standard}", *STRICT, "-Wpedantic", "-o", program, source, LIBRARY, BYTES_LIBRARY)
+        self.assert_ran(run("c++", *words))
+        self.assert_ran(run(program), "1 0 0x3678\n0 2 0 H_READ 0 0x0 0x0 | 0x0.0.0.read\n")
 
     @needs("cc")
     def test_the_header_in_c99(self) -> None:
@@ -202,3 +254,22 @@ class FromRust(ToolTest):
         built = run("rustc", "-O", "-L", f"native={self.folder}", "-o", program, source)
         self.assert_ran(built, out=None, err=None)
         self.assert_ran(run(program), ENTERED)
+
+
+@needs("cmake", "make", "cc", "pkg-config")
+@needs_library
+class FromCMake(ToolTest):
+    """The project of examples/cmake."""
+
+    def test_it_finds_the_library_where_it_is_installed(self) -> None:
+        usr, made = self.folder / "a tree", self.folder / "made"
+        shared = self.folder / f"libpapr.so.{VERSION}"
+        self.assert_ran(run(TOP / "tools" / "shared-library", LIBRARY, shared))
+        given = (f"PREFIX={usr}", f"LIBRARY={LIBRARY}", f"SHARED={shared}")
+        self.assert_ran(run("make", "-s", "-C", TOP, "install-library", *given))
+        variables = {"PKG_CONFIG_PATH": str(usr / "lib" / "pkgconfig")}
+        configured = run("cmake", "-S", EXAMPLES / "cmake", "-B", made, environment=variables)
+        self.assert_ran(configured, out=None)
+        self.assert_ran(run("cmake", "--build", made, environment=variables), out=None)
+        self.assert_ran(run(made / "enter"), "H_ENTER 0, entry 0x20; 0x5678 is at 0x3678\n")
+        self.assertIn(str(usr / "lib"), run("readelf", "-d", made / "enter").out)

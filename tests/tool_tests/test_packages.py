@@ -7,30 +7,15 @@ import tempfile
 from pathlib import Path
 from typing import ClassVar
 
-from .installed import make
-from .support import DATA, DOCS, EXAMPLES, PROGRAM, TOP, Ran, ToolTest, Word, for_each, needs
-from .support import needs_program, run, run_bytes, write_script
+from .installed import COMMANDS, FORMATS, make
+from .support import DATA, DOCS, EXAMPLES, TOP, Ran, ToolTest, Word, for_each, needs, run, write_script
 
-COMMANDS = (
-    "papr-from-qemu",
-    "papr-history",
-    "papr-picture",
-    "papr-receipts",
-    "papr-why",
-    "papr-bad-line",
-    "papr-cut",
-    "papr-entries",
-    "papr-decode",
-    "papr-diff",
-)
 WORDS = ["run", "par", "check", "set", "image", "drill"]
-FORMATS = ("papr-trace", "papr-replies")
 VERSION = (TOP / "VERSION").read_text(encoding="ascii").strip()
 BASH, ZSH, FISH = (TOP / "completions" / f"papr.{shell}" for shell in ("bash", "zsh", "fish"))
-C_LIBRARY = re.compile(r"linux-vdso|ld-linux|lib(c|m|pthread|dl|rt)\.so")
 
-# A program that stands for papr where only its place matters; it names symbols of the C library.
-STAND_IN = "#!/bin/sh\n# GLIBC_2.9 GLIBC_2.34\necho stand-in\n"
+# A program that stands for papr where only its place matters.
+STAND_IN = "#!/bin/sh\necho stand-in\n"
 A_LIBRARY = "what stands for the library\n"
 
 # A completion by bash: of the last of the words behind the script, of which the first is the command.
@@ -196,6 +181,7 @@ class Installing(ToolTest):
         program = write_script(Path(work.name) / "program", STAND_IN)
         library = write_script(Path(work.name) / "library", A_LIBRARY)
         make("install", cls.tree, f"PROGRAM={program}", f"LIBRARY={library}", f"SHARED={library}")
+        make("install-bytes-library", cls.tree, f"BYTES_LIBRARY={library}")
 
     def run_installed(self, command: str, *words: Word) -> Ran:
         """Runs a command from the tree."""
@@ -205,8 +191,11 @@ class Installing(ToolTest):
         for name in ("libpapr.a", f"libpapr.so.{VERSION}", f"libpapr.so.{VERSION.split('.')[0]}", "libpapr.so"):
             self.assertEqual(text_of(self.usr / "lib" / name), A_LIBRARY)
         self.assert_same_file(self.usr / "include" / "papr.h", TOP / "include" / "papr.h")
-        described = text_of(self.usr / "lib" / "pkgconfig" / "papr.pc").splitlines()
-        self.assertEqual([line for line in described if line.startswith("Version")], [f"Version: {VERSION}"])
+        self.assertEqual(text_of(self.usr / "lib" / "libpapr_bytes.a"), A_LIBRARY)
+        self.assert_same_file(self.usr / "include" / "papr_bytes.h", TOP / "include" / "papr_bytes.h")
+        for name in ("papr", "papr_bytes"):
+            described = text_of(self.usr / "lib" / "pkgconfig" / f"{name}.pc").splitlines()
+            self.assertEqual([line for line in described if line.startswith("Version")], [f"Version: {VERSION}"])
 
     def test_make_install_puts_the_program_the_documents_and_the_examples(self) -> None:
         self.assertEqual(text_of(self.usr / "libexec" / "papr" / "papr"), STAND_IN)
@@ -286,11 +275,6 @@ class Packages(ToolTest):
         ran = run("make", "-s", "-C", TOP, target, f"dist={self.folder}", *words)
         self.assert_ran(ran, out=None, err=None)
 
-    def package(self) -> Path:
-        """The one Debian package that was made."""
-        (package,) = self.folder.glob("papr_*.deb")
-        return package
-
     @needs("git", "tar")
     def test_make_dist_packs_the_committed_sources_and_nothing_that_was_made(self) -> None:
         if run("git", "-C", TOP, "rev-parse", "HEAD").status:
@@ -326,39 +310,6 @@ class Packages(ToolTest):
         version = run(unpacked / "papr", "--version")
         self.assert_ran(version, out=None)
         self.assertIn(f"\ncommit {text_of(unpacked / 'COMMIT')}", version.out)
-
-    @needs("dpkg-deb", "tar")
-    def test_make_deb_packs_the_commands_and_their_pages(self) -> None:
-        program = write_script(self.folder / "program", STAND_IN)
-        self.make("deb", f"PROGRAM={program}")
-        listed = run("tar", "-t", given=run_bytes("dpkg-deb", "--fsys-tarfile", self.package()))
-        packed = {line.removeprefix(".") for line in listed.out.splitlines()}
-        wanted = {
-            "/usr/share/zsh/vendor-completions/_papr",
-            "/usr/share/doc/papr/copyright",
-            "/usr/share/doc/papr/docs/FORMATS.md",
-            "/usr/share/doc/papr/examples/check",
-        }
-        for command in ("papr", *COMMANDS):
-            wanted |= {f"/usr/bin/{command}", f"/usr/share/man/man1/{command}.1.gz"}
-        wanted |= {f"/usr/share/man/man5/{name}.5.gz" for name in FORMATS} | {"/usr/libexec/papr/papr"}
-        self.assertEqual(wanted - packed, set())
-        self.assert_ran(run("dpkg-deb", "-f", self.package(), "Depends"), "libc6 (>= 2.34)\n")
-        self.assert_ran(run("dpkg-deb", "-f", self.package(), "Version"), f"{VERSION}\n")
-
-    @needs("dpkg-deb")
-    @needs_program
-    def test_the_program_in_a_package_runs_and_names_no_library_but_that_of_c(self) -> None:
-        self.make("deb", f"PROGRAM={PROGRAM}")
-        tree = self.folder / "unpacked"
-        self.assert_ran(run("dpkg-deb", "-x", self.package(), tree))
-        depends = run("dpkg-deb", "-f", self.package(), "Depends").out
-        self.assertRegex(depends, r"\Alibc6 \(>= 2[.0-9]*\)\n\Z")
-        papr = tree / "usr" / "bin" / "papr"
-        linked = run("ldd", tree / "usr" / "libexec" / "papr" / "papr")
-        self.assertEqual([line for line in linked.out.splitlines() if not C_LIBRARY.search(line)], [])
-        ran = run(papr, "run", given=EXAMPLES / "first.trace")
-        self.assert_ran(ran, text_of(EXAMPLES / "first.replies"))
 
 
 class Scripts(ToolTest):

@@ -1,0 +1,168 @@
+"""Tests of what is built for aarch64, which qemu-aarch64 runs: it answers as the program and the libraries here do."""
+
+import re
+import shutil
+import sys
+import tempfile
+from pathlib import Path
+from typing import ClassVar
+
+from .emulator import BUILT, COMPILER, emulated, needs_aarch64
+from .stand_in import Checkout
+from .support import DATA, EXAMPLES, PROGRAM, TOP, Ran, Text, ToolTest, Word, for_each, needs, needs_program
+from .support import run, run_bytes, write_script
+
+VERSION = (TOP / "VERSION").read_text(encoding="ascii").strip()
+SHARED = f"libpapr.so.{VERSION}"
+TRACES = sorted(path.stem for path in EXAMPLES.glob("*.trace"))
+STRICT = ("-std=gnu11", "-O2", "-Wall", "-Wextra", "-Werror", f"-I{TOP / 'include'}")
+WORDS = (
+    "",
+    "run",
+    "run run",
+    "image new",
+    "image old new",
+    "set",
+    "check",
+    "drill 1 1000",
+    "drill 1",
+    "drill 1 100001",
+    "usage",
+    "run a b c",
+)
+
+
+class Without(ToolTest):
+    """A build where there is no cross compiler."""
+
+    def setUp(self) -> None:
+        super().setUp()
+        self.checkout = Checkout(self.folder)
+        shutil.copy(TOP / "VERSION", self.checkout.top)
+        shutil.copytree(TOP / "tools" / "aarch64", self.checkout.top / "tools" / "aarch64")
+        self.built = write_script(self.checkout.top / "out" / "aarch64" / "papr", "")
+        (self.folder / "bin").mkdir()
+        (self.folder / "bin" / "python3").symlink_to(sys.executable)
+
+    def build(self, *words: str) -> Ran:
+        """Runs the build with no command but Python."""
+        tool = self.checkout.top / "tools" / "aarch64" / "build-aarch64"
+        return run(tool, *words, environment={"PATH": str(self.folder / "bin")})
+
+    def test_it_is_refused(self) -> None:
+        told = f"build-aarch64: {COMPILER} isn't here; Debian's package gcc-aarch64-linux-gnu has it"
+        self.assert_refused(self.build(), told)
+        self.assertTrue(self.built.exists())
+
+    def test_where_it_need_not_be_built_nothing_older_is_left(self) -> None:
+        told = f"build-aarch64: nothing is built for aarch64: {COMPILER} isn't here\n"
+        self.assert_ran(self.build("--if-possible"), err=told)
+        self.assertFalse(self.built.parent.exists())
+
+
+@needs_aarch64
+class Program(ToolTest):
+    """The program over the library of the program on bytes."""
+
+    def setUp(self) -> None:
+        super().setUp()
+        self.papr = emulated(BUILT / "papr", self.folder)
+
+    def shell(self, command: str) -> Ran:
+        """Runs a line of the shell, in which $0 is the program."""
+        return run("sh", "-c", command, self.papr)
+
+    @needs("xz")
+    def test_it_writes_the_bytes_of_all_examples(self) -> None:
+        ran = run(EXAMPLES / "check", "--serial", self.papr)
+        self.assert_ran(ran, out=None)
+        self.assertRegex(ran.out.splitlines()[-1], r"\A[0-9]{3} passed, 0 failed\Z")
+
+    @needs_program
+    @for_each(*WORDS)
+    def test_it_ends_as_the_program_does_with_the_words(self, words: str) -> None:
+        """On an input, and on none."""
+        inputs: tuple[Text, ...] = (EXAMPLES / "image-new.trace", "", "begin\nfrob\n")
+        for given in inputs:
+            wanted = run(PROGRAM, *words.split(), given=given)
+            self.assert_ran(run(self.papr, *words.split(), given=given), wanted.out, status=wanted.status)
+
+    @needs_program
+    def test_an_empty_word_is_no_word_of_a_command(self) -> None:
+        for words in (("run", ""), ("", "run"), ("",)):
+            wanted = run(PROGRAM, *words, given="begin\n")
+            self.assert_ran(run(self.papr, *words, given="begin\n"), wanted.out, status=wanted.status)
+
+    @needs_program
+    @for_each((1 << 24), (1 << 24) + 1, (1 << 24) + 5000)
+    def test_an_input_of_so_many_bytes(self, length: int) -> None:
+        given = b"begin\n" + b"#" * (length - 7) + b"\n"
+        wanted = run(PROGRAM, "run", given=given)
+        self.assert_ran(run(self.papr, "run", given=given), wanted.out, status=wanted.status)
+
+    def test_replies_of_more_bytes_than_there_was_room_for(self) -> None:
+        """A dump writes each entry that was entered, which a short line did."""
+        entered = "".join(f"0 H_ENTER 0 {index} 1 18\n" for index in range(0, 1 << 14, 8))
+        given = f"order 18\nram 0x0 0x2000000000 0x40000000\nbegin\n{entered}" + "dump\n" * 16
+        ran = run(self.papr, "run", given=given)
+        self.assert_ran(ran, out=None)
+        self.assertEqual(ran.out.count("\n"), 2048 + 16 + 16 * 2048)
+        self.assertGreater(len(ran.out), 24 * len(given) + (1 << 16))
+
+    def test_words_that_are_no_command_need_no_input(self) -> None:
+        ran = self.shell("sleep 600 | timeout 60 \"$0\" frob & wait $!; status=$?; kill %1; exit $status")
+        self.assertEqual((ran.status, ran.out), (1, "papr: usage\n"))
+
+    def test_what_cannot_be_read_or_written(self) -> None:
+        trace = EXAMPLES / "first.trace"
+        self.assertEqual(self.shell('"$0" run </').status, 3)
+        self.assertEqual(self.shell('"$0" run <&-').status, 3)
+        self.assertEqual(self.shell(f'"$0" run <"{trace}" >/dev/full').status, 4)
+
+
+@needs_aarch64
+class Library(ToolTest):
+    """The archive and the shared object of the library for C."""
+
+    programs: ClassVar[Path]
+
+    @classmethod
+    def setUpClass(cls) -> None:
+        """Builds the replayer of examples/c and the program of fields over each, once for the class."""
+        super().setUpClass()
+        work = tempfile.TemporaryDirectory(prefix="papr-aarch64-")
+        cls.addClassCleanup(work.cleanup)
+        cls.programs = Path(work.name)
+        replayer = sorted((EXAMPLES / "c").glob("*.c"))
+        for way in ("archive", "shared"):
+            library: list[Word] = [BUILT / "libpapr.a"] if way == "archive" else [f"-L{BUILT}", "-lpapr"]
+            for name, sources in (("replay", replayer), ("fields", [DATA / "fields.c"])):
+                ran = run(COMPILER, *STRICT, *sources, *library, "-o", cls.programs / f"{name}-{way}")
+                if (ran.status, ran.err) != (0, ""):
+                    raise OSError(f"{name} doesn't build: {ran.err}")
+
+    def run_program(self, name: str, given: Text = "") -> Ran:
+        """Runs one of the programs."""
+        return run(emulated(self.programs / name, self.folder), given=given)
+
+    @for_each("archive", "shared")
+    def test_each_field_has_the_value_that_its_call_gives_it(self, way: str) -> None:
+        self.assert_ran(self.run_program(f"fields-{way}"))
+
+    @for_each(*TRACES)
+    def test_the_replayer_writes_what_papr_writes_of(self, name: str) -> None:
+        replies = (EXAMPLES / f"{name}.replies").read_text(encoding="ascii")
+        status = 2 if replies.startswith("papr: ") else 0
+        for way in ("archive", "shared"):
+            ran = self.run_program(f"replay-{way}", EXAMPLES / f"{name}.trace")
+            self.assert_ran(ran, replies, status=status)
+
+    @needs("aarch64-linux-gnu-nm", "aarch64-linux-gnu-readelf")
+    def test_the_shared_object_exports_the_functions_of_the_header(self) -> None:
+        told = run_bytes("aarch64-linux-gnu-nm", "-D", "--defined-only", BUILT / SHARED).decode().splitlines()
+        header = (TOP / "include" / "papr.h").read_text(encoding="ascii")
+        declared = sorted(set(re.findall(r"\b(papr_[a-z_0-9]+)\(", header)))
+        self.assertEqual([line.split()[1:] for line in told], [["T", name] for name in declared])
+        head = run("aarch64-linux-gnu-readelf", "-h", "-d", BUILT / SHARED).out
+        self.assertIn(f"[libpapr.so.{VERSION.split('.')[0]}]", head)
+        self.assertIn("AArch64", head)

@@ -1,0 +1,10 @@
+pub mod Shares
+pub mod Made
+pub mod Walks
+pub mod Held
+pub mod HeldFacts
+pub mod Workings
+pub mod Attempts
+pub mod Passes
+pub mod Holding
+pub mod Owned

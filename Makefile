@@ -4,10 +4,11 @@
 #   make check                    run the examples and the tests of the tools
 #   make install PREFIX=/usr      build both and install; DESTDIR is put in front of every path. install-program leaves
 #                                 out the library for C, install-library installs it alone
-#   make library                  build both libraries for C: the calls (include/papr.h), as an archive, where it is missing or
-#                                 older than its sources, and as a shared object, out/lib/libpapr.so.0; and the whole program on
-#                                 bytes (include/papr_bytes.h)
-#   make bytes-library            build the second of these alone
+#   make library                  build the libraries for C: the calls (include/papr.h) and the shared table
+#                                 (include/papr_shared.h), as archives, where they are missing or older than their sources, and
+#                                 both as a shared object, out/lib/libpapr.so.0; and the whole program on bytes
+#                                 (include/papr_bytes.h)
+#   make bytes-library            build the last of these alone
 #   make page                     build docs/papr.html, in which the program runs in a browser
 #   make uninstall PREFIX=/usr    take away what install put there
 #   make dist                     the committed sources as out/dist/papr-VERSION.tar.gz
@@ -17,8 +18,10 @@ PREFIX ?= /usr/local
 DESTDIR ?=
 own_program = crates/papr_main/out/papr_main
 own_library = crates/papr_c/out/libpapr_c.a
+own_shared_table = crates/papr_shared/out/libpapr_shared.a
 PROGRAM ?= $(own_program)
 LIBRARY ?= $(own_library)
+SHARED_TABLE ?= $(own_shared_table)
 BYTES_LIBRARY ?= crates/papr_bytes/out/libpapr_bytes.a
 INSTALL ?= install
 VERSION := $(shell cat VERSION)
@@ -52,8 +55,9 @@ modules = $(addprefix tools/,choosing.py common.py decoding.py grants.py known.p
     launcher.bash telling.bash)
 pages = man/papr.1 $(commands:%=man/%.1)
 formats = man/papr-trace.5 man/papr-replies.5
-examples = $(filter-out examples/c examples/rust,$(wildcard examples/*))
+examples = $(filter-out examples/c examples/rust examples/shared,$(wildcard examples/*))
 sources_c = $(wildcard examples/c/*.[ch])
+sources_shared = $(wildcard examples/shared/*.[ch])
 sources_rust = $(wildcard examples/rust/*)
 texts = README.md CHANGELOG.md CONTRIBUTING.md LICENSE-APACHE LICENSE-MIT
 documents = $(wildcard docs/*.md docs/*.svg docs/*.html docs/*.png)
@@ -67,13 +71,16 @@ check: all
 	examples/check
 	tests/tools
 
+# It builds both archives.
 $(own_library):
 	tools/build --library
 
+$(own_shared_table): $(own_library) ;
+
 library: $(own_shared) bytes-library
 
-$(own_shared): $(LIBRARY) include/papr.h
-	tools/shared-library $(LIBRARY) $@
+$(own_shared): $(LIBRARY) $(SHARED_TABLE) include/papr.h include/papr_shared.h
+	tools/shared-library $(LIBRARY) $(SHARED_TABLE) $@
 
 # Both prove the crates below first, as ./papr does.
 bytes-library:
@@ -93,19 +100,33 @@ Version: $(VERSION)
 Libs: -L"$${libdir}" -lpapr
 Cflags: -I"$${includedir}"
 endef
-export pc_file
+# libpapr.so has the shared table too; of the archives it is one by itself.
+define shared_pc_file
+prefix=$(PREFIX)
+libdir=$${prefix}/lib
+
+Name: papr_shared
+Description: papr for several threads: calls and walks on one shared table at once
+Version: $(VERSION)
+Requires: papr
+Libs.private: -L"$${libdir}" -lpapr_shared
+endef
+export pc_file shared_pc_file
 
 install: install-program install-library
 
-install-library: $(LIBRARY) $(SHARED)
-	$(INSTALL) -d "$(libdir)/pkgconfig" "$(includedir)" "$(exampledir)/c" "$(exampledir)/rust"
+install-library: $(LIBRARY) $(SHARED_TABLE) $(SHARED)
+	$(INSTALL) -d "$(libdir)/pkgconfig" "$(includedir)" "$(exampledir)/c" "$(exampledir)/rust" "$(exampledir)/shared"
 	$(INSTALL) -m 644 $(LIBRARY) "$(libdir)/libpapr.a"
+	$(INSTALL) -m 644 $(SHARED_TABLE) "$(libdir)/libpapr_shared.a"
 	$(INSTALL) -m 644 $(SHARED) "$(libdir)/libpapr.so.$(VERSION)"
 	ln -sf libpapr.so.$(VERSION) "$(libdir)/$(soname)"
 	ln -sf libpapr.so.$(VERSION) "$(libdir)/libpapr.so"
-	$(INSTALL) -m 644 include/papr.h "$(includedir)/papr.h"
+	$(INSTALL) -m 644 include/papr.h include/papr_shared.h "$(includedir)"
 	printf '%s\n' "$$pc_file" >"$(libdir)/pkgconfig/papr.pc"
+	printf '%s\n' "$$shared_pc_file" >"$(libdir)/pkgconfig/papr_shared.pc"
 	$(INSTALL) -m 644 $(sources_c) "$(exampledir)/c"
+	$(INSTALL) -m 644 $(sources_shared) "$(exampledir)/shared"
 	$(INSTALL) -m 644 $(sources_rust) "$(exampledir)/rust"
 
 # The version, the commit, and the toolchain that proved the program, a line each.
@@ -145,10 +166,11 @@ uninstall:
 	$(call remove,$(zshdir),_papr)
 	$(call remove,$(fishdir),papr.fish $(addsuffix .fish,$(commands)))
 	$(call remove,$(tooldir),$(notdir $(tool_files) $(modules)) version __pycache__/*)
-	$(call remove,$(docdir),$(texts) $(documents) $(examples) $(sources_c) $(sources_rust))
+	$(call remove,$(docdir),$(texts) $(documents) $(examples) $(sources_c) $(sources_rust) $(sources_shared))
 	$(call remove,$(libdir),libpapr.a libpapr.so.$(VERSION) $(soname) libpapr.so pkgconfig/papr.pc)
-	$(call remove,$(includedir),papr.h)
-	for folder in "$(exampledir)/c" "$(exampledir)/rust" "$(exampledir)" "$(docdir)/docs" "$(docdir)" \
+	$(call remove,$(libdir),libpapr_shared.a pkgconfig/papr_shared.pc)
+	$(call remove,$(includedir),papr.h papr_shared.h)
+	for folder in "$(exampledir)/c" "$(exampledir)/rust" "$(exampledir)/shared" "$(exampledir)" "$(docdir)/docs" "$(docdir)" \
 	    "$(tooldir)/__pycache__" "$(tooldir)" "$(programdir)"; do rmdir "$$folder" 2>/dev/null || true; done
 
 # Of a checkout of git what is committed; of what was unpacked all but what was made.

@@ -16,7 +16,7 @@ TOP = Path(__file__).resolve().parents[2]
 TOOLS, EXAMPLES, DOCS, DATA = TOP / "tools", TOP / "examples", TOP / "docs", TOP / "tests" / "data"
 PROGRAM = Path(os.environ.get("PAPR_PROGRAM", TOP / "crates/papr_main/out/papr_main"))
 LIBRARY = Path(os.environ.get("PAPR_LIBRARY", TOP / "crates/papr_c/out/libpapr_c.a"))
-SHARED_LIBRARY = Path(os.environ.get("PAPR_SHARED_LIBRARY", TOP / "crates/papr_shared/out/libpapr_shared.a"))
+SHARED_TABLE = Path(os.environ.get("PAPR_SHARED_TABLE", TOP / "crates/papr_shared/out/libpapr_shared.a"))
 
 PATIENCE = 900  # seconds that a command may take
 SHOWN = 60  # lines of a difference
@@ -117,9 +117,9 @@ def needs_library(test: Test) -> Test:
     )(test)
 
 
-def needs_shared_library(test: Test) -> Test:
+def needs_shared_table(test: Test) -> Test:
     """Skips a test, or the tests of a class, where the library of the shared table or that for C isn't built."""
-    lacking = [str(path) for path in (LIBRARY, SHARED_LIBRARY) if not path.is_file()]
+    lacking = [str(path) for path in (LIBRARY, SHARED_TABLE) if not path.is_file()]
     return unittest.skipIf(lacking, f"the shared table is not built: {' and '.join(lacking)} missing (make library)")(test)
 
 

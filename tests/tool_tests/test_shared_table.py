@@ -9,12 +9,12 @@ import time
 from pathlib import Path
 from typing import ClassVar, Sequence
 
-from .support import DATA, EXAMPLES, LIBRARY, SHARED_LIBRARY, TOP, Ran, ToolTest, Word
-from .support import for_each, needs, needs_shared_library, run
+from .support import DATA, EXAMPLES, LIBRARY, SHARED_TABLE, TOP, Ran, ToolTest, Word
+from .support import for_each, needs, needs_shared_table, run
 
 INCLUDE = TOP / "include"
 STRICT = ("-Wall", "-Wextra", "-Wpedantic", "-Werror", f"-I{INCLUDE}")
-LIBRARIES = (SHARED_LIBRARY, LIBRARY)
+LIBRARIES = (SHARED_TABLE, LIBRARY)
 HAMMER = [EXAMPLES / "shared" / f"{name}.c" for name in ("hammer", "calls", "entry", "history", "replies")]
 WRAPPED = "-Wl,--wrap=malloc,--wrap=calloc,--wrap=realloc,--wrap=aligned_alloc,--wrap=free"
 PROGRAMS = {
@@ -65,7 +65,7 @@ class SharedHeader(ToolTest):
 
 
 @needs("cc")
-@needs_shared_library
+@needs_shared_table
 class SharedTest(ToolTest):
     """A test of programs that are built once for its class."""
 

@@ -39,6 +39,7 @@ LEFT_OUT = {
     "rt new": "needs the toolchain: test_library makes that crate and runs it",
     "make library": "proves the library: minutes; test_c_library links it",
     "make bytes-library": "proves the library: minutes; test_c_library calls it",
+    "two-threads": "links what is installed; test_shared_table builds the program",
     "tools/qemu-shadow/build": "needs a network, and builds QEMU",
     "bench/speed": "measures for minutes",
     "bench/pool": "proves and measures for minutes",

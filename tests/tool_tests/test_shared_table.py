@@ -21,6 +21,7 @@ PROGRAMS = {
     "refusals": [DATA / "shared" / "refusals.c"],
     "alike": [DATA / "shared" / "alike.c"],
     "busy": [DATA / "shared" / "busy.c"],
+    "resize": [DATA / "shared" / "resize.c"],
     "memory": [DATA / "shared" / "memory.c"],
     "hammer": HAMMER,
     "two-threads": [EXAMPLES / "shared" / "two-threads.c"],
@@ -110,6 +111,9 @@ class OneThread(SharedTest):
     def test_shared_and_serial_calls_answer_alike(self) -> None:
         self.assert_ran(run(self.built("alike")))
 
+    def test_a_table_is_resized_as_the_document_says(self) -> None:
+        self.assert_ran(run(self.built("resize")))
+
     def test_a_call_that_is_busy_is_gone_on_with_or_given_up(self) -> None:
         self.assert_ran(run(self.built("busy")))
 
@@ -119,7 +123,7 @@ class OneThread(SharedTest):
         self.assertRegex(ran.out, ALLOCATED)
 
     @needs("valgrind")
-    @for_each("refusals", "busy")
+    @for_each("refusals", "busy", "resize")
     def test_nothing_is_leaked_nor_read_before_it_is_written_in(self, name: str) -> None:
         self.assert_ran(run(*VALGRIND, self.built(name)))
 
@@ -175,7 +179,7 @@ class ByAddresses(SharedTest):
         super().setUp()
         self.skip_without(*ADDRESSES)
 
-    @for_each("refusals", "alike", "busy")
+    @for_each("refusals", "alike", "busy", "resize")
     def test_nothing_is_found_in(self, name: str) -> None:
         self.assert_ran(run(self.built(name)))
 

@@ -11,8 +11,9 @@
 
 enum { CALLS = 400000, TURNS = 9, MOST_THREADS = 4 };
 
+/* Each has cache lines of its own, since a call writes its pass. */
 struct worker {
-    struct papr_pass pass;
+    _Alignas(128) struct papr_pass pass;
     pthread_t thread;
     uint64_t seed, busy;
     bool is_far;

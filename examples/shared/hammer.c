@@ -22,8 +22,9 @@
 
 enum { MOST_THREADS = 64, OPENING_CALLS = 64 };
 
+/* Each has cache lines of its own, since a call writes its pass. */
 struct worker {
-    struct papr_pass pass;
+    _Alignas(128) struct papr_pass pass;
     pthread_t thread;
     struct log log;
     uint64_t seed, receipts, busy, longest;

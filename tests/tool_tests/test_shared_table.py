@@ -31,6 +31,7 @@ ADDRESSES = ("-fsanitize=address,undefined", "-fno-sanitize-recover=all")
 THREADS = ("-fsanitize=thread",)
 LEGAL = re.compile(r"[0-9]+ receipts of ([0-9]+) entries, ([0-9]+) changes: each entry has one legal history, .*\n")
 BUSY = re.compile(r"; busy ([0-9]+) times, ")
+VERSION = (TOP / "VERSION").read_text(encoding="ascii").strip()
 PATIENCE = 60  # seconds until threads have met
 
 ENTERED = "".join(f"entry {entry:#x}: valid\n" for entry in range(0x20, 0x28)) + "8 of 32 calls entered a page\n"
@@ -168,6 +169,35 @@ class Hammered(SharedTest):
     @needs("valgrind")
     def test_nothing_is_leaked_nor_read_before_it_is_written(self) -> None:
         self.assert_legal(run(*VALGRIND, self.built("hammer"), "3", "1000", "check"))
+
+
+@needs("make", "pkg-config")
+class Installed(SharedTest):
+    """The small example over what `make install-library` installs."""
+
+    def setUp(self) -> None:
+        """Installs the libraries into a tree."""
+        super().setUp()
+        self.tree, shared = self.folder / "tree", self.folder / f"libpapr.so.{VERSION}"
+        self.assert_ran(run(TOP / "tools" / "shared-library", LIBRARY, SHARED_TABLE, shared))
+        given = (f"LIBRARY={LIBRARY}", f"SHARED_TABLE={SHARED_TABLE}", f"SHARED={shared}")
+        self.assert_ran(run("make", "-s", "-C", TOP, f"PREFIX={self.tree}", "install-library", *given))
+
+    def flags(self, *words: str) -> list[str]:
+        """What pkg-config says of the shared table."""
+        variables = {"PKG_CONFIG_PATH": str(self.tree / "lib" / "pkgconfig")}
+        ran = run("pkg-config", *words, "papr_shared", environment=variables)
+        self.assert_ran(ran, out=None)
+        return ran.out.split()
+
+    @for_each("shared", "static")
+    def test_a_program_is_linked_by_pkg_config_to_the_library(self, kind: str) -> None:
+        program = self.folder / "two-threads"
+        (source,) = PROGRAMS["two-threads"]
+        option, linking = (["--static"], ["-static"]) if kind == "static" else ([], [])
+        flags = self.flags("--cflags", "--libs", *option)
+        self.assert_ran(run("cc", "-pthread", *linking, source, *flags, "-o", program))
+        self.assert_ran(run(program, environment={"LD_LIBRARY_PATH": str(self.tree / "lib")}), ENTERED)
 
 
 class ByAddresses(SharedTest):

@@ -134,7 +134,11 @@ class Hammered(SharedTest):
 
     @for_each(1, 2, 4, 8)
     def test_the_history_is_legal_of_threads(self, threads: int) -> None:
-        self.assert_legal(run(self.built("hammer"), str(threads), "30000", "check"))
+        """A thread by itself, with all shares of the table, never finds an entry busy."""
+        ran = run(self.built("hammer"), str(threads), "30000", "check")
+        self.assert_legal(ran)
+        if threads == 1:
+            self.assertEqual(BUSY.findall(ran.out), ["0"])
 
     @for_each("near", "far")
     def test_without_a_check(self, place: str) -> None:

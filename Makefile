@@ -2,35 +2,38 @@
 #
 #   make                          build the program where it is missing or older than its sources
 #   make check                    run the examples and the tests of the tools
-#   make install PREFIX=/usr      build both and install; DESTDIR is put in front of every path. install-program leaves
-#                                 out the library for C, install-library installs it alone; install-bytes-library installs
-#                                 the library of the program on bytes, which `make install` leaves out
-#   make library                  build both libraries for C: the calls (include/papr.h), as an archive, where it is missing or
-#                                 older than its sources, and as a shared object, out/lib/libpapr.so.0; and the whole program on
-#                                 bytes (include/papr_bytes.h)
-#   make bytes-library            build the second of these alone
+#   make install PREFIX=/usr      build all and install; DESTDIR is put in front of every path. install-program leaves
+#                                 out the libraries for C, install-library installs them alone
+#   make library                  build the libraries for C, where they are missing or older than their sources: the calls
+#                                 (include/papr.h), the shared table (include/papr_shared.h) and the whole program on bytes
+#                                 (include/papr_bytes.h), as archives, and the first two as out/lib/libpapr.so.0 too
 #   make aarch64                  build the libraries and the program for aarch64 too, in out/aarch64
 #   make page                     build docs/papr.html, in which the program runs in a browser
 #   make uninstall PREFIX=/usr    take away what install put there
 #   make dist                     the committed sources as out/dist/papr-VERSION.tar.gz
-#   make deb                      Debian packages of the program and the library for C: papr, libpapr0 and libpapr-dev, in
+#   make deb                      Debian packages of the program and the libraries for C: papr, libpapr0 and libpapr-dev, in
 #                                 out/dist
 #   make gate                     run .ci/run, and note for a release that this tree passed
 #   make release                  all that a release has, in out/dist, of a tree that passed; it needs no toolchain
 
 PREFIX ?= /usr/local
 DESTDIR ?=
-own_program = crates/papr_main/out/papr_main
-own_library = crates/papr_c/out/libpapr_c.a
-PROGRAM ?= $(own_program)
-LIBRARY ?= $(own_library)
-own_bytes_library = crates/papr_bytes/out/libpapr_bytes.a
-BYTES_LIBRARY ?= $(own_bytes_library)
 INSTALL ?= install
 VERSION := $(shell cat VERSION)
+major = $(firstword $(subst ., ,$(VERSION)))
+
+# What is built, and the variables that name other files for it.
+own_program = crates/papr_main/out/papr_main
+own_library = crates/papr_c/out/libpapr_c.a
+own_shared_table = crates/papr_shared/out/libpapr_shared.a
+own_bytes_library = crates/papr_bytes/out/libpapr_bytes.a
 own_shared = out/lib/libpapr.so.$(VERSION)
+PROGRAM ?= $(own_program)
+LIBRARY ?= $(own_library)
+SHARED_TABLE ?= $(own_shared_table)
+BYTES_LIBRARY ?= $(own_bytes_library)
 SHARED ?= $(own_shared)
-soname = libpapr.so.$(firstword $(subst ., ,$(VERSION)))
+files = PROGRAM LIBRARY SHARED_TABLE BYTES_LIBRARY SHARED
 
 # Folders, which may have blanks in their names: each stands in double quotes where a shell reads it.
 share = $(DESTDIR)$(PREFIX)/share
@@ -61,15 +64,15 @@ modules = $(addprefix tools/,choosing.py common.py decoding.py grants.py known.p
     launcher.bash telling.bash)
 pages = man/papr.1 $(commands:%=man/%.1)
 formats = man/papr-trace.5 man/papr-replies.5
-examples = $(filter-out examples/c examples/cmake examples/rust,$(wildcard examples/*))
-sources_c = $(wildcard examples/c/*.[ch])
-sources_cmake = $(wildcard examples/cmake/*)
-sources_rust = $(wildcard examples/rust/*)
+examples = $(filter-out %/check $(folders:%=examples/%),$(wildcard examples/*))
+# The folders of examples that call the libraries, a folder behind those in it.
+folders = c/bytes c cmake rust shared
+sources = $(foreach folder,$(folders),$(wildcard examples/$(folder)/*.*))
 texts = README.md CHANGELOG.md CONTRIBUTING.md LICENSE-APACHE LICENSE-MIT
 documents = $(wildcard docs/*.md docs/*.svg docs/*.html docs/*.png)
 
-.PHONY: all check install install-program install-library install-bytes-library library bytes-library aarch64 page \
-    uninstall dist deb gate release $(own_program) $(own_library) $(own_bytes_library)
+.PHONY: all check install install-program install-library library aarch64 page uninstall dist deb gate release \
+    $(own_program) $(own_library) $(own_bytes_library)
 
 all $(own_program):
 	./papr run <examples/first.trace >/dev/null
@@ -78,19 +81,19 @@ check: all
 	examples/check
 	tests/tools
 
+library: $(own_shared) $(BYTES_LIBRARY)
+
+# These prove the crates below first, as ./papr does. The first builds the archive of the shared table too.
 $(own_library):
 	tools/build --library
 
-library: $(own_shared) bytes-library
-
-$(own_shared): $(LIBRARY) include/papr.h
-	tools/shared-library $(LIBRARY) $@
-
-# These prove the crates below first, as ./papr does.
-bytes-library: $(BYTES_LIBRARY)
+$(own_shared_table): $(own_library) ;
 
 $(own_bytes_library):
 	page/build-page --library $@
+
+$(own_shared): $(LIBRARY) $(SHARED_TABLE) include/papr.h include/papr_shared.h
+	tools/shared-library $(LIBRARY) $(SHARED_TABLE) $@
 
 aarch64:
 	tools/aarch64/build-aarch64
@@ -98,7 +101,7 @@ aarch64:
 page:
 	page/build-page
 
-# The text for pkg-config of a library: $(call pc_text,NAME,DESCRIPTION)
+# The text for pkg-config of a library: $(call pc_text,NAME,DESCRIPTION,LINKED,LINKED AS AN ARCHIVE TOO)
 define pc_text
 prefix=$(pc_prefix)
 libdir=$${prefix}/$(lib)
@@ -107,33 +110,44 @@ includedir=$${prefix}/include
 Name: $(1)
 Description: $(2)
 Version: $(VERSION)
-Libs: -L"$${libdir}" -l$(1)
+Libs: -L"$${libdir}" $(3)
+Libs.private: $(4)
 Cflags: -I"$${includedir}"
 endef
 comma = ,
-pc_file = $(call pc_text,papr,the hypervisor side of the hashed page table of a paravirtual Power guest$(comma) proved)
-bytes_pc_file = $(call pc_text,papr_bytes,the program papr as one function on bytes$(comma) proved)
-export pc_file bytes_pc_file
+pc_papr = $(call pc_text,papr,the hypervisor side of the hashed page table of a paravirtual Power guest$(comma) proved,-lpapr)
+# libpapr.so has the shared table too, and the archives are apart.
+pc_papr_shared = $(call pc_text,papr_shared,papr for several threads on one table at once$(comma) proved,-lpapr,-lpapr_shared)
+pc_papr_bytes = $(call pc_text,papr_bytes,the program papr as one function on bytes$(comma) proved,-lpapr_bytes)
+export pc_papr pc_papr_shared pc_papr_bytes
+
+# The libraries, and those of them that have a shared object.
+libraries = papr papr_shared papr_bytes
+shared = papr
+
+# A library's archive, its header and its text for pkg-config: $(call install_archive,NAME,ARCHIVE)
+define install_archive
+$(INSTALL) -m 644 $(2) "$(libdir)/lib$(1).a"
+$(INSTALL) -m 644 include/$(1).h "$(includedir)/$(1).h"
+printf '%s\n' "$$pc_$(1)" >"$(libdir)/pkgconfig/$(1).pc"
+endef
+
+# A shared object, and the links to it: $(call install_shared,NAME,OBJECT)
+define install_shared
+$(INSTALL) -m 644 $(2) "$(libdir)/lib$(1).so.$(VERSION)"
+ln -sf lib$(1).so.$(VERSION) "$(libdir)/lib$(1).so.$(major)"
+ln -sf lib$(1).so.$(VERSION) "$(libdir)/lib$(1).so"
+endef
 
 install: install-program install-library
 
-install-library: $(LIBRARY) $(SHARED)
-	$(INSTALL) -d "$(libdir)/pkgconfig" "$(includedir)" "$(exampledir)/c" "$(exampledir)/cmake" "$(exampledir)/rust"
-	$(INSTALL) -m 644 $(LIBRARY) "$(libdir)/libpapr.a"
-	$(INSTALL) -m 644 $(SHARED) "$(libdir)/libpapr.so.$(VERSION)"
-	ln -sf libpapr.so.$(VERSION) "$(libdir)/$(soname)"
-	ln -sf libpapr.so.$(VERSION) "$(libdir)/libpapr.so"
-	$(INSTALL) -m 644 include/papr.h "$(includedir)/papr.h"
-	printf '%s\n' "$$pc_file" >"$(libdir)/pkgconfig/papr.pc"
-	$(INSTALL) -m 644 $(sources_c) "$(exampledir)/c"
-	$(INSTALL) -m 644 $(sources_cmake) "$(exampledir)/cmake"
-	$(INSTALL) -m 644 $(sources_rust) "$(exampledir)/rust"
-
-install-bytes-library: $(BYTES_LIBRARY)
-	$(INSTALL) -d "$(libdir)/pkgconfig" "$(includedir)"
-	$(INSTALL) -m 644 $(BYTES_LIBRARY) "$(libdir)/libpapr_bytes.a"
-	$(INSTALL) -m 644 include/papr_bytes.h "$(includedir)/papr_bytes.h"
-	printf '%s\n' "$$bytes_pc_file" >"$(libdir)/pkgconfig/papr_bytes.pc"
+install-library: $(LIBRARY) $(SHARED_TABLE) $(BYTES_LIBRARY) $(SHARED)
+	$(INSTALL) -d "$(libdir)/pkgconfig" "$(includedir)" $(folders:%="$(exampledir)/%")
+	$(call install_archive,papr,$(LIBRARY))
+	$(call install_archive,papr_shared,$(SHARED_TABLE))
+	$(call install_archive,papr_bytes,$(BYTES_LIBRARY))
+	$(call install_shared,papr,$(SHARED))
+	for source in $(sources); do $(INSTALL) -m 644 $$source "$(docdir)/$$source" || exit; done
 
 # The version, the commit, and the toolchain that proved the program, a line each.
 commit = $(shell { test -e .git && git describe --always --abbrev=12 --dirty --exclude '*' || cat COMMIT; } 2>/dev/null)
@@ -157,7 +171,7 @@ install-program: $(PROGRAM)
 	for command in $(commands); do ln -sf papr.fish "$(fishdir)/$$command.fish" || exit; done
 	$(INSTALL) -m 644 $(texts) "$(docdir)"
 	$(INSTALL) -m 644 $(documents) "$(docdir)/docs"
-	$(INSTALL) -m 644 $(filter-out examples/check,$(examples)) "$(exampledir)"
+	$(INSTALL) -m 644 $(examples) "$(exampledir)"
 	$(INSTALL) -m 755 examples/check "$(exampledir)/check"
 
 # In a folder that is there, without those of the names that are: $(call remove,FOLDER,NAME..)
@@ -172,11 +186,11 @@ uninstall:
 	$(call remove,$(zshdir),_papr)
 	$(call remove,$(fishdir),papr.fish $(addsuffix .fish,$(commands)))
 	$(call remove,$(tooldir),$(notdir $(tool_files) $(modules)) version __pycache__/*)
-	$(call remove,$(docdir),$(texts) $(documents) $(examples) $(sources_c) $(sources_cmake) $(sources_rust))
-	$(call remove,$(libdir),libpapr.a libpapr.so.$(VERSION) $(soname) libpapr.so pkgconfig/papr.pc)
-	$(call remove,$(libdir),libpapr_bytes.a pkgconfig/papr_bytes.pc)
-	$(call remove,$(includedir),papr.h papr_bytes.h)
-	for folder in "$(exampledir)/c" "$(exampledir)/cmake" "$(exampledir)/rust" "$(exampledir)" "$(docdir)/docs" "$(docdir)" \
+	$(call remove,$(docdir),$(texts) $(documents) $(examples) examples/check $(sources))
+	$(call remove,$(libdir),$(foreach it,$(libraries),lib$(it).a pkgconfig/$(it).pc))
+	$(call remove,$(libdir),$(foreach it,$(shared),lib$(it).so.$(VERSION) lib$(it).so.$(major) lib$(it).so))
+	$(call remove,$(includedir),$(libraries:%=%.h))
+	for folder in $(folders:%="$(exampledir)/%") "$(exampledir)" "$(docdir)/docs" "$(docdir)" \
 	    "$(tooldir)/__pycache__" "$(tooldir)" "$(programdir)"; do rmdir "$$folder" 2>/dev/null || true; done
 
 # Of a checkout of git what is committed; of what was unpacked all but what was made.
@@ -189,8 +203,8 @@ dist:
 	        --transform='s,^\.,papr-$(VERSION),' .; \
 	fi
 
-deb: $(PROGRAM) $(LIBRARY) $(SHARED)
-	tools/debian $(VERSION) $(PROGRAM) $(LIBRARY) $(SHARED) "$(dist)"
+deb: $(foreach it,$(files),$($(it)))
+	tools/debian $(VERSION) "$(dist)" $(foreach it,$(files),$(it)="$($(it))")
 
 gate:
 	tools/gate

@@ -16,13 +16,25 @@ class Built:
     machine: str
     program: Path
     archive: Path
-    shared: Path
+    table_archive: Path
     bytes_archive: Path
+    shared: Path
+
+    @property
+    def variables(self) -> dict[str, Path]:
+        """Each by the variable that names it to make."""
+        return {
+            "PROGRAM": self.program,
+            "LIBRARY": self.archive,
+            "SHARED_TABLE": self.table_archive,
+            "BYTES_LIBRARY": self.bytes_archive,
+            "SHARED": self.shared,
+        }
 
     @property
     def files(self) -> list[Path]:
         """All of them."""
-        return [self.program, self.archive, self.shared, self.bytes_archive]
+        return list(self.variables.values())
 
     @property
     def lacking(self) -> list[Path]:
@@ -32,15 +44,21 @@ class Built:
 
 def in_folder(machine: str, folder: Path) -> Built:
     """The files of a machine for which all is built into one folder."""
-    names = ("papr", "libpapr.a", SHARED, "libpapr_bytes.a")
+    names = ("papr", "libpapr.a", "libpapr_shared.a", "libpapr_bytes.a", SHARED)
     return Built(machine, *(folder / name for name in names))
+
+
+def of_crate(name: str, file: str) -> Path:
+    """A file that is built of a crate."""
+    return CRATES / name / "out" / file
 
 
 NATIVE = Built(
     "x86_64",
-    CRATES / "papr_main" / "out" / "papr_main",
-    CRATES / "papr_c" / "out" / archive_of("papr_c"),
+    of_crate("papr_main", "papr_main"),
+    of_crate("papr_c", archive_of("papr_c")),
+    of_crate("papr_shared", archive_of("papr_shared")),
+    of_crate("papr_bytes", archive_of("papr_bytes")),
     TOP / "out" / "lib" / SHARED,
-    CRATES / "papr_bytes" / "out" / archive_of("papr_bytes"),
 )
 AARCH64 = in_folder("aarch64", TOP / "out" / "aarch64")

@@ -8,6 +8,8 @@ from common import HERE, Bad
 TOP = HERE.parent
 CRATES = TOP / "crates"
 PARTS = ("src", "specs", "proofs")
+# The static libraries that take memory.
+WITH_HEAP = ("papr_shared",)
 
 
 def lines_of(listed: Path) -> dict[str, str]:

@@ -15,7 +15,7 @@ from pathlib import Path
 from typing import Callable, Optional
 
 from common import Bad
-from crates import CRATES, TOP, files_of, is_program, is_static, uses_of, with_those_below
+from crates import CRATES, TOP, WITH_HEAP, files_of, is_program, is_static, uses_of, with_those_below
 from progress import Progress
 from schedule import Plan
 from toolchain import Toolchain
@@ -93,6 +93,8 @@ class Builder:
             status = self.run(name, command(name, self.lines[name], self.built, 1))
         if is_program(name) and status == 0:
             status = self.run(f"link {name}", self.kit.linking(name, self.built))
+        if name in WITH_HEAP and status == 0:
+            status = self.run(f"heap of {name}", self.kit.adding_heap(name, self.built))
         if status == 0:
             write(kept, stamp, "w")
         return status == 0

@@ -45,6 +45,10 @@ class Toolchain:
         tools = ["--crate-type", "staticlib", "--toolchain", f"{self.kit}/toolchain", "--backend", "llvm"]
         return [*words, *tools, "-o", f"{built / archive_of(name)}"]
 
+    def adding_heap(self, name: str, built: Path) -> list[str]:
+        """The command that puts the heap's functions, which call malloc and free, into a static library."""
+        return [f"{self.kit}/toolchain/bin/llvm-ar", "qcL", f"{built / archive_of(name)}", f"{self.kit}/c/liblibc_c.a"]
+
     def checking(self, name: str, line: str, built: Path, written: Path) -> list[str]:
         """The command that proves a crate by one job, writing each module that it checks below `written`."""
         root = CRATES / name / "src" / ("main.rt" if is_program(name) else "lib.rt")

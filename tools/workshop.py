@@ -18,7 +18,8 @@ from proving import BUILT, Builder, processors, prove_all
 from schedule import NONE, Plan, efforts_of
 from toolchain import Toolchain, toolchain
 
-CALLS, PROGRAM = "papr_c", "papr_bytes"  # the crates of the libraries for C: of the calls, and of the program on bytes
+# The crates of the libraries for C: of the calls, of the table that threads share, and of the program on bytes.
+CALLS, TABLE, PROGRAM = "papr_c", "papr_shared", "papr_bytes"
 LOG, WORK = TOP / "out" / "workshop.log", TOP / "out" / "workshop"
 TEXT_OF_MODULE = "-S -emit-llvm -x ir -O3 -Xclang -disable-llvm-passes".split()
 
@@ -110,10 +111,10 @@ class Workshop:
 
 
 def prove_below() -> None:
-    """Proves the crates that the two libraries for C stand on, as far as that isn't kept, side by side."""
+    """Proves the crates that the libraries for C stand on, as far as that isn't kept, side by side."""
     lines = lines_of(TOP / "crates.txt")
     uses = uses_of(lines)
-    order = with_those_below([*uses[PROGRAM], *uses[CALLS]], uses)
+    order = with_those_below([used for name in (CALLS, TABLE, PROGRAM) for used in uses[name]], uses)
     LOG.parent.mkdir(exist_ok=True)
     LOG.write_text("", encoding="utf-8")
     BUILT.mkdir(parents=True, exist_ok=True)

@@ -3,10 +3,10 @@
 import shutil
 import subprocess
 from pathlib import Path
-from typing import Optional
+from typing import Mapping, Optional
 
 from .stand_in import COMPILER, make_kit
-from .support import PATIENCE, TOP, Ran, Word, run, write_script
+from .support import BYTES_LIBRARY, LIBRARY, PATIENCE, PROGRAM, SHARED_TABLE, TOP, Ran, Word, run, write_script
 
 VERSION = (TOP / "VERSION").read_text(encoding="ascii").strip()
 SHARED = f"libpapr.so.{VERSION}"
@@ -22,16 +22,21 @@ echo "1234 passed, 0 failed"
 eval "${{MEANWHILE-}}"
 exit "${{ENDS-0}}"
 """
-# A program that stands for papr, and names symbols of the C library; the libraries have one function.
-PROGRAM_TEXT = "#!/bin/sh\n# GLIBC_2.9 GLIBC_2.34\necho stand-in\n"
-LIBRARY_TEXT = "#include <string.h>\nvoid *papr_version(void *at, size_t n) { return memset(at, 0, n); }\n"
+# What is built, by the variables of the Makefile.
 NAMES = {
-    "program": Path("crates/papr_main/out/papr_main"),
-    "archive": Path("crates/papr_c/out/libpapr_c.a"),
-    "shared": Path("out/lib") / SHARED,
-    "bytes": Path("crates/papr_bytes/out/libpapr_bytes.a"),
+    "PROGRAM": Path("crates/papr_main/out/papr_main"),
+    "LIBRARY": Path("crates/papr_c/out/libpapr_c.a"),
+    "SHARED_TABLE": Path("crates/papr_shared/out/libpapr_shared.a"),
+    "BYTES_LIBRARY": Path("crates/papr_bytes/out/libpapr_bytes.a"),
+    "SHARED": Path("out/lib") / SHARED,
 }
-AARCH64 = [Path("out/aarch64") / name for name in ("papr", "libpapr.a", SHARED, "libpapr_bytes.a")]
+AARCH64 = [
+    Path("out/aarch64") / name for name in ("papr", "libpapr.a", "libpapr_shared.a", "libpapr_bytes.a", SHARED)
+]
+# A program that stands for papr, and names symbols of the C library; and the function of each archive.
+PROGRAM_TEXT = "#!/bin/sh\n# GLIBC_2.9 GLIBC_2.34\necho stand-in\n"
+FUNCTIONS = {"LIBRARY": "papr_version", "SHARED_TABLE": "papr_give_up", "BYTES_LIBRARY": "papr_bytes_call"}
+FUNCTION_TEXT = "#include <string.h>\nvoid *{}(void *at, size_t n) {{ return memset(at, 0, n); }}\n"
 
 
 def is_left_out(name: str) -> bool:
@@ -48,21 +53,40 @@ def listed() -> Optional[list[str]]:
     return sorted(name for name in names if not is_left_out(name)) if told.returncode == 0 else None
 
 
-def make_libraries(folder: Path) -> dict[str, Path]:
-    """An archive and a shared object that stand for those of the library for C."""
-    source, compiled = folder / "stand_in.c", folder / "stand_in.o"
-    made = {"archive": folder / "libpapr_c.a", "shared": folder / SHARED}
-    source.write_text(LIBRARY_TEXT, encoding="ascii")
-    commands: tuple[tuple[Word, ...], ...] = (
-        ("cc", "-O2", "-fPIC", "-c", source, "-o", compiled),
-        ("ar", "rcsD", made["archive"], compiled),
-        (TOP / "tools" / "shared-library", made["archive"], made["shared"]),
-    )
-    for words in commands:
-        ran = run(*words)
-        if ran.status:
-            raise OSError(f"{words[0]}: {ran.err}")
+def must_run(*words: Word) -> None:
+    """Runs a command that must end well."""
+    ran = run(*words)
+    if ran.status:
+        raise OSError(f"{words[0]}: {ran.err}")
+
+
+def make_archive(folder: Path, variable: str) -> Path:
+    """An archive that stands for that of a library."""
+    source, compiled, made = (folder / f"{variable}.{ending}" for ending in ("c", "o", "a"))
+    source.write_text(FUNCTION_TEXT.format(FUNCTIONS[variable]), encoding="ascii")
+    must_run("cc", "-O2", "-fPIC", "-c", source, "-o", compiled)
+    must_run("ar", "rcsD", made, compiled)
     return made
+
+
+def make_stand_ins(folder: Path) -> dict[str, Path]:
+    """What stands for all that is built."""
+    archives = {variable: make_archive(folder, variable) for variable in FUNCTIONS}
+    return {"PROGRAM": write_script(folder / "program", PROGRAM_TEXT), **archives, **make_shared(folder, archives)}
+
+
+def make_shared(folder: Path, archives: dict[str, Path]) -> dict[str, Path]:
+    """The shared objects of the archives."""
+    made = {"SHARED": folder / "lib" / SHARED}
+    must_run(TOP / "tools" / "shared-library", archives["LIBRARY"], archives["SHARED_TABLE"], made["SHARED"])
+    return made
+
+
+def make_built(folder: Path) -> dict[str, Path]:
+    """What is built here, or what stands for it where it isn't, with shared objects of these archives."""
+    here = {"PROGRAM": PROGRAM, "LIBRARY": LIBRARY, "SHARED_TABLE": SHARED_TABLE, "BYTES_LIBRARY": BYTES_LIBRARY}
+    found = {**make_stand_ins(folder), **{variable: path for variable, path in here.items() if path.is_file()}}
+    return {**found, **make_shared(folder, found)}
 
 
 class Committed:
@@ -93,15 +117,12 @@ class Committed:
             raise OSError(f"git {words[0]}: {ran.err}")
         return ran.out.strip()
 
-    def put(self, **files: Path) -> None:
+    def put(self, files: Mapping[str, Path]) -> None:
         """Puts files where they are built: those of NAMES, and a text for each that isn't given."""
-        for what, place in NAMES.items():
-            path = self.top / place
-            path.parent.mkdir(parents=True, exist_ok=True)
-            if what in files:
-                shutil.copy(files[what], path)
-            else:
-                write_script(path, PROGRAM_TEXT)
+        for variable, place in NAMES.items():
+            path = write_script(self.top / place, PROGRAM_TEXT)
+            if variable in files:
+                shutil.copy(files[variable], path)
         (self.top / "out" / "build.kit").write_text(f"{KIT}\n", encoding="ascii")
 
     def put_aarch64(self) -> None:

@@ -11,17 +11,19 @@ from typing import Callable, Optional
 
 from .support import TOOLS, TOP, Ran, Word, run, write_script
 
-# Each crate with what stands behind its name in crates.txt. The program stands on low, mid and trace_runner, and the
-# library for C on low and beside.
+# Each crate with what stands behind its name in crates.txt. The program stands on low, mid and trace_runner, and both
+# libraries for C on low and beside.
 LINES = {
     "low": "",
     "mid": ": low",
     "trace_runner": " may_wait=2: low",
     "beside": ": low",
     "papr_c": " staticlib: beside",
+    "papr_shared": " staticlib: beside",
     "papr_main": ": mid trace_runner",
 }
-IN_PROGRAM, IN_LIBRARY = ["low", "mid", "trace_runner", "papr_main"], ["low", "beside", "papr_c"]
+IN_PROGRAM = ["low", "mid", "trace_runner", "papr_main"]
+IN_LIBRARY = ["low", "beside", "papr_c", "papr_shared"]
 
 PATIENCE = 120  # seconds that something is waited for
 
@@ -57,6 +59,11 @@ LINKER = """\
 while [ "$1" != -o ]; do shift; done
 [ -f "$3" ] && printf '#!/bin/sh\\necho "ran $*"; cat; exit "${ENDS:-7}"\\n' >"$2" && chmod +x "$2"
 """
+# Adds the name of what it is given to an archive.
+ARCHIVER = """\
+#!/usr/bin/env bash
+echo "and $3" >>"$2"
+"""
 
 
 def make_kit(kit: Path, compiler: str) -> None:
@@ -67,6 +74,7 @@ def make_kit(kit: Path, compiler: str) -> None:
     write_script(kit / "bin" / "rt", f'#!/bin/sh\n[ "$*" = doc ] && echo {kit}/START-HERE.md\n')
     write_script(kit / "bin" / "rattle", compiler)
     write_script(kit / "bin" / "rattle-link", LINKER)
+    write_script(kit / "toolchain" / "bin" / "llvm-ar", ARCHIVER)
 
 
 class Checkout:
@@ -75,10 +83,9 @@ class Checkout:
     def __init__(self, folder: Path) -> None:
         self.top, self.kit, self.times = folder / "checkout", folder / "kit", folder / "kit" / "bin" / "times"
         self.built, self.log = self.top / ".git" / "papr-build", self.top / "out" / "build.log"
-        self.program, self.archive = (
-            self.top / "crates" / crate / "out" / file
-            for crate, file in (("papr_main", "papr_main"), ("papr_c", "libpapr_c.a"))
-        )
+        files = {"papr_main": "papr_main", "papr_c": "libpapr_c.a", "papr_shared": "libpapr_shared.a"}
+        made = (self.top / "crates" / crate / "out" / file for crate, file in files.items())
+        self.program, self.archive, self.shared_table = made
         self.tools = f"{self.kit}/bin:/usr/bin:/bin"
         (self.top / "tools").mkdir(parents=True)
         for file in (TOP / "papr", TOOLS / "build", *TOOLS.glob("*.py"), *TOOLS.glob("*.*sh")):

@@ -16,7 +16,8 @@ TOP = Path(__file__).resolve().parents[2]
 TOOLS, EXAMPLES, DOCS, DATA = TOP / "tools", TOP / "examples", TOP / "docs", TOP / "tests" / "data"
 PROGRAM = Path(os.environ.get("PAPR_PROGRAM", TOP / "crates/papr_main/out/papr_main"))
 LIBRARY = Path(os.environ.get("PAPR_LIBRARY", TOP / "crates/papr_c/out/libpapr_c.a"))
-BYTES_LIBRARY = TOP / "crates/papr_bytes/out/libpapr_bytes.a"
+SHARED_TABLE = Path(os.environ.get("PAPR_SHARED_TABLE", TOP / "crates/papr_shared/out/libpapr_shared.a"))
+BYTES_LIBRARY = Path(os.environ.get("PAPR_BYTES_LIBRARY", TOP / "crates/papr_bytes/out/libpapr_bytes.a"))
 
 PATIENCE = 900  # seconds that a command may take
 SHOWN = 60  # lines of a difference
@@ -105,22 +106,15 @@ def needs(*commands: str) -> Callable[[Test], Test]:
     return unittest.skipIf(lacking, f"{' and '.join(lacking)} is not installed")
 
 
-def needs_program(test: Test) -> Test:
-    """Skips a test, or the tests of a class, where the program isn't built."""
-    return unittest.skipUnless(PROGRAM.is_file(), f"the program is not built: {PROGRAM} is missing")(test)
+def needs_built(path: Path, what: str, command: str) -> Callable[[Test], Test]:
+    """Skips a test, or the tests of a class, where this isn't built, which the command builds."""
+    return unittest.skipUnless(path.is_file(), f"{what} is not built: {path} is missing ({command})")
 
 
-def needs_library(test: Test) -> Test:
-    """Skips a test, or the tests of a class, where the library for C isn't built."""
-    return unittest.skipUnless(
-        LIBRARY.is_file(), f"the library for C is not built: {LIBRARY} is missing (make library)"
-    )(test)
-
-
-def needs_bytes_library(test: Test) -> Test:
-    """Skips a test, or the tests of a class, where the library of the program on bytes isn't built."""
-    told = f"the program on bytes is not built: {BYTES_LIBRARY} is missing (make bytes-library)"
-    return unittest.skipUnless(BYTES_LIBRARY.is_file(), told)(test)
+needs_program = needs_built(PROGRAM, "the program", "./papr")
+needs_library = needs_built(LIBRARY, "the library for C", "make library")
+needs_shared_table = needs_built(SHARED_TABLE, "the shared table", "make library")
+needs_bytes_library = needs_built(BYTES_LIBRARY, "the program on bytes", "make library")
 
 
 def for_each(*values: object) -> Callable[[Test], Test]:

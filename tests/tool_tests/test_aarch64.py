@@ -16,6 +16,12 @@ VERSION = (TOP / "VERSION").read_text(encoding="ascii").strip()
 SHARED = f"libpapr.so.{VERSION}"
 TRACES = sorted(path.stem for path in EXAMPLES.glob("*.trace"))
 STRICT = ("-std=gnu11", "-O2", "-Wall", "-Wextra", "-Werror", f"-I{TOP / 'include'}")
+# The programs over the libraries: the replayer, that of fields, and that of threads on one table.
+SOURCES = {
+    "replay": sorted((EXAMPLES / "c").glob("*.c")),
+    "fields": [DATA / "fields.c"],
+    "hammer": [path for path in sorted((EXAMPLES / "shared").glob("*.c")) if path.name != "two-threads.c"],
+}
 WORDS = (
     "",
     "run",
@@ -122,28 +128,30 @@ class Program(ToolTest):
 
 @needs_aarch64
 class Library(ToolTest):
-    """The archive and the shared object of the library for C."""
+    """The archives and the shared object of the libraries for C."""
 
     programs: ClassVar[Path]
 
     @classmethod
     def setUpClass(cls) -> None:
-        """Builds the replayer of examples/c and the program of fields over each, once for the class."""
+        """Builds programs over each, once for the class."""
         super().setUpClass()
         work = tempfile.TemporaryDirectory(prefix="papr-aarch64-")
         cls.addClassCleanup(work.cleanup)
         cls.programs = Path(work.name)
-        replayer = sorted((EXAMPLES / "c").glob("*.c"))
-        for way in ("archive", "shared"):
-            library: list[Word] = [BUILT / "libpapr.a"] if way == "archive" else [f"-L{BUILT}", "-lpapr"]
-            for name, sources in (("replay", replayer), ("fields", [DATA / "fields.c"])):
-                ran = run(COMPILER, *STRICT, *sources, *library, "-o", cls.programs / f"{name}-{way}")
+        ways: dict[str, list[Word]] = {
+            "archive": [BUILT / "libpapr_shared.a", BUILT / "libpapr.a"],
+            "shared": [f"-L{BUILT}", "-lpapr"],
+        }
+        for way, library in ways.items():
+            for name, sources in SOURCES.items():
+                ran = run(COMPILER, *STRICT, "-pthread", *sources, *library, "-o", cls.programs / f"{name}-{way}")
                 if (ran.status, ran.err) != (0, ""):
                     raise OSError(f"{name} doesn't build: {ran.err}")
 
-    def run_program(self, name: str, given: Text = "") -> Ran:
+    def run_program(self, name: str, *words: str, given: Text = "") -> Ran:
         """Runs one of the programs."""
-        return run(emulated(self.programs / name, self.folder), given=given)
+        return run(emulated(self.programs / name, self.folder), *words, given=given)
 
     @for_each("archive", "shared")
     def test_each_field_has_the_value_that_its_call_gives_it(self, way: str) -> None:
@@ -154,14 +162,20 @@ class Library(ToolTest):
         replies = (EXAMPLES / f"{name}.replies").read_text(encoding="ascii")
         status = 2 if replies.startswith("papr: ") else 0
         for way in ("archive", "shared"):
-            ran = self.run_program(f"replay-{way}", EXAMPLES / f"{name}.trace")
+            ran = self.run_program(f"replay-{way}", given=EXAMPLES / f"{name}.trace")
             self.assert_ran(ran, replies, status=status)
 
+    @for_each("archive", "shared")
+    def test_threads_call_one_table(self, way: str) -> None:
+        ran = self.run_program(f"hammer-{way}", "4", "1000", "check")
+        self.assert_ran(ran, out=None)
+        self.assertIn("each entry has one legal history", ran.out)
+
     @needs("aarch64-linux-gnu-nm", "aarch64-linux-gnu-readelf")
-    def test_the_shared_object_exports_the_functions_of_the_header(self) -> None:
+    def test_the_shared_object_exports_the_functions_of_the_headers(self) -> None:
         told = run_bytes("aarch64-linux-gnu-nm", "-D", "--defined-only", BUILT / SHARED).decode().splitlines()
-        header = (TOP / "include" / "papr.h").read_text(encoding="ascii")
-        declared = sorted(set(re.findall(r"\b(papr_[a-z_0-9]+)\(", header)))
+        headers = [(TOP / "include" / f"{name}.h").read_text(encoding="ascii") for name in ("papr", "papr_shared")]
+        declared = sorted(set(re.findall(r"\b(papr_[a-z_0-9]+)\(", "".join(headers))))
         self.assertEqual([line.split()[1:] for line in told], [["T", name] for name in declared])
         head = run("aarch64-linux-gnu-readelf", "-h", "-d", BUILT / SHARED).out
         self.assertIn(f"[libpapr.so.{VERSION.split('.')[0]}]", head)

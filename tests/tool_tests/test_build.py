@@ -31,11 +31,11 @@ class Library(BuildTest):
         ran = self.checkout.build("--library")
         self.assert_ran(ran, err=None)
         self.assertEqual(self.checkout.archive.read_text(), "an archive over papr_c\n")
-        self.assertEqual(self.checkout.proved(), IN_LIBRARY)
+        self.assertCountEqual(self.checkout.proved(), IN_LIBRARY)
         for words in (
-            "building the library for C: 3 crates to prove, the first time ",
+            "building the library for C: 4 crates to prove, the first time ",
             f"log: {self.checkout.log}\n",
-            "crate 3 of 3: papr_c (0 min ",
+            "crate 4 of 4: papr_",
             "built in 0 min ",
         ):
             self.assertIn(f"papr: {words}", ran.err)
@@ -49,19 +49,34 @@ class Library(BuildTest):
         self.assertTrue(words.endswith(f" --crate-type staticlib {toolchain} -o {archive}"), words)
         self.assertNotIn("--statements", words)
 
+    def test_the_heap_is_put_into_the_archive_of_the_shared_table(self) -> None:
+        self.checkout.build("--library")
+        heap = f"and {self.checkout.kit}/c/liblibc_c.a\n"
+        self.assertEqual(self.checkout.shared_table.read_text(), f"an archive over papr_shared\n{heap}")
+
     def test_a_second_build_does_nothing_and_says_nothing(self) -> None:
         self.checkout.build("--library")
-        made = self.checkout.archive.stat().st_mtime_ns
+        archives = (self.checkout.archive, self.checkout.shared_table)
+        made = [it.stat().st_mtime_ns for it in archives]
         self.checkout.times.unlink()
         self.assert_ran(self.checkout.build("--library"))
         self.assertFalse(self.checkout.times.exists())
-        self.assertEqual(self.checkout.archive.stat().st_mtime_ns, made)
+        self.assertEqual([it.stat().st_mtime_ns for it in archives], made)
+
+    def test_an_archive_that_is_missing_is_put_back(self) -> None:
+        """What is proved is kept, so nothing is proved for it."""
+        self.checkout.build("--library")
+        self.checkout.shared_table.unlink()
+        self.checkout.times.unlink()
+        self.assert_ran(self.checkout.build("--library"), err=None)
+        self.assertTrue(self.checkout.shared_table.is_file())
+        self.assertFalse(self.checkout.times.exists())
 
     def test_it_takes_over_what_the_program_proved(self) -> None:
         self.checkout.papr("run")
         ran = self.checkout.build("--library")
-        self.assertIn("building the library for C: 2 of 3 crates to prove\n", ran.err)
-        self.assertEqual(self.checkout.proved(), ["beside", "papr_c"])
+        self.assertIn("building the library for C: 3 of 4 crates to prove\n", ran.err)
+        self.assertCountEqual(self.checkout.proved(), ["beside", "papr_c", "papr_shared"])
 
     def leave(self, *names: str) -> None:
         """Leaves the library of each crate where the gate does."""
@@ -73,7 +88,7 @@ class Library(BuildTest):
         ran = self.checkout.build("--from-gate")
         self.assert_ran(ran, err="build: 2 of 4 libraries are those that the gate left\n")
         self.checkout.build("--library")
-        self.assertEqual(self.checkout.proved(), ["papr_c"])
+        self.assertCountEqual(self.checkout.proved(), ["papr_c", "papr_shared"])
 
     def test_nothing_is_taken_over_that_is_older_than_a_source_below(self) -> None:
         self.leave("low", "beside")
@@ -97,7 +112,7 @@ class Library(BuildTest):
         self.checkout.build("--library")
         self.checkout.change("beside")
         self.checkout.build("--library")
-        self.assertEqual(self.checkout.proved(), ["beside", "papr_c"])
+        self.assertCountEqual(self.checkout.proved(), ["beside", "papr_c", "papr_shared"])
         self.checkout.change("papr_c")
         self.checkout.build("--library")
         self.assertEqual(self.checkout.proved(), ["papr_c"])
@@ -138,14 +153,16 @@ class Installed(BuildTest):
             if tool.is_file() and not (self.checkout.top / "tools" / tool.name).exists():
                 shutil.copy(tool, self.checkout.top / "tools")
         self.tree = self.folder / "tree"
-        # An archive of the stand-in has no objects of which a shared one could be made.
-        self.shared = self.folder / "libpapr.so"
-        self.shared.touch()
+        # An archive of the stand-in has no objects of which a shared one could be made, and page/ isn't here.
+        self.stand_in = self.folder / "library"
+        self.stand_in.touch()
 
     def make(self, *words: str) -> Ran:
         """Runs make in the checkout, whose program ends with status 0."""
-        words = ("-s", "-C", str(self.checkout.top), f"DESTDIR={self.tree}", "PREFIX=/usr", f"SHARED={self.shared}", *words)
-        return run("make", *words, environment=self.checkout.environment(ENDS="0"))
+        given = [f"{name}={self.stand_in}" for name in ("BYTES_LIBRARY", "SHARED")]
+        places = (f"DESTDIR={self.tree}", "PREFIX=/usr", *given)
+        environment = self.checkout.environment(ENDS="0")
+        return run("make", "-s", "-C", self.checkout.top, *places, *words, environment=environment)
 
     def test_program_and_library_are_built_where_they_are_missing_or_older(self) -> None:
         self.assert_ran(self.make("install"), err=None)
@@ -153,6 +170,7 @@ class Installed(BuildTest):
         version = (self.tree / "usr/share/papr/version").read_text().splitlines()
         self.assertEqual(version[2], "a kit")
         self.assert_same_file(self.tree / "usr/lib/libpapr.a", self.checkout.archive)
+        self.assert_same_file(self.tree / "usr/lib/libpapr_shared.a", self.checkout.shared_table)
         self.assertEqual(len(self.checkout.compilers()), len({*IN_PROGRAM, *IN_LIBRARY}))
         self.assert_ran(self.make("install"))
         self.checkout.times.unlink()
@@ -160,7 +178,7 @@ class Installed(BuildTest):
         self.checkout.change("mid")
         self.assert_ran(self.make("install"), err=None)
         begun = {line.split()[1] for line in self.checkout.steps()}
-        self.assertEqual(begun, {"beside", "papr_c", "mid", "papr_main"})
+        self.assertEqual(begun, {"beside", "papr_c", "papr_shared", "mid", "papr_main"})
 
     def test_the_library_alone(self) -> None:
         self.assert_ran(self.make("install-library"), err=None)
@@ -168,9 +186,10 @@ class Installed(BuildTest):
         self.assertFalse(self.checkout.program.exists())
 
     def test_make_builds_it_once(self) -> None:
-        self.assert_ran(self.make("crates/papr_c/out/libpapr_c.a"), err=None)
-        self.assertTrue(self.checkout.archive.is_file())
-        self.assert_ran(self.make("crates/papr_c/out/libpapr_c.a"))
+        archives = ("crates/papr_c/out/libpapr_c.a", "crates/papr_shared/out/libpapr_shared.a")
+        self.assert_ran(self.make(*archives), err=None)
+        self.assertTrue(self.checkout.archive.is_file() and self.checkout.shared_table.is_file())
+        self.assert_ran(self.make(*archives))
 
 
 class Ended(BuildTest):
@@ -246,7 +265,7 @@ class Ended(BuildTest):
     def test_a_build_of_the_library(self) -> None:
         begun = self.checkout.begin(self.checkout.top / "tools" / "build", "--library")
         begun.wait_for_proofs()
-        self.assert_ended(begun.end(INT), 128 + INT, command="make library", count=3)
+        self.assert_ended(begun.end(INT), 128 + INT, command="make library", count=4)
 
     def test_a_build_that_waits_for_another_promises_nothing(self) -> None:
         first = self.begin()

@@ -1,7 +1,7 @@
 """Tests that include/papr.h says what the sources of the library for C say; nothing is built for them.
 
-Structs, constants and functions are parsed out of the header and out of the sources of crates/papr_c, and
-compared by name, order and type. A slice of the sources is a pointer and a count in C.
+Structs, constants and functions are parsed out of the header and out of the sources of crates/papr_c and
+crates/c_layout, and compared by name, order and type. A slice of the sources is a pointer and a count in C.
 """
 
 import re
@@ -11,7 +11,8 @@ from pathlib import Path
 from .support import TOP, ToolTest, for_each
 
 HEADER = TOP / "include" / "papr.h"
-SOURCES = sorted((TOP / "crates" / "papr_c" / "src").glob("*.rt"))
+CRATES = [TOP / "crates" / name / "src" for name in ("c_layout", "papr_c")]
+SOURCES = [path for crate in CRATES for path in sorted(crate.glob("*.rt"))]
 # What the sources have from the crates below: an entry, return codes, and flags.
 BELOW = [
     TOP / "crates" / "entry_model" / "src" / "state.rt",
@@ -38,6 +39,9 @@ STRUCTS = {
     "PaprDevice": "papr_device",
     "PaprTransfer": "papr_transfer",
 }
+# And those of papr_shared.h.
+SHARED_STRUCTS = {"PaprPass": "papr_pass", "PaprBusy": "papr_busy"}
+NAMES = {**STRUCTS, **SHARED_STRUCTS}
 FUNCTIONS = (
     "papr_version",
     "papr_make_grants",
@@ -75,8 +79,9 @@ SCALARS = {
     "i64": "int64_t",
     "usize": "size_t",
     "bool": "bool",
+    "*mut u8": "void*",
 }
-WIDTHS = {"uint8_t": 1, "uint32_t": 4, "uint64_t": 8, "int64_t": 8, "size_t": 8, "bool": 1}  # in bytes
+WIDTHS = {"uint8_t": 1, "uint32_t": 4, "uint64_t": 8, "int64_t": 8, "size_t": 8, "bool": 1, "void*": 8}  # in bytes
 
 # The parts of a version.
 PARTS = ("MAJOR", "MINOR", "PATCH")
@@ -92,6 +97,9 @@ COUNTS = {
     "out": "out_size",
     "bytes": "bytes_size",
 }
+
+# What isn't there in C: facts of the proof, and the heap, which has no bytes.
+UNSEEN = re.compile(r"(pub )?ghost |\w+: Global$")
 
 # A struct of the sources with its attributes, and a function for C.
 STRUCT = re.compile(r"((?:#\[[^\n]*\]\s*)*)pub struct (\w+) \{(.*?)\n\}", re.DOTALL)
@@ -157,7 +165,7 @@ class Header:
         defined = re.findall(r"^#define (PAPR_\w+)\s+UINT64_C\((0x[0-9A-F]+)\)", text, re.MULTILINE)
         self.flags = {name: int(value, 16) for name, value in defined}
         parts = dict(re.findall(r"^#define PAPR_VERSION_(\w+) ([0-9]+)$", text, re.MULTILINE))
-        self.version = [int(parts[name]) for name in PARTS]
+        self.version = [int(parts[name]) for name in PARTS if name in parts]
 
 
 def split_outside(text: str) -> list[str]:
@@ -184,7 +192,7 @@ def in_c(name: str, type_: str) -> list[Named]:
 
 def of_value(type_: str) -> str:
     """What a type of the sources is in C."""
-    return SCALARS[type_] if type_ in SCALARS else f"struct {STRUCTS[type_]}"
+    return SCALARS[type_] if type_ in SCALARS else f"struct {NAMES[type_]}"
 
 
 class Sources:
@@ -194,13 +202,13 @@ class Sources:
         text = without_remarks(text)
         self.structs: dict[str, Struct] = {}
         for before, name, body in STRUCT.findall(text):
-            if name in STRUCTS:
-                fields = [it.split(": ", 1) for it in split_outside(body) if not it.startswith("ghost ")]
-                named = [pair for it in fields for pair in in_c(it[0].removeprefix("pub "), it[1])]
-                self.structs[STRUCTS[name]] = Struct(named, "#[repr(C)]" in before)
+            if name in NAMES:
+                fields = [it.split(": ", 1) for it in split_outside(body) if not UNSEEN.match(it)]
+                named = [pair for it in fields for pair in in_c(it[0].split()[-1], it[1])]
+                self.structs[NAMES[name]] = Struct(named, "#[repr(C)]" in before)
         self.functions: dict[str, Function] = {}
         for exported, name, given, result in EXTERN.findall(text):
-            parameters = [it.split(": ", 1) for it in split_outside(given)]
+            parameters = [it.split(": ", 1) for it in split_outside(given) if not UNSEEN.match(it)]
             named = [pair for it in parameters for pair in in_c(it[0].removeprefix("_"), it[1])]
             if name in OF_WINDOWS:
                 named[1] = ("pages", named[1][1])
@@ -236,8 +244,8 @@ def text_of(path: Path) -> str:
 
 
 def constants_of(name: str, type_: str) -> dict[str, int]:
-    """The constants of this type in one file of the sources."""
-    text = without_remarks(text_of(TOP / "crates" / "papr_c" / "src" / name))
+    """The constants of this type in the files of the sources that have this name."""
+    text = "".join(without_remarks(text_of(path)) for path in SOURCES if path.name == name)
     return {it: int(number) for it, number in re.findall(rf"\bconst (\w+): {type_} = ([0-9]+);", text)}
 
 
@@ -398,7 +406,7 @@ SWAPPED = (
 
 def swapped(text: str, name: str, one: str, other: str) -> str:
     """The sources with the two fields or parameters in each other's place, with their types."""
-    own = {mine: theirs for theirs, mine in STRUCTS.items()}
+    own = {mine: theirs for theirs, mine in NAMES.items()}
     begin = text.index(f"pub struct {own[name]} {{" if name in own else f"fn {name}(")
     end = text.index("\n}" if name in own else "\n)", begin)
     item, count = re.subn(

@@ -10,8 +10,8 @@ import tempfile
 from pathlib import Path
 from typing import ClassVar
 
-from .support import BYTES_LIBRARY, DATA, EXAMPLES, LIBRARY, TOP, ToolTest, for_each, needs, needs_bytes_library
-from .support import needs_library, run, run_bytes
+from .support import BYTES_LIBRARY, DATA, EXAMPLES, LIBRARY, SHARED_TABLE, TOP, ToolTest, for_each, needs
+from .support import needs_bytes_library, needs_library, needs_shared_table, run, run_bytes
 
 INCLUDE = TOP / "include"
 STRICT = ("-Wall", "-Wextra", "-Werror", f"-I{INCLUDE}")
@@ -117,8 +117,9 @@ class Header(ToolTest):
 
 @needs("cc", "nm", "readelf")
 @needs_library
+@needs_shared_table
 class Shared(ToolTest):
-    """The shared object, made of the archive."""
+    """The shared object, made of both archives."""
 
     shared: ClassVar[Path]
 
@@ -129,13 +130,14 @@ class Shared(ToolTest):
         work = tempfile.TemporaryDirectory(prefix="papr-shared-")
         cls.addClassCleanup(work.cleanup)
         cls.shared = Path(work.name) / f"libpapr.so.{VERSION}"
-        ran = run(TOP / "tools" / "shared-library", LIBRARY, cls.shared)
+        ran = run(TOP / "tools" / "shared-library", LIBRARY, SHARED_TABLE, cls.shared)
         if (ran.status, ran.err) != (0, ""):
             raise OSError(f"the shared object isn't made: {ran.err}")
 
-    def test_it_exports_the_functions_of_the_header_and_nothing_else(self) -> None:
+    def test_it_exports_the_functions_of_the_headers_and_nothing_else(self) -> None:
         told = run("nm", "-D", "--defined-only", self.shared).out.split("\n")
-        declared = re.findall(r"\b(papr_[a-z_0-9]+)\(", (INCLUDE / "papr.h").read_text(encoding="ascii"))
+        headers = [(INCLUDE / f"{name}.h").read_text(encoding="ascii") for name in ("papr", "papr_shared")]
+        declared = re.findall(r"\b(papr_[a-z_0-9]+)\(", "".join(headers))
         self.assertEqual([line.split()[1:] for line in told if line], [["T", name] for name in sorted(set(declared))])
 
     def test_its_name_is_that_of_its_major_version(self) -> None:
@@ -151,6 +153,15 @@ class Shared(ToolTest):
         self.assert_ran(run("cc", *words, f"-Wl,-rpath,{folder}"))
         self.assert_ran(run(program))
         self.assertIn(f"libpapr.so.{VERSION.split('.')[0]}", run("readelf", "-d", program).out)
+
+    def test_threads_share_a_table_by_it(self) -> None:
+        program, folder = self.folder / "two-threads", self.shared.parent
+        source = EXAMPLES / "shared" / "two-threads.c"
+        words = ("-std=c11", "-pthread", *STRICT, "-o", program, source, f"-L{folder}", "-lpapr")
+        self.assert_ran(run("cc", *words, f"-Wl,-rpath,{folder}"))
+        ran = run(program)
+        self.assert_ran(ran, out=None)
+        self.assertTrue(ran.out.endswith("8 of 32 calls entered a page\n"), ran.out)
 
 
 @needs("cc")

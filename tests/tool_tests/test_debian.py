@@ -11,10 +11,10 @@ import unittest
 from pathlib import Path
 from typing import ClassVar
 
-from .committed import PROGRAM_TEXT, SHARED, VERSION, make_libraries
+from .committed import SHARED, VERSION, make_built
 from .installed import COMMANDS, FORMATS
-from .support import DATA, DOCS, EXAMPLES, LIBRARY, PROGRAM, TOP, Ran, ToolTest, Word, for_each, needs
-from .support import needs_library, needs_program, run, run_bytes, write_script
+from .support import DATA, DOCS, EXAMPLES, TOP, Ran, ToolTest, Word, for_each, needs
+from .support import needs_bytes_library, needs_library, needs_program, needs_shared_table, run, run_bytes
 
 MAJOR = VERSION.split(".", maxsplit=1)[0]
 PACKAGES = ("papr", f"libpapr{MAJOR}", "libpapr-dev")
@@ -36,12 +36,7 @@ class DebianTest(ToolTest):
         work = tempfile.TemporaryDirectory(prefix="papr-packages-")
         cls.addClassCleanup(work.cleanup)
         folder = Path(work.name)
-        files = make_libraries(folder)
-        if LIBRARY.is_file():
-            files = {"archive": LIBRARY, "shared": folder / "built" / SHARED}
-            run(TOP / "tools" / "shared-library", LIBRARY, files["shared"])
-        program = PROGRAM if PROGRAM.is_file() else write_script(folder / "program", PROGRAM_TEXT)
-        given = (f"PROGRAM={program}", f"LIBRARY={files['archive']}", f"SHARED={files['shared']}")
+        given = [f"{variable}={path}" for variable, path in make_built(folder).items()]
         ran = run("make", "-s", "-C", TOP, "deb", f"dist={folder / 'dist'}", *given)
         if ran.status:
             raise OSError(f"make deb: {ran.err}")
@@ -95,9 +90,11 @@ class Packed(DebianTest):
         self.assertEqual(self.field("libpapr-dev", "Depends"), f"libpapr{MAJOR} (= {VERSION})")
         files = self.files("libpapr-dev")
         names = {Path(it).name for it in files if it.startswith("/usr/lib/") and not it.endswith("/")}
-        self.assertEqual(names, {"libpapr.a", "libpapr.so", "papr.pc"})
-        self.assertIn("/usr/include/papr.h", files)
-        self.assertIn("/usr/share/doc/libpapr-dev/examples/cmake/CMakeLists.txt", files)
+        libraries = ("papr", "papr_shared", "papr_bytes")
+        wanted = {file for it in libraries for file in (f"lib{it}.a", f"{it}.pc")}
+        self.assertEqual(names, {*wanted, "libpapr.so"})
+        examples = (f"/usr/share/doc/libpapr-dev/examples/{it}" for it in ("cmake/CMakeLists.txt", "c/bytes/call.c"))
+        self.assertEqual({*examples, *(f"/usr/include/{it}.h" for it in libraries)} - files, set())
 
     @for_each("papr", f"libpapr{MAJOR}")
     def test_it_depends_on_the_c_library_alone(self, package: str) -> None:
@@ -113,6 +110,8 @@ class Packed(DebianTest):
     @needs("lintian")
     @needs_program
     @needs_library
+    @needs_shared_table
+    @needs_bytes_library
     @for_each(*PACKAGES)
     def test_lintian_has_no_error_and_no_warning_of(self, package: str) -> None:
         ran = run("lintian", "--allow-root", "--fail-on", "error,warning", self.packages[package])

@@ -32,6 +32,11 @@ def text_of(path: Path) -> str:
     return path.read_text(encoding="utf-8")
 
 
+def libraries(stand_in: Path) -> list[str]:
+    """What has make install this file as each library, and build none."""
+    return [f"{name}={stand_in}" for name in ("LIBRARY", "SHARED_TABLE", "BYTES_LIBRARY", "SHARED")]
+
+
 def page(command: str) -> Path:
     """A command's page."""
     return TOP / "man" / f"{command}.1"
@@ -180,22 +185,28 @@ class Installing(ToolTest):
         cls.usr = cls.tree / "usr"
         program = write_script(Path(work.name) / "program", STAND_IN)
         library = write_script(Path(work.name) / "library", A_LIBRARY)
-        make("install", cls.tree, f"PROGRAM={program}", f"LIBRARY={library}", f"SHARED={library}")
-        make("install-bytes-library", cls.tree, f"BYTES_LIBRARY={library}")
+        make("install", cls.tree, f"PROGRAM={program}", *libraries(library))
 
     def run_installed(self, command: str, *words: Word) -> Ran:
         """Runs a command from the tree."""
         return run(self.usr / "bin" / command, *words)
 
-    def test_make_install_puts_the_library(self) -> None:
-        for name in ("libpapr.a", f"libpapr.so.{VERSION}", f"libpapr.so.{VERSION.split('.')[0]}", "libpapr.so"):
-            self.assertEqual(text_of(self.usr / "lib" / name), A_LIBRARY)
-        self.assert_same_file(self.usr / "include" / "papr.h", TOP / "include" / "papr.h")
-        self.assertEqual(text_of(self.usr / "lib" / "libpapr_bytes.a"), A_LIBRARY)
-        self.assert_same_file(self.usr / "include" / "papr_bytes.h", TOP / "include" / "papr_bytes.h")
-        for name in ("papr", "papr_bytes"):
-            described = text_of(self.usr / "lib" / "pkgconfig" / f"{name}.pc").splitlines()
-            self.assertEqual([line for line in described if line.startswith("Version")], [f"Version: {VERSION}"])
+    @for_each("papr", "papr_shared", "papr_bytes")
+    def test_make_install_puts_the_library(self, name: str) -> None:
+        self.assertEqual(text_of(self.usr / "lib" / f"lib{name}.a"), A_LIBRARY)
+        self.assert_same_file(self.usr / "include" / f"{name}.h", TOP / "include" / f"{name}.h")
+        described = text_of(self.usr / "lib" / "pkgconfig" / f"{name}.pc").splitlines()
+        self.assertEqual([line for line in described if line.startswith("Version")], [f"Version: {VERSION}"])
+
+    @for_each("papr")
+    def test_make_install_puts_the_shared_object(self, name: str) -> None:
+        for ending in (VERSION, VERSION.split(".", maxsplit=1)[0]):
+            self.assertEqual(text_of(self.usr / "lib" / f"lib{name}.so.{ending}"), A_LIBRARY)
+        self.assertEqual(text_of(self.usr / "lib" / f"lib{name}.so"), A_LIBRARY)
+
+    @for_each("c/replay.c", "c/bytes/call.c", "cmake/CMakeLists.txt", "rust/enter.rs", "shared/hammer.c")
+    def test_make_install_puts_the_example(self, name: str) -> None:
+        self.assert_same_file(self.usr / "share" / "doc" / "papr" / "examples" / name, EXAMPLES / name)
 
     def test_make_install_puts_the_program_the_documents_and_the_examples(self) -> None:
         self.assertEqual(text_of(self.usr / "libexec" / "papr" / "papr"), STAND_IN)
@@ -243,7 +254,7 @@ class Installing(ToolTest):
         library = write_script(self.folder / "library", A_LIBRARY)
         program = write_script(self.folder / "program", STAND_IN)
         words: list[Word] = ["make", "-s", "-C", TOP, f"DESTDIR={tree}", f"PREFIX={prefix}"]
-        self.assert_ran(run(*words, "install", f"PROGRAM={program}", f"LIBRARY={library}", f"SHARED={library}"))
+        self.assert_ran(run(*words, "install", f"PROGRAM={program}", *libraries(library)))
         installed = Path(f"{tree}{prefix}")
         self.assert_same_folder(installed / "share" / "doc", self.usr / "share" / "doc")
         self.assertIn(f"prefix={prefix}\n", text_of(installed / "lib" / "pkgconfig" / "papr.pc"))
@@ -257,13 +268,16 @@ class Installing(ToolTest):
     def test_pkg_config_names_folders_with_blanks(self) -> None:
         tree = self.folder / "a tree"
         library = write_script(self.folder / "library", A_LIBRARY)
-        given = (f"LIBRARY={library}", f"SHARED={library}")
-        self.assert_ran(run("make", "-s", "-C", TOP, f"PREFIX={tree}", "install-library", *given))
+        self.assert_ran(run("make", "-s", "-C", TOP, f"PREFIX={tree}", "install-library", *libraries(library)))
         variables = {"PKG_CONFIG_PATH": str(tree / "lib" / "pkgconfig")}
         flags = run("pkg-config", "--cflags", "--libs", "papr", environment=variables)
         self.assert_ran(flags, out=None)
         named = run("sh", "-c", f"printf '%s\\n' {flags.out.strip()}").out.splitlines()
         self.assertEqual(named, [f"-I{tree}/include", f"-L{tree}/lib", "-lpapr"])
+        flags = run("pkg-config", "--static", "--libs", "papr_shared", environment=variables)
+        self.assert_ran(flags, out=None)
+        named = run("sh", "-c", f"printf '%s\\n' {flags.out.strip()}").out.splitlines()
+        self.assertEqual(sorted({*named}), [f"-L{tree}/lib", "-lpapr", "-lpapr_shared"])
 
 
 @needs("make")

@@ -11,14 +11,15 @@ import unittest
 from pathlib import Path
 from typing import Callable, ClassVar
 
-from .committed import AARCH64, CRATES, KIT, NAMES, SAID, SHARED, VERSION, Committed
-from .committed import listed, make_libraries, without_make
+from .committed import AARCH64, CRATES, KIT, NAMES, SAID, VERSION, Committed
+from .committed import listed, make_built, make_stand_ins, without_make
 from .emulator import COMPILER, emulated, needs_aarch64
-from .support import BYTES_LIBRARY, DATA, EXAMPLES, LIBRARY, PROGRAM, ToolTest, for_each, needs
+from .support import DATA, EXAMPLES, ToolTest, for_each, needs
 from .support import needs_bytes_library, needs_library, needs_program, run, write_script
 
 Runner = Callable[[Path], Path]
 AGAIN = "run tools/gate"
+LIBRARIES = ("papr", "papr_shared", "papr_bytes")
 FILES = listed()
 needs_git = unittest.skipIf(FILES is None, "this is no checkout of git")
 
@@ -43,7 +44,7 @@ class CommittedTest(ToolTest):
         self.checkout.git("reset", "--quiet", "--hard", self.commit)
         self.checkout.git("clean", "--quiet", "-d", "--force")
         shutil.rmtree(self.checkout.top / "out", ignore_errors=True)
-        self.checkout.put()
+        self.checkout.put({})
 
     def change(self, name: str) -> None:
         """Changes a file of the checkout."""
@@ -66,7 +67,7 @@ class Gate(CommittedTest):
         self.assert_ran(ran, out=None, err=f"gate: this tree passed, {SAID}: out/gate.passed\n")
         self.assertIn(f"rt: basics proved\n{SAID}\n", ran.out)
         text = self.checkout.note.read_text(encoding="utf-8")
-        for words in (KIT, SAID, self.checkout.git("rev-parse", "HEAD^{tree}"), '"basics": "', str(NAMES["program"])):
+        for words in (KIT, SAID, self.checkout.git("rev-parse", "HEAD^{tree}"), '"basics": "', str(NAMES["PROGRAM"])):
             self.assertIn(words, text)
         self.assertNotIn("1234 passed", text)
 
@@ -103,7 +104,8 @@ class Gate(CommittedTest):
         self.assert_not_noted(told)
 
     def test_a_gate_that_builds_nothing(self) -> None:
-        self.assert_not_noted(f"{NAMES['bytes']} isn't built; {AGAIN}", MEANWHILE=f"rm {NAMES['bytes']}")
+        archive = NAMES["BYTES_LIBRARY"]
+        self.assert_not_noted(f"{archive} isn't built; {AGAIN}", MEANWHILE=f"rm {archive}")
 
 
 @needs_git
@@ -147,8 +149,8 @@ class Refused(CommittedTest):
 
     def test_what_is_not_built(self) -> None:
         self.checkout.gate()
-        (self.checkout.top / NAMES["archive"]).unlink()
-        self.assert_no_release(f"{NAMES['archive']} isn't built; {AGAIN}")
+        (self.checkout.top / NAMES["LIBRARY"]).unlink()
+        self.assert_no_release(f"{NAMES['LIBRARY']} isn't built; {AGAIN}")
 
     def test_what_the_gate_tested_for_aarch64_and_is_gone(self) -> None:
         self.checkout.put_aarch64()
@@ -175,20 +177,6 @@ def expected_names() -> list[str]:
     return sorted(["PROVED.txt", "SHA256SUMS", *packages, *archives, f"papr-{VERSION}.tar.gz"])
 
 
-def put_built(checkout: Committed, folder: Path) -> None:
-    """Puts what is built here, or what stands for it, where a gate leaves it."""
-    files = make_libraries(folder)
-    if LIBRARY.is_file():
-        files = {"archive": LIBRARY, "shared": folder / SHARED}
-        run(checkout.top / "tools" / "shared-library", LIBRARY, files["shared"])
-    if PROGRAM.is_file():
-        files["program"] = PROGRAM
-    if BYTES_LIBRARY.is_file():
-        files["bytes"] = BYTES_LIBRARY
-    checkout.put(**files)
-    checkout.put_aarch64()
-
-
 @needs_git
 @needs("git", "make", "cc", "dpkg-deb", "tar", "xz")
 class Released(ToolTest):
@@ -208,7 +196,8 @@ class Released(ToolTest):
     def made_in(folder: Path, **variables: str) -> Committed:
         """A checkout with a release."""
         checkout = Committed(folder, FILES or [])
-        put_built(checkout, folder)
+        checkout.put(make_built(folder))
+        checkout.put_aarch64()
         for ran in (checkout.gate(), checkout.release(**variables)):
             if ran.status:
                 raise OSError(f"no release: {ran.err}")
@@ -247,8 +236,8 @@ class Released(ToolTest):
         commit, tree = (self.checkout.git("rev-parse", it) for it in ("HEAD", "HEAD^{tree}"))
         for line in (f"kit     {KIT}", f"commit  {commit}", f"tree    {tree}", f"gate    {SAID}"):
             self.assertIn(f"\n{line}\n", text)
-        program = hashlib.sha256((self.checkout.top / NAMES["program"]).read_bytes()).hexdigest()
-        self.assertIn(f"\n{program}  {NAMES['program']}\n", text)
+        program = hashlib.sha256((self.checkout.top / NAMES["PROGRAM"]).read_bytes()).hexdigest()
+        self.assertIn(f"\n{program}  {NAMES['PROGRAM']}\n", text)
 
     def test_each_crate_has_the_sum_that_the_text_tells_how_to_make(self) -> None:
         text = (self.checkout.released / "PROVED.txt").read_text(encoding="utf-8")
@@ -267,14 +256,11 @@ class Released(ToolTest):
         for name in (
             "bin/papr",
             "bin/papr-why",
-            "include/papr.h",
-            "include/papr_bytes.h",
-            "lib/libpapr.a",
             "lib/libpapr.so",
             "lib/libpapr.so.0",
-            "lib/libpapr_bytes.a",
-            "lib/pkgconfig/papr.pc",
-            "lib/pkgconfig/papr_bytes.pc",
+            *(f"include/{it}.h" for it in LIBRARIES),
+            *(f"lib/lib{it}.a" for it in LIBRARIES),
+            *(f"lib/pkgconfig/{it}.pc" for it in LIBRARIES),
             "libexec/papr/papr",
             "share/bash-completion/completions/papr",
             "share/doc/papr/docs/papr.html",
@@ -282,7 +268,7 @@ class Released(ToolTest):
             "share/papr/why",
         ):
             self.assertTrue((tree / name).is_file(), name)
-        built = self.checkout.top / (AARCH64[0] if machine == "aarch64" else NAMES["program"])
+        built = self.checkout.top / (AARCH64[0] if machine == "aarch64" else NAMES["PROGRAM"])
         self.assert_same_file(tree / "libexec" / "papr" / "papr", built)
         version = f"{VERSION}\n{self.checkout.git('rev-parse', 'HEAD')[:12]}\n{KIT}\n"
         self.assertEqual((tree / "share" / "papr" / "version").read_text(encoding="ascii"), version)
@@ -296,7 +282,7 @@ class Released(ToolTest):
         self.assert_help(tree / "bin" / "papr-why")
 
     def assert_libraries_are_found(self, tree: Path, compiler: str, runner: Runner) -> None:
-        """Programs in C are compiled against both libraries of a tarball by pkg-config, and run."""
+        """Programs in C are compiled against libraries of a tarball by pkg-config, and run."""
         variables = {"PKG_CONFIG_PATH": str(tree / "lib" / "pkgconfig")}
         for name, source in (("papr", DATA / "fields.c"), ("papr_bytes", EXAMPLES / "c" / "bytes" / "call.c")):
             flags = run("pkg-config", "--cflags", "--libs", name, environment=variables).out.strip()
@@ -334,7 +320,7 @@ class Parts(CommittedTest):
 
     def setUp(self) -> None:
         super().setUp()
-        self.checkout.put(**make_libraries(self.folder))
+        self.checkout.put(make_stand_ins(self.folder))
 
     def test_nothing_for_aarch64_where_the_gate_built_none(self) -> None:
         self.checkout.gate()

@@ -2,7 +2,7 @@
 
 import shutil
 
-from .support import LIBRARY, TOP, Ran, ToolTest, run
+from .support import BYTES_LIBRARY, LIBRARY, SHARED_TABLE, TOP, Ran, ToolTest, run
 
 RUNNER = TOP / "tests" / "tools"
 
@@ -100,6 +100,6 @@ class Words(ToolTest):
         ran = run(RUNNER, "--require-built", "--program", program, "statuses")
         self.assertEqual((ran.status, ran.err), (1, ""))
         lines = ran.out.splitlines()
-        self.assertEqual(lines[1:3], ["FAIL required.the program", f"{program} is missing"])
-        failed = 1 if LIBRARY.is_file() else 2
+        self.assertEqual(lines[1:3], [f"FAIL required.{program.name}", f"{program} is missing"])
+        failed = 1 + [path.is_file() for path in (LIBRARY, SHARED_TABLE, BYTES_LIBRARY)].count(False)
         self.assertRegex(lines[-1], rf"\A0 passed, {failed} failed, [1-9][0-9] skipped\Z")

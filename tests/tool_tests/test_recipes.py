@@ -39,6 +39,7 @@ LEFT_OUT = {
     "rt new": "needs the toolchain: test_library makes that crate and runs it",
     "make library": "proves the libraries: minutes; test_c_library links them",
     "two-threads": "links what is installed; test_shared_table builds the program",
+    "bytes/call.c": "links what is installed; test_c_library builds the program",
     "tools/qemu-shadow/build": "needs a network, and builds QEMU",
     "bench/speed": "measures for minutes",
     "bench/pool": "proves and measures for minutes",

@@ -56,10 +56,13 @@ pub record IsKept (pass other : Option Working) (rc : Rc) (t : TwoAfter) : Type 
 
 -- ---- splits
 -- A pass was split.
-abbrev pub IsSplitInto : Working → TwoAfter → Type 0
-IsSplitInto x t =
-    (y : Working) × (z : Working)
-    × (t.pass ≡ Some y) × (t.other ≡ Some z) × (t.code ≡ rc_code Success) × IsSplitOff x y z
+pub record IsSplitInto (x : Working) (t : TwoAfter) : Type 0 where
+  pub left : Working
+  pub right : Working
+  pub pass_is : t.pass ≡ Some left
+  pub other_is : t.other ≡ Some right
+  pub code_is : t.code ≡ rc_code Success
+  pub split_off : IsSplitOff x left right
 
 -- With two shares it is, or there was no memory. With one, H_RESOURCE.
 abbrev pub SplitsBy : Bool → Working → TwoAfter → Type 0
@@ -81,10 +84,12 @@ AreOfOneTable (Some x) (Some y) = AreOfOne x.sharer y.sharer
 AreOfOneTable pass other = Unit {0}
 
 -- The one took in the other, which is closed.
-abbrev pub IsJoinedInto : Working → Working → TwoAfter → Type 0
-IsJoinedInto x y t =
-    (z : Working)
-    × (t.pass ≡ Some z) × (t.other ≡ None) × (t.code ≡ rc_code Success) × IsTakenIn x y z
+pub record IsJoinedInto (x y : Working) (t : TwoAfter) : Type 0 where
+  pub both : Working
+  pub pass_is : t.pass ≡ Some both
+  pub other_is : t.other ≡ None
+  pub code_is : t.code ≡ rc_code Success
+  pub taken_in : IsTakenIn x y both
 
 -- Where both have nothing to go on with; otherwise H_BUSY.
 abbrev pub JoinsBy : Bool → Working → Working → TwoAfter → Type 0

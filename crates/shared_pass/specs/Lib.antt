@@ -5,6 +5,5 @@ pub mod Held
 pub mod HeldFacts
 pub mod Workings
 pub mod Attempts
-pub mod Passes
 pub mod Holding
 pub mod Owned

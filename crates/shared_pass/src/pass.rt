@@ -16,9 +16,7 @@ pub struct PaprPass {
 }
 
 impl PaprPass {
-    ghost use Rattle.std.specs.Prelude.{false, Some, None, IfSome, IfNone};
-    ghost use Rattle.shared_pass.specs.declared.held.Pending.TheVariants.{Nothing};
-    ghost use Rattle.shared_pass.specs.Passes.{may_begin};
+    ghost use Rattle.std.specs.Prelude.{Some, None, IfSome, IfNone};
 
     /// A pass that is closed.
     fn closed(alloc: Global) -> PaprPass
@@ -60,23 +58,5 @@ impl PaprPass {
         let old = replace(self, PaprPass::closed(alloc));
         let PaprPass { place, live } = old;
         if live { Some(place.into_box()) } else { None }
-    }
-
-    /// Takes out what is in it, if that has nothing to go on with. Otherwise nothing changes.
-    #[inline]
-    pub fn take_free(&mut self, alloc: Global) -> Option<Box<Working>>
-        ensures some { IfSome result (λ b. self.old.place.held ≡ Some b.value) }
-        ensures free { IfSome result (λ b. b.value.pending ≡ Nothing) }
-        ensures closed { IfSome result (λ b. self.new.place.held ≡ None) }
-        ensures not_free { IfNone result (may_begin self.old.place.held ≡ false) }
-        ensures same { IfNone result (self.new.place.held ≡ self.old.place.held) }
-    {
-        let working = self.take(alloc)?;
-        if working.is_free() {
-            Some(working)
-        } else {
-            self.put(working);
-            None
-        }
     }
 }

@@ -1,12 +1,12 @@
-ghost use Rattle.std.specs.Prelude.{◌≡◌, ◌≤◌, ◌<◌, length};
-ghost use Rattle.entry_model.specs.declared.hreply.Registers.{Registers};
+ghost use Rattle.std.specs.Prelude.{◌≡◌, ◌≤◌};
 ghost use Rattle.call_trials.specs.Begun.{IsBegun};
-ghost use Rattle.call_plan.specs.Plans.{told_of, plan_of_trial, IsTrialIn};
+ghost use Rattle.call_plan.specs.Plans.{plan_of_trial, IsTrialIn};
 ghost use Rattle.papr_codes.specs.declared.codes.Rc.TheVariants.{Busy};
+ghost use Rattle.shared_pass.specs.declared.held.HeldCall.{HeldCall as Held};
 ghost use Rattle.shared_pass.specs.declared.held.Pending.TheVariants.{Call};
 ghost use Rattle.shared_pass.specs.Held.{plan_of_held, HeldFits};
 
-use crate::held::HeldCall;
+use crate::held::{HeldCall, Pending};
 use crate::working::Working;
 use call_plan::{Trial, told_registers};
 use entry_model::{Receipt, Registers, ReplyWords};
@@ -47,11 +47,15 @@ impl HeldCall {
 
 impl Working {
     /// What a call that is held up has given so far: H_BUSY, and the words of its receipts.
-    pub fn registers_so_far(&self, call: &HeldCall) -> Registers
-        requires { self.now.pending ≡ Call call.now }
+    pub fn registers_so_far(&self) -> Registers
         ensures rc { result.rc ≡ Busy }
-        ensures words { result.words ≡ ((plan_of_held call.now).told self.now.receipts).1 }
+        ensures words { (call : Held)
+            → self.now.pending ≡ Call call
+            → result.words ≡ ((plan_of_held call).told self.now.receipts).1 }
     {
+        let Pending::Call { call } = &self.pending else {
+            return Registers::with_code(Rc::Busy);
+        };
         Registers {
             rc: Rc::Busy,
             words: call.words_so_far(self.order(), self.receipts.as_slice()),

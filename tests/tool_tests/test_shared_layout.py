@@ -35,7 +35,6 @@ PLACE = re.compile(r"pub struct Place \{(.*?)\n\}", re.DOTALL)
 SWAPPED = (
     ("papr_busy", "looked", "found"),
     ("papr_busy", "entry", "done"),
-    ("papr_split", "pass", "other"),
     ("papr_try_h_remove", "ptex", "avpn"),
     ("papr_try_h_enter", "pteh", "ptel"),
 )
@@ -76,6 +75,17 @@ class SharedStructs(ToolTest):
 
     def test_the_header_has_no_other_struct(self) -> None:
         self.assertEqual(list(header().structs), list(SHARED_STRUCTS.values()))
+
+
+class SharedConstants(ToolTest):
+    """The constants."""
+
+    def test_the_numbers_of_what_is_busy_are_those_of_the_sources(self) -> None:
+        numbers = sources().numbers(r"\bconst (\w+): u32 = ([0-9]+);")
+        held = {f"PAPR_{name}": numbers[name] for name in ("HELD", "CHANGING")}
+        self.assertEqual(header().enums["papr_hold"], {"PAPR_NOT_HELD_UP": 0, **held})
+        walk = re.findall(r"(?m)^#define PAPR_WALK_BUSY ([0-9]+)$", text_of(HEADER))
+        self.assertEqual(walk, [str(numbers["BUSY"])])
 
 
 class SharedFunctions(ToolTest):

@@ -15,6 +15,8 @@ struct papr_page {
     uint32_t why;
 };
 
+uint32_t papr_version(void) { return 0x000100; }
+
 uint8_t papr_rights(uint8_t protection, bool key) {
     static const uint8_t rights[2][8] = {{6, 6, 6, 4, 0, 0, 4, 0}, {0, 4, 6, 4, 0, 0, 0, 0}};
     return rights[key][protection];

@@ -6,8 +6,9 @@
 #                                 out the library for C, install-library installs it alone
 #   make library                  build both libraries for C: the calls (include/papr.h), as an archive, where it is missing or
 #                                 older than its sources, and as a shared object, out/lib/libpapr.so.0; and the whole program on
-#                                 bytes (include/papr_bytes.h)
+#                                 bytes (include/papr_bytes.h), as an archive and as out/lib/libpapr_bytes.so.0
 #   make bytes-library            build the second of these alone
+#   make wheel                    the Python package, out/dist/papr-VERSION-py3-none-any.whl
 #   make page                     build docs/papr.html, in which the program runs in a browser
 #   make uninstall PREFIX=/usr    take away what install put there
 #   make dist                     the committed sources as out/dist/papr-VERSION.tar.gz
@@ -19,12 +20,15 @@ own_program = crates/papr_main/out/papr_main
 own_library = crates/papr_c/out/libpapr_c.a
 PROGRAM ?= $(own_program)
 LIBRARY ?= $(own_library)
-BYTES_LIBRARY ?= crates/papr_bytes/out/libpapr_bytes.a
+own_bytes_library = crates/papr_bytes/out/libpapr_bytes.a
+BYTES_LIBRARY ?= $(own_bytes_library)
 INSTALL ?= install
 VERSION := $(shell cat VERSION)
 own_shared = out/lib/libpapr.so.$(VERSION)
 SHARED ?= $(own_shared)
-soname = libpapr.so.$(firstword $(subst ., ,$(VERSION)))
+own_bytes_shared = out/lib/libpapr_bytes.so.$(VERSION)
+BYTES_SHARED ?= $(own_bytes_shared)
+MAJOR = $(firstword $(subst ., ,$(VERSION)))
 
 # Folders, which may have blanks in their names: each stands in double quotes where a shell reads it.
 share = $(DESTDIR)$(PREFIX)/share
@@ -50,6 +54,7 @@ commands = $(foreach tool,$(tools),papr-$(call tool_name,$(tool)))
 tool_files = $(foreach tool,$(tools),tools/$(call tool_file,$(tool)))
 modules = $(addprefix tools/,choosing.py common.py decoding.py grants.py known.py refusals.py replies.py svg.py traces.py \
     launcher.bash telling.bash)
+package = $(wildcard bindings/python/papr/*.py) bindings/python/papr/py.typed
 pages = man/papr.1 $(commands:%=man/%.1)
 formats = man/papr-trace.5 man/papr-replies.5
 examples = $(filter-out examples/c examples/rust,$(wildcard examples/*))
@@ -58,7 +63,8 @@ sources_rust = $(wildcard examples/rust/*)
 texts = README.md CHANGELOG.md CONTRIBUTING.md LICENSE-APACHE LICENSE-MIT
 documents = $(wildcard docs/*.md docs/*.svg docs/*.html docs/*.png)
 
-.PHONY: all check install install-program install-library library bytes-library page uninstall dist deb $(own_program) $(own_library)
+.PHONY: all check install install-program install-library library bytes-library wheel page uninstall dist deb $(own_program) \
+    $(own_library) $(own_bytes_library)
 
 all $(own_program):
 	./papr run <examples/first.trace >/dev/null
@@ -75,12 +81,20 @@ library: $(own_shared) bytes-library
 $(own_shared): $(LIBRARY) include/papr.h
 	tools/shared-library $(LIBRARY) $@
 
-# Both prove the crates below first, as ./papr does.
-bytes-library:
-	page/build-page --library $(BYTES_LIBRARY)
+# These two prove the crates below first, as ./papr does.
+$(own_bytes_library):
+	page/build-page --library $@
 
 page:
 	page/build-page
+
+bytes-library: $(own_bytes_shared)
+
+$(own_bytes_shared): $(BYTES_LIBRARY) include/papr_bytes.h
+	tools/shared-library $(BYTES_LIBRARY) $@
+
+wheel:
+	bindings/python/build-wheel "$(dist)"
 
 define pc_file
 prefix=$(PREFIX)
@@ -97,28 +111,35 @@ export pc_file
 
 install: install-program install-library
 
-install-library: $(LIBRARY) $(SHARED)
+install-library: $(LIBRARY) $(SHARED) $(BYTES_LIBRARY) $(BYTES_SHARED)
 	$(INSTALL) -d "$(libdir)/pkgconfig" "$(includedir)" "$(exampledir)/c" "$(exampledir)/rust"
-	$(INSTALL) -m 644 $(LIBRARY) "$(libdir)/libpapr.a"
-	$(INSTALL) -m 644 $(SHARED) "$(libdir)/libpapr.so.$(VERSION)"
-	ln -sf libpapr.so.$(VERSION) "$(libdir)/$(soname)"
-	ln -sf libpapr.so.$(VERSION) "$(libdir)/libpapr.so"
-	$(INSTALL) -m 644 include/papr.h "$(includedir)/papr.h"
+	$(call install_library,libpapr,$(LIBRARY),$(SHARED))
+	$(call install_library,libpapr_bytes,$(BYTES_LIBRARY),$(BYTES_SHARED))
+	$(INSTALL) -m 644 include/papr.h include/papr_bytes.h "$(includedir)"
 	printf '%s\n' "$$pc_file" >"$(libdir)/pkgconfig/papr.pc"
 	$(INSTALL) -m 644 $(sources_c) "$(exampledir)/c"
 	$(INSTALL) -m 644 $(sources_rust) "$(exampledir)/rust"
+
+# $(call install_library,NAME,ARCHIVE,SHARED): both, and the links to the second.
+define install_library
+$(INSTALL) -m 644 $(2) "$(libdir)/$(1).a"
+$(INSTALL) -m 644 $(3) "$(libdir)/$(1).so.$(VERSION)"
+ln -sf $(1).so.$(VERSION) "$(libdir)/$(1).so.$(MAJOR)"
+ln -sf $(1).so.$(VERSION) "$(libdir)/$(1).so"
+endef
 
 # The version, the commit, and the toolchain that proved the program, a line each.
 commit = $(shell { test -e .git && git describe --always --dirty --exclude '*' || cat COMMIT; } 2>/dev/null)
 kit = $(shell cat out/build.kit 2>/dev/null)
 
 install-program: $(PROGRAM)
-	$(INSTALL) -d "$(bindir)" "$(programdir)" "$(tooldir)" "$(mandir)/man1" "$(mandir)/man5"
+	$(INSTALL) -d "$(bindir)" "$(programdir)" "$(tooldir)/papr" "$(mandir)/man1" "$(mandir)/man5"
 	$(INSTALL) -d "$(docdir)/docs" "$(exampledir)" "$(bashdir)" "$(zshdir)" "$(fishdir)"
 	$(INSTALL) -m 755 papr "$(bindir)/papr"
 	$(INSTALL) -m 755 $(PROGRAM) "$(programdir)/papr"
 	$(INSTALL) -m 755 $(tool_files) "$(tooldir)"
 	$(INSTALL) -m 644 $(modules) "$(tooldir)"
+	$(INSTALL) -m 644 $(package) "$(tooldir)/papr"
 	printf '%s\n' '$(VERSION)' '$(commit)' '$(kit)' >"$(tooldir)/version"
 	$(foreach tool,$(tools),ln -sf ../share/papr/$(call tool_file,$(tool)) "$(bindir)/papr-$(call tool_name,$(tool))" &&) :
 	$(INSTALL) -m 644 $(pages) "$(mandir)/man1"
@@ -145,11 +166,14 @@ uninstall:
 	$(call remove,$(zshdir),_papr)
 	$(call remove,$(fishdir),papr.fish $(addsuffix .fish,$(commands)))
 	$(call remove,$(tooldir),$(notdir $(tool_files) $(modules)) version __pycache__/*)
+	$(call remove,$(tooldir)/papr,$(notdir $(package)) __pycache__/*)
 	$(call remove,$(docdir),$(texts) $(documents) $(examples) $(sources_c) $(sources_rust))
-	$(call remove,$(libdir),libpapr.a libpapr.so.$(VERSION) $(soname) libpapr.so pkgconfig/papr.pc)
-	$(call remove,$(includedir),papr.h)
+	$(call remove,$(libdir),$(foreach it,libpapr libpapr_bytes,$(it).a $(it).so.$(VERSION) $(it).so.$(MAJOR) $(it).so))
+	$(call remove,$(libdir),pkgconfig/papr.pc)
+	$(call remove,$(includedir),papr.h papr_bytes.h)
 	for folder in "$(exampledir)/c" "$(exampledir)/rust" "$(exampledir)" "$(docdir)/docs" "$(docdir)" \
-	    "$(tooldir)/__pycache__" "$(tooldir)" "$(programdir)"; do rmdir "$$folder" 2>/dev/null || true; done
+	    "$(tooldir)/papr/__pycache__" "$(tooldir)/papr" "$(tooldir)/__pycache__" "$(tooldir)" "$(programdir)"; do \
+	    rmdir "$$folder" 2>/dev/null || true; done
 
 # Of a checkout of git what is committed; of what was unpacked all but what was made.
 dist:

@@ -47,6 +47,11 @@ def text_of(path: Path) -> str:
     return path.read_text(encoding="utf-8")
 
 
+def libraries(stand_in: Path) -> list[str]:
+    """What has make install this file as each library, and build none."""
+    return [f"{name}={stand_in}" for name in ("LIBRARY", "SHARED", "BYTES_LIBRARY", "BYTES_SHARED")]
+
+
 def page(command: str) -> Path:
     """A command's page."""
     return TOP / "man" / f"{command}.1"
@@ -195,16 +200,19 @@ class Installing(ToolTest):
         cls.usr = cls.tree / "usr"
         program = write_script(Path(work.name) / "program", STAND_IN)
         library = write_script(Path(work.name) / "library", A_LIBRARY)
-        make("install", cls.tree, f"PROGRAM={program}", f"LIBRARY={library}", f"SHARED={library}")
+        make("install", cls.tree, f"PROGRAM={program}", *libraries(library))
 
     def run_installed(self, command: str, *words: Word) -> Ran:
         """Runs a command from the tree."""
         return run(self.usr / "bin" / command, *words)
 
-    def test_make_install_puts_the_library(self) -> None:
-        for name in ("libpapr.a", f"libpapr.so.{VERSION}", f"libpapr.so.{VERSION.split('.')[0]}", "libpapr.so"):
-            self.assertEqual(text_of(self.usr / "lib" / name), A_LIBRARY)
-        self.assert_same_file(self.usr / "include" / "papr.h", TOP / "include" / "papr.h")
+    @for_each("papr", "papr_bytes")
+    def test_make_install_puts_the_library(self, name: str) -> None:
+        for ending in ("a", f"so.{VERSION}", f"so.{VERSION.split('.')[0]}", "so"):
+            self.assertEqual(text_of(self.usr / "lib" / f"lib{name}.{ending}"), A_LIBRARY)
+        self.assert_same_file(self.usr / "include" / f"{name}.h", TOP / "include" / f"{name}.h")
+
+    def test_make_install_puts_the_description_for_pkg_config(self) -> None:
         described = text_of(self.usr / "lib" / "pkgconfig" / "papr.pc").splitlines()
         self.assertEqual([line for line in described if line.startswith("Version")], [f"Version: {VERSION}"])
 
@@ -240,6 +248,12 @@ class Installing(ToolTest):
         drawn = self.run_installed("papr-history", "0x20", EXAMPLES / "sharing.replies")
         self.assert_ran(drawn, text_of(DOCS / "history.svg"))
 
+    def test_the_python_package_is_beside_the_tools(self) -> None:
+        installed = self.usr / "share" / "papr" / "papr"
+        for path in sorted((TOP / "bindings" / "python" / "papr").glob("*.py")):
+            self.assert_same_file(installed / path.name, path)
+        self.assertTrue((installed / "py.typed").is_file())
+
     def test_make_uninstall_takes_all_away(self) -> None:
         tree = self.folder / "tree"
         shutil.copytree(self.tree, tree, symlinks=True)
@@ -254,7 +268,7 @@ class Installing(ToolTest):
         library = write_script(self.folder / "library", A_LIBRARY)
         program = write_script(self.folder / "program", STAND_IN)
         words: list[Word] = ["make", "-s", "-C", TOP, f"DESTDIR={tree}", f"PREFIX={prefix}"]
-        self.assert_ran(run(*words, "install", f"PROGRAM={program}", f"LIBRARY={library}", f"SHARED={library}"))
+        self.assert_ran(run(*words, "install", f"PROGRAM={program}", *libraries(library)))
         installed = Path(f"{tree}{prefix}")
         self.assert_same_folder(installed / "share" / "doc", self.usr / "share" / "doc")
         self.assertIn(f"prefix={prefix}\n", text_of(installed / "lib" / "pkgconfig" / "papr.pc"))
@@ -268,8 +282,7 @@ class Installing(ToolTest):
     def test_pkg_config_names_folders_with_blanks(self) -> None:
         tree = self.folder / "a tree"
         library = write_script(self.folder / "library", A_LIBRARY)
-        given = (f"LIBRARY={library}", f"SHARED={library}")
-        self.assert_ran(run("make", "-s", "-C", TOP, f"PREFIX={tree}", "install-library", *given))
+        self.assert_ran(run("make", "-s", "-C", TOP, f"PREFIX={tree}", "install-library", *libraries(library)))
         variables = {"PKG_CONFIG_PATH": str(tree / "lib" / "pkgconfig")}
         flags = run("pkg-config", "--cflags", "--libs", "papr", environment=variables)
         self.assert_ran(flags, out=None)

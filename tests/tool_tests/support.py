@@ -16,6 +16,7 @@ TOP = Path(__file__).resolve().parents[2]
 TOOLS, EXAMPLES, DOCS, DATA = TOP / "tools", TOP / "examples", TOP / "docs", TOP / "tests" / "data"
 PROGRAM = Path(os.environ.get("PAPR_PROGRAM", TOP / "crates/papr_main/out/papr_main"))
 LIBRARY = Path(os.environ.get("PAPR_LIBRARY", TOP / "crates/papr_c/out/libpapr_c.a"))
+BYTES_LIBRARY = Path(os.environ.get("PAPR_BYTES_LIBRARY", TOP / "crates/papr_bytes/out/libpapr_bytes.a"))
 
 PATIENCE = 900  # seconds that a command may take
 SHOWN = 60  # lines of a difference

@@ -157,7 +157,7 @@ class Header:
         defined = re.findall(r"^#define (PAPR_\w+)\s+UINT64_C\((0x[0-9A-F]+)\)", text, re.MULTILINE)
         self.flags = {name: int(value, 16) for name, value in defined}
         parts = dict(re.findall(r"^#define PAPR_VERSION_(\w+) ([0-9]+)$", text, re.MULTILINE))
-        self.version = [int(parts[name]) for name in PARTS]
+        self.version = [int(parts[name]) for name in PARTS if name in parts]
 
 
 def split_outside(text: str) -> list[str]:

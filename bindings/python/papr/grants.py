@@ -1,6 +1,6 @@
 """Granted memory: a checked list of ranges of the guest's logical addresses."""
 
-from collections.abc import Iterable
+from collections.abc import Iterable, Iterator
 from typing import Optional
 
 from ._library import function
@@ -44,6 +44,10 @@ class Grants:
             raise IndexError(f"there is no grant {at}")
         it = self.c_list.grants[at]
         return Grant(it.logical, it.machine, it.length, it.is_io)
+
+    def __iter__(self) -> Iterator[Grant]:
+        """The grants, in the order of logical addresses."""
+        return (self[at] for at in range(len(self)))
 
     def machine_of(self, logical: int, length: int) -> Optional[Range]:
         """The machine range of so many bytes from a logical address, if one grant has all of them."""

@@ -57,6 +57,10 @@ class Table:
             raise IndexError(f"there is no entry {index:#x}")
         return entry_of(self._entries[index])
 
+    def __iter__(self) -> Iterator[Entry]:
+        """All entries."""
+        return map(entry_of, self._entries)
+
     def valid_entries(self) -> Iterator[tuple[int, Entry]]:
         """The valid entries, each with its index, in rising order."""
         return ((at, entry_of(it)) for at, it in enumerate(self._entries) if it.valid)

@@ -1,4 +1,4 @@
-"""Tests of the library for C: programs in C and in Rust are built against it and run.
+"""Tests of the library for C: programs in C are built against it and run.
 
 What the replayer of examples/c writes is compared with what papr writes.
 """
@@ -28,12 +28,6 @@ static_assert(sizeof(struct papr_entry) == 24, "entry");
 static_assert(sizeof(struct papr_receipt) == 32, "receipt");
 static_assert(sizeof(struct papr_grants) == 64 * 32 + 8, "grants");
 static_assert(sizeof(struct papr_access) == 40, "access");
-"""
-
-ENTERED = """\
-0 [27] [Receipt { dword0: 0, dword1: 0, entry: 39, stamp: 0, bits: 0, answer: 0 }]
--6 [] [Receipt { dword0: 4097, dword1: 12306, entry: 39, stamp: 1, bits: 0, answer: 1 }]
-valid: 1
 """
 
 
@@ -188,17 +182,3 @@ class Sanitized(ToolTest):
             replies = (EXAMPLES / f"{name}.replies").read_text(encoding="ascii")
             status = 2 if replies.startswith("papr: ") else 0
             self.assert_ran(run(replayer, given=EXAMPLES / f"{name}.trace"), replies, status=status)
-
-
-@needs_library
-class FromRust(ToolTest):
-    """The program of examples/rust."""
-
-    @needs("rustc")
-    def test_a_program_in_rust(self) -> None:
-        program = self.folder / "enter"
-        source = EXAMPLES / "rust" / "enter.rs"
-        (self.folder / "libpapr.a").symlink_to(LIBRARY)
-        built = run("rustc", "-O", "-L", f"native={self.folder}", "-o", program, source)
-        self.assert_ran(built, out=None, err=None)
-        self.assert_ran(run(program), ENTERED)

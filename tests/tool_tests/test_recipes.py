@@ -39,6 +39,7 @@ LEFT_OUT = {
     "rt new": "needs the toolchain: test_library makes that crate and runs it",
     "make library": "proves the library: minutes; test_c_library links it",
     "make bytes-library": "proves the library: minutes; test_c_library calls it",
+    "cargo run": "needs the library for C: test_rust_binding runs it",
     "tools/qemu-shadow/build": "needs a network, and builds QEMU",
     "bench/speed": "measures for minutes",
     "bench/pool": "proves and measures for minutes",
@@ -81,7 +82,7 @@ RUN = [block for block in ALL if block.reason is None]
 
 def sources(folder: Path) -> None:
     """Puts into a folder what the documents use of the sources, with the program under test as the built one."""
-    for name in ("docs", "examples", "tests", "crates.txt", "LICENSE-MIT", "LICENSE-APACHE"):
+    for name in ("bindings", "docs", "examples", "tests", "crates.txt", "LICENSE-MIT", "LICENSE-APACHE"):
         (folder / name).symlink_to(TOP / name)
     place = folder / PROGRAM_PLACE
     place.parent.mkdir(parents=True)

@@ -10,7 +10,8 @@ import tempfile
 from pathlib import Path
 from typing import ClassVar
 
-from .support import DATA, EXAMPLES, LIBRARY, TOP, ToolTest, for_each, needs, needs_library, run, run_bytes
+from .support import BYTES_LIBRARY, DATA, EXAMPLES, LIBRARY, TOP, ToolTest, for_each, needs, needs_library
+from .support import run, run_bytes
 
 INCLUDE = TOP / "include"
 STRICT = ("-Wall", "-Wextra", "-Werror", f"-I{INCLUDE}")
@@ -29,6 +30,14 @@ static_assert(sizeof(struct papr_receipt) == 32, "receipt");
 static_assert(sizeof(struct papr_grants) == 64 * 32 + 8, "grants");
 static_assert(sizeof(struct papr_access) == 40, "access");
 """
+
+
+def made_of(archive: Path, shared: Path) -> Path:
+    """A shared object, made of an archive."""
+    ran = run(TOP / "tools" / "shared-library", archive, shared)
+    if (ran.status, ran.err) != (0, ""):
+        raise OSError(f"the shared object isn't made: {ran.err}")
+    return shared
 
 
 class Header(ToolTest):
@@ -60,31 +69,42 @@ class Header(ToolTest):
 @needs("cc", "nm", "readelf")
 @needs_library
 class Shared(ToolTest):
-    """The shared object, made of the archive."""
+    """The shared objects, made of the archives."""
 
     shared: ClassVar[Path]
 
     @classmethod
     def setUpClass(cls) -> None:
-        """Makes it, once for the class."""
+        """Makes that of the calls, once for the class."""
         super().setUpClass()
         work = tempfile.TemporaryDirectory(prefix="papr-shared-")
         cls.addClassCleanup(work.cleanup)
-        cls.shared = Path(work.name) / f"libpapr.so.{VERSION}"
-        ran = run(TOP / "tools" / "shared-library", LIBRARY, cls.shared)
-        if (ran.status, ran.err) != (0, ""):
-            raise OSError(f"the shared object isn't made: {ran.err}")
+        cls.shared = made_of(LIBRARY, Path(work.name) / f"libpapr.so.{VERSION}")
 
-    def test_it_exports_the_functions_of_the_header_and_nothing_else(self) -> None:
-        told = run("nm", "-D", "--defined-only", self.shared).out.split("\n")
-        declared = re.findall(r"\b(papr_[a-z_0-9]+)\(", (INCLUDE / "papr.h").read_text(encoding="ascii"))
-        self.assertEqual([line.split()[1:] for line in told if line], [["T", name] for name in sorted(set(declared))])
+    def shared_object(self, name: str) -> Path:
+        """The shared object of this name."""
+        if name == "papr":
+            return self.shared
+        if not BYTES_LIBRARY.is_file():
+            self.skipTest(f"the program on bytes is not built: {BYTES_LIBRARY} is missing (make library)")
+        return made_of(BYTES_LIBRARY, self.folder / f"lib{name}.so.{VERSION}")
 
-    def test_its_name_is_that_of_its_major_version(self) -> None:
-        told = run("readelf", "-d", self.shared).out
-        soname = f"libpapr.so.{VERSION.split('.')[0]}"
-        self.assertEqual(re.findall(r"\(SONAME\).*\[(.*)\]", told), [soname])
-        self.assertEqual((self.shared.parent / soname).resolve(), self.shared.resolve())
+    @for_each(("papr", 26), ("papr_bytes", 1))
+    def test_it_exports_the_functions_of_the_header_and_nothing_else(self, case: tuple[str, int]) -> None:
+        name, count = case
+        told = run("nm", "-D", "--defined-only", self.shared_object(name)).out.splitlines()
+        exported = [line.split()[1:] for line in told]
+        header = (INCLUDE / f"{name}.h").read_text(encoding="ascii")
+        declared = re.findall(r"(?m)^(?!static ).*\b(papr_[a-z_0-9]+)\(", header)
+        self.assertEqual(exported, [["T", function] for function in sorted(set(declared))])
+        self.assertEqual(len(exported), count)
+
+    @for_each("papr", "papr_bytes")
+    def test_its_name_is_that_of_its_major_version(self, name: str) -> None:
+        shared = self.shared_object(name)
+        soname = f"lib{name}.so.{VERSION.split('.')[0]}"
+        self.assertEqual(re.findall(r"\(SONAME\).*\[(.*)\]", run("readelf", "-d", shared).out), [soname])
+        self.assertEqual((shared.parent / soname).resolve(), shared.resolve())
 
     def test_a_program_finds_each_field_where_its_call_puts_it(self) -> None:
         program = self.folder / "fields"

@@ -1,5 +1,5 @@
-//! Where the libraries are: in the folder that PAPR_LIB_DIR names, where pkg-config says, in the
-//! checkout of this crate, or where the linker looks by itself.
+//! Where the libraries are: in the folder that PAPR_LIB_DIR names; or else in the checkout of this
+//! crate, where pkg-config says, or where the linker looks by itself.
 
 use std::env;
 use std::path::{Path, PathBuf};
@@ -19,25 +19,29 @@ fn from_pkg_config() -> Option<PathBuf> {
         .then(|| PathBuf::from(folder.trim_end()))
 }
 
-/// Links an archive of this folder, if it has one of this name.
+/// Links the archive of this folder, or else the shared object, if it has one of this name.
 fn links(folder: &Path, name: &str) -> bool {
-    let is_there = folder.join(format!("lib{name}.a")).is_file();
-    if is_there {
-        println!(
-            "cargo:rerun-if-changed={}",
-            folder.join(format!("lib{name}.a")).display()
-        );
-        println!("cargo:rustc-link-search=native={}", folder.display());
-        println!("cargo:rustc-link-lib=static={name}");
-    }
-    is_there
+    let kinds = [("a", "static"), ("so", "dylib")];
+    let file = |ending: &str| folder.join(format!("lib{name}.{ending}"));
+    let Some((ending, kind)) = kinds.iter().find(|(ending, _)| file(ending).is_file()) else {
+        return false;
+    };
+    println!("cargo:rerun-if-changed={}", file(ending).display());
+    println!("cargo:rustc-link-search=native={}", folder.display());
+    println!("cargo:rustc-link-lib={kind}={name}");
+    true
 }
 
-/// Links a library: `name` where it is installed, and `of_crate` in the checkout, below that crate.
-fn link(name: &str, of_crate: &str, installed: &[PathBuf]) {
+/// Links a library of this name, which is built in the checkout below a crate's folder.
+fn link(name: &str, of_crate: &str) {
     let top = Path::new(env!("CARGO_MANIFEST_DIR")).join("../../..");
     let built = top.join("crates").join(of_crate).join("out");
-    let is_linked = installed.iter().any(|folder| links(folder, name)) || links(&built, of_crate);
+    let is_linked = match env::var_os(FOLDER) {
+        Some(named) => links(Path::new(&named), name),
+        None => {
+            links(&built, of_crate) || from_pkg_config().is_some_and(|folder| links(&folder, name))
+        }
+    };
     if !is_linked {
         println!("cargo:rustc-link-lib={name}");
     }
@@ -46,10 +50,8 @@ fn link(name: &str, of_crate: &str, installed: &[PathBuf]) {
 fn main() {
     println!("cargo:rerun-if-env-changed={FOLDER}");
     println!("cargo:rerun-if-env-changed=PKG_CONFIG_PATH");
-    let named = env::var_os(FOLDER).map(PathBuf::from);
-    let installed: Vec<PathBuf> = named.or_else(from_pkg_config).into_iter().collect();
-    link("papr", "papr_c", &installed);
+    link("papr", "papr_c");
     if env::var_os("CARGO_FEATURE_BYTES").is_some() {
-        link("papr_bytes", "papr_bytes", &installed);
+        link("papr_bytes", "papr_bytes");
     }
 }

@@ -7,6 +7,7 @@ import tempfile
 from pathlib import Path
 from typing import ClassVar
 
+from .decoder import make_decoder
 from .installed import make
 from .support import DATA, DOCS, EXAMPLES, PROGRAM, TOP, Ran, ToolTest, Word, for_each, needs
 from .support import needs_program, run, run_bytes, write_script
@@ -253,6 +254,17 @@ class Installing(ToolTest):
         for path in sorted((TOP / "bindings" / "python" / "papr").glob("*.py")):
             self.assert_same_file(installed / path.name, path)
         self.assertTrue((installed / "py.typed").is_file())
+
+    @needs("cc")
+    def test_the_installed_tools_find_the_installed_library(self) -> None:
+        """By their places in the tree, since no variable names it."""
+        tree = self.folder / "tree"
+        shutil.copytree(self.tree, tree, symlinks=True)
+        shutil.copy(make_decoder(self.folder), tree / "usr" / "lib" / f"libpapr.so.{VERSION}")
+        words = ("0x1001", "0x3012", "--index", "0x27")
+        ran = run(tree / "usr" / "bin" / "papr-decode", *words, environment={"PAPR_SHARED_LIBRARY": ""})
+        self.assert_ran(ran, out=None)
+        self.assertIn("segment      VSID 0x1, of 256 MB (B 0)\npage         0x5,", ran.out)
 
     def test_make_uninstall_takes_all_away(self) -> None:
         tree = self.folder / "tree"

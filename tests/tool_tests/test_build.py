@@ -132,20 +132,22 @@ class Installed(BuildTest):
             shutil.copy(TOP / name, self.checkout.top)
         for name in ("README.md", "CHANGELOG.md", "CONTRIBUTING.md", "LICENSE-APACHE", "LICENSE-MIT"):
             shutil.copy(TOP / name, self.checkout.top)
-        for name in ("completions", "docs", "examples", "include", "man"):
+        for name in ("bindings", "completions", "docs", "examples", "include", "man"):
             (self.checkout.top / name).symlink_to(TOP / name)
         for tool in (TOP / "tools").iterdir():
             if tool.is_file() and not (self.checkout.top / "tools" / tool.name).exists():
                 shutil.copy(tool, self.checkout.top / "tools")
         self.tree = self.folder / "tree"
-        # An archive of the stand-in has no objects of which a shared one could be made.
-        self.shared = self.folder / "libpapr.so"
-        self.shared.touch()
+        # An archive of the stand-in has no objects of which a shared one could be made, and page/ isn't here.
+        self.stand_in = self.folder / "library"
+        self.stand_in.touch()
 
     def make(self, *words: str) -> Ran:
         """Runs make in the checkout, whose program ends with status 0."""
-        words = ("-s", "-C", str(self.checkout.top), f"DESTDIR={self.tree}", "PREFIX=/usr", f"SHARED={self.shared}", *words)
-        return run("make", *words, environment=self.checkout.environment(ENDS="0"))
+        given = [f"{name}={self.stand_in}" for name in ("SHARED", "BYTES_LIBRARY", "BYTES_SHARED")]
+        places = (f"DESTDIR={self.tree}", "PREFIX=/usr", *given)
+        environment = self.checkout.environment(ENDS="0")
+        return run("make", "-s", "-C", self.checkout.top, *places, *words, environment=environment)
 
     def test_program_and_library_are_built_where_they_are_missing_or_older(self) -> None:
         self.assert_ran(self.make("install"), err=None)

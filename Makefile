@@ -181,7 +181,7 @@ dist:
 	if [ -e .git ]; then \
 	    git archive --format=tar.gz --prefix=papr-$(VERSION)/ -o "$(dist)/papr-$(VERSION).tar.gz" HEAD; \
 	else \
-	    tar -czf "$(dist)/papr-$(VERSION).tar.gz" --exclude=out --exclude=__pycache__ --exclude=.git \
+	    tar -czf "$(dist)/papr-$(VERSION).tar.gz" --exclude=out --exclude=target --exclude=__pycache__ --exclude=.git \
 	        --transform='s,^\.,papr-$(VERSION),' .; \
 	fi
 

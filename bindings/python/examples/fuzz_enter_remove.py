@@ -34,6 +34,7 @@ options, _ = parser.parse_known_args()
 # %%
 table = papr.Table(18, [papr.Grant(0x0, 0x20_0000_0000, 0x4000_0000)])
 entered: dict[int, tuple[int, int]] = {}
+ALL_ONES = (1 << 64) - 1
 draw = random.Random(options.seed)
 counts: dict[tuple[str, str], int] = {}
 
@@ -71,7 +72,7 @@ def remove() -> None:
     before = entered.get(ptex)
     known = before[0] if before and draw.random() < 0.7 else page_of(ptex // 8)[0]
     flags = draw.choice([0, Flag.AVPN, Flag.ANDCOND])
-    avpn = known & ~0x7F if flags is Flag.AVPN else known
+    avpn = {0: 0, Flag.AVPN: known & ~0x7F, Flag.ANDCOND: ~known & ALL_ONES}[flags]
     passes = {
         0: before is not None,
         Flag.AVPN: before is not None and before[0] & ~0x7F == avpn,

@@ -6,7 +6,8 @@
 #                                 out the libraries for C, install-library installs them alone
 #   make library                  build the libraries for C, where they are missing or older than their sources: the calls
 #                                 (include/papr.h), the shared table (include/papr_shared.h) and the whole program on bytes
-#                                 (include/papr_bytes.h), as archives, and the first two as out/lib/libpapr.so.0 too
+#                                 (include/papr_bytes.h), as archives and as shared objects in out/lib
+#   make wheel                    the Python package, out/dist/papr-VERSION-py3-none-any.whl
 #   make aarch64                  build the libraries and the program for aarch64 too, in out/aarch64
 #   make page                     build docs/papr.html, in which the program runs in a browser
 #   make uninstall PREFIX=/usr    take away what install put there
@@ -28,12 +29,14 @@ own_library = crates/papr_c/out/libpapr_c.a
 own_shared_table = crates/papr_shared/out/libpapr_shared.a
 own_bytes_library = crates/papr_bytes/out/libpapr_bytes.a
 own_shared = out/lib/libpapr.so.$(VERSION)
+own_bytes_shared = out/lib/libpapr_bytes.so.$(VERSION)
 PROGRAM ?= $(own_program)
 LIBRARY ?= $(own_library)
 SHARED_TABLE ?= $(own_shared_table)
 BYTES_LIBRARY ?= $(own_bytes_library)
 SHARED ?= $(own_shared)
-files = PROGRAM LIBRARY SHARED_TABLE BYTES_LIBRARY SHARED
+BYTES_SHARED ?= $(own_bytes_shared)
+files = PROGRAM LIBRARY SHARED_TABLE BYTES_LIBRARY SHARED BYTES_SHARED
 
 # Folders, which may have blanks in their names: each stands in double quotes where a shell reads it.
 share = $(DESTDIR)$(PREFIX)/share
@@ -62,6 +65,7 @@ commands = $(foreach tool,$(tools),papr-$(call tool_name,$(tool)))
 tool_files = $(foreach tool,$(tools),tools/$(call tool_file,$(tool)))
 modules = $(addprefix tools/,choosing.py common.py decoding.py grants.py known.py refusals.py replies.py svg.py traces.py \
     launcher.bash telling.bash)
+package = $(wildcard bindings/python/papr/*.py) bindings/python/papr/py.typed
 pages = man/papr.1 $(commands:%=man/%.1)
 formats = man/papr-trace.5 man/papr-replies.5
 examples = $(filter-out %/check $(folders:%=examples/%),$(wildcard examples/*))
@@ -71,7 +75,7 @@ sources = $(foreach folder,$(folders),$(wildcard examples/$(folder)/*.*))
 texts = README.md CHANGELOG.md CONTRIBUTING.md LICENSE-APACHE LICENSE-MIT
 documents = $(wildcard docs/*.md docs/*.svg docs/*.html docs/*.png)
 
-.PHONY: all check install install-program install-library library aarch64 page uninstall dist deb gate release \
+.PHONY: all check install install-program install-library library aarch64 wheel page uninstall dist deb gate release \
     $(own_program) $(own_library) $(own_bytes_library)
 
 all $(own_program):
@@ -81,7 +85,7 @@ check: all
 	examples/check
 	tests/tools
 
-library: $(own_shared) $(BYTES_LIBRARY)
+library: $(own_shared) $(own_bytes_shared)
 
 # These prove the crates below first, as ./papr does. The first builds the archive of the shared table too.
 $(own_library):
@@ -95,8 +99,14 @@ $(own_bytes_library):
 $(own_shared): $(LIBRARY) $(SHARED_TABLE) include/papr.h include/papr_shared.h
 	tools/shared-library $(LIBRARY) $(SHARED_TABLE) $@
 
+$(own_bytes_shared): $(BYTES_LIBRARY) include/papr_bytes.h
+	tools/shared-library $(BYTES_LIBRARY) $@
+
 aarch64:
 	tools/aarch64/build-aarch64
+
+wheel:
+	bindings/python/build-wheel "$(dist)"
 
 page:
 	page/build-page
@@ -123,7 +133,7 @@ export pc_papr pc_papr_shared pc_papr_bytes
 
 # The libraries, and those of them that have a shared object.
 libraries = papr papr_shared papr_bytes
-shared = papr
+shared = papr papr_bytes
 
 # A library's archive, its header and its text for pkg-config: $(call install_archive,NAME,ARCHIVE)
 define install_archive
@@ -141,12 +151,13 @@ endef
 
 install: install-program install-library
 
-install-library: $(LIBRARY) $(SHARED_TABLE) $(BYTES_LIBRARY) $(SHARED)
+install-library: $(LIBRARY) $(SHARED_TABLE) $(BYTES_LIBRARY) $(SHARED) $(BYTES_SHARED)
 	$(INSTALL) -d "$(libdir)/pkgconfig" "$(includedir)" $(folders:%="$(exampledir)/%")
 	$(call install_archive,papr,$(LIBRARY))
 	$(call install_archive,papr_shared,$(SHARED_TABLE))
 	$(call install_archive,papr_bytes,$(BYTES_LIBRARY))
 	$(call install_shared,papr,$(SHARED))
+	$(call install_shared,papr_bytes,$(BYTES_SHARED))
 	for source in $(sources); do $(INSTALL) -m 644 $$source "$(docdir)/$$source" || exit; done
 
 # The version, the commit, and the toolchain that proved the program, a line each.
@@ -154,12 +165,13 @@ commit = $(shell { test -e .git && git describe --always --abbrev=12 --dirty --e
 kit = $(shell cat out/build.kit 2>/dev/null)
 
 install-program: $(PROGRAM)
-	$(INSTALL) -d "$(bindir)" "$(programdir)" "$(tooldir)" "$(mandir)/man1" "$(mandir)/man5"
+	$(INSTALL) -d "$(bindir)" "$(programdir)" "$(tooldir)/papr" "$(mandir)/man1" "$(mandir)/man5"
 	$(INSTALL) -d "$(docdir)/docs" "$(exampledir)" "$(bashdir)" "$(zshdir)" "$(fishdir)"
 	$(INSTALL) -m 755 papr "$(bindir)/papr"
 	$(INSTALL) -m 755 $(PROGRAM) "$(programdir)/papr"
 	$(INSTALL) -m 755 $(tool_files) "$(tooldir)"
 	$(INSTALL) -m 644 $(modules) "$(tooldir)"
+	$(INSTALL) -m 644 $(package) "$(tooldir)/papr"
 	printf '%s\n' '$(VERSION)' '$(commit)' '$(kit)' >"$(tooldir)/version"
 	$(foreach tool,$(tools),ln -sf ../share/papr/$(call tool_file,$(tool)) "$(bindir)/papr-$(call tool_name,$(tool))" &&) :
 	$(INSTALL) -m 644 $(pages) "$(mandir)/man1"
@@ -186,12 +198,14 @@ uninstall:
 	$(call remove,$(zshdir),_papr)
 	$(call remove,$(fishdir),papr.fish $(addsuffix .fish,$(commands)))
 	$(call remove,$(tooldir),$(notdir $(tool_files) $(modules)) version __pycache__/*)
+	$(call remove,$(tooldir)/papr,$(notdir $(package)) __pycache__/*)
 	$(call remove,$(docdir),$(texts) $(documents) $(examples) examples/check $(sources))
 	$(call remove,$(libdir),$(foreach it,$(libraries),lib$(it).a pkgconfig/$(it).pc))
 	$(call remove,$(libdir),$(foreach it,$(shared),lib$(it).so.$(VERSION) lib$(it).so.$(major) lib$(it).so))
 	$(call remove,$(includedir),$(libraries:%=%.h))
 	for folder in $(folders:%="$(exampledir)/%") "$(exampledir)" "$(docdir)/docs" "$(docdir)" \
-	    "$(tooldir)/__pycache__" "$(tooldir)" "$(programdir)"; do rmdir "$$folder" 2>/dev/null || true; done
+	    "$(tooldir)/papr/__pycache__" "$(tooldir)/papr" "$(tooldir)/__pycache__" "$(tooldir)" "$(programdir)"; do \
+	    rmdir "$$folder" 2>/dev/null || true; done
 
 # Of a checkout of git what is committed; of what was unpacked all but what was made.
 dist:
@@ -199,7 +213,7 @@ dist:
 	if [ -e .git ]; then \
 	    git -c core.abbrev=12 -c tar.umask=0022 archive --format=tar.gz --prefix=papr-$(VERSION)/ -o "$(dist)/papr-$(VERSION).tar.gz" HEAD; \
 	else \
-	    tar -czf "$(dist)/papr-$(VERSION).tar.gz" --exclude=out --exclude=__pycache__ --exclude=.git \
+	    tar -czf "$(dist)/papr-$(VERSION).tar.gz" --exclude=out --exclude=target --exclude=__pycache__ --exclude=.git \
 	        --transform='s,^\.,papr-$(VERSION),' .; \
 	fi
 

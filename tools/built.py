@@ -6,7 +6,7 @@ from pathlib import Path
 from crates import CRATES, TOP, archive_of
 
 VERSION = (TOP / "VERSION").read_text(encoding="ascii").strip()
-SHARED = f"libpapr.so.{VERSION}"
+SHARED, BYTES_SHARED = f"libpapr.so.{VERSION}", f"libpapr_bytes.so.{VERSION}"
 
 
 @dataclass(frozen=True)
@@ -19,6 +19,7 @@ class Built:
     table_archive: Path
     bytes_archive: Path
     shared: Path
+    bytes_shared: Path
 
     @property
     def variables(self) -> dict[str, Path]:
@@ -29,6 +30,7 @@ class Built:
             "SHARED_TABLE": self.table_archive,
             "BYTES_LIBRARY": self.bytes_archive,
             "SHARED": self.shared,
+            "BYTES_SHARED": self.bytes_shared,
         }
 
     @property
@@ -44,7 +46,7 @@ class Built:
 
 def in_folder(machine: str, folder: Path) -> Built:
     """The files of a machine for which all is built into one folder."""
-    names = ("papr", "libpapr.a", "libpapr_shared.a", "libpapr_bytes.a", SHARED)
+    names = ("papr", "libpapr.a", "libpapr_shared.a", "libpapr_bytes.a", SHARED, BYTES_SHARED)
     return Built(machine, *(folder / name for name in names))
 
 
@@ -60,5 +62,6 @@ NATIVE = Built(
     of_crate("papr_shared", archive_of("papr_shared")),
     of_crate("papr_bytes", archive_of("papr_bytes")),
     TOP / "out" / "lib" / SHARED,
+    TOP / "out" / "lib" / BYTES_SHARED,
 )
 AARCH64 = in_folder("aarch64", TOP / "out" / "aarch64")

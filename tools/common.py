@@ -11,6 +11,8 @@ from pathlib import Path
 from typing import Callable, Iterator, Optional, TextIO
 
 HERE = Path(__file__).resolve().parent
+# The Python package papr: installed it stands beside the tools, and in a checkout here.
+sys.path.insert(1, str(HERE.parent / "bindings" / "python"))
 # The tool's name in messages: `papr why` where the command papr began it, else that of its file.
 NAME = os.environ.pop("PAPR_NAME", "") or os.path.basename(sys.argv[0])
 

@@ -1,58 +1,32 @@
 """What an entry's two doublewords say: by the library for C, libpapr.so.0, and in words."""
 
-import ctypes
-import os
 from dataclasses import dataclass
-from pathlib import Path
 from typing import Iterator, Optional
 
-from common import HERE, Missing
+from common import Missing
+from papr import Decoding, LibraryMissing, Right, decode, library_version, rights
+from papr import Page as FoundPage
 
-LIBRARY = "libpapr.so.0"
 A_GROUP = 8  # entries
 LEAST_ORDER = 18
-PAGE, EMPTY, NO_SIZE, NO_SEGMENT, OTHER_GROUP, NO_INDEX = range(6)
 REASONS = {
-    EMPTY: "V is clear: the entry is empty",
-    NO_SIZE: "no page size is encoded",
-    NO_SEGMENT: "B is above 1, or no page of that size lies where the tag says",
-    OTHER_GROUP: "no page whose group this is has this entry",
-    NO_INDEX: "the table has no such index",
+    Decoding.EMPTY: "V is clear: the entry is empty",
+    Decoding.NO_SIZE: "no page size is encoded",
+    Decoding.NO_SEGMENT: "B is above 1, or no page of that size lies where the tag says",
+    Decoding.OTHER_GROUP: "no page whose group this is has this entry",
+    Decoding.NO_INDEX: "the table has no such index",
 }
-READ, WRITE = 4, 2
 WIMG = ((8, "W"), (4, "I"), (2, "M"), (1, "G"))
 UNITS = ((30, "GB"), (20, "MB"), (10, "KB"))
 
 Doublewords = tuple[int, int]
 
 
-class CPage(ctypes.Structure):
-    """The struct papr_page of papr.h."""
-
-    _fields_ = [
-        ("vsid", ctypes.c_uint64),
-        ("page", ctypes.c_uint64),
-        ("real", ctypes.c_uint64),
-        ("base_shift", ctypes.c_uint8),
-        ("actual_shift", ctypes.c_uint8),
-        ("key", ctypes.c_uint8),
-        ("protection", ctypes.c_uint8),
-        ("wimg", ctypes.c_uint8),
-        ("one_tb", ctypes.c_bool),
-        ("no_execute", ctypes.c_bool),
-        ("bolted", ctypes.c_bool),
-        ("secondary", ctypes.c_bool),
-        ("referenced", ctypes.c_bool),
-        ("changed", ctypes.c_bool),
-        ("why", ctypes.c_uint32),
-    ]
-
-
 @dataclass(frozen=True)
 class Page:
     """What an entry says, as the library answers it; where no index is known, without the page."""
 
-    why: int
+    why: Decoding
     vsid: int
     page: Optional[int]  # the index of the base page in its segment
     real: int  # logical address of the real page
@@ -75,7 +49,7 @@ class Page:
         return "".join(letter for bit, letter in WIMG if self.wimg & bit) or "none"
 
     def __str__(self) -> str:
-        if self.why != PAGE:
+        if self.why is not Decoding.PAGE:
             return REASONS[self.why]
         page = "" if self.page is None else f" page {self.page:#x}"
         size = size_of(self.actual_shift)
@@ -93,89 +67,51 @@ def size_of(shift: int) -> str:
     return f"{1 << shift - found[0]} {found[1]}"
 
 
-def places() -> Iterator[Path]:
-    """Where the library may be: as a variable names it, of these sources, or installed."""
-    named = os.environ.get("PAPR_SHARED_LIBRARY")
-    if named:
-        yield Path(named)
-        return
-    yield HERE.parent / "out" / "lib" / LIBRARY
-    yield HERE.parent.parent / "lib" / LIBRARY
-
-
-def load() -> ctypes.CDLL:
-    """The library."""
-    found = next((str(place) for place in places() if place.is_file()), LIBRARY)
-    try:
-        return ctypes.CDLL(found)
-    except OSError as error:
-        raise Missing(f"there is no {LIBRARY}, which decodes entries; make library makes it") from error
-
-
 class Decoder:
     """The library's functions."""
 
     def __init__(self) -> None:
-        library = load()
         try:
-            self._decode, self._rights = library.papr_decode, library.papr_rights
-        except AttributeError as error:
-            raise Missing(f"this {LIBRARY} doesn't decode entries: {error}") from error
-        self._decode.argtypes = [ctypes.c_uint8, ctypes.c_uint64, ctypes.c_uint64, ctypes.c_uint64]
-        self._decode.restype = CPage
-        self._rights.argtypes = [ctypes.c_uint8, ctypes.c_bool]
-        self._rights.restype = ctypes.c_uint8
+            library_version()
+        except LibraryMissing as error:
+            raise Missing(f"{error}; make library makes it") from error
         self._found: dict[Doublewords, int] = {}  # an index at which the doublewords tell a page
 
     def rights(self, protection: int, key: bool) -> str:
         """What the protection allows with a Ks or Kp: r, w, both, or -."""
-        bits = self._rights(protection, key)
-        return ("r" if bits & READ else "") + ("w" if bits & WRITE else "") or "-"
+        allowed = rights(protection, key)
+        return ("r" if Right.READ in allowed else "") + ("w" if Right.WRITE in allowed else "") or "-"
 
     def decode(self, words: Doublewords, entry: Optional[int], order: Optional[int]) -> Page:
         """What the doublewords say in the entry of a table of this order, as far as these are known."""
         is_placed = entry is not None and order is not None
         if entry is not None and order is not None:
-            found = self._decode(order, entry, *words)
+            found = decode(order, entry, *words)
         else:
-            found = self._decode(LEAST_ORDER, self._found.get(words, 0), *words)
-            if found.why == OTHER_GROUP:
-                found = next((it for it in self.in_each_group(words) if it.why == PAGE), found)
+            found = decode(LEAST_ORDER, self._found.get(words, 0), *words)
+            if found.why is Decoding.OTHER_GROUP:
+                found = next((it for it in self.in_each_group(words) if it.why is Decoding.PAGE), found)
         return self._page(found, is_placed)
 
-    def in_each_group(self, words: Doublewords) -> Iterator[CPage]:
+    def in_each_group(self, words: Doublewords) -> Iterator[FoundPage]:
         """What the doublewords say in each group of the smallest table."""
         for index in range(0, 1 << LEAST_ORDER - 4, A_GROUP):
-            found: CPage = self._decode(LEAST_ORDER, index, *words)
-            if found.why == PAGE:
+            found = decode(LEAST_ORDER, index, *words)
+            if found.why is Decoding.PAGE:
                 self._found.setdefault(words, index)
             yield found
 
     def pages(self, words: Doublewords) -> tuple[int, int]:
         """The least and the greatest page that the doublewords may translate, whatever the index is."""
-        pages = [int(it.page) for it in self.in_each_group(words) if it.why == PAGE]
+        pages = [it.page for it in self.in_each_group(words) if it.why is Decoding.PAGE]
         return (min(pages), max(pages)) if pages else (0, 0)
 
-    def _page(self, found: CPage, is_placed: bool) -> Page:
+    def _page(self, found: FoundPage, is_placed: bool) -> Page:
         """The library's answer with the rights."""
-        return Page(
-            why=found.why,
-            vsid=found.vsid,
-            page=found.page if is_placed else None,
-            real=found.real,
-            base_shift=found.base_shift,
-            actual_shift=found.actual_shift,
-            key=found.key,
-            protection=found.protection,
-            wimg=found.wimg,
-            one_tb=found.one_tb,
-            no_execute=found.no_execute,
-            bolted=found.bolted,
-            secondary=found.secondary,
-            referenced=found.referenced,
-            changed=found.changed,
-            rights=(self.rights(found.protection, False), self.rights(found.protection, True)),
-        )
+        told = found._asdict()
+        told["page"] = found.page if is_placed else None
+        told["rights"] = (self.rights(found.protection, False), self.rights(found.protection, True))
+        return Page(**told)
 
     def explained(self, words: Doublewords, entry: Optional[int], order: Optional[int]) -> list[str]:
         """All that the doublewords say, a line each."""
@@ -183,7 +119,7 @@ class Decoder:
         told = [f"doublewords  {words[0]:#x} {words[1]:#x}"]
         if entry is not None:
             told.append(f"entry        {entry:#x}: group {entry // A_GROUP:#x}, slot {entry % A_GROUP}")
-        if page.why != PAGE:
+        if page.why is not Decoding.PAGE:
             return [*told, f"page         none: {REASONS[page.why]}"]
         group = "secondary" if page.secondary else "primary"
         segment = "1 TB (B 1)" if page.one_tb else "256 MB (B 0)"

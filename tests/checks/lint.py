@@ -1,7 +1,7 @@
 """The scripts beside the proved program, by mypy, ruff and shellcheck.
 
-Looks at the scripts of Python and of the shell in .ci/, bench/, completions/, examples/, page/, tests/, tools/ and
-at the top, by the settings in pyproject.toml; at a file that scripts source, with them. A tool that isn't
+Looks at the scripts of Python and of the shell in .ci/, bench/, bindings/, completions/, examples/, page/, tests/,
+tools/ and at the top, by the settings in pyproject.toml; at a file that scripts source, with them. A tool that isn't
 installed is left out with a word.
 """
 
@@ -16,8 +16,8 @@ from typing import Iterator, Optional, Sequence
 from checks.running import Failed, Skipped
 from crates import TOP
 
-FOLDERS = (".ci", "bench", "completions", "examples", "page", "tests", "tools")
-LEFT_OUT = {"__pycache__", "out"}
+FOLDERS = (".ci", "bench", "bindings", "completions", "examples", "page", "tests", "tools")
+LEFT_OUT = {"__pycache__", "out", "target"}
 PYTHON, SHELL = "python", "shell"
 # Debian's python3-mypy is a module of its own Python and has no command.
 MYPY = (["mypy"], [sys.executable, "-m", "mypy"], ["/usr/bin/python3", "-m", "mypy"])

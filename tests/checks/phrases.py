@@ -15,9 +15,9 @@ from typing import Callable, Iterator, Optional
 from checks.running import Failed
 from crates import TOP
 
-DOCUMENTS = ("*.md", "docs/*.md", "examples/*.md")
+DOCUMENTS = ("*.md", "docs/*.md", "examples/*.md", "bindings/*/*.md")
 OTHERS = ("man/*.[15]", "include/*.h", "page/page.html", "page/js/*.js")
-TOOLS = ("papr", "tools/**/*", "page/build-page")
+TOOLS = ("papr", "tools/**/*", "page/build-page", "bindings/python/papr/*.py", "bindings/python/build-wheel")
 COMMENT = re.compile(r"/\*.*?\*/", re.DOTALL)
 
 

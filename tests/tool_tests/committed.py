@@ -5,11 +5,10 @@ import subprocess
 from pathlib import Path
 from typing import Mapping, Optional
 
+from .built import BYTES_SHARED, PROGRAM_TEXT, SHARED
 from .stand_in import COMPILER, make_kit
-from .support import BYTES_LIBRARY, LIBRARY, PATIENCE, PROGRAM, SHARED_TABLE, TOP, Ran, Word, run, write_script
+from .support import PATIENCE, TOP, Ran, Word, run, write_script
 
-VERSION = (TOP / "VERSION").read_text(encoding="ascii").strip()
-SHARED = f"libpapr.so.{VERSION}"
 KIT, SAID = "a kit", "3 passed, 0 failed"
 CRATES = ("basics", "hpt_hash", "papr_c")
 # A gate that says what `rt ci` says and more, does what MEANWHILE names, and ends with the status ENDS.
@@ -29,14 +28,12 @@ NAMES = {
     "SHARED_TABLE": Path("crates/papr_shared/out/libpapr_shared.a"),
     "BYTES_LIBRARY": Path("crates/papr_bytes/out/libpapr_bytes.a"),
     "SHARED": Path("out/lib") / SHARED,
+    "BYTES_SHARED": Path("out/lib") / BYTES_SHARED,
 }
 AARCH64 = [
-    Path("out/aarch64") / name for name in ("papr", "libpapr.a", "libpapr_shared.a", "libpapr_bytes.a", SHARED)
+    Path("out/aarch64") / name
+    for name in ("papr", "libpapr.a", "libpapr_shared.a", "libpapr_bytes.a", SHARED, BYTES_SHARED)
 ]
-# A program that stands for papr, and names symbols of the C library; and the function of each archive.
-PROGRAM_TEXT = "#!/bin/sh\n# GLIBC_2.9 GLIBC_2.34\necho stand-in\n"
-FUNCTIONS = {"LIBRARY": "papr_version", "SHARED_TABLE": "papr_give_up", "BYTES_LIBRARY": "papr_bytes_call"}
-FUNCTION_TEXT = "#include <string.h>\nvoid *{}(void *at, size_t n) {{ return memset(at, 0, n); }}\n"
 
 
 def is_left_out(name: str) -> bool:
@@ -51,42 +48,6 @@ def listed() -> Optional[list[str]]:
     told = subprocess.run(words, stdout=subprocess.PIPE, text=True, timeout=PATIENCE, check=False)
     names = set(told.stdout.split("\0")) - {""}
     return sorted(name for name in names if not is_left_out(name)) if told.returncode == 0 else None
-
-
-def must_run(*words: Word) -> None:
-    """Runs a command that must end well."""
-    ran = run(*words)
-    if ran.status:
-        raise OSError(f"{words[0]}: {ran.err}")
-
-
-def make_archive(folder: Path, variable: str) -> Path:
-    """An archive that stands for that of a library."""
-    source, compiled, made = (folder / f"{variable}.{ending}" for ending in ("c", "o", "a"))
-    source.write_text(FUNCTION_TEXT.format(FUNCTIONS[variable]), encoding="ascii")
-    must_run("cc", "-O2", "-fPIC", "-c", source, "-o", compiled)
-    must_run("ar", "rcsD", made, compiled)
-    return made
-
-
-def make_stand_ins(folder: Path) -> dict[str, Path]:
-    """What stands for all that is built."""
-    archives = {variable: make_archive(folder, variable) for variable in FUNCTIONS}
-    return {"PROGRAM": write_script(folder / "program", PROGRAM_TEXT), **archives, **make_shared(folder, archives)}
-
-
-def make_shared(folder: Path, archives: dict[str, Path]) -> dict[str, Path]:
-    """The shared objects of the archives."""
-    made = {"SHARED": folder / "lib" / SHARED}
-    must_run(TOP / "tools" / "shared-library", archives["LIBRARY"], archives["SHARED_TABLE"], made["SHARED"])
-    return made
-
-
-def make_built(folder: Path) -> dict[str, Path]:
-    """What is built here, or what stands for it where it isn't, with shared objects of these archives."""
-    here = {"PROGRAM": PROGRAM, "LIBRARY": LIBRARY, "SHARED_TABLE": SHARED_TABLE, "BYTES_LIBRARY": BYTES_LIBRARY}
-    found = {**make_stand_ins(folder), **{variable: path for variable, path in here.items() if path.is_file()}}
-    return {**found, **make_shared(folder, found)}
 
 
 class Committed:

@@ -2,18 +2,12 @@
 
 from pathlib import Path
 
-from .support import run
+from .support import TOP, run
 
 SOURCE = r"""
-#include <stdbool.h>
-#include <stdint.h>
+#include <papr.h>
 
-struct papr_page {
-    uint64_t vsid, page, real;
-    uint8_t base_shift, actual_shift, key, protection, wimg;
-    bool one_tb, no_execute, bolted, secondary, referenced, changed;
-    uint32_t why;
-};
+uint32_t papr_version(void) { return PAPR_VERSION; }
 
 uint8_t papr_rights(uint8_t protection, bool key) {
     static const uint8_t rights[2][8] = {{6, 6, 6, 4, 0, 0, 4, 0}, {0, 4, 6, 4, 0, 0, 0, 0}};
@@ -59,7 +53,7 @@ struct papr_page papr_decode(uint8_t order, uint64_t ptex, uint64_t dword0, uint
 def make_decoder(folder: Path) -> Path:
     """Compiles the stand-in."""
     library = folder / "libpapr.so.0"
-    ran = run("cc", "-shared", "-fPIC", "-o", library, "-x", "c", "-", given=SOURCE)
+    ran = run("cc", "-shared", "-fPIC", f"-I{TOP / 'include'}", "-o", library, "-x", "c", "-", given=SOURCE)
     if ran.status:
         raise OSError(ran.err)
     return library

@@ -14,6 +14,8 @@ from typing import Any, Callable, Iterable, Mapping, Optional, TypeVar, Union
 
 TOP = Path(__file__).resolve().parents[2]
 TOOLS, EXAMPLES, DOCS, DATA = TOP / "tools", TOP / "examples", TOP / "docs", TOP / "tests" / "data"
+VERSION = (TOP / "VERSION").read_text(encoding="ascii").strip()
+MAJOR = VERSION.split(".", maxsplit=1)[0]
 PROGRAM = Path(os.environ.get("PAPR_PROGRAM", TOP / "crates/papr_main/out/papr_main"))
 LIBRARY = Path(os.environ.get("PAPR_LIBRARY", TOP / "crates/papr_c/out/libpapr_c.a"))
 SHARED_TABLE = Path(os.environ.get("PAPR_SHARED_TABLE", TOP / "crates/papr_shared/out/libpapr_shared.a"))

@@ -7,13 +7,12 @@ import tempfile
 from pathlib import Path
 from typing import ClassVar
 
+from .built import OBJECTS, declared
 from .emulator import BUILT, COMPILER, emulated, needs_aarch64
 from .stand_in import Checkout
-from .support import DATA, EXAMPLES, PROGRAM, TOP, Ran, Text, ToolTest, Word, for_each, needs, needs_program
+from .support import DATA, EXAMPLES, MAJOR, PROGRAM, TOP, Ran, Text, ToolTest, Word, for_each, needs, needs_program
 from .support import run, run_bytes, write_script
 
-VERSION = (TOP / "VERSION").read_text(encoding="ascii").strip()
-SHARED = f"libpapr.so.{VERSION}"
 TRACES = sorted(path.stem for path in EXAMPLES.glob("*.trace"))
 STRICT = ("-std=gnu11", "-O2", "-Wall", "-Wextra", "-Werror", f"-I{TOP / 'include'}")
 # The programs over the libraries: the replayer, that of fields, and that of threads on one table.
@@ -172,11 +171,12 @@ class Library(ToolTest):
         self.assertIn("each entry has one legal history", ran.out)
 
     @needs("aarch64-linux-gnu-nm", "aarch64-linux-gnu-readelf")
-    def test_the_shared_object_exports_the_functions_of_the_headers(self) -> None:
-        told = run_bytes("aarch64-linux-gnu-nm", "-D", "--defined-only", BUILT / SHARED).decode().splitlines()
-        headers = [(TOP / "include" / f"{name}.h").read_text(encoding="ascii") for name in ("papr", "papr_shared")]
-        declared = sorted(set(re.findall(r"\b(papr_[a-z_0-9]+)\(", "".join(headers))))
-        self.assertEqual([line.split()[1:] for line in told], [["T", name] for name in declared])
-        head = run("aarch64-linux-gnu-readelf", "-h", "-d", BUILT / SHARED).out
-        self.assertIn(f"[libpapr.so.{VERSION.split('.')[0]}]", head)
+    @for_each(*OBJECTS)
+    def test_the_shared_object_is_as_the_one_here(self, variable: str) -> None:
+        """It exports the functions of the headers, which that one does."""
+        name = OBJECTS[variable][0]
+        told = run_bytes("aarch64-linux-gnu-nm", "-D", "--defined-only", BUILT / name).decode().splitlines()
+        self.assertEqual([line.split()[1:] for line in told], [["T", function] for function in declared(variable)])
+        head = run("aarch64-linux-gnu-readelf", "-h", "-d", BUILT / name).out
+        self.assertIn(f"[{name.partition('.so')[0]}.so.{MAJOR}]", head)
         self.assertIn("AArch64", head)

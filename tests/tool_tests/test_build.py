@@ -147,7 +147,7 @@ class Installed(BuildTest):
             shutil.copy(TOP / name, self.checkout.top)
         for name in ("README.md", "CHANGELOG.md", "CONTRIBUTING.md", "LICENSE-APACHE", "LICENSE-MIT"):
             shutil.copy(TOP / name, self.checkout.top)
-        for name in ("completions", "docs", "examples", "include", "man"):
+        for name in ("bindings", "completions", "docs", "examples", "include", "man"):
             (self.checkout.top / name).symlink_to(TOP / name)
         for tool in (TOP / "tools").iterdir():
             if tool.is_file() and not (self.checkout.top / "tools" / tool.name).exists():
@@ -159,7 +159,7 @@ class Installed(BuildTest):
 
     def make(self, *words: str) -> Ran:
         """Runs make in the checkout, whose program ends with status 0."""
-        given = [f"{name}={self.stand_in}" for name in ("BYTES_LIBRARY", "SHARED")]
+        given = [f"{name}={self.stand_in}" for name in ("BYTES_LIBRARY", "SHARED", "BYTES_SHARED")]
         places = (f"DESTDIR={self.tree}", "PREFIX=/usr", *given)
         environment = self.checkout.environment(ENDS="0")
         return run("make", "-s", "-C", self.checkout.top, *places, *words, environment=environment)

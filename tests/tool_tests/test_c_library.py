@@ -1,4 +1,4 @@
-"""Tests of the library for C: programs in C and in Rust are built against it and run.
+"""Tests of the libraries for C: programs in C and C++ are built against them and run.
 
 What the replayer of examples/c writes is compared with what papr writes.
 """
@@ -10,13 +10,13 @@ import tempfile
 from pathlib import Path
 from typing import ClassVar
 
-from .support import BYTES_LIBRARY, DATA, EXAMPLES, LIBRARY, SHARED_TABLE, TOP, ToolTest, for_each, needs
+from .built import HERE, OBJECTS, declared, make_built, make_shared, words_of
+from .support import BYTES_LIBRARY, DATA, EXAMPLES, LIBRARY, MAJOR, TOP, ToolTest, for_each, needs
 from .support import needs_bytes_library, needs_library, needs_shared_table, run, run_bytes
 
 INCLUDE = TOP / "include"
 STRICT = ("-Wall", "-Wextra", "-Werror", f"-I{INCLUDE}")
 TRACES = sorted(EXAMPLES.glob("*.trace"))
-VERSION = (TOP / "VERSION").read_text(encoding="ascii").strip()
 REPLAYED = [path.stem for path in TRACES]
 
 # The sizes that the library was built with.
@@ -70,12 +70,6 @@ int main()
 }
 """
 
-ENTERED = """\
-0 [27] [Receipt { dword0: 0, dword1: 0, entry: 39, stamp: 0, bits: 0, answer: 0 }]
--6 [] [Receipt { dword0: 4097, dword1: 12306, entry: 39, stamp: 1, bits: 0, answer: 1 }]
-valid: 1
-"""
-
 
 class Header(ToolTest):
     """Each header stands by itself, and its structs have the library's sizes."""
@@ -118,33 +112,35 @@ class Header(ToolTest):
 @needs("cc", "nm", "readelf")
 @needs_library
 @needs_shared_table
+@needs_bytes_library
 class Shared(ToolTest):
-    """The shared object, made of both archives."""
+    """The shared objects, made of the archives."""
 
+    objects: ClassVar[dict[str, Path]]
     shared: ClassVar[Path]
 
     @classmethod
     def setUpClass(cls) -> None:
-        """Makes it, once for the class."""
+        """Makes them, once for the class."""
         super().setUpClass()
         work = tempfile.TemporaryDirectory(prefix="papr-shared-")
         cls.addClassCleanup(work.cleanup)
-        cls.shared = Path(work.name) / f"libpapr.so.{VERSION}"
-        ran = run(TOP / "tools" / "shared-library", LIBRARY, SHARED_TABLE, cls.shared)
-        if (ran.status, ran.err) != (0, ""):
-            raise OSError(f"the shared object isn't made: {ran.err}")
+        cls.objects = make_shared(Path(work.name), HERE)
+        cls.shared = cls.objects["SHARED"]
 
-    def test_it_exports_the_functions_of_the_headers_and_nothing_else(self) -> None:
-        told = run("nm", "-D", "--defined-only", self.shared).out.split("\n")
-        headers = [(INCLUDE / f"{name}.h").read_text(encoding="ascii") for name in ("papr", "papr_shared")]
-        declared = re.findall(r"\b(papr_[a-z_0-9]+)\(", "".join(headers))
-        self.assertEqual([line.split()[1:] for line in told if line], [["T", name] for name in sorted(set(declared))])
+    @for_each(("SHARED", 43), ("BYTES_SHARED", 1))
+    def test_it_exports_the_functions_of_the_headers_and_nothing_else(self, case: tuple[str, int]) -> None:
+        variable, count = case
+        told = run("nm", "-D", "--defined-only", self.objects[variable]).out.splitlines()
+        self.assertEqual([line.split()[1:] for line in told], [["T", name] for name in declared(variable)])
+        self.assertEqual(len(told), count)
 
-    def test_its_name_is_that_of_its_major_version(self) -> None:
-        told = run("readelf", "-d", self.shared).out
-        soname = f"libpapr.so.{VERSION.split('.')[0]}"
-        self.assertEqual(re.findall(r"\(SONAME\).*\[(.*)\]", told), [soname])
-        self.assertEqual((self.shared.parent / soname).resolve(), self.shared.resolve())
+    @for_each(*OBJECTS)
+    def test_its_name_is_that_of_its_major_version(self, variable: str) -> None:
+        shared = self.objects[variable]
+        soname = f"{OBJECTS[variable][0].partition('.so')[0]}.so.{MAJOR}"
+        self.assertEqual(re.findall(r"\(SONAME\).*\[(.*)\]", run("readelf", "-d", shared).out), [soname])
+        self.assertEqual((shared.parent / soname).resolve(), shared.resolve())
 
     def test_a_program_finds_each_field_where_its_call_puts_it(self) -> None:
         program = self.folder / "fields"
@@ -152,7 +148,7 @@ class Shared(ToolTest):
         words = ("-std=c11", *STRICT, "-o", program, DATA / "fields.c", f"-L{folder}", "-lpapr")
         self.assert_ran(run("cc", *words, f"-Wl,-rpath,{folder}"))
         self.assert_ran(run(program))
-        self.assertIn(f"libpapr.so.{VERSION.split('.')[0]}", run("readelf", "-d", program).out)
+        self.assertIn(f"libpapr.so.{MAJOR}", run("readelf", "-d", program).out)
 
     def test_threads_share_a_table_by_it(self) -> None:
         program, folder = self.folder / "two-threads", self.shared.parent
@@ -253,20 +249,6 @@ class Sanitized(ToolTest):
             self.assert_ran(run(replayer, given=EXAMPLES / f"{name}.trace"), replies, status=status)
 
 
-@needs_library
-class FromRust(ToolTest):
-    """The program of examples/rust."""
-
-    @needs("rustc")
-    def test_a_program_in_rust(self) -> None:
-        program = self.folder / "enter"
-        source = EXAMPLES / "rust" / "enter.rs"
-        (self.folder / "libpapr.a").symlink_to(LIBRARY)
-        built = run("rustc", "-O", "-L", f"native={self.folder}", "-o", program, source)
-        self.assert_ran(built, out=None, err=None)
-        self.assert_ran(run(program), ENTERED)
-
-
 @needs("cmake", "make", "cc", "pkg-config")
 @needs_library
 class FromCMake(ToolTest):
@@ -274,10 +256,8 @@ class FromCMake(ToolTest):
 
     def test_it_finds_the_library_where_it_is_installed(self) -> None:
         usr, made = self.folder / "a tree", self.folder / "made"
-        shared = self.folder / f"libpapr.so.{VERSION}"
-        self.assert_ran(run(TOP / "tools" / "shared-library", LIBRARY, shared))
-        given = (f"PREFIX={usr}", f"LIBRARY={LIBRARY}", f"SHARED={shared}")
-        self.assert_ran(run("make", "-s", "-C", TOP, "install-library", *given))
+        given = words_of(make_built(self.folder))
+        self.assert_ran(run("make", "-s", "-C", TOP, "install-library", f"PREFIX={usr}", *given))
         variables = {"PKG_CONFIG_PATH": str(usr / "lib" / "pkgconfig")}
         configured = run("cmake", "-S", EXAMPLES / "cmake", "-B", made, environment=variables)
         self.assert_ran(configured, out=None)

@@ -11,12 +11,11 @@ import unittest
 from pathlib import Path
 from typing import ClassVar
 
-from .committed import SHARED, VERSION, make_built
+from .built import BYTES_SHARED, SHARED, make_built, words_of
 from .installed import COMMANDS, FORMATS
-from .support import DATA, DOCS, EXAMPLES, TOP, Ran, ToolTest, Word, for_each, needs
+from .support import DATA, DOCS, EXAMPLES, MAJOR, TOP, VERSION, Ran, ToolTest, Word, for_each, needs
 from .support import needs_bytes_library, needs_library, needs_program, needs_shared_table, run, run_bytes
 
-MAJOR = VERSION.split(".", maxsplit=1)[0]
 PACKAGES = ("papr", f"libpapr{MAJOR}", "libpapr-dev")
 C_LIBRARY = re.compile(r"linux-vdso|ld-linux|lib(c|m|pthread|dl|rt)\.so")
 PATH = "/usr/bin:/bin"  # the toolchain isn't there
@@ -36,8 +35,7 @@ class DebianTest(ToolTest):
         work = tempfile.TemporaryDirectory(prefix="papr-packages-")
         cls.addClassCleanup(work.cleanup)
         folder = Path(work.name)
-        given = [f"{variable}={path}" for variable, path in make_built(folder).items()]
-        ran = run("make", "-s", "-C", TOP, "deb", f"dist={folder / 'dist'}", *given)
+        ran = run("make", "-s", "-C", TOP, "deb", f"dist={folder / 'dist'}", *words_of(make_built(folder)))
         if ran.status:
             raise OSError(f"make deb: {ran.err}")
         cls.packages = {it.name.split("_", maxsplit=1)[0]: it for it in (folder / "dist").glob("*.deb")}
@@ -75,16 +73,20 @@ class Packed(DebianTest):
         self.assertEqual(wanted - self.files("papr"), set())
 
     @needs("nm")
-    def test_the_shared_object_and_what_programs_that_use_it_depend_on(self) -> None:
+    def test_the_shared_objects_and_what_programs_that_use_them_depend_on(self) -> None:
         name, tree = f"libpapr{MAJOR}", self.folder / "control"
-        objects = [it for it in self.files(name) if "/libpapr.so" in it]
-        self.assertEqual(sorted(Path(it).name for it in objects), [f"libpapr.so.{MAJOR}", SHARED])
+        objects = sorted(Path(it).name for it in self.files(name) if ".so." in it)
+        self.assertEqual(objects, [f"libpapr.so.{MAJOR}", SHARED, f"libpapr_bytes.so.{MAJOR}", BYTES_SHARED])
         self.assert_ran(run("dpkg-deb", "-e", self.packages[name], tree))
         self.assertEqual((tree / "triggers").read_text(), "activate-noawait ldconfig\n")
-        self.assertEqual((tree / "shlibs").read_text(), f"libpapr {MAJOR} libpapr{MAJOR} (>= {VERSION})\n")
-        head, *lines = (tree / "symbols").read_text().splitlines()
-        self.assertEqual(head, f"libpapr.so.{MAJOR} libpapr{MAJOR} #MINVER#")
-        self.assertIn(f" papr_version@Base {VERSION}", lines)
+        libraries = ("libpapr", "libpapr_bytes")
+        needed = "".join(f"{it} {MAJOR} {name} (>= {VERSION})\n" for it in libraries)
+        self.assertEqual((tree / "shlibs").read_text(), needed)
+        lines = (tree / "symbols").read_text().splitlines()
+        heads = [line for line in lines if not line.startswith(" ")]
+        self.assertEqual(heads, [f"{it}.so.{MAJOR} {name} #MINVER#" for it in libraries])
+        for function in ("papr_version", "papr_give_up", "papr_bytes_call"):
+            self.assertEqual(lines.count(f" {function}@Base {VERSION}"), 1)
 
     def test_what_compiles_against_the_library(self) -> None:
         self.assertEqual(self.field("libpapr-dev", "Depends"), f"libpapr{MAJOR} (= {VERSION})")
@@ -92,7 +94,7 @@ class Packed(DebianTest):
         names = {Path(it).name for it in files if it.startswith("/usr/lib/") and not it.endswith("/")}
         libraries = ("papr", "papr_shared", "papr_bytes")
         wanted = {file for it in libraries for file in (f"lib{it}.a", f"{it}.pc")}
-        self.assertEqual(names, {*wanted, "libpapr.so"})
+        self.assertEqual(names, {*wanted, "libpapr.so", "libpapr_bytes.so"})
         examples = (f"/usr/share/doc/libpapr-dev/examples/{it}" for it in ("cmake/CMakeLists.txt", "c/bytes/call.c"))
         self.assertEqual({*examples, *(f"/usr/include/{it}.h" for it in libraries)} - files, set())
 
@@ -144,8 +146,9 @@ class Rooted(DebianTest):
 
     def test_nothing_is_left_after_the_removal(self) -> None:
         """What Python compiled of the tools isn't either."""
-        self.assert_ran(self.run_there("papr-why", "--help", PYTHONDONTWRITEBYTECODE=""), out=None)
-        self.assertTrue((self.usr / "share" / "papr" / "__pycache__").is_dir())
+        self.assert_ran(self.run_there("papr-receipts", "--help", PYTHONDONTWRITEBYTECODE=""), out=None)
+        for folder in ("papr", "papr/papr"):
+            self.assertTrue((self.usr / "share" / folder / "__pycache__").is_dir())
         self.dpkg("--purge", *PACKAGES)
         self.assertEqual([path.name for path in self.root.iterdir()], ["var"])
         listed = [path for path in (self.root / "var").rglob("*") if path.is_file()]

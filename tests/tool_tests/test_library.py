@@ -9,8 +9,9 @@ A_LINE = re.compile(r"[a-z_]+( [a-z_]+=[^ ]*)*: ")
 
 
 def fenced(language: str) -> str:
-    """The page's blocks in a language."""
-    blocks = re.findall(rf"^```{language}\n(.*?)^```$", PAGE.read_text(encoding="utf-8"), re.M | re.S)
+    """The blocks in a language of the page's part on crates, which comes before that on other languages."""
+    on_crates = PAGE.read_text(encoding="utf-8").partition("\n## From ")[0]
+    blocks = re.findall(rf"^```{language}\n(.*?)^```$", on_crates, re.M | re.S)
     return "".join(blocks)
 
 

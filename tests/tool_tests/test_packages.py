@@ -7,11 +7,12 @@ import tempfile
 from pathlib import Path
 from typing import ClassVar
 
+from .built import HERE, OBJECTS, words_of
+from .decoder import make_decoder
 from .installed import COMMANDS, FORMATS, make
-from .support import DATA, DOCS, EXAMPLES, TOP, Ran, ToolTest, Word, for_each, needs, run, write_script
+from .support import DATA, DOCS, EXAMPLES, MAJOR, TOP, VERSION, Ran, ToolTest, Word, for_each, needs, run, write_script
 
 WORDS = ["run", "par", "check", "set", "image", "drill"]
-VERSION = (TOP / "VERSION").read_text(encoding="ascii").strip()
 BASH, ZSH, FISH = (TOP / "completions" / f"papr.{shell}" for shell in ("bash", "zsh", "fish"))
 
 # A program that stands for papr where only its place matters.
@@ -34,7 +35,7 @@ def text_of(path: Path) -> str:
 
 def libraries(stand_in: Path) -> list[str]:
     """What has make install this file as each library, and build none."""
-    return [f"{name}={stand_in}" for name in ("LIBRARY", "SHARED_TABLE", "BYTES_LIBRARY", "SHARED")]
+    return words_of(dict.fromkeys([*HERE, *OBJECTS], stand_in))
 
 
 def page(command: str) -> Path:
@@ -185,7 +186,7 @@ class Installing(ToolTest):
         cls.usr = cls.tree / "usr"
         program = write_script(Path(work.name) / "program", STAND_IN)
         library = write_script(Path(work.name) / "library", A_LIBRARY)
-        make("install", cls.tree, f"PROGRAM={program}", *libraries(library))
+        make("install", cls.tree, *libraries(library), f"PROGRAM={program}")
 
     def run_installed(self, command: str, *words: Word) -> Ran:
         """Runs a command from the tree."""
@@ -198,11 +199,10 @@ class Installing(ToolTest):
         described = text_of(self.usr / "lib" / "pkgconfig" / f"{name}.pc").splitlines()
         self.assertEqual([line for line in described if line.startswith("Version")], [f"Version: {VERSION}"])
 
-    @for_each("papr")
+    @for_each("papr", "papr_bytes")
     def test_make_install_puts_the_shared_object(self, name: str) -> None:
-        for ending in (VERSION, VERSION.split(".", maxsplit=1)[0]):
-            self.assertEqual(text_of(self.usr / "lib" / f"lib{name}.so.{ending}"), A_LIBRARY)
-        self.assertEqual(text_of(self.usr / "lib" / f"lib{name}.so"), A_LIBRARY)
+        for ending in ("so", f"so.{MAJOR}", f"so.{VERSION}"):
+            self.assertEqual(text_of(self.usr / "lib" / f"lib{name}.{ending}"), A_LIBRARY)
 
     @for_each("c/replay.c", "c/bytes/call.c", "cmake/CMakeLists.txt", "rust/enter.rs", "shared/hammer.c")
     def test_make_install_puts_the_example(self, name: str) -> None:
@@ -240,6 +240,23 @@ class Installing(ToolTest):
         drawn = self.run_installed("papr-history", "0x20", EXAMPLES / "sharing.replies")
         self.assert_ran(drawn, text_of(DOCS / "history.svg"))
 
+    def test_the_python_package_is_beside_the_tools(self) -> None:
+        installed = self.usr / "share" / "papr" / "papr"
+        for path in sorted((TOP / "bindings" / "python" / "papr").glob("*.py")):
+            self.assert_same_file(installed / path.name, path)
+        self.assertTrue((installed / "py.typed").is_file())
+
+    @needs("cc")
+    def test_the_installed_tools_find_the_installed_library(self) -> None:
+        """By their places in the tree, since no variable names it."""
+        tree = self.folder / "tree"
+        shutil.copytree(self.tree, tree, symlinks=True)
+        shutil.copy(make_decoder(self.folder), tree / "usr" / "lib" / f"libpapr.so.{VERSION}")
+        words = ("0x1001", "0x3012", "--index", "0x27")
+        ran = run(tree / "usr" / "bin" / "papr-decode", *words, environment={"PAPR_SHARED_LIBRARY": ""})
+        self.assert_ran(ran, out=None)
+        self.assertIn("segment      VSID 0x1, of 256 MB (B 0)\npage         0x5,", ran.out)
+
     def test_make_uninstall_takes_all_away(self) -> None:
         tree = self.folder / "tree"
         shutil.copytree(self.tree, tree, symlinks=True)
@@ -254,7 +271,7 @@ class Installing(ToolTest):
         library = write_script(self.folder / "library", A_LIBRARY)
         program = write_script(self.folder / "program", STAND_IN)
         words: list[Word] = ["make", "-s", "-C", TOP, f"DESTDIR={tree}", f"PREFIX={prefix}"]
-        self.assert_ran(run(*words, "install", f"PROGRAM={program}", *libraries(library)))
+        self.assert_ran(run(*words, "install", *libraries(library), f"PROGRAM={program}"))
         installed = Path(f"{tree}{prefix}")
         self.assert_same_folder(installed / "share" / "doc", self.usr / "share" / "doc")
         self.assertIn(f"prefix={prefix}\n", text_of(installed / "lib" / "pkgconfig" / "papr.pc"))

@@ -38,6 +38,7 @@ LEFT_OUT = {
     "apt-get install": "needs a network, and runs a guest for a minute",
     "rt new": "needs the toolchain: test_library makes that crate and runs it",
     "make library": "proves the libraries: minutes; test_c_library links them",
+    "cargo run": "needs the library for C: test_rust_binding runs it",
     "two-threads": "links what is installed; test_shared_table builds the program",
     "bytes/call.c": "links what is installed; test_c_library builds the program",
     "tools/qemu-shadow/build": "needs a network, and builds QEMU",
@@ -82,7 +83,7 @@ RUN = [block for block in ALL if block.reason is None]
 
 def sources(folder: Path) -> None:
     """Puts into a folder what the documents use of the sources, with the program under test as the built one."""
-    for name in ("docs", "examples", "tests", "crates.txt", "LICENSE-MIT", "LICENSE-APACHE"):
+    for name in ("bindings", "docs", "examples", "tests", "crates.txt", "LICENSE-MIT", "LICENSE-APACHE"):
         (folder / name).symlink_to(TOP / name)
     place = folder / PROGRAM_PLACE
     place.parent.mkdir(parents=True)

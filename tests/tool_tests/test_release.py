@@ -11,10 +11,10 @@ import unittest
 from pathlib import Path
 from typing import Callable, ClassVar
 
-from .committed import AARCH64, CRATES, KIT, NAMES, SAID, VERSION, Committed
-from .committed import listed, make_built, make_stand_ins, without_make
+from .built import make_built, make_stand_ins
+from .committed import AARCH64, CRATES, KIT, NAMES, SAID, Committed, listed, without_make
 from .emulator import COMPILER, emulated, needs_aarch64
-from .support import DATA, EXAMPLES, ToolTest, for_each, needs
+from .support import DATA, EXAMPLES, MAJOR, VERSION, ToolTest, for_each, needs
 from .support import needs_bytes_library, needs_library, needs_program, run, write_script
 
 Runner = Callable[[Path], Path]
@@ -166,15 +166,16 @@ class Refused(CommittedTest):
 
 
 def names_in(folder: Path) -> list[str]:
-    """The files of a release but for wheels, of which there are as many as there are bindings."""
-    return sorted(path.name for path in folder.iterdir() if path.suffix != ".whl")
+    """The files of a release."""
+    return sorted(path.name for path in folder.iterdir())
 
 
 def expected_names() -> list[str]:
     """The files of a release with all its parts."""
     archives = [f"papr-{VERSION}-{machine}.tar.xz" for machine in ("aarch64", "x86_64")]
     packages = [f"{name}_{VERSION}_amd64.deb" for name in ("libpapr-dev", "libpapr0", "papr")]
-    return sorted(["PROVED.txt", "SHA256SUMS", *packages, *archives, f"papr-{VERSION}.tar.gz"])
+    sources = [f"papr-{VERSION}.tar.gz", f"papr-{VERSION}-py3-none-any.whl"]
+    return sorted(["PROVED.txt", "SHA256SUMS", *packages, *archives, *sources])
 
 
 @needs_git
@@ -256,8 +257,7 @@ class Released(ToolTest):
         for name in (
             "bin/papr",
             "bin/papr-why",
-            "lib/libpapr.so",
-            "lib/libpapr.so.0",
+            *(f"lib/lib{it}.so{ending}" for it in ("papr", "papr_bytes") for ending in ("", f".{MAJOR}")),
             *(f"include/{it}.h" for it in LIBRARIES),
             *(f"lib/lib{it}.a" for it in LIBRARIES),
             *(f"lib/pkgconfig/{it}.pc" for it in LIBRARIES),
@@ -329,19 +329,6 @@ class Parts(CommittedTest):
         self.assert_ran(ran, out=None, err=told)
         wanted = [name for name in expected_names() if "aarch64" not in name]
         self.assertEqual(names_in(self.checkout.released), wanted)
-
-    def test_a_wheel_where_there_is_a_binding(self) -> None:
-        """The command that makes it takes the folder."""
-        wheel = 'echo "wheel $SOURCE_DATE_EPOCH" >"$1/papr-1-py3-none-any.whl"'
-        write_script(self.checkout.top / "bindings" / "python" / "build-wheel", f"#!/bin/sh\n{wheel}\n")
-        self.checkout.git("add", "--all")
-        self.checkout.git("commit", "--quiet", "--message", "A binding")
-        self.checkout.gate()
-        self.assert_ran(self.checkout.release(), out=None, err=None)
-        time = self.checkout.git("log", "-1", "--format=%ct")
-        made = self.checkout.released / "papr-1-py3-none-any.whl"
-        self.assertEqual(made.read_text(encoding="ascii"), f"wheel {time}\n")
-        self.assertIn(f"  {made.name}\n", (self.checkout.released / "SHA256SUMS").read_text(encoding="ascii"))
 
     def test_what_an_earlier_release_left_is_taken_away(self) -> None:
         self.checkout.released.mkdir(parents=True)

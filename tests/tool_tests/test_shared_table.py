@@ -9,6 +9,7 @@ import time
 from pathlib import Path
 from typing import ClassVar, Sequence
 
+from .built import make_built, words_of
 from .support import DATA, EXAMPLES, LIBRARY, SHARED_TABLE, TOP, Ran, ToolTest, Word
 from .support import for_each, needs, needs_library, needs_shared_table, run
 
@@ -31,7 +32,6 @@ ADDRESSES = ("-fsanitize=address,undefined", "-fno-sanitize-recover=all")
 THREADS = ("-fsanitize=thread",)
 LEGAL = re.compile(r"[0-9]+ receipts of ([0-9]+) entries, ([0-9]+) changes: each entry has one legal history, .*\n")
 BUSY = re.compile(r"; busy ([0-9]+) times, ")
-VERSION = (TOP / "VERSION").read_text(encoding="ascii").strip()
 PATIENCE = 60  # seconds until threads have met
 
 ENTERED = "".join(f"entry {entry:#x}: valid\n" for entry in range(0x20, 0x28)) + "8 of 32 calls entered a page\n"
@@ -183,9 +183,7 @@ class Installed(SharedTest):
     def setUp(self) -> None:
         """Installs the libraries into a tree."""
         super().setUp()
-        self.tree, shared = self.folder / "tree", self.folder / f"libpapr.so.{VERSION}"
-        self.assert_ran(run(TOP / "tools" / "shared-library", LIBRARY, SHARED_TABLE, shared))
-        given = (f"LIBRARY={LIBRARY}", f"SHARED_TABLE={SHARED_TABLE}", f"SHARED={shared}")
+        self.tree, given = self.folder / "tree", words_of(make_built(self.folder))
         self.assert_ran(run("make", "-s", "-C", TOP, f"PREFIX={self.tree}", "install-library", *given))
 
     def flags(self, *words: str) -> list[str]:

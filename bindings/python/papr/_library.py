@@ -1,0 +1,128 @@
+"""The functions of papr.h and papr_bytes.h, in the shared objects libpapr.so.0 and libpapr_bytes.so.0."""
+
+import ctypes
+import os
+from functools import cache
+from pathlib import Path
+from typing import Any
+
+from ._structs import BOOL, I64, SIZE, U8, U32, U64, CAccess, CBytesEnd, CDevice, CEntry, CGrant, CGrants
+from ._structs import CMaking, CPage, CRange, CReceipt, CRehash, CReply, CResize, CSlb, CSlot, CTransfer, CWalk
+from .errors import LibraryMissing
+
+VERSION = (0, 1, 0)  # of the headers that this package was written for
+CALLS, BYTES = "libpapr.so.0", "libpapr_bytes.so.0"
+# Variables that name a file instead.
+VARIABLES = {CALLS: "PAPR_SHARED_LIBRARY", BYTES: "PAPR_SHARED_BYTES_LIBRARY"}
+
+P = ctypes.POINTER
+TABLE = (P(CEntry), SIZE, U8)  # entries, their count, and the order
+WINDOW = (P(CEntry), SIZE, U64)  # entries, their count, and the bus address of the first page
+WORDS, RECEIPTS, BYTE_ARRAY = (P(U64), SIZE), (P(CReceipt), SIZE), (P(U8), SIZE)
+ROOM = (*WORDS, *RECEIPTS)
+GRANTS = P(CGrants)
+
+Types = tuple[Any, ...]
+
+# Each function's result, and its parameters.
+FUNCTIONS: dict[str, tuple[Any, Types]] = {
+    "papr_version": (U32, ()),
+    "papr_make_grants": (CMaking, (P(CGrant), SIZE, U64, U8, GRANTS)),
+    "papr_machine_of": (CRange, (GRANTS, U64, U64)),
+    "papr_h_enter": (CReply, (*TABLE, GRANTS, U64, U64, U64, U64, *ROOM)),
+    "papr_h_remove": (CReply, (*TABLE, U64, U64, U64, *ROOM)),
+    "papr_h_protect": (CReply, (*TABLE, U64, U64, U64, *ROOM)),
+    "papr_h_read": (CReply, (*TABLE, U64, U64, *ROOM)),
+    "papr_h_clear_ref": (CReply, (*TABLE, U64, U64, *ROOM)),
+    "papr_h_clear_mod": (CReply, (*TABLE, U64, U64, *ROOM)),
+    "papr_h_bulk_remove": (CReply, (*TABLE, *WORDS, *ROOM)),
+    "papr_hcall": (CReply, (*TABLE, GRANTS, U64, P(U64), *RECEIPTS)),
+    "papr_walk": (CWalk, (*TABLE, P(CAccess), *RECEIPTS)),
+    "papr_probe": (CWalk, (*TABLE, P(CAccess))),
+    "papr_decode": (CPage, (U8, U64, U64, U64)),
+    "papr_rights": (U8, (U8, BOOL)),
+    "papr_rehash": (CRehash, (*TABLE, *TABLE)),
+    "papr_resize_prepare": (I64, (P(CResize), U8, U64, U64, P(CEntry), SIZE)),
+    "papr_resize_commit": (CRehash, (P(CResize), *TABLE, P(CEntry), SIZE, U64, U64)),
+    "papr_slb_mte": (U32, (P(CSlb), U64, U64)),
+    "papr_slb_clear": (None, (P(CSlb),)),
+    "papr_slb_find": (CSlot, (P(CSlb), U64)),
+    "papr_put_tce": (CReply, (*WINDOW, GRANTS, U64, U64, *RECEIPTS)),
+    "papr_get_tce": (CReply, (*WINDOW, U64, *ROOM)),
+    "papr_device": (CDevice, (*WINDOW, GRANTS, U64, BOOL, *RECEIPTS)),
+    "papr_export": (CTransfer, (*TABLE, U8, SIZE, SIZE, *BYTE_ARRAY)),
+    "papr_import": (CTransfer, (*TABLE, GRANTS, U8, SIZE, SIZE, *BYTE_ARRAY)),
+}
+BYTES_FUNCTIONS: dict[str, tuple[Any, Types]] = {
+    "papr_bytes_call": (CBytesEnd, BYTE_ARRAY * 5),
+}
+WIDTHS = {U8: 8, U64: 64, SIZE: 8 * ctypes.sizeof(SIZE)}  # in bits
+
+
+class Function:
+    """A function of a library. Numbers that don't fit its parameters are refused; ctypes alone would cut them."""
+
+    def __init__(self, found: Any, result: Any, parameters: Types) -> None:
+        found.restype, found.argtypes = result, parameters
+        self._found = found
+        self._widths = [(at, WIDTHS[kind]) for at, kind in enumerate(parameters) if kind in WIDTHS]
+
+    def __call__(self, *arguments: Any) -> Any:
+        """Calls it."""
+        for at, width in self._widths:
+            if arguments[at] >> width:
+                raise OverflowError(f"{arguments[at]:#x} isn't a number of {width} bits without a sign")
+        return self._found(*arguments)
+
+
+def place_of(name: str) -> str:
+    """Where a library is: as its variable says, in the checkout of this file, below its prefix, or by its name."""
+    named = os.environ.get(VARIABLES[name])
+    if named:
+        return named
+    # This file is bindings/python/papr/_library.py of a checkout, or PREFIX/share/papr/papr/_library.py.
+    top = Path(__file__).resolve().parents[3]
+    places = (top / "out" / "lib" / name, top / "lib" / name)
+    return next((str(place) for place in places if place.is_file()), name)
+
+
+def open_library(name: str, kind: type[ctypes.CDLL]) -> ctypes.CDLL:
+    """A library."""
+    try:
+        return kind(place_of(name))
+    except OSError as error:
+        raise LibraryMissing(f"{name} can't be loaded: {error}") from error
+
+
+def declared(library: ctypes.CDLL, name: str, types: tuple[Any, Types]) -> Function:
+    """A function of a library, with its types."""
+    try:
+        return Function(library[name], *types)
+    except AttributeError as error:
+        raise LibraryMissing(f"this library is of another version: {error}") from error
+
+
+@cache
+def calls_library() -> ctypes.CDLL:
+    """The library of the calls. Its calls keep Python's lock, since they take less time than to give it away."""
+    library = open_library(CALLS, ctypes.PyDLL)
+    number = declared(library, "papr_version", FUNCTIONS["papr_version"])()
+    version = (number >> 16, number >> 8 & 0xFF, number & 0xFF)
+    if version[:2] != VERSION[:2]:
+        written = [".".join(map(str, it)) for it in (version, VERSION)]
+        raise LibraryMissing(f"{CALLS} is of version {written[0]}, and this package of {written[1]}")
+    return library
+
+
+@cache
+def bytes_library() -> ctypes.CDLL:
+    """The library of the whole program. Its calls give Python's lock away, and may run side by side."""
+    return open_library(BYTES, ctypes.CDLL)
+
+
+@cache
+def function(name: str) -> Function:
+    """A function of either library."""
+    if name in FUNCTIONS:
+        return declared(calls_library(), name, FUNCTIONS[name])
+    return declared(bytes_library(), name, BYTES_FUNCTIONS[name])

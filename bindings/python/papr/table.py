@@ -1,0 +1,231 @@
+"""The hashed page table: the calls on its entries, the walk, the rehash and the resize calls."""
+
+from collections.abc import Iterable, Iterator
+from typing import Any, Optional
+
+from ._library import function
+from ._room import WORDS, Room
+from ._structs import U8, U64, CAccess, CEntry, CResize, CWalk, struct_of
+from .codes import Cause, Code, Decoding, Layout, Outcome, Right, TransferRefusal
+from .errors import TransferRefused
+from .grants import Grants, grants_of
+from .records import Access, Entry, Grant, Page, Rehash, Reply, Walk
+from .records import entry_of, page_of, rehash_of
+
+ORDERS = range(18, 23)
+AN_ENTRY = 16  # bytes, in a guest's table and in an export
+
+
+def entries_of(order: int) -> Any:
+    """The empty entries of a table of 2^order bytes."""
+    if order not in ORDERS:
+        raise ValueError(f"the order is from {ORDERS[0]} to {ORDERS[-1]}, and not {order}")
+    return (CEntry * ((1 << order) // AN_ENTRY))()
+
+
+class Table:
+    """A table of 2^order bytes with its entries, and the memory that is granted to its guest.
+
+    One call at a time: threads that share a table take a lock of their own.
+
+    >>> table = Table(18, [Grant(0x0, 0x2000000000, 0x40000000)])
+    >>> print(table.h_enter(Flag.EXACT, 0x27, 0x1001, 0x3012))
+    0 0x27 | 0x27.0.0.entered
+    """
+
+    def __init__(self, order: int = 18, grants: "Grants | Iterable[Grant]" = ()) -> None:
+        """An empty table."""
+        self._order, self._entries = order, entries_of(order)
+        self.grants = grants_of(grants)
+        self._pending, self._pending_entries = CResize(), (CEntry * 0)()
+        self._room = Room()
+
+    # ---- entries
+
+    @property
+    def order(self) -> int:
+        """The table has 2^order bytes."""
+        return self._order
+
+    def __len__(self) -> int:
+        """How many entries there are."""
+        return len(self._entries)
+
+    def __getitem__(self, index: int) -> Entry:
+        """An entry."""
+        if not 0 <= index < len(self):
+            raise IndexError(f"there is no entry {index:#x}")
+        return entry_of(self._entries[index])
+
+    def __iter__(self) -> Iterator[Entry]:
+        """All entries."""
+        return map(entry_of, self._entries)
+
+    def valid_entries(self) -> Iterator[tuple[int, Entry]]:
+        """The valid entries, each with its index, in rising order."""
+        return ((at, entry_of(it)) for at, it in enumerate(self._entries) if it.valid)
+
+    def page(self, index: int) -> Page:
+        """What an entry says."""
+        return decode(self._order, index, *self[index].doublewords)
+
+    @property
+    def _table(self) -> tuple[Any, int, int]:
+        """What the library takes for the table."""
+        return self._entries, len(self._entries), self._order
+
+    # ---- the calls
+
+    def h_enter(self, flags: int, ptex: int, pteh: int, ptel: int) -> Reply:
+        """H_ENTER: puts a translation into an empty entry. The word is its index."""
+        given = (self.grants.c_list, flags, ptex, pteh, ptel)
+        return self._room.reply_of(function("papr_h_enter")(*self._table, *given, *self._room.for_both))
+
+    def h_remove(self, flags: int, ptex: int, avpn: int) -> Reply:
+        """H_REMOVE: empties the entry. The words are its two doublewords from before."""
+        return self._call("papr_h_remove", flags, ptex, avpn)
+
+    def h_protect(self, flags: int, ptex: int, avpn: int) -> Reply:
+        """H_PROTECT: gives the entry the protection in flags. No word."""
+        return self._call("papr_h_protect", flags, ptex, avpn)
+
+    def h_read(self, flags: int, ptex: int) -> Reply:
+        """H_READ: the words are the entry's two doublewords, or with READ_4 those of four entries."""
+        return self._call("papr_h_read", flags, ptex)
+
+    def h_clear_ref(self, flags: int, ptex: int) -> Reply:
+        """H_CLEAR_REF: clears R. The word is doubleword 1 from before."""
+        return self._call("papr_h_clear_ref", flags, ptex)
+
+    def h_clear_mod(self, flags: int, ptex: int) -> Reply:
+        """H_CLEAR_MOD: clears C. The word is doubleword 1 from before."""
+        return self._call("papr_h_clear_mod", flags, ptex)
+
+    def h_bulk_remove(self, pairs: Iterable[int]) -> Reply:
+        """H_BULK_REMOVE: four pairs, as eight words. The words are all eight, with the responses."""
+        given = words_of(pairs)
+        return self._room.reply_of(
+            function("papr_h_bulk_remove")(*self._table, given, len(given), *self._room.for_both)
+        )
+
+    def hcall(self, number: int, *arguments: int) -> Reply:
+        """A call by its number, with registers 4 to 11; those that are left out are 0."""
+        given = words_of(arguments)
+        if len(given) > WORDS:
+            raise ValueError(f"a call has at most {WORDS} arguments, and not {len(given)}")
+        self._room.words[:] = [*given, *[0] * (WORDS - len(given))]
+        room = (self._room.words, *self._room.for_receipts)
+        return self._room.reply_of(
+            function("papr_hcall")(*self._table, self.grants.c_list, number, *room)
+        )
+
+    def _call(self, name: str, *arguments: int) -> Reply:
+        """A call that takes the table and numbers."""
+        return self._room.reply_of(function(name)(*self._table, *arguments, *self._room.for_both))
+
+    # ---- the walk
+
+    def walk(self, access: Access) -> Walk:
+        """Walks the page's groups, and records an access that is allowed in R and C."""
+        given = struct_of(CAccess, access)
+        return self._walk_of(function("papr_walk")(*self._table, given, *self._room.for_receipts))
+
+    def probe(self, access: Access) -> Walk:
+        """What a walk would find, in the entries as they are: it changes none."""
+        return self._walk_of(function("papr_probe")(*self._table, struct_of(CAccess, access)))
+
+    def _walk_of(self, it: CWalk) -> Walk:
+        """What a walk of the library found."""
+        return Walk(
+            Outcome(it.outcome),
+            it.logical,
+            it.entry,
+            it.dword0,
+            it.dword1,
+            it.base_shift,
+            it.actual_shift,
+            Right(it.rights),
+            Cause(it.causes),
+            self._room.receipts_of(it.receipts),
+        )
+
+    # ---- the rehash and the resize calls
+
+    def rehashed(self, order: int) -> tuple[Rehash, "Table"]:
+        """A table of another order with the bolted entries of this one; at H_PTEG_FULL it is empty."""
+        into = Table(order, self.grants)
+        return rehash_of(function("papr_rehash")(*self._table, *into._table)), into
+
+    def h_resize_hpt_prepare(self, flags: int, shift: int, limit: int = ORDERS[-1]) -> Code:
+        """H_RESIZE_HPT_PREPARE: makes 16,384 more entries of a pending table ready; `limit` is the highest shift."""
+        into = self._pending_entries
+        if not self._is_pending(shift):
+            into = entries_of(shift) if shift in ORDERS else (CEntry * 0)()
+        answer = function("papr_resize_prepare")(self._pending, limit, flags, shift, into, len(into))
+        if self._is_pending(shift):
+            self._pending_entries = into
+        return Code(answer)
+
+    def _is_pending(self, shift: int) -> bool:
+        """Whether a table of this order is pending."""
+        return bool(self._pending.pending) and self._pending.order == shift
+
+    def h_resize_hpt_commit(self, flags: int, shift: int) -> Rehash:
+        """H_RESIZE_HPT_COMMIT: at H_SUCCESS the pending table is this one, with the bolted entries."""
+        into = self._pending_entries
+        call = function("papr_resize_commit")
+        ended = rehash_of(call(self._pending, *self._table, into, len(into), flags, shift))
+        if ended.code is Code.H_SUCCESS:
+            self._order, self._entries = shift, into
+        return ended
+
+    # ---- entries as bytes
+
+    def export_entries(self, layout: Layout = Layout.OLD, first: int = 0, number: Optional[int] = None) -> bytes:
+        """Entries from `first` on as 16 bytes each, R and C in them; all that follow where no number is given."""
+        number = len(self) - first if number is None else number
+        out = (U8 * max(AN_ENTRY * number, 0))()
+        made = function("papr_export")(*self._table, layout, first, number, out, len(out))
+        raise_for_transfer(made)
+        return bytes(out)
+
+    def import_entries(self, data: bytes, layout: Layout = Layout.OLD, first: int = 0) -> None:
+        """Reads entries of 16 bytes into the table from `first` on; all, or none where one is refused."""
+        number, rest = divmod(len(data), AN_ENTRY)
+        if rest:
+            raise ValueError(f"an entry is {AN_ENTRY} bytes, and these are {len(data)}")
+        given = (U8 * len(data)).from_buffer_copy(data)
+        call = function("papr_import")
+        made = call(*self._table, self.grants.c_list, layout, first, number, given, len(given))
+        raise_for_transfer(made)
+
+
+def words_of(numbers: Iterable[int]) -> Any:
+    """Numbers of 64 bits as an array of the library."""
+    given = list(numbers)
+    for number in given:
+        if number >> 64:
+            raise OverflowError(f"{number:#x} isn't a number of 64 bits without a sign")
+    return (U64 * len(given))(*given)
+
+
+def raise_for_transfer(made: Any) -> None:
+    """Raises what a refused transfer says."""
+    if made.refusal:
+        raise TransferRefused(made.index, TransferRefusal(made.refusal))
+
+
+def decode(order: int, ptex: int, dword0: int, dword1: int) -> Page:
+    """Decodes the doublewords of an entry, as H_READ, a receipt or a walk has them, at an index of a table."""
+    return page_of(function("papr_decode")(order, ptex, dword0, dword1))
+
+
+def rights(protection: int, key: bool) -> Right:
+    """What protection bits allow an access with this key: READ and WRITE."""
+    return Right(function("papr_rights")(protection, key))
+
+
+def library_version() -> tuple[int, int, int]:
+    """The version of libpapr.so.0."""
+    number = function("papr_version")()
+    return number >> 16, number >> 8 & 0xFF, number & 0xFF

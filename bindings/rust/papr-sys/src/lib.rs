@@ -1,0 +1,20 @@
+//! The C interface of papr: `papr.h`, and with the feature `bytes` also `papr_bytes.h`. The headers
+//! describe each function and say what its caller has to ensure; the crate `papr` ensures it.
+//!
+//! The build links `libpapr.a`, or else `libpapr.so`, from the folder that `PAPR_LIB_DIR` names. If
+//! that isn't set, it takes the library that `make library` built in the checkout of this crate,
+//! or that which pkg-config finds; and if there is none, the linker looks for it by itself.
+#![no_std]
+#![allow(non_camel_case_types)]
+
+#[cfg(feature = "bytes")]
+mod bytes;
+mod codes;
+mod functions;
+mod structs;
+
+#[cfg(feature = "bytes")]
+pub use bytes::*;
+pub use codes::*;
+pub use functions::*;
+pub use structs::*;

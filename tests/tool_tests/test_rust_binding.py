@@ -1,0 +1,110 @@
+"""Tests of the Rust crates: cargo's checks, their own tests over the libraries under test, and their examples."""
+
+import re
+import tempfile
+from pathlib import Path
+from typing import ClassVar
+
+from .support import BYTES_LIBRARY, DOCS, EXAMPLES, LIBRARY, TOP, VERSION, Ran, ToolTest, for_each, needs
+from .support import needs_bytes_library, needs_library, run
+
+CRATES = TOP / "bindings" / "rust"
+# Where cargo builds, so that the next run finds what hasn't changed.
+TARGET = TOP / "out" / "rust"
+IN_RUST = re.compile(r"^## From Rust$.*?^```rust\n(.*?)^```\n\n?.*?^```text\n(.*?)^```$", re.MULTILINE | re.DOTALL)
+
+ENTERED = """\
+H_ENTER 0 0x27 | 0x27.0.0.entered
+H_ENTER -6 | 0x27.1.0.taken
+store at 0x2000003678 | .. 0x27.1.0.at
+valid: 1
+"""
+
+
+def cargo(*words: str, folder: Path = CRATES, **variables: str) -> Ran:
+    """Runs cargo without a network, over these libraries."""
+    given = {"CARGO_TARGET_DIR": str(TARGET), "CARGO_NET_OFFLINE": "true", **variables}
+    return run("cargo", *words, folder=folder, environment=given)
+
+
+@needs("cargo", "cc")
+class Checks(ToolTest):
+    """What needs no library."""
+
+    def test_the_sources_are_formatted(self) -> None:
+        if run("cargo", "fmt", "--version").status:
+            self.skipTest("cargo fmt is not installed")
+        self.assert_ran(cargo("fmt", "--all", "--check"))
+
+    @for_each("", "bytes")
+    def test_clippy_has_no_warning_with_the_features(self, features: str) -> None:
+        if run("cargo", "clippy", "--version").status:
+            self.skipTest("cargo clippy is not installed")
+        words = ("clippy", "--quiet", "--all-targets", "--features", features, "--", "-D", "warnings")
+        self.assert_ran(cargo(*words))
+
+    def test_the_documentation_has_no_warning(self) -> None:
+        words = ("doc", "--quiet", "--no-deps", "--all-features")
+        self.assert_ran(cargo(*words, RUSTDOCFLAGS="-D warnings"))
+
+    def test_the_version_is_that_of_the_sources(self) -> None:
+        text = (CRATES / "Cargo.toml").read_text(encoding="utf-8")
+        self.assertEqual(re.findall(r'(?m)^version = "(.*)"$', text), [VERSION])
+
+    def test_nothing_is_needed_from_elsewhere(self) -> None:
+        locked = (CRATES / "Cargo.lock").read_text(encoding="utf-8")
+        self.assertEqual(re.findall(r'(?m)^name = "(.*)"$', locked), ["papr", "papr-sys"])
+        self.assertNotIn("source = ", locked)
+
+
+@needs("cargo", "cc")
+@needs_library
+class OverTheLibraries(ToolTest):
+    """The crates over the archives under test, by the names under which they are installed."""
+
+    libraries: ClassVar[str]
+
+    @classmethod
+    def setUpClass(cls) -> None:
+        """Makes a folder with the archives, once for the class."""
+        super().setUpClass()
+        work = tempfile.TemporaryDirectory(prefix="papr-rust-")
+        cls.addClassCleanup(work.cleanup)
+        cls.libraries = work.name
+        for name, archive in (("papr", LIBRARY), ("papr_bytes", BYTES_LIBRARY)):
+            if archive.is_file():
+                (Path(work.name) / f"lib{name}.a").symlink_to(archive)
+
+    def cargo(self, *words: str, folder: Path = CRATES) -> Ran:
+        """Runs cargo over the archives."""
+        return cargo(*words, folder=folder, PAPR_LIB_DIR=self.libraries)
+
+    def assert_tests_pass(self, *words: str) -> None:
+        """The tests pass, and some ran."""
+        ran = self.cargo("test", "--quiet", *words)
+        self.assert_ran(ran, out=None)
+        counts = re.findall(r"test result: ok\. ([0-9]+) passed; 0 failed; 0 ignored", ran.out)
+        self.assertEqual(len(counts), ran.out.count("test result: "), ran.out)
+        self.assertGreater(sum(map(int, counts)), 20)
+
+    def test_the_tests_of_the_crates_pass(self) -> None:
+        self.assert_tests_pass()
+
+    @needs_bytes_library
+    def test_the_tests_of_the_crates_pass_with_the_program(self) -> None:
+        self.assert_tests_pass("--all-features")
+
+    def test_the_program_of_the_examples(self) -> None:
+        self.assertTrue((EXAMPLES / "rust" / "enter.rs").is_file())
+        self.assert_ran(self.cargo("run", "--quiet", "--example", "enter"), ENTERED)
+
+    def test_the_block_of_the_document_in_a_package_of_its_own(self) -> None:
+        """It depends on the crate by its path, and writes what the document says."""
+        found = IN_RUST.search((DOCS / "LIBRARY.md").read_text(encoding="utf-8"))
+        assert found is not None
+        (self.folder / "src").mkdir()
+        (self.folder / "src" / "main.rs").write_text(found[1], encoding="utf-8")
+        dependency = f'papr = {{ path = "{CRATES / "papr"}" }}'
+        manifest = f'[package]\nname = "document"\nedition = "2021"\n\n[dependencies]\n{dependency}\n'
+        (self.folder / "Cargo.toml").write_text(manifest, encoding="utf-8")
+        self.assert_ran(self.cargo("run", "--quiet", folder=self.folder), found[2])

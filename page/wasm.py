@@ -5,6 +5,7 @@ import re
 import shutil
 import subprocess
 from dataclasses import dataclass
+from functools import cache
 from pathlib import Path
 from typing import Optional
 
@@ -14,6 +15,7 @@ from crates import CRATES, TOP, lines_of
 from toolchain import Toolchain, toolchain
 
 CRATE, EXPORT, ROOM = "papr_bytes", "papr_bytes_call", "page_room"
+LIBRARY, DECODING = "papr_c", {"papr_decode", "papr_rights"}
 STACK = 2**23  # bytes
 WASM = ["--target=wasm64-unknown-unknown", "-mcpu=lime1", "--no-default-config"]
 # The flags with which `rattle build` has its modules compiled for wasm64.
@@ -116,11 +118,14 @@ class Workshop:
         script = f"create {out.resolve()}\naddlib {made}\naddlib {heap}\nsave\nend\n"
         run([archiver, "-M"], script)
 
+    @cache
+    def lowered(self) -> str:
+        """The library for C as the toolchain lowers it for wasm64, which it can, since there is no heap in it."""
+        return self.proved(LIBRARY, retarget.TARGET).read_text(encoding="utf-8")
+
     def compared(self) -> retarget.Compared:
-        """The retargeting of papr_c, which has no heap, against the toolchain's own lowering of it."""
-        of_x86 = self.proved("papr_c").read_text(encoding="utf-8")
-        of_wasm = self.proved("papr_c", retarget.TARGET).read_text(encoding="utf-8")
-        return retarget.compared(of_x86, of_wasm)
+        """The retargeting of the library for C against the toolchain's own lowering of it."""
+        return retarget.compared(self.proved(LIBRARY).read_text(encoding="utf-8"), self.lowered())
 
     def heap(self) -> Path:
         """The heap for wasm64, with the room for the page's own bytes exported."""
@@ -135,15 +140,21 @@ class Workshop:
         run([self.clang, *WASM, "-O2", "-Werror", "-c", "-x", "ir", str(text), "-o", str(made)])
         return made
 
+    def compiled(self, name: str, lowered: str) -> Path:
+        """An object for wasm64 of a module of LLVM, compiled as the toolchain would."""
+        text, made = self.work / f"{name}.ll", self.work / f"{name}.o"
+        text.write_text(lowered, encoding="utf-8")
+        run([self.clang, *WASM, *AS_THE_TOOLCHAIN, "-c", "-x", "ir", str(text), "-o", str(made), "-O3"])
+        return made
+
     def module(self) -> Path:
         """The module: proved, retargeted, compiled for wasm64, linked with the heap, and made of 32 bits."""
-        given = self.proved(CRATE).read_text(encoding="utf-8")
-        text, made = self.work / "wasm.ll", self.work / "papr.o"
-        text.write_text(retarget.retargeted(given, {EXPORT}), encoding="utf-8")
-        run([self.clang, *WASM, *AS_THE_TOOLCHAIN, "-c", "-x", "ir", str(text), "-o", str(made), "-O3"])
+        program = retarget.retargeted(self.proved(CRATE).read_text(encoding="utf-8"), {EXPORT})
+        decoding = retarget.exporting(self.lowered(), DECODING)
+        objects = [self.compiled("program", program), self.compiled("decoding", decoding), self.heap()]
         library, wide, narrow = (self.work / it for it in ("libmodule.a", "papr64.wasm", "papr.wasm"))
         library.unlink(missing_ok=True)
-        run([f"{self.kit.kit}/toolchain/bin/llvm-ar", "rcs", str(library), str(made), str(self.heap())])
+        run([f"{self.kit.kit}/toolchain/bin/llvm-ar", "rcs", str(library), *map(str, objects)])
         link = [f"{self.kit.kit}/bin/rattle-link", "--target", retarget.TARGET]
         link += ["--toolchain", f"{self.kit.kit}/toolchain", "--stack", str(STACK)]
         run([*link, "-o", str(wide), str(library)])

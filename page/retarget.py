@@ -116,6 +116,14 @@ def retargeted(text: str, exports: set[str]) -> str:
     return re.sub(of_processor, of_wasm, text, flags=re.M)
 
 
+def exporting(text: str, names: set[str]) -> str:
+    """A module of LLVM for wasm64 that exports these functions alone, of those that it exports."""
+    found = set(re.findall(r'"wasm-export-name"="(\w+)"', text))
+    if not names <= found:
+        raise Bad(f"the module doesn't export {', '.join(sorted(names - found))}")
+    return re.sub(r'"wasm-export-name"="(\w+)" ?', lambda it: it[0] if it[1] in names else "", text)
+
+
 # ---- compared with the toolchain's own
 
 A_TEST = re.compile(

@@ -2,6 +2,7 @@
 
 import re
 import shutil
+from functools import cache
 from pathlib import Path
 from typing import Optional
 
@@ -11,6 +12,7 @@ from toolchain import toolchain
 from workshop import CALLS, PROGRAM, Workshop, run
 
 EXPORT, ROOM = "papr_bytes_call", "page_room"
+DECODING = {"papr_decode", "papr_rights"}  # what the page calls of the library for C
 STACK = 2**23  # bytes
 WASM = ["--target=wasm64-unknown-unknown", "-mcpu=lime1", "--no-default-config"]
 # The flags with which `rattle build` has its modules compiled for wasm64.
@@ -44,9 +46,15 @@ def missing(page: str, built: Path) -> Optional[str]:
     return None if f"<p>{made}</p>" in page else f"the page was made with other tools; here: {made}"
 
 
+@cache
+def lowered(shop: Workshop) -> str:
+    """The library for C as the toolchain lowers it for wasm64, which it can, since there is no heap in it."""
+    return shop.module(CALLS, retarget.TARGET)
+
+
 def compared(shop: Workshop) -> retarget.Compared:
-    """The retargeting of papr_c, which has no heap, against the toolchain's own lowering of it."""
-    return retarget.compared(shop.module(CALLS), shop.module(CALLS, retarget.TARGET))
+    """The retargeting of the library for C against the toolchain's own lowering of it."""
+    return retarget.compared(shop.module(CALLS), lowered(shop))
 
 
 def heap(shop: Workshop) -> Path:
@@ -63,14 +71,21 @@ def heap(shop: Workshop) -> Path:
     return made
 
 
+def compiled(shop: Workshop, name: str, text: str) -> Path:
+    """An object for wasm64 of a module of LLVM, compiled as the toolchain would."""
+    given, made = shop.work / f"{name}.ll", shop.work / f"{name}.o"
+    given.write_text(text, encoding="utf-8")
+    run([shop.clang, *WASM, *AS_THE_TOOLCHAIN, "-c", "-x", "ir", str(given), "-o", str(made), "-O3"])
+    return made
+
+
 def module(shop: Workshop) -> Path:
     """The module: proved, retargeted, compiled for wasm64, linked with the heap, and made of 32 bits."""
-    text, made = shop.work / "wasm.ll", shop.work / "papr.o"
-    text.write_text(retarget.retargeted(shop.module(PROGRAM), {EXPORT}), encoding="utf-8")
-    run([shop.clang, *WASM, *AS_THE_TOOLCHAIN, "-c", "-x", "ir", str(text), "-o", str(made), "-O3"])
+    program = compiled(shop, "program", retarget.retargeted(shop.module(PROGRAM), {EXPORT}))
+    decoding = compiled(shop, "decoding", retarget.exporting(lowered(shop), DECODING))
     library, wide, narrow = (shop.work / it for it in ("libmodule.a", "papr64.wasm", "papr.wasm"))
     library.unlink(missing_ok=True)
-    run([shop.archiver, "rcs", str(library), str(made), str(heap(shop))])
+    run([shop.archiver, "rcs", str(library), *map(str, (program, decoding, heap(shop)))])
     link = [f"{shop.kit.kit}/bin/rattle-link", "--target", retarget.TARGET]
     link += ["--toolchain", f"{shop.kit.kit}/toolchain", "--stack", str(STACK)]
     run([*link, "-o", str(wide), str(library)])

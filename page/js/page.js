@@ -3,6 +3,7 @@
 import { commandFor, fromBase64, gunzip, unpacked } from "./files.js";
 import { Lines } from "./lines.js";
 import { Field, Panes } from "./panes.js";
+import { Decoder } from "./decoder.js";
 import { EntryReader, Pictures } from "./pictures.js";
 import { NOT_GOOD, NO_MEMORY, REFUSED, STATUSES } from "./program.js";
 import { Refusals } from "./refusals.js";
@@ -22,14 +23,14 @@ const counted = (count, word) => `${count.toLocaleString("en")} ${word}${count =
 const decoded = (bytes) => new TextDecoder().decode(bytes);
 
 class Page {
-  constructor(module, data, source) {
+  constructor(module, decoder, data, source) {
     this.examples = data.examples;
     this.refusals = new Refusals(data.formats);
     this.runner = new Runner(module, source, (stage, part) => this.tellStage(stage, part));
     this.panes = new Panes((line, reply, below) => this.chooseRow(line, reply, below));
     const mark = (part, entry) => this.panes.mark((reply) => touches(this.replies, reply, part, entry));
     this.pictures = new Pictures((line) => this.goTo(line), mark);
-    this.reader = new EntryReader();
+    this.reader = new EntryReader(decoder);
     this.traceField = new Field("trace", by("trace"));
     this.repliesField = new Field("replies", by("replies"));
     // `answered` are the replies of the last run of this trace, or null; they are judged until the user has others.
@@ -356,7 +357,7 @@ async function openPage() {
   const source = by("script").textContent;
   const data = JSON.parse(by("data").textContent);
   const module = await gunzip(fromBase64(by("module").textContent));
-  const page = new Page(module, data, source);
+  const page = new Page(module, await Decoder.of(module), data, source);
   await page.openHash();
 }
 

@@ -143,7 +143,8 @@ export class Pictures {
 
 // The field of two doublewords, and what they mean.
 export class EntryReader {
-  constructor() {
+  constructor(decoder) {
+    this.decoder = decoder;
     for (const id of ["dword0", "dword1", "layout", "index"]) by(id).addEventListener("input", () => this.draw());
   }
 
@@ -168,7 +169,7 @@ export class EntryReader {
       by("fields").replaceChildren();
       return;
     }
-    const rows = rowsOf(entryOf(dword0, dword1, by("layout").value, index));
+    const rows = rowsOf(entryOf(this.decoder, dword0, dword1, by("layout").value, index));
     by("fields").replaceChildren(...rows.map(([name, words]) => {
       const row = document.createElement("tr");
       row.append(Object.assign(document.createElement("th"), { textContent: name, scope: "row" }));
@@ -209,5 +210,6 @@ function fromLine(line, reply) {
   const [dword0, dword1] = at < 0 ? [null, null] : [readNumber(words[at + 3]), readNumber(words[at + 4])];
   if (dword0 === null || dword1 === null) return null;
   const entered = /H_ENTER 0 (0x[0-9a-f]+)/.exec(reply ?? "");
-  return { dword0, dword1, index: entered ? BigInt(entered[1]) : null, from: "as H_ENTER was given them; it sets V" };
+  const index = entered ? BigInt(entered[1]) : null;
+  return { dword0: dword0 | 1n, dword1, index, from: "as H_ENTER was given them, with V set" };
 }

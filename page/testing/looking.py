@@ -43,6 +43,7 @@ REFUSED = (
 # index, and what has to stand there. The first: a page of 4 KB in segment 1, at 0x5000, since its group is 4,
 # and 4 is 5 xor 1.
 OFFSET, PROTECTION, ADDRESS = "offset in the segment", "protection (PP)", "logical address"
+NO_SEGMENT = "none: B is above 1, or no page of that size lies where the tag says"
 ENTRIES = (
     ("0x1001", "0x3012", "old", "0x20", {"VSID": "0x1", "page": "4 KB", ADDRESS: "0x3000", OFFSET: "0x5000"}),
     ("0x1001", "0x3012", "old", "0x20", {"W, I, M, G": "M", "bolted": "no", "group (H)": "primary"}),
@@ -53,16 +54,20 @@ ENTRIES = (
     ("0x1013", "0x80000000000031f8", "old", "", {PROTECTION: "4: key 0 nothing, key 1 nothing"}),
     ("0x1013", "0x80000000000031f8", "old", "", {OFFSET: "known with the entry's index"}),
     ("0x1003", "0x3012", "old", "0x3fd8", {OFFSET: "0x5000"}),
-    ("0x1005", "0x2000000000402c12", "old", "0x20", {"page": "none is encoded", ADDRESS: "–"}),
+    ("0x1005", "0x2000000000402c12", "old", "0x20", {"page": "none: no page size is encoded", ADDRESS: "–"}),
     ("0x1005", "0x2000000000402c12", "old", "0x20", {"key of AMR and IAMR": "22"}),
     ("0x1005", "0x11012", "old", "0x20", {"page": "64 KB", ADDRESS: "0x10000", OFFSET: "0x50000"}),
     ("0x1005", "0x17012", "old", "0x20", {"page": "4 KB inside 64 KB", ADDRESS: "0x10000"}),
     ("0x1005", "0x38012", "old", "0x20", {"page": "4 KB inside 16 MB", ADDRESS: "0x0"}),
     ("0x1005", "0x1008012", "old", "0x20", {"page": "64 KB inside 16 MB", ADDRESS: "0x1000000"}),
-    ("0x1005", "0x2000012", "old", "0x20", {"page": "16 MB", ADDRESS: "0x2000000"}),
+    ("0x1005", "0x2000012", "old", "0x8", {"page": "16 MB", ADDRESS: "0x2000000", OFFSET: "0x0"}),
+    ("0x1005", "0x2000012", "old", "", {"page": "16 MB", ADDRESS: "0x2000000", OFFSET: "0x0"}),
+    ("0x1005", "0x2000012", "old", "0x20", {"page": "none: the page's group isn't the one of this index", "VSID": "–"}),
+    ("0x1001", "0x3012", "old", "0x40000", {"page": "none: no table has this index"}),
     ("0x1000001", "0x0400000000003012", "new", "", {"segment (B)": "1 TB", "VSID": "0x1"}),
     ("0x4000000001000001", "0x3012", "old", "", {"segment (B)": "1 TB", "VSID": "0x1"}),
-    ("0x8000000000001000", "0x3012", "old", "", {"segment (B)": "none: B is above 1", "valid (V)": "no"}),
+    ("0x8000000000001001", "0x3012", "old", "", {"page": NO_SEGMENT, "segment (B)": "–", "valid (V)": "yes"}),
+    ("0x1000", "0x3012", "old", "0x20", {"page": "none: V is clear", "valid (V)": "no"}),
 )
 
 

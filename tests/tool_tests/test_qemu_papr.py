@@ -1,4 +1,4 @@
-"""Tests of the script that puts the shadow into QEMU's sources.
+"""Tests of the script that puts papr into QEMU's sources.
 
 It runs on files that stand in for QEMU's: each has the places that the script looks for, and nothing else.
 """
@@ -10,12 +10,14 @@ from pathlib import Path
 
 from .support import DATA, TOOLS, ToolTest, for_each, needs, run
 
-APPLY = TOOLS / "qemu-shadow" / "apply"
-STAND_INS = DATA / "qemu-shadow"
+OWN = TOOLS / "qemu-papr"
+APPLY = OWN / "apply"
+STAND_INS = DATA / "qemu-papr"
 PUT = ("hw/ppc/spapr.c", "hw/ppc/spapr_hcall.c", "hw/ppc/spapr_softmmu.c", "target/ppc/mmu-hash64.c")
+HOOKS = "papr-hooks.h"
 
 
-class ShadowTest(ToolTest):
+class TreeTest(ToolTest):
     """A test on a tree of QEMU's that has the places which the script looks for."""
 
     def setUp(self) -> None:
@@ -37,7 +39,7 @@ class ShadowTest(ToolTest):
         return {path: path.read_bytes() for path in self.tree.rglob("*") if path.is_file()}
 
 
-class Applied(ShadowTest):
+class Applied(TreeTest):
     """The tree behind the script."""
 
     def setUp(self) -> None:
@@ -45,36 +47,67 @@ class Applied(ShadowTest):
         super().setUp()
         self.assert_ran(run(APPLY, self.tree), out=None)
 
-    def test_each_call_stands_so_often(self) -> None:
-        calls = Counter(re.findall(r"papr_shadow_[a-z_]+(?=\()", "".join(self.text(name) for name in PUT)))
-        expected = {
-            "papr_shadow_add_options": 1,
-            "papr_shadow_begin": 1,
-            "papr_shadow_end": 1,
-            "papr_shadow_resized": 1,
-            "papr_shadow_table": 3,
-            "papr_shadow_walk": 3,
-            "papr_shadow_walk_begin": 1,
-        }
-        self.assertEqual(calls, expected)
+    def calls(self) -> Counter[str]:
+        """How often each of our functions is called."""
+        return Counter(re.findall(r"\bpapr_[a-z_]+(?=\()", "".join(self.text(name) for name in PUT)))
 
-    def test_a_walk_begins_before_its_search(self) -> None:
-        walk = self.text("target/ppc/mmu-hash64.c")
-        _, begin, behind = walk.partition("papr_shadow_walk_begin")
-        order = re.findall(r"walk_begin|htab_lookup|pr\(mmu_idx\), [012]|deposit64", begin + behind)
-        pr = [f"pr(mmu_idx), {number}" for number in (2, 1, 0)]
-        self.assertEqual(order, ["walk_begin", "htab_lookup", pr[0], pr[1], "deposit64", pr[2]])
+    def test_each_call_stands_so_often(self) -> None:
+        often = {"papr_answers": 2, "papr_shadow_walk": 3}
+        once = (
+            "papr_add_options",
+            "papr_answer_call",
+            "papr_answer_walk",
+            "papr_highest_order",
+            "papr_search_begins",
+            "papr_search_ends",
+            "papr_shadow_call",
+            "papr_table_freed",
+            "papr_table_loaded",
+            "papr_table_loading",
+            "papr_table_made",
+            "papr_table_resized",
+            "papr_table_saved",
+            "papr_table_saving",
+        )
+        self.assertEqual(self.calls(), {**often, **dict.fromkeys(once, 1)})
+
+    def test_each_call_that_is_put_is_declared(self) -> None:
+        hooks = (OWN / HOOKS).read_text(encoding="utf-8")
+        declared = re.findall(r"^(?!typedef)[a-z].*?\b(papr_[a-z_]+)\(", hooks, re.MULTILINE)
+        self.assertEqual(set(self.calls()), set(declared))
+
+    def test_a_walk_is_answered_or_searched_and_then_told_of(self) -> None:
+        walk = self.text("target/ppc/mmu-hash64.c").partition("bool ppc_hash64_xlate")[2]
+        steps = r"answer_walk|search_begins|htab_lookup|search_ends|pr\(mmu_idx\), [012]|deposit64"
+        told = [f"pr(mmu_idx), {number}" for number in (2, 1, 0)]
+        search = ["search_begins", "htab_lookup", "search_ends"]
+        order = ["answer_walk", *search, told[0], told[1], "deposit64", told[2]]
+        self.assertEqual(re.findall(steps, walk), order)
+
+    def test_the_first_call_of_a_function_is_compared_and_the_second_is_qemus(self) -> None:
+        text = self.text("hw/ppc/spapr_hcall.c")
+        calls = re.findall(r"return (\w+)\(cpu, spapr, opcode, args(?:, fn)?\);", text)
+        self.assertEqual(calls, ["papr_shadow_call", "fn"])
 
     def test_a_table_ends_before_it_is_freed(self) -> None:
         lines = self.text("hw/ppc/spapr.c").splitlines()
         (freed,) = (number for number, line in enumerate(lines) if "qemu_vfree" in line)
-        self.assertTrue(lines[freed - 1].strip().startswith("papr_shadow_table(NULL"), lines[freed - 1])
+        self.assertEqual(lines[freed - 1].strip(), "papr_table_freed();")
 
-    def test_the_build_has_the_library_and_the_tree_our_files(self) -> None:
-        self.assertEqual(self.text("hw/ppc/meson.build").count("dependency('papr', static: true)"), 1)
-        own = TOOLS / "qemu-shadow"
-        self.assert_same_file(self.tree / "hw" / "ppc" / "papr-shadow.c", own / "papr-shadow.c")
-        self.assert_same_file(self.tree / "include" / "hw" / "ppc" / "papr-shadow.h", own / "papr-shadow.h")
+    def test_a_commit_is_told_of_before_its_answer_is_looked_at(self) -> None:
+        lines = [line.strip() for line in self.text("hw/ppc/spapr_softmmu.c").splitlines()]
+        told = lines.index("papr_table_resized(cpu, pending->hpt, pending->shift, rc);")
+        self.assertEqual(lines[told + 1], "if (rc == 0) {")
+
+    def test_the_build_has_the_libraries_and_the_tree_our_files(self) -> None:
+        build = self.text("hw/ppc/meson.build")
+        self.assertEqual(build.count("dependency('papr', static: true)"), 1)
+        self.assertEqual(build.count("dependency('papr-shared', static: true, required: false)"), 1)
+        sources = sorted(path.name for path in OWN.glob("papr-*.c"))
+        self.assertIn(", ".join(f"'{name}'" for name in sources), build)
+        for path in OWN.glob("papr-*.[ch]"):
+            place = self.tree / ("include/hw/ppc" if path.name == HOOKS else "hw/ppc") / path.name
+            self.assert_same_file(place, path)
 
     @needs("cc")
     @for_each(*PUT)
@@ -82,18 +115,18 @@ class Applied(ShadowTest):
         stubs = self.folder / "stubs" / "qemu"
         stubs.mkdir(parents=True)
         shutil.copyfile(STAND_INS / "osdep.h", stubs / "osdep.h")
-        flags = ("-std=gnu11", "-Wall", "-Werror=implicit-function-declaration", "-fsyntax-only")
+        flags = ("-std=gnu11", "-Wall", "-Werror", "-fsyntax-only")
         ran = run("cc", *flags, f"-I{stubs.parent}", f"-I{self.tree}/include", self.tree / name)
-        self.assert_ran(ran, err=None)
+        self.assert_ran(ran)
 
     def test_a_second_time_is_refused(self) -> None:
         before = self.files()
-        message = f"apply: {self.tree}/hw/ppc/spapr_hcall.c has the shadow already"
+        message = f"apply: {self.tree}/hw/ppc/spapr_hcall.c has papr already"
         self.assert_refused(run(APPLY, self.tree), message)
         self.assertEqual(self.files(), before)
 
 
-class Refusals(ShadowTest):
+class Refusals(TreeTest):
     """Trees that the script doesn't change."""
 
     def test_a_place_that_is_missing(self) -> None:
@@ -114,5 +147,5 @@ class Refusals(ShadowTest):
     def test_the_script_has_help(self) -> None:
         ran = run(APPLY, "--help")
         self.assert_ran(ran, out=None)
-        begin = "Put the shadow into a source tree of QEMU 7.2.\n\n    tools/qemu-shadow/apply SOURCES\n"
+        begin = "Put papr into a source tree of QEMU 7.2.\n\n    tools/qemu-papr/apply SOURCES\n"
         self.assert_text(ran.out[: len(begin)], begin)

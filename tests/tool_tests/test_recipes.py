@@ -27,7 +27,7 @@ PAGES = (
     "docs/RECIPES.md",
     "docs/RECORDING.md",
     "docs/LIBRARY.md",
-    "docs/QEMU-SHADOW.md",
+    "docs/QEMU.md",
     "docs/PERFORMANCE.md",
 )
 
@@ -39,7 +39,7 @@ LEFT_OUT = {
     "rt new": "needs the toolchain: test_library makes that crate and runs it",
     "make library": "proves the library: minutes; test_c_library links it",
     "make bytes-library": "proves the library: minutes; test_c_library calls it",
-    "tools/qemu-shadow/build": "needs a network, and builds QEMU",
+    "tools/qemu-papr/build": "needs a network, and builds QEMU",
     "bench/speed": "measures for minutes",
     "bench/pool": "proves and measures for minutes",
     "bench/table": "proves and measures for minutes",

@@ -229,6 +229,7 @@ static uint64_t answer(CPUState *cs, uint64_t number, uint64_t *args)
 
 struct resize_call {
     uint64_t number, flags, shift;
+    uint64_t table;             /* how many tables there had been */
 };
 
 static int64_t prepare(SpaprMachineState *spapr, uint64_t flags, uint64_t shift)
@@ -284,15 +285,11 @@ static int64_t commit(CPUState *cs, SpaprMachineState *spapr, uint64_t flags, ui
     return done.rc;
 }
 
-/* Answers a resize call while no processor runs: it isn't under QEMU's global lock then. */
-static void resize_at_rest(CPUState *cs, run_on_cpu_data data)
+static void make_resize(CPUState *cs, const struct resize_call *call)
 {
-    g_autofree struct resize_call *call = data.host_ptr;
     SpaprMachineState *spapr = SPAPR_MACHINE(qdev_get_machine());
-    qemu_mutex_lock_iothread();
     int64_t rc = call->number == H_RESIZE_HPT_PREPARE ? prepare(spapr, call->flags, call->shift)
                                                       : commit(cs, spapr, call->flags, call->shift);
-    qemu_mutex_unlock_iothread();
     resizes++;
     refused_resizes += rc != PAPR_H_SUCCESS && rc != PAPR_H_LONG_BUSY;
     if (papr_options.record)
@@ -300,12 +297,22 @@ static void resize_at_rest(CPUState *cs, run_on_cpu_data data)
     POWERPC_CPU(cs)->env.gpr[3] = rc;
 }
 
+/* Answers a resize call while no processor runs, unless the machine was reset meanwhile. */
+static void resize_at_rest(CPUState *cs, run_on_cpu_data data)
+{
+    g_autofree struct resize_call *call = data.host_ptr;
+    qemu_mutex_lock_iothread();
+    if (call->table == tables)
+        make_resize(cs, call);
+    qemu_mutex_unlock_iothread();
+}
+
 /* The processor leaves its loop at once, and has the answer when it comes back. If the machine is saved
  * before, the guest calls again. */
 static uint64_t resize_later(CPUState *cs, uint64_t number, const uint64_t *args)
 {
     struct resize_call *call = g_new(struct resize_call, 1);
-    *call = (struct resize_call){number, args[0], args[1]};
+    *call = (struct resize_call){number, args[0], args[1], tables};
     async_safe_run_on_cpu(cs, resize_at_rest, RUN_ON_CPU_HOST_PTR(call));
     return H_LONG_BUSY_ORDER_1_MSEC;
 }

@@ -66,7 +66,7 @@ bool papr_answer_walk(struct ArchCPU *cpu, uint64_t slb, int shift, uint64_t ea,
 uint64_t papr_search_begins(void);
 void papr_search_ends(struct ArchCPU *cpu, uint64_t begun);
 
-/* The outcome of a walk of QEMU's, as papr.h numbers it. It is told of each search once. */
+/* Compares the outcome of a search of QEMU's, as papr.h numbers it: once for each search. */
 void papr_shadow_walk(uint64_t slb, int shift, uint64_t ea, int want, bool problem, unsigned outcome,
                       uint64_t at);
 

@@ -13,8 +13,8 @@
  *             and bit 40 for problem state; then the address, the segment's second word, the logical
  *             address, and the receipts
  *   masks     AMR and IAMR of the walks from here on, which are 0 at first in each part
- *   a mark    a number, which all actors have: what stands before it was made before all that is behind it
- *             of any actor. A resize call stands alone between two marks
+ *   a mark    a number, which all actors have: what is before it was made before all that is after it in
+ *             any actor. A resize call is the only record between two marks
  *   a part    the part's number, in all actors
  *
  * A receipt is one word: bits 0 to 23 the entry, 24 to 55 the stamp, 56 to 57 the bits, 60 to 63 the answer.

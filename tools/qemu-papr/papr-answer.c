@@ -193,7 +193,9 @@ static void drop_translations(CPUState *cs)
 static void part_at_rest(CPUState *cs, run_on_cpu_data data)
 {
     /* (A pending table isn't carried from part to part.) */
-    if (!resize.pending)
+    if (resize.pending)
+        papr_record_later();
+    else
         begin_part(SPAPR_MACHINE(qdev_get_machine()));
 }
 
@@ -382,14 +384,20 @@ static void put_masks(PowerPCCPU *cpu, struct papr_access *access)
         access->iamr = env->spr[SPR_IAMR];
 }
 
+/* The processor itself, or the last actor, for the monitor and for a debugger. */
+static unsigned actor_of(PowerPCCPU *cpu)
+{
+    bool is_own = current_cpu == CPU(cpu);
+    return is_own ? CPU(cpu)->cpu_index : actors_of(SPAPR_MACHINE(qdev_get_machine())) - 1;
+}
+
 bool papr_answer_walk(PowerPCCPU *cpu, uint64_t slb, int shift, uint64_t ea, int want, bool problem,
                       struct papr_translated *found)
 {
     struct papr_receipt made[PAPR_MOST_RECEIPTS];
     struct papr_access access = papr_access_of(slb, shift, ea, want, problem);
     struct papr_walk walk = {.outcome = PAPR_WALK_NO_PAGE};
-    bool is_own = current_cpu == CPU(cpu);
-    unsigned actor = is_own ? CPU(cpu)->cpu_index : actors_of(SPAPR_MACHINE(qdev_get_machine())) - 1;
+    unsigned actor = actor_of(cpu);
     put_masks(cpu, &access);
     if (papr_table_is_there()) {
         uint64_t begun = papr_search_begins();
@@ -397,7 +405,7 @@ bool papr_answer_walk(PowerPCCPU *cpu, uint64_t slb, int shift, uint64_t ea, int
         papr_search_ends(cpu, begun);
         if (papr_options.record) {
             bool is_due = papr_record_walk(actor, slb, problem, &access, &walk, made);
-            record_on(CPU(cpu), is_due && is_own);
+            record_on(CPU(cpu), is_due);
         }
     }
     counts[actor].outcomes[walk.outcome < 6 ? walk.outcome : PAPR_WALK_PARAMETER]++;

@@ -9,7 +9,8 @@
 
 #define BUFFER (1 << 20)
 #define MOST_WORDS (12 + 8 + PAPR_MOST_RECEIPTS)
-#define PLANT_BEHIND 1000       /* calls of an actor before an error is planted */
+#define PLANT_AFTER 1000        /* calls of an actor before an error is planted */
+#define COUNTED_AT_ONCE 256     /* records of an actor */
 
 enum kind { CALL = 1, WALK = 2, MASKS = 3, MARK = 4, PART = 5 };
 
@@ -24,6 +25,7 @@ struct actor {
 static struct actor actors[PAPR_MOST_ACTORS];
 static unsigned actor_count;
 static uint64_t part, mark;
+static uint64_t all_made;       /* by all actors in this part, as far as it is counted */
 static bool is_due;             /* a part has been asked for */
 
 /* ---- words */
@@ -54,11 +56,12 @@ static int put_receipts(uint64_t *words, const struct papr_receipt *made, unsign
     return count;
 }
 
-/* Counts what an actor has made; whether its share of the part is made. */
-static bool count(struct actor *a)
+/* Counts a record of an actor; whether the part has as many as it may have. */
+static bool is_full(struct actor *a)
 {
-    a->made++;
-    return a->made >= papr_options.part / MAX(actor_count, 1) && !qatomic_xchg(&is_due, true);
+    if (++a->made % COUNTED_AT_ONCE)
+        return false;
+    return qatomic_add_fetch(&all_made, COUNTED_AT_ONCE) >= papr_options.part && !qatomic_xchg(&is_due, true);
 }
 
 /* ---- while no actor works */
@@ -120,6 +123,12 @@ void papr_record_part(struct papr_rest *rest, const struct papr_grants *grants, 
         rest->entries[p].stamp = 0;
     for (unsigned i = 0; i < actor_count; i++)
         actors[i].made = actors[i].amr = actors[i].iamr = actors[i].stale_count = 0;
+    qatomic_set(&all_made, 0);
+    qatomic_set(&is_due, false);
+}
+
+void papr_record_later(void)
+{
     qatomic_set(&is_due, false);
 }
 
@@ -128,7 +137,8 @@ void papr_record_quiet(unsigned actor, uint64_t number, uint64_t flags, uint64_t
     const uint64_t asked[8] = {flags, shift};
     const struct papr_reply reply = {.rc = rc};
     mark_all(MARK, ++mark);
-    papr_record_call(actor, number, asked, &reply, NULL, NULL);
+    if (papr_record_call(actor, number, asked, &reply, NULL, NULL))
+        papr_record_later();
     mark_all(MARK, ++mark);
 }
 
@@ -138,7 +148,7 @@ void papr_record_quiet(unsigned actor, uint64_t number, uint64_t flags, uint64_t
 static void plant_stale(struct actor *a, const uint64_t *words, int count, const struct papr_receipt *last)
 {
     bool is_walk = (words[0] & 0xff) == WALK;
-    if (is_walk && last->answer == PAPR_AT && !a->stale_count && a->calls > PLANT_BEHIND) {
+    if (is_walk && last->answer == PAPR_AT && !a->stale_count && a->calls > PLANT_AFTER) {
         memcpy(a->stale, words, count * sizeof *words);
         a->stale_count = count;
     } else if (!is_walk && a->stale_count && last->entry == (a->stale[a->stale_count - 1] & 0xffffff) &&
@@ -169,7 +179,7 @@ static void plant_exchange(unsigned actor, uint64_t *words, const uint64_t *answ
 
 static bool is_planted(enum papr_plant plant, const struct actor *a)
 {
-    return papr_options.plant == plant && a->calls > PLANT_BEHIND;
+    return papr_options.plant == plant && a->calls > PLANT_AFTER;
 }
 
 /* ---- each actor on its own thread */
@@ -201,7 +211,7 @@ bool papr_record_call(unsigned actor, uint64_t number, const uint64_t *asked, co
     put(a, words, size);
     if (papr_options.plant == PAPR_PLANT_STALE && receipts == 1)
         plant_stale(a, words, size, made);
-    return count(a);
+    return is_full(a);
 }
 
 bool papr_record_walk(unsigned actor, uint64_t slb, bool problem, const struct papr_access *access,
@@ -224,7 +234,7 @@ bool papr_record_walk(unsigned actor, uint64_t slb, bool problem, const struct p
     put(a, words, size);
     if (papr_options.plant == PAPR_PLANT_STALE && walk->receipts)
         plant_stale(a, words, size, &made[walk->receipts - 1]);
-    return count(a);
+    return is_full(a);
 }
 
 void papr_record_end(void)

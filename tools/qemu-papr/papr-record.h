@@ -29,6 +29,9 @@
 /* Begins a part with these entries, whose stamps become 0. */
 void papr_record_part(struct papr_rest *rest, const struct papr_grants *grants, unsigned actors, uint8_t limit);
 
+/* The part that is due can't begin yet. */
+void papr_record_later(void);
+
 /* A resize call. */
 void papr_record_quiet(unsigned actor, uint64_t number, uint64_t flags, uint64_t shift, int64_t rc);
 

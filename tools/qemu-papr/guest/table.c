@@ -114,7 +114,8 @@ static void on_fault(int number)
 
 static void *writer(void *argument)
 {
-    uintptr_t own = (uintptr_t)argument, written = 0, found = 0, faults = 0;
+    uintptr_t own = (uintptr_t)argument, found = 0;
+    volatile uintptr_t written = 0, faults = 0;
     while (!stop)
         for (size_t k = own; k < shared_words && !stop; k += page / 8) {
             is_in = 1;

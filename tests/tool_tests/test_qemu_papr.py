@@ -102,7 +102,7 @@ class Applied(TreeTest):
     def test_the_build_has_the_libraries_and_the_tree_our_files(self) -> None:
         build = self.text("hw/ppc/meson.build")
         self.assertEqual(build.count("dependency('papr', static: true)"), 1)
-        self.assertEqual(build.count("dependency('papr-shared', static: true, required: false)"), 1)
+        self.assertEqual(build.count("dependency('papr_shared', static: true, required: false)"), 1)
         sources = sorted(path.name for path in OWN.glob("papr-*.c"))
         self.assertIn(", ".join(f"'{name}'" for name in sources), build)
         for path in OWN.glob("papr-*.[ch]"):

@@ -63,8 +63,8 @@ tool_name = $(firstword $(subst :, ,$(1)))
 tool_file = $(lastword $(subst :, ,$(1)))
 commands = $(foreach tool,$(tools),papr-$(call tool_name,$(tool)))
 tool_files = $(foreach tool,$(tools),tools/$(call tool_file,$(tool)))
-modules = $(addprefix tools/,choosing.py common.py decoding.py grants.py known.py refusals.py replies.py svg.py traces.py \
-    launcher.bash telling.bash)
+modules = $(addprefix tools/,choosing.py common.py decoding.py grants.py judging.py known.py refusals.py replies.py svg.py \
+    traces.py launcher.bash telling.bash)
 package = $(wildcard bindings/python/papr/*.py) bindings/python/papr/py.typed
 pages = man/papr.1 $(commands:%=man/%.1)
 formats = man/papr-trace.5 man/papr-replies.5

@@ -27,7 +27,7 @@ PAGES = (
     "docs/RECIPES.md",
     "docs/RECORDING.md",
     "docs/LIBRARY.md",
-    "docs/QEMU-SHADOW.md",
+    "docs/QEMU.md",
     "docs/PERFORMANCE.md",
 )
 
@@ -41,7 +41,7 @@ LEFT_OUT = {
     "cargo run": "needs the library for C: test_rust_binding runs it",
     "two-threads": "links what is installed; test_shared_table builds the program",
     "bytes/call.c": "links what is installed; test_c_library builds the program",
-    "tools/qemu-shadow/build": "needs a network, and builds QEMU",
+    "tools/qemu-papr/build": "needs a network, and builds QEMU",
     "bench/speed": "measures for minutes",
     "bench/pool": "proves and measures for minutes",
     "bench/table": "proves and measures for minutes",

@@ -3,12 +3,16 @@
 #include <stdint.h>
 #include <string.h>
 
+#define MIN(a, b) ((a) < (b) ? (a) : (b))
+#define MAX(a, b) ((a) > (b) ? (a) : (b))
+
+enum { MMU_DATA_LOAD, MMU_DATA_STORE, MMU_INST_FETCH };
+
 typedef uint64_t target_ulong;
 typedef struct Object Object;
-typedef struct { int patb_entry, htab_shift, htab_fd; void *htab; } Machine;
-typedef struct { uint64_t ram_size; } Board;
+typedef struct ArchCPU PowerPCCPU;
+typedef struct SpaprMachineState { int patb_entry, htab_shift, htab_fd; void *htab; } SpaprMachineState;
 typedef struct { uint64_t vsid; struct { int page_shift; } *sps; } Segment;
 
-Board *MACHINE(Machine *spapr);
 void qemu_vfree(void *memory);
 bool mmuidx_pr(int index);

@@ -1,24 +1,20 @@
 /*
- * Answers the guest's page table calls a second time, by papr_c over a table of its own, and compares
- * codes and words with QEMU's; on request each walk of a processor too. QEMU's answers alone go to the
- * guest. Calls come under QEMU's global lock, walks don't: a lock of our own holds QEMU's deed and papr's
- * together, so that both see one order.
+ * The modes calls and walks: answers the guest's page table calls a second time, by the library over a
+ * table of its own, and compares codes and words with QEMU's; in mode walks each walk of a processor too.
+ * QEMU's answers alone go to the guest. Calls come under QEMU's global lock, walks don't: a lock of our
+ * own holds QEMU's deed and papr's together, so that both see one order.
  *
- * What differs by design is masked, and counted (`known`); docs/QEMU-SHADOW.md has each of them. A group
- * of entries whose contents may differ lawfully is taken over anew from QEMU's table.
+ * What differs by design is masked, and counted (`known`); docs/QEMU.md has each of them. A group of
+ * entries whose contents may differ lawfully is taken over anew from QEMU's table.
  */
 #include "qemu/osdep.h"
-#include "qapi/error.h"
 #include "qemu/error-report.h"
 #include "qemu/thread.h"
 #include "qemu/bswap.h"
-#include "qom/object.h"
 #include "sysemu/runstate.h"
-#include "hw/ppc/papr-shadow.h"
-
-#include <papr.h>
-
-enum { H_REMOVE = 0x04, H_ENTER = 0x08, H_READ = 0x0c, H_PROTECT = 0x18, H_BULK_REMOVE = 0x124 };
+#include "cpu.h"
+#include "hw/ppc/spapr.h"
+#include "papr-modes.h"
 
 #define RPN     0x0ffffffffffff000ULL
 #define MARK    0x40ULL                 /* QEMU's mark of a changed entry */
@@ -28,9 +24,6 @@ enum { H_REMOVE = 0x04, H_ENTER = 0x08, H_READ = 0x0c, H_PROTECT = 0x18, H_BULK_
 #define INDEX   0x00ffffffffffffffULL   /* the index of a pair of H_BULK_REMOVE */
 #define SWEEP_EVERY 100000              /* calls between two comparisons of the whole tables */
 #define SHOWN 20                        /* differences that are reported one by one */
-
-enum mode { OFF, CALLS, WALKS };
-static const char *const mode_names[] = {"off", "calls", "walks"};
 
 /* What differs by design. */
 enum { K_MARK, K_MOVED, K_KEPT, K_TYPE, K_CLEAR, K_TAKEN, K_REFUSED, KNOWN };
@@ -51,8 +44,6 @@ static struct { uint64_t code; const char *name; uint64_t calls, differ; } calls
 };
 
 static struct {
-    enum mode mode;
-    bool stop;
     struct papr_entry *table;
     size_t count;
     uint8_t order;
@@ -80,13 +71,13 @@ static void G_GNUC_PRINTF(1, 2) differ(const char *format, ...)
         va_start(rest, format);
         g_autofree char *text = g_strdup_vprintf(format, rest);
         va_end(rest);
-        error_report("papr-shadow: %s", text);
+        error_report("papr: %s", text);
     }
-    if (s.stop)
+    if (papr_options.stop)
         vm_stop(RUN_STATE_PAUSED);
 }
 
-static char *totals(void)
+static char *totals_of_all(void)
 {
     GString *text = g_string_new(NULL);
     uint64_t wrong = 0;
@@ -175,7 +166,7 @@ static void sweep(void)
         make(H_READ, read, w);
         for (int i = 0; i < 8; i++) {
             uint64_t q = htab_word(p + i / 2, i & 1), mask = i & 1 ? KEPT : MARK;
-            if (s.mode != WALKS && (i & 1))
+            if (papr_options.mode != PAPR_WALKS && (i & 1))
                 mask |= RC & ~w[i];     /* set by a walk of QEMU's */
             bool valid = (w[i & 6] | htab_word(p + i / 2, 0)) & 1;
             wrong += !s.apart[p / 8] && valid && ((w[i] ^ q) & ~mask);
@@ -197,61 +188,80 @@ static void drop_table(void)
     s.apart = NULL;
 }
 
+/* Takes QEMU's table over, if the library can have one of its order. */
+static void take_table(const void *htab, int order, uint64_t ram)
+{
+    drop_table();
+    s.htab = htab;
+    s.ram = ram;
+    if (!htab)
+        return;
+    if (order < PAPR_LOWEST_ORDER || order > PAPR_HIGHEST_ORDER) {
+        warn_report("papr: order %d is not from 18 to 22, nothing is compared", order);
+        return;
+    }
+    s.order = order;
+    s.count = (size_t)1 << (order - 4);
+    s.given[0] = (struct papr_grant){0, 1ULL << 58, ram, false};
+    s.given_count = 1;
+    papr_make_grants(s.given, 1, 1ULL << 40, 24, &s.grants);
+    s.table = g_new0(struct papr_entry, s.count);
+    s.apart = g_new0(bool, s.count / 8);
+    n.tables++;
+    for (uint64_t p = 0; p < s.count; p += 8)
+        for (int i = 0; i < 8; i++)
+            if (htab_word(p + i, 0) & 1) {
+                take_over(p / 8);
+                break;
+            }
+}
+
 void papr_shadow_table(const void *htab, int order, uint64_t ram)
 {
-    if (s.mode == OFF)
-        return;
     qemu_mutex_lock(&one_at_a_time);
     if (!htab)
         sweep();
-    drop_table();
-    s.htab = htab;
-    if (htab && (order < 18 || order > 22)) {
-        warn_report("papr-shadow: order %d is not from 18 to 22, nothing is compared", order);
-    } else if (htab) {
-        s.order = order;
-        s.count = (size_t)1 << (order - 4);
-        s.ram = ram;
-        s.given[0] = (struct papr_grant){0, 1ULL << 58, ram, false};
-        s.given_count = 1;
-        papr_make_grants(s.given, 1, 1ULL << 40, 24, &s.grants);
-        s.table = g_new0(struct papr_entry, s.count);
-        s.apart = g_new0(bool, s.count / 8);
-        n.tables++;
-        for (uint64_t p = 0; p < s.count; p += 8)
-            for (int i = 0; i < 8; i++)
-                if (htab_word(p + i, 0) & 1) {
-                    take_over(p / 8);
-                    break;
-                }
-    }
+    take_table(htab, order, ram);
     qemu_mutex_unlock(&one_at_a_time);
 }
 
-/* papr's own rehash has to give the table that QEMU's gave. Called in the middle of a call, so the lock is
- * not held: QEMU's global lock keeps other calls away. */
-void papr_shadow_resized(const void *htab, int order)
+/* How many entries of QEMU's new table aren't those of papr's rehash. */
+static uint64_t wrong_entries(const void *htab, const struct papr_entry *into, size_t count)
 {
-    if (s.mode == OFF || !s.table)
-        return;
-    qemu_mutex_lock(&one_at_a_time);
+    uint64_t wrong = 0;
+    for (size_t p = 0; p < count; p++) {
+        uint64_t q = ldq_be_p((const uint8_t *)htab + p * 16);
+        wrong += (q & 1) != into[p].valid || ((q & 1) && ((q ^ into[p].dword0) & ~MARK));
+    }
+    return wrong;
+}
+
+/* papr's own rehash has to give the answer and the table that QEMU's gave. */
+static void compare_resize(const void *htab, int order, int64_t rc)
+{
     size_t count = (size_t)1 << (order - 4);
     struct papr_entry *into = g_new0(struct papr_entry, count);
     bool apart = memchr(s.apart, true, s.count / 8) != NULL;
     struct papr_rehash r = papr_rehash(s.table, s.count, s.order, into, count, order);
-    uint64_t wrong = 0;
-    for (uint64_t p = 0; p < count; p++) {
-        uint64_t q = ldq_be_p((const uint8_t *)htab + p * 16);
-        wrong += (q & 1) != into[p].valid || ((q & 1) && ((q ^ into[p].dword0) & ~MARK));
-    }
+    uint64_t wrong = rc == PAPR_H_SUCCESS ? wrong_entries(htab, into, count) : 0;
     n.resizes++;
-    if (!apart && (r.rc != PAPR_H_SUCCESS || wrong)) {
+    if (!apart && (r.rc != rc || wrong)) {
         n.resizes_differ++;
-        differ("resize to order %d: papr answers %" PRId64 ", %" PRIu64 " entries differ", order, r.rc, wrong);
+        differ("resize to order %d: QEMU %" PRId64 ", papr %" PRId64 ", %" PRIu64 " entries differ", order,
+               rc, r.rc, wrong);
     }
     g_free(into);
+}
+
+/* Called in the middle of a call that isn't compared, under QEMU's global lock. */
+void papr_shadow_resized(const void *htab, int order, int64_t rc)
+{
+    qemu_mutex_lock(&one_at_a_time);
+    if (s.table && order <= PAPR_HIGHEST_ORDER)
+        compare_resize(htab, order, rc);
+    if (rc == PAPR_H_SUCCESS)
+        take_table(htab, order, s.ram);
     qemu_mutex_unlock(&one_at_a_time);
-    papr_shadow_table(htab, order, s.ram);
 }
 
 /* ---- calls */
@@ -282,7 +292,7 @@ static void mask_bulk(const uint64_t *a, uint64_t *q, uint64_t *p)
             q[i] = p[i];
             known[K_TYPE].seen++;
         }
-        if (s.mode != WALKS && reached && q[i] >> 60 == 8)
+        if (papr_options.mode != PAPR_WALKS && reached && q[i] >> 60 == 8)
             q[i] &= ~(BULK_RC & ~p[i]);     /* set by a walk of QEMU's */
     }
 }
@@ -298,7 +308,7 @@ static void mask_entries(uint64_t *q, uint64_t *p, int words)
             q[i] &= ~bit;
             known[i & 1 ? K_KEPT : K_MARK].seen++;
         }
-        if (s.mode != WALKS && (i & 1))
+        if (papr_options.mode != PAPR_WALKS && (i & 1))
             q[i] &= ~(RC & ~p[i]);          /* set by a walk of QEMU's */
     }
 }
@@ -366,41 +376,39 @@ static size_t kind_of(uint64_t opcode)
     return kind;
 }
 
-bool papr_shadow_begin(uint64_t opcode)
+uint64_t papr_shadow_call(PowerPCCPU *cpu, SpaprMachineState *spapr, uint64_t number, uint64_t *args,
+                          papr_hcall_fn *fn)
 {
-    if (s.mode == OFF || kind_of(opcode) == ARRAY_SIZE(calls))
-        return false;
+    uint64_t before[9], rc;
+    size_t kind = kind_of(number);
+    bool compares = papr_options.mode == PAPR_CALLS || papr_options.mode == PAPR_WALKS;
+    if (!compares || kind == ARRAY_SIZE(calls))
+        return fn(cpu, spapr, number, args);
     qemu_mutex_lock(&one_at_a_time);
-    return true;
-}
-
-void papr_shadow_end(uint64_t opcode, const uint64_t *args, int64_t rc, const uint64_t *out)
-{
+    memcpy(before, args, sizeof before);
+    rc = fn(cpu, spapr, number, args);
     if (s.table)
-        compare(kind_of(opcode), args, rc, out);
+        compare(kind, before, rc, args);
     qemu_mutex_unlock(&one_at_a_time);
+    return rc;
 }
 
 /* ---- walks */
 
 void papr_shadow_walk_begin(void)
 {
-    if (s.mode == WALKS)
-        qemu_mutex_lock(&one_at_a_time);
+    qemu_mutex_lock(&one_at_a_time);
 }
 
 void papr_shadow_walk(uint64_t slb, int shift, uint64_t ea, int want, bool problem, unsigned outcome,
                       uint64_t at)
 {
-    struct papr_receipt made[16];
-    if (s.mode != WALKS)
+    struct papr_receipt made[PAPR_MOST_RECEIPTS];
+    if (papr_options.mode != PAPR_WALKS)
         return;
     if (s.table) {
-        bool big = slb >> 62 & 1;
-        struct papr_access a = {.ea = ea, .vsid = (slb & ~0ULL >> 2) >> (big ? 24 : 12), .shift = shift,
-                                .want = want, .one_tb = big, .key = slb >> (problem ? 10 : 11) & 1,
-                                .no_execute = slb >> 9 & 1};
-        struct papr_walk w = papr_walk(s.table, s.count, s.order, &a, made, 16);
+        struct papr_access a = papr_access_of(slb, shift, ea, want, problem);
+        struct papr_walk w = papr_walk(s.table, s.count, s.order, &a, made, PAPR_MOST_RECEIPTS);
         n.walks++;
         n.outcomes[outcome & 3]++;
         if ((w.outcome != outcome || (outcome == PAPR_WALK_AT && w.logical != at)) && !known[K_REFUSED].seen) {
@@ -412,63 +420,22 @@ void papr_shadow_walk(uint64_t slb, int shift, uint64_t ea, int want, bool probl
     qemu_mutex_unlock(&one_at_a_time);
 }
 
-/* ---- options of the machine */
+/* ---- the beginning and the end */
 
-static void at_exit(void)
+void papr_shadow_init(void)
 {
-    if (s.mode == OFF)
-        return;
+    qemu_mutex_init(&one_at_a_time);
+}
+
+void papr_shadow_end(void)
+{
     sweep();
-    g_autofree char *text = totals();
-    info_report("papr-shadow: %s", text);
 }
 
-static char *get_mode(Object *machine, Error **errp)
-{
-    return g_strdup(mode_names[s.mode]);
-}
-
-static void set_mode(Object *machine, const char *value, Error **errp)
-{
-    for (size_t i = 0; i < ARRAY_SIZE(mode_names); i++)
-        if (g_str_equal(value, mode_names[i])) {
-            s.mode = i;
-            return;
-        }
-    error_setg(errp, "papr-shadow is off, calls or walks, and not %s", value);
-}
-
-static bool get_stop(Object *machine, Error **errp)
-{
-    return s.stop;
-}
-
-static void set_stop(Object *machine, bool value, Error **errp)
-{
-    s.stop = value;
-}
-
-static char *get_totals(Object *machine, Error **errp)
+char *papr_shadow_totals(void)
 {
     qemu_mutex_lock(&one_at_a_time);
-    char *text = totals();
+    char *text = totals_of_all();
     qemu_mutex_unlock(&one_at_a_time);
     return text;
-}
-
-void papr_shadow_add_options(Object *machine)
-{
-    static bool begun;
-    if (!begun) {
-        qemu_mutex_init(&one_at_a_time);
-        atexit(at_exit);
-        begun = true;
-    }
-    object_property_add_str(machine, "papr-shadow", get_mode, set_mode);
-    object_property_set_description(machine, "papr-shadow",
-                                    "What papr answers a second time: off, calls or walks (calls and walks)");
-    object_property_add_bool(machine, "papr-shadow-stop", get_stop, set_stop);
-    object_property_set_description(machine, "papr-shadow-stop", "Stop the guest at a difference");
-    object_property_add_str(machine, "papr-shadow-totals", get_totals, NULL);
-    object_property_set_description(machine, "papr-shadow-totals", "What was compared (read only)");
 }

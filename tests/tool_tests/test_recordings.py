@@ -1,0 +1,300 @@
+"""Tests of the tool that makes traces with replies of recordings.
+
+A recording is written here word by word, as the head of papr-record.h describes it.
+"""
+
+import struct
+from pathlib import Path
+from typing import Sequence
+
+from .support import EXAMPLES, TOOLS, Ran, ToolTest, for_each, needs_program, run
+
+JUDGE = TOOLS / "qemu-papr" / "judge-recording"
+CALL, WALK, MASKS, MARK, PART = range(1, 6)
+H_REMOVE, H_ENTER, H_BULK_REMOVE, PREPARE, COMMIT = 0x04, 0x08, 0x124, 0x36C, 0x370
+ANSWERS = "entered taken removed protected was read notfound nomatch denied at worn masked".split()
+LOAD, STORE, FETCH = range(3)
+AT, DENIED, NO_PAGE = range(3)
+USER = 1 << 40
+
+# A segment of 256 MB with VSID 1, its page 5, and the entries of the page's groups in a table of order 18.
+SEGMENT, PAGE, FRAME = 0x1000, 0x5000, 0x3000
+PRIMARY, SECONDARY = range(0x20, 0x28), range(0x3FD8, 0x3FE0)
+HEAD = """order 18
+limit 22
+cpus 2
+ram 0x0 0x2000000000 0x40000000
+begin
+"""
+
+
+def receipt(text: str) -> int:
+    """The word of a receipt, which is written as replies show it."""
+    entry, stamp, bits, answer = text.split(".")
+    return ANSWERS.index(answer) << 60 | int(bits) << 56 | int(stamp) << 24 | int(entry, 16)
+
+
+class Recording:
+    """A recording with two actors, in the order in which its records were made."""
+
+    def __init__(self) -> None:
+        """Nothing yet."""
+        self.words: list[list[int]] = [[], []]
+        self.heads: list[str] = []
+        self.clock = self.marks = 0
+
+    def put(self, actor: int, header: int, words: Sequence[int], receipts: str = "", late: int = 0) -> None:
+        """One record; the clock may be read late."""
+        made = [receipt(text) for text in receipts.split()]
+        self.clock += 10
+        self.words[actor] += [header | len(made) << 8, self.clock + late, *words, *made]
+
+    def part(self, head: str = HEAD) -> None:
+        """A new part."""
+        self.heads.append(head)
+        for actor in range(2):
+            self.put(actor, PART, [len(self.heads)])
+
+    def mark(self) -> None:
+        """A quiet point."""
+        self.marks += 1
+        for actor in range(2):
+            self.put(actor, MARK, [self.marks])
+
+    def call(
+        self,
+        actor: int,
+        number: int,
+        args: Sequence[int],
+        code: int,
+        told: Sequence[int] = (),
+        receipts: str = "",
+        late: int = 0,
+    ) -> None:
+        """A call, with its code and words."""
+        words = [number, code % 2**64, *args, *[0] * (8 - len(args)), *told]
+        self.put(actor, CALL | len(told) << 16, words, receipts, late)
+
+    def walk(self, actor: int, want: int, ea: int, outcome: int, receipts: str, mode: int = 0, late: int = 0) -> None:
+        """A walk in the segment."""
+        logical = FRAME + ea % 4096 if outcome == AT else 0
+        header = WALK | outcome << 16 | want << 24 | 12 << 32 | mode
+        self.put(actor, header, [ea, SEGMENT, logical], receipts, late)
+
+    def quiet(self, actor: int, number: int, shift: int, code: int) -> None:
+        """A resize call, alone."""
+        self.mark()
+        self.call(actor, number, [0, shift], code)
+        self.mark()
+
+    def write(self, folder: Path) -> None:
+        """The files of the recording."""
+        for number, head in enumerate(self.heads, 1):
+            (folder / f"part-{number}.head").write_text(head, encoding="ascii")
+        for actor, words in enumerate(self.words):
+            (folder / f"actor-{actor}").write_bytes(struct.pack(f"={len(words)}Q", *words))
+
+
+def no_match(stamp: int) -> str:
+    """The receipts of a walk that finds nothing; the first entry has changed so often."""
+    entries = [*PRIMARY, *SECONDARY]
+    return " ".join(f"{entry:#x}.{stamp if entry == PRIMARY[0] else 0}.0.nomatch" for entry in entries)
+
+
+def enter(recording: Recording, late: int = 0) -> None:
+    """An H_ENTER of the page by actor 0."""
+    recording.call(0, H_ENTER, [0, 0x20, 0x1001, 0x3012], 0, [0x20], "0x20.0.0.entered", late)
+
+
+class RecordingTest(ToolTest):
+    """A test of a recording."""
+
+    def setUp(self) -> None:
+        """Makes its folders, and begins its first part."""
+        super().setUp()
+        self.recorded, self.parts = self.folder / "recorded", self.folder / "parts"
+        self.recorded.mkdir()
+        self.parts.mkdir()
+        self.it = Recording()
+        self.it.part()
+
+    def convert(self, *words: str) -> Ran:
+        """Writes the recording, and runs the tool on it."""
+        self.it.write(self.recorded)
+        return run(JUDGE, self.recorded, "--parts", self.parts, *words)
+
+    def text(self, kind: str, part: int = 1) -> str:
+        """A part's trace behind its head, or its replies."""
+        text = (self.parts / f"part-{part}.{kind}").read_text(encoding="ascii")
+        return text.partition("begin\n")[2] if kind == "trace" else text
+
+    def assert_written(self, trace: str, replies: str) -> None:
+        """What is made of the recording."""
+        self.assert_ran(self.convert("--unjudged"), out=None)
+        self.assert_text(self.text("trace"), trace)
+        self.assert_text(self.text("replies"), replies)
+
+
+class Lines(RecordingTest):
+    """The lines and replies that records become."""
+
+    def test_a_walk_that_finds_the_cached_translation_is_a_hit(self) -> None:
+        enter(self.it)
+        self.it.walk(1, LOAD, PAGE, AT, "0x20.1.0.at")
+        self.it.walk(1, STORE, PAGE + 4, AT, "0x20.1.2.at", mode=USER)
+        trace = (
+            "0 H_ENTER 0x0 0x20 0x1001 0x3012\n1 slbmte 0x8000000 0x1000\n1 load 0x5000 priv\n1 store 0x5004 user\n"
+        )
+        replies = (
+            "6 0 H_ENTER 0 0x20 | 0x20.0.0.entered\n7 1 slbmte ok\n"
+            "8 1 load at 0x2000003000 walk | 0x20.1.0.at\n9 1 store at 0x2000003004 hit | 0x20.1.2.at\n"
+        )
+        self.assert_written(trace, replies)
+
+    def test_a_walk_that_finds_nothing(self) -> None:
+        self.it.walk(0, FETCH, PAGE, NO_PAGE, no_match(0))
+        trace = "0 slbmte 0x8000000 0x1000\n0 fetch 0x5000 priv\n"
+        self.assert_written(trace, f"6 0 slbmte ok\n7 0 fetch nopage walk | {no_match(0)}\n")
+
+    def test_masks_come_before_the_access_that_they_refuse(self) -> None:
+        enter(self.it)
+        self.it.put(1, MASKS, [0x4000000000000000, 0])
+        self.it.walk(1, LOAD, PAGE, 4, "0x20.1.0.masked")
+        self.assert_ran(self.convert("--unjudged"), out=None)
+        self.assertEqual(self.text("trace").splitlines()[1], "1 amr 0x4000000000000000")
+        self.assertEqual(self.text("replies").splitlines()[3], "9 1 load masked amr walk | 0x20.1.0.masked")
+
+    def test_a_call_that_is_refused_has_no_words(self) -> None:
+        self.it.call(1, H_REMOVE, [0, 0x20, 0], -7, receipts="0x20.0.0.notfound")
+        self.assert_written("1 H_REMOVE 0x0 0x20 0x0\n", "6 1 H_REMOVE -7 | 0x20.0.0.notfound\n")
+
+    def test_another_segment_of_the_same_addresses_takes_the_slot(self) -> None:
+        self.it.walk(0, LOAD, PAGE, NO_PAGE, no_match(0))
+        header = WALK | NO_PAGE << 16 | 12 << 32
+        self.it.put(0, header, [PAGE, 0x2000, 0], no_match(0))
+        lines = [line for line in self.convert("--unjudged").out.splitlines() if "segments" in line]
+        self.assertIn("2 segments", lines[0])
+        self.assertEqual(self.text("trace").splitlines()[2], "0 slbmte 0x8000000 0x2000")
+
+    def test_a_segment_of_another_size_makes_the_slot_of_the_first_invalid(self) -> None:
+        self.it.walk(0, LOAD, PAGE, NO_PAGE, no_match(0))
+        one_tb = 1 << 62 | 1 << 24
+        self.it.put(0, WALK | NO_PAGE << 16 | 12 << 32, [PAGE, one_tb, 0], no_match(0))
+        self.assert_ran(self.convert("--unjudged"), out=None)
+        made = ["0 slbmte 0x0 0x0", "0 slbmte 0x8000001 0x4000000001000000"]
+        self.assertEqual(self.text("trace").splitlines()[2:4], made)
+
+    def test_a_part_has_caches_of_its_own(self) -> None:
+        enter(self.it)
+        self.it.walk(1, LOAD, PAGE, AT, "0x20.1.0.at")
+        entry = "entry old 0x20 00000000000010010000000000003112\n"
+        self.it.part(HEAD.replace("begin", f"{entry}begin"))
+        self.it.walk(1, LOAD, PAGE, AT, "0x20.0.2.at")
+        self.assert_ran(self.convert("--unjudged"), out=None)
+        self.assert_text(self.text("replies", 2), "7 1 slbmte ok\n8 1 load at 0x2000003000 walk | 0x20.0.2.at\n")
+
+
+class Order(RecordingTest):
+    """The order of the lines of several processors."""
+
+    def lines(self) -> list[str]:
+        """The first words of the lines that aren't of segments."""
+        self.assert_ran(self.convert("--unjudged"), out=None)
+        lines = (line.split() for line in self.text("trace").splitlines())
+        return [" ".join(words[:2]) for words in lines if words[1] != "slbmte"]
+
+    def test_a_line_comes_behind_what_its_receipts_start_from(self) -> None:
+        """Here the clock was read late."""
+        enter(self.it, late=100)
+        self.it.walk(1, LOAD, PAGE, AT, "0x20.1.0.at")
+        self.assertEqual(self.lines(), ["0 H_ENTER", "1 load"])
+
+    def test_lines_that_have_nothing_in_common_come_by_the_clock(self) -> None:
+        self.it.walk(1, LOAD, PAGE, NO_PAGE, no_match(0))
+        enter(self.it)
+        self.assertEqual(self.lines(), ["1 load", "0 H_ENTER"])
+
+    def test_an_entry_that_a_bulk_removal_names_twice(self) -> None:
+        enter(self.it)
+        pairs = [1 << 62 | 0x20, 0, 1 << 62 | 0x20, 0, 3 << 62, 0, 0, 0]
+        told = [1 << 63 | 0x20, 0, 9 << 60 | 0x20, 0, 3 << 62, 0, 0, 0]
+        receipts = "0x20.1.0.removed 0x20.2.0.notfound"
+        self.it.call(1, H_BULK_REMOVE, pairs, 0, told, receipts)
+        self.it.call(0, H_REMOVE, [0, 0x20, 0], -7, receipts="0x20.2.0.notfound", late=-15)
+        self.assertEqual(self.lines(), ["0 H_ENTER", "1 H_BULK_REMOVE", "0 H_REMOVE"])
+
+    def test_a_quiet_point_divides_the_lines_whatever_the_clock_says(self) -> None:
+        self.it.walk(1, LOAD, PAGE, NO_PAGE, no_match(0), late=1000)
+        self.it.quiet(0, PREPARE, 18, 0)
+        self.it.walk(0, LOAD, PAGE, NO_PAGE, no_match(0))
+        self.assertEqual(self.lines(), ["1 load", "0 H_RESIZE_HPT_PREPARE", "0 load"])
+
+
+@needs_program
+class Judged(RecordingTest):
+    """What the program says of the traces that are made."""
+
+    def whole(self) -> None:
+        """Two processors, a stale translation that is noticed, a resize, and a second part."""
+        enter(self.it)
+        self.it.walk(1, LOAD, PAGE, AT, "0x20.1.0.at")
+        self.it.walk(1, STORE, PAGE, AT, "0x20.1.2.at")
+        self.it.call(0, H_REMOVE, [0, 0x20, 0], 0, [0x1001, 0x3192], receipts="0x20.1.3.removed")
+        self.it.walk(1, LOAD, PAGE, NO_PAGE, no_match(2))
+        self.it.quiet(0, PREPARE, 18, 0)
+        self.it.quiet(1, COMMIT, 18, 0)
+        enter(self.it)
+        self.it.walk(1, LOAD, PAGE, AT, "0x20.1.0.at")
+        self.it.part(HEAD.replace("begin", "entry old 0x20 00000000000010010000000000003112\nbegin"))
+        self.it.walk(0, LOAD, PAGE, AT, "0x20.0.2.at")
+
+    def test_a_good_recording(self) -> None:
+        self.whole()
+        text = (
+            "part 1: 12 lines, 6 sections, 5 calls, 3 walks, 2 hits, 1 segments: good\n"
+            "part 2: 2 lines, 1 sections, 0 calls, 1 walks, 0 hits, 1 segments: good\n"
+        )
+        self.assert_ran(self.convert(), text)
+
+    def spoil(self, old: str, new: str) -> Ran:
+        """What the tool says where one receipt of the whole is another."""
+        self.whole()
+        words = self.it.words[int(new[0])]
+        words[words.index(receipt(old))] = receipt(new[2:])
+        return self.convert()
+
+    @for_each(
+        ("0x20.1.3.removed", "0 0x20.1.2.removed"),
+        ("0x20.1.2.at", "1 0x20.0.2.at"),
+        ("0x20.2.0.nomatch", "1 0x20.1.0.nomatch"),
+    )
+    def test_a_receipt_of_another_state_is_bad(self, change: tuple[str, str]) -> None:
+        ran = self.spoil(*change)
+        self.assertEqual(ran.status, 1, ran.err)
+        self.assertIn(": bad section 1\npart 2", ran.out)
+
+
+class Words(RecordingTest):
+    """The tool's words, and recordings that it can't read."""
+
+    def test_the_tool_has_help(self) -> None:
+        self.assert_help(JUDGE)
+
+    def test_a_folder_that_is_no_recording(self) -> None:
+        message = f"judge-recording: {EXAMPLES} is no recording: it has no actor-0"
+        self.assert_refused(run(JUDGE, EXAMPLES), message)
+
+    def test_a_record_that_is_cut_off(self) -> None:
+        enter(self.it)
+        self.it.words[0].pop()
+        self.assert_refused(self.convert("--unjudged"), "judge-recording: actor-0: its last record is cut off")
+
+    def test_a_word_that_begins_no_record(self) -> None:
+        self.it.words[1].append(99)
+        self.assert_refused(self.convert("--unjudged"), "judge-recording: actor-1: word 3 begins no record")
+
+    def test_quiet_points_that_only_one_actor_has(self) -> None:
+        self.it.put(0, MARK, [1])
+        ran = self.convert("--unjudged")
+        self.assertEqual(ran.status, 2)
+        self.assertIn("judge-recording: the actors' quiet points are not the same", ran.err)

@@ -14,9 +14,9 @@ from typing import Any, Callable, Iterable, Mapping, Optional, TypeVar, Union
 
 TOP = Path(__file__).resolve().parents[2]
 TOOLS, EXAMPLES, DOCS, DATA = TOP / "tools", TOP / "examples", TOP / "docs", TOP / "tests" / "data"
+SHARED_TABLE = Path(os.environ.get("PAPR_SHARED_TABLE", TOP / "crates/papr_shared/out/libpapr_shared.a"))
 PROGRAM = Path(os.environ.get("PAPR_PROGRAM", TOP / "crates/papr_main/out/papr_main"))
 LIBRARY = Path(os.environ.get("PAPR_LIBRARY", TOP / "crates/papr_c/out/libpapr_c.a"))
-SHARED_TABLE = Path(os.environ.get("PAPR_SHARED_TABLE", TOP / "crates/papr_shared/out/libpapr_shared.a"))
 
 PATIENCE = 900  # seconds that a command may take
 SHOWN = 60  # lines of a difference
@@ -110,17 +110,17 @@ def needs_program(test: Test) -> Test:
     return unittest.skipUnless(PROGRAM.is_file(), f"the program is not built: {PROGRAM} is missing")(test)
 
 
+def needs_shared_table(test: Test) -> Test:
+    """Skips a test, or the tests of a class, where the library of the shared table or that for C isn't built."""
+    lacking = [str(path) for path in (LIBRARY, SHARED_TABLE) if not path.is_file()]
+    return unittest.skipIf(lacking, f"the shared table is not built: {' and '.join(lacking)} missing (make library)")(test)
+
+
 def needs_library(test: Test) -> Test:
     """Skips a test, or the tests of a class, where the library for C isn't built."""
     return unittest.skipUnless(
         LIBRARY.is_file(), f"the library for C is not built: {LIBRARY} is missing (make library)"
     )(test)
-
-
-def needs_shared_table(test: Test) -> Test:
-    """Skips a test, or the tests of a class, where the library of the shared table or that for C isn't built."""
-    lacking = [str(path) for path in (LIBRARY, SHARED_TABLE) if not path.is_file()]
-    return unittest.skipIf(lacking, f"the shared table is not built: {' and '.join(lacking)} missing (make library)")(test)
 
 
 def for_each(*values: object) -> Callable[[Test], Test]:

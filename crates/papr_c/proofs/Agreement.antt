@@ -14,10 +14,11 @@ use Rattle.entry_model.specs.State.{State, OnlyRaisesBits}
 use Rattle.entry_model.specs.declared.receipt.Receipt.{Receipt}
 use Rattle.entry_model.specs.Receipt.{after_of, is_access, found_of}
 use Rattle.entry_model.proofs.OperationLaws.{access_further}
-use Rattle.papr_c.specs.declared.walking.PaprAccess.{PaprAccess}
-use Rattle.papr_c.specs.Lent.{is_table}
-use Rattle.papr_c.specs.WalkEnds.{walk_end, end_at}
-use Rattle.papr_c.specs.Walks.{Agree, WalkMemory, page_of, want_of, walk_run, walk_where, probe_where, outcome_of_walk, outcome_of_probe}
+use Rattle.c_layout.specs.declared.walking.PaprAccess.{PaprAccess}
+use Rattle.c_layout.specs.Tables.{is_table}
+use Rattle.c_layout.specs.WalkEnds.{walk_end, end_at}
+use Rattle.papr_c.specs.Walks.{Agree, WalkMemory, walk_run, walk_where, probe_where, outcome_of_walk, outcome_of_probe}
+use Rattle.c_layout.specs.Accesses.{page_of, want_of}
 use Rattle.papr_c.proofs.FoundAsIs.{found_access}
 
 -- ---- R and C apart

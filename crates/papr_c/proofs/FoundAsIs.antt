@@ -19,11 +19,12 @@ use Rattle.entry_model.specs.Trial.{Call, call, receipt_at, trial_run}
 use Rattle.entry_model.proofs.OperationLaws.{access_undone}
 use Rattle.hpt_walk.specs.Walk.{access_op, group_calls, walk_calls}
 use Rattle.hpt_walk.proofs.Found.{found-on, found-off}
-use Rattle.papr_c.specs.declared.walking.PaprAccess.{PaprAccess}
-use Rattle.papr_c.specs.declared.walking.PaprWalk.{PaprWalk}
-use Rattle.papr_c.specs.Lent.{is_table}
-use Rattle.papr_c.specs.WalkEnds.{mode_of, walk_end}
-use Rattle.papr_c.specs.Walks.{each_as_is, page_of, want_of, walk_run, outcome_of_probe}
+use Rattle.c_layout.specs.declared.walking.PaprAccess.{PaprAccess}
+use Rattle.c_layout.specs.declared.walking.PaprWalk.{PaprWalk}
+use Rattle.c_layout.specs.Tables.{is_table}
+use Rattle.c_layout.specs.WalkEnds.{mode_of, walk_end}
+use Rattle.papr_c.specs.Walks.{each_as_is, walk_run, outcome_of_probe}
+use Rattle.c_layout.specs.Accesses.{page_of, want_of}
 use Rattle.call_trials.specs.Calls.{call_at}
 use Rattle.papr_c.proofs.SoFar.{drop_at, drop_none, step_on, step_off, no_more}
 

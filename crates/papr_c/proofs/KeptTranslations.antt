@@ -16,7 +16,7 @@ use Rattle.entry_model.specs.Run.{state_at, states_after}
 use Rattle.entry_model.specs.Trial.{Plan, Call, receipt_at, plan_run, trial_run}
 use Rattle.entry_model.proofs.Follows.{no_further, further_on}
 use Rattle.entry_model.proofs.OperationLaws.{access_further}
-use Rattle.papr_c.specs.Stale.{is_stale, any_stale}
+use Rattle.c_layout.specs.Stale.{is_stale, any_stale}
 use Rattle.papr_c.proofs.SoFar.{step_on, step_off, no_more}
 
 -- ---- one entry

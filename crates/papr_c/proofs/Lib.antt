@@ -1,9 +1,7 @@
-pub mod Filling
 pub mod SoFar
 pub mod Outcomes
 pub mod Reading
 pub mod Makings
-pub mod Searching
 mod Rows
 pub mod Transfers
 pub mod SlotSearch

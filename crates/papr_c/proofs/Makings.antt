@@ -7,8 +7,9 @@ use Rattle.pool_range.specs.Ranges.{range_refusal}
 use Rattle.pool_range.specs.declared.range.RangeError.{RangeError}
 use Rattle.frame_grants.specs.declared.error.GrantError.{GrantError}
 use Rattle.frame_grants.specs.Grants.{GrantedMemory, no_grants, add_refusal, with_grant}
-use Rattle.papr_c.specs.declared.grants.PaprGrant.{PaprGrant}
-use Rattle.papr_c.specs.Grants.{grant_of, making_from, making_of, Making}
+use Rattle.c_layout.specs.declared.grants.PaprGrant.{PaprGrant}
+use Rattle.c_layout.specs.Grants.{grant_of}
+use Rattle.papr_c.specs.Grants.{making_from, making_of, Making}
 
 -- There is no pool.
 pub without_pool : (base order : ℕ) (given : List PaprGrant) (e : RangeError) → range_refusal base order ≡ Some e → making_of base order given ≡ Making.NoPool e

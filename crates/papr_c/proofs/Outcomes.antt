@@ -17,19 +17,21 @@ use Rattle.entry_model.specs.declared.hreply.Registers.{Registers}
 use Rattle.entry_model.specs.declared.receipt.Receipt.{Receipt}
 use Rattle.entry_model.proofs.Plans.{plan_is}
 use Rattle.hpt_walk.specs.Walk.{walk_calls}
-use Rattle.papr_c.specs.declared.receipts.PaprReceipt.{PaprReceipt}
-use Rattle.papr_c.specs.declared.reply.PaprReply.{PaprReply}
+use Rattle.c_layout.specs.declared.receipts.PaprReceipt.{PaprReceipt}
+use Rattle.c_layout.specs.declared.reply.PaprReply.{PaprReply}
 use Rattle.papr_codes.specs.ReturnCodes.{rc_code}
 use Rattle.papr_codes.specs.declared.codes.Rc.{Rc}
-use Rattle.papr_c.proofs.Filling.{filled-nil, placed_filled}
-use Rattle.papr_c.specs.Places.{filled, placed, shown_receipt}
-use Rattle.papr_c.specs.declared.walking.PaprAccess.{PaprAccess}
-use Rattle.papr_c.specs.declared.walking.PaprWalk.{PaprWalk}
-use Rattle.papr_c.specs.Lent.{is_table}
-use Rattle.papr_c.specs.Calls.{LentMemory, memory, reply_told, outcome_by, outcome_where}
-use Rattle.papr_c.specs.Stale.{any_stale}
-use Rattle.papr_c.specs.WalkEnds.{mode_of, walk_end}
-use Rattle.papr_c.specs.Walks.{WalkMemory, walk_memory, page_of, want_of, walked_by, outcome_of_walk}
+use Rattle.c_layout.proofs.Filling.{filled-nil, placed_filled}
+use Rattle.c_layout.specs.Places.{filled, placed, shown_receipt}
+use Rattle.c_layout.specs.declared.walking.PaprAccess.{PaprAccess}
+use Rattle.c_layout.specs.declared.walking.PaprWalk.{PaprWalk}
+use Rattle.c_layout.specs.Tables.{is_table}
+use Rattle.papr_c.specs.Calls.{LentMemory, memory, outcome_by, outcome_where}
+use Rattle.c_layout.specs.Replies.{reply_told}
+use Rattle.c_layout.specs.Stale.{any_stale}
+use Rattle.c_layout.specs.WalkEnds.{mode_of, walk_end}
+use Rattle.papr_c.specs.Walks.{WalkMemory, walk_memory, walked_by, outcome_of_walk}
+use Rattle.c_layout.specs.Accesses.{page_of, want_of}
 
 -- What was handed over, and the entries that the receipts led to.
 pub record IsHandedOver (registers : Registers) (rs : List Receipt) (m : LentMemory) (told : PaprReply) (words : List ℕ) (receipts : List PaprReceipt) : Type 0 where

@@ -10,10 +10,10 @@ use Rattle.entry_model.specs.declared.operation.Op.TheVariants.{Read}
 use Rattle.entry_model.specs.declared.receipt.Receipt.{Receipt}
 use Rattle.entry_model.proofs.TrialSteps.{calls_from}
 use Rattle.h_update.specs.Single.{both_words}
-use Rattle.papr_c.specs.Places.{placed}
-use Rattle.papr_c.specs.Stale.{any_stale}
+use Rattle.c_layout.specs.Places.{placed}
+use Rattle.c_layout.specs.Stale.{any_stale}
 use Rattle.papr_c.specs.Tried.{words_of_entries}
-use Rattle.papr_c.proofs.Filling.{placed-append}
+use Rattle.c_layout.proofs.Filling.{placed-append}
 
 -- The trial that reads entries.
 abbrev pub read_all : ℕ → ℕ → List State → List Receipt × List State

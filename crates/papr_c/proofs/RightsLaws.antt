@@ -14,7 +14,8 @@ use Rattle.entry_model.specs.declared.operation.Answer.{Answer}
 use Rattle.entry_model.specs.declared.operation.Answer.TheVariants.{At, Denied, Masked}
 use Rattle.entry_model.specs.Reply.{AccessMode, is_allowed, is_store, mask_against, masks_refuse, reply_of, touched_state, answer_of_match}
 use Rattle.hpt_walk.specs.Walk.{access_op}
-use Rattle.papr_c.specs.Rights.{Translates, has_right, is_recorded, is_fetch, is_mask, protection_refuses, execution_refused, causes_of}
+use Rattle.papr_c.specs.RightsLaws.{Translates}
+use Rattle.c_layout.specs.Rights.{has_right, is_recorded, is_fetch, is_mask, protection_refuses, execution_refused, causes_of}
 
 -- The reply of an entry that translates the page.
 replies : (s : State) (page : VirtualPage) (mode : AccessMode) (secondary : Bool) → Translates s page secondary → reply_of s (access_op page mode secondary) ≡ answer_of_match s mode

@@ -1,34 +1,14 @@
 -- Worked values of the definitions, which the checker computes.
 use Rattle.std.proofs.Common.{◌≡◌, ℕ, [], ◌∷◌, true, false, Some, None, refl, replicate}
-use Rattle.entry_model.specs.State.{State, empty_state}
-use Rattle.entry_model.specs.declared.operation.Op.TheVariants.{Remove}
-use Rattle.entry_model.specs.Receipt.{receipt_of}
+use Rattle.entry_model.specs.State.{empty_state}
 use Rattle.h_update.specs.Single.{h_remove_plan}
 use Rattle.pool_range.specs.Ranges.{range_refusal}
 use Rattle.frame_grants.specs.Grants.{add_refusal, refusals, with_grant}
 use Rattle.frame_grants.specs.declared.grant.Kind.TheVariants.{Io}
-use Rattle.papr_c.specs.declared.grants.PaprGrant.{PaprGrant}
-use Rattle.papr_c.specs.Places.{filled, shown_receipt}
-use Rattle.papr_c.specs.Calls.{memory, refused_reply, outcome_of_call}
+use Rattle.c_layout.specs.declared.grants.PaprGrant.{PaprGrant}
+use Rattle.papr_c.specs.Calls.{memory, outcome_of_call}
+use Rattle.c_layout.specs.Replies.{refused_reply}
 use Rattle.papr_c.specs.Grants.{making_of, making_told, range_told}
-use Rattle.papr_c.specs.Walks.{want_of}
-
--- ---- places
-too_small : filled {X = ℕ} (1 ∷ 2 ∷ []) (7 ∷ 8 ∷ 9 ∷ []) ≡ 7 ∷ 8 ∷ []
-too_small = refl
-
-to_spare : filled {X = ℕ} (1 ∷ 2 ∷ 3 ∷ []) (7 ∷ []) ≡ 7 ∷ 2 ∷ 3 ∷ []
-to_spare = refl
-
--- ---- receipts
--- An entry with R and C, at stamp 4.
-entry : State
-entry = record { valid = true; dword0 = 0x1001; dword1 = 0x3012; referenced = true; changed = true; stamp = 4 }
-
--- The receipt of its removal has the words from before, with R and C.
-removed : shown_receipt (receipt_of 0x20 entry (Remove (record { avpn = None; andcond = None }))) ≡ record { dword0 = 0x1001; dword1 = 0x3192; entry = 0x20; stamp = 4; bits = 3; answer = 2 }
-unfolding entry
-removed = refl
 
 -- ---- tables
 -- Eight entries are no table of order 18: H_PARAMETER, and nothing changes.
@@ -51,7 +31,3 @@ small_pool = refl
 
 device : range_told (Some (0x20, Io)) ≡ record { machine = 0x20; granted = true; is_io = true }
 device = refl
-
--- ---- walks
-other_want : want_of 3 ≡ None
-other_want = refl

@@ -12,10 +12,10 @@ use Rattle.entry_model.specs.Trial.{Call, call, ending_of, receipt_at, trial_run
 use Rattle.entry_model.proofs.TrialSteps.{ending-on, ending-off}
 use Rattle.call_trials.specs.Calls.{call_at}
 use Rattle.call_trials.proofs.BegunLaws.{at_end, at_inside}
-use Rattle.papr_c.specs.declared.receipts.PaprReceipt.{PaprReceipt}
-use Rattle.papr_c.specs.Places.{placed, shown_receipt}
+use Rattle.c_layout.specs.declared.receipts.PaprReceipt.{PaprReceipt}
+use Rattle.c_layout.specs.Places.{placed, shown_receipt}
 use Rattle.papr_c.specs.Tried.{LentPair, IsMadeAt, IsTriedLast}
-use Rattle.papr_c.proofs.Filling.{placed-append}
+use Rattle.c_layout.proofs.Filling.{placed-append}
 
 -- The rest of the calls begins with this one.
 pub drop_at : (cs : List Call) (i entry : ℕ) (op : Op) → call_at cs i ≡ Some (entry, op) → drop i cs ≡ call op entry ∷ drop (suc i) cs

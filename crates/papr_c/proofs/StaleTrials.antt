@@ -11,7 +11,7 @@ use Rattle.entry_model.specs.Receipt.{is_taken}
 use Rattle.entry_model.specs.Run.{states_after}
 use Rattle.entry_model.specs.Trial.{Call, ending_of, receipt_at, trial_run}
 use Rattle.entry_model.proofs.TrialSteps.{ending-on, ending-off}
-use Rattle.papr_c.specs.Stale.{is_stale, any_stale}
+use Rattle.c_layout.specs.Stale.{is_stale, any_stale}
 use Rattle.papr_c.proofs.SoFar.{step_on, step_off, no_more}
 
 or_none : (b : Bool) → (b || false) ≡ b

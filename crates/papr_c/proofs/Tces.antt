@@ -11,7 +11,8 @@ use Rattle.entry_model.specs.Trial.{Plan, call, plan_of_code, trial_run}
 use Rattle.entry_model.specs.declared.operation.Answer.{Answer}
 use Rattle.entry_model.specs.declared.operation.Op.{Op}
 use Rattle.entry_model.specs.declared.receipt.Receipt.{Receipt}
-use Rattle.papr_c.specs.Calls.{LentMemory, refused_reply, outcome_where}
+use Rattle.papr_c.specs.Calls.{LentMemory, outcome_where}
+use Rattle.c_layout.specs.Replies.{refused_reply}
 use Rattle.papr_c.specs.Windows.{window_of, page_entry, outcome_of_tce}
 use Rattle.papr_c.proofs.Outcomes.{coded}
 

@@ -1,16 +1,14 @@
 -- What a hypervisor call of C leaves: its reply, the entries, and the places for words and
 -- receipts.
-use Rattle.std.specs.Prelude.{ℕ, ◌==◌, ◌&&◌, Bool, false, if◌then◌else◌, List, length, map, min}
-use Rattle.papr_codes.specs.ReturnCodes.{rc_code}
-use Rattle.papr_codes.specs.declared.codes.Rc.TheVariants.{Parameter}
+use Rattle.std.specs.Prelude.{ℕ, ◌==◌, ◌&&◌, Bool, if◌then◌else◌, List, length, map}
 use Rattle.entry_model.specs.State.{State}
 use Rattle.entry_model.specs.Trial.{Plan, plan_run}
 use Rattle.entry_model.specs.declared.hreply.HReply.{HReply}
-use Rattle.papr_c.specs.declared.receipts.PaprReceipt.{PaprReceipt}
-use Rattle.papr_c.specs.declared.reply.PaprReply.{PaprReply}
-use Rattle.papr_c.specs.Lent.{is_table}
-use Rattle.papr_c.specs.Stale.{any_stale}
-use Rattle.papr_c.specs.Places.{filled, shown_receipt}
+use Rattle.c_layout.specs.declared.receipts.PaprReceipt.{PaprReceipt}
+use Rattle.c_layout.specs.declared.reply.PaprReply.{PaprReply}
+use Rattle.c_layout.specs.Tables.{is_table}
+use Rattle.c_layout.specs.Replies.{refused_reply, reply_told}
+use Rattle.c_layout.specs.Places.{filled, shown_receipt}
 
 -- The memory that a call may change: the entries, and the places for words and for receipts.
 pub record LentMemory : Type 0 where
@@ -21,21 +19,6 @@ pub record LentMemory : Type 0 where
 -- The memory of these parts.
 abbrev pub memory : List State → List ℕ → List PaprReceipt → LentMemory
 memory entries words receipts = record { entries = entries; words = words; receipts = receipts }
-
--- ---- replies
--- H_PARAMETER, and no place filled.
-abbrev pub refused_reply : PaprReply
-refused_reply = record { rc = rc_code Parameter; words = 0; receipts = 0; stale = false }
-
--- The code of a reply, how many of the places it fills, and whether a cached translation may be one
--- no more.
-abbrev pub reply_told : HReply → List ℕ → List PaprReceipt → PaprReply
-reply_told reply words receipts = record {
-  rc = rc_code reply.rc;
-  words = min (length words) (length reply.words);
-  receipts = min (length receipts) (length reply.receipts);
-  stale = any_stale reply.receipts;
-}
 
 -- ---- outcomes
 -- The memory with these entries, and with the words and the receipts of the reply in the places, as

@@ -1,5 +1,5 @@
--- Grants as C has them: a list that is checked once, sorted, and searched by halving.
-use Rattle.std.specs.Prelude.{◌≡◌, ◌<◌, ◌≤◌, ◌+◌, ◌^◌, ℕ, Bool, true, false, if◌then◌else◌, List, [], ◌∷◌, map, take, slice_index_or, All, AllPairs, Option, Some, None}
+-- How a list of grants is made for C, and what is told of it.
+use Rattle.std.specs.Prelude.{ℕ, ◌+◌, Bool, true, false, List, [], ◌∷◌, Option, Some, None}
 use Rattle.pool_range.specs.Ranges.{range_refusal}
 use Rattle.pool_range.specs.declared.range.RangeError.{RangeError}
 use Rattle.pool_range.specs.declared.range.RangeError.TheVariants as pool
@@ -8,56 +8,11 @@ use Rattle.frame_grants.specs.declared.grant.Kind.{Kind}
 use Rattle.frame_grants.specs.declared.grant.Kind.TheVariants.{Ram, Io}
 use Rattle.frame_grants.specs.declared.error.GrantError.{GrantError}
 use Rattle.frame_grants.specs.declared.error.GrantError.TheVariants as grant
-use Rattle.frame_grants.specs.Grants.{GrantedMemory, IsPlaced, meets_logical, no_grants, add_refusal, with_grant}
-use Rattle.papr_c.specs.declared.grants.PaprGrant.{PaprGrant}
+use Rattle.frame_grants.specs.Grants.{GrantedMemory, no_grants, add_refusal, with_grant}
+use Rattle.c_layout.specs.declared.grants.PaprGrant.{PaprGrant}
+use Rattle.c_layout.specs.Grants.{grant_of}
 use Rattle.papr_c.specs.declared.granting.PaprMaking.{PaprMaking}
 use Rattle.papr_c.specs.declared.granting.PaprRange.{PaprRange}
-
--- ---- one grant
--- What lies behind it.
-abbrev pub kind_of : Bool → Kind
-kind_of is_io = if is_io then Io else Ram
-
--- The grant with these fields.
-abbrev pub grant_of : PaprGrant → Grant
-grant_of g = record {
-  logical = g.logical;
-  machine = g.machine;
-  length = g.length;
-  kind = kind_of g.is_io;
-}
-
--- No byte, at address 0: what stands past the last grant of a list.
-abbrev pub no_fields : PaprGrant
-no_fields = record { logical = 0; machine = 0; length = 0; is_io = false }
-
--- ---- a list that was checked
--- The grant at an index.
-abbrev pub fields_at : List PaprGrant → ℕ → PaprGrant
-fields_at grants index = slice_index_or grants index no_fields
-
--- The first `count` grants rise: each ends where the next begins, or before it, and its machine
--- range ends at most at 2 ^ 60.
-pub record IsInOrder (grants : List PaprGrant) (count : ℕ) : Type 0 where
-  pub rising :
-      (j k : ℕ)
-      → j < k
-      → k < count
-      → (fields_at grants j).logical + (fields_at grants j).length ≤ (fields_at grants k).logical
-  pub low :
-      (k : ℕ)
-      → k < count
-      → (fields_at grants k).machine + (fields_at grants k).length ≤ 2 ^ 60
-
--- Grants that make such a list: each is placed, they rise, and none meets another.
-pub record AreListed (grants : List Grant) : Type 0 where
-  pub placed : All IsPlaced grants
-  pub rising : AllPairs (λ (lower higher : Grant). lower.logical < higher.logical) grants
-  pub apart : AllPairs (λ (lower higher : Grant). meets_logical lower higher ≡ false) grants
-
--- The grants of a list, which are its first `count`.
-abbrev pub listed : List PaprGrant → ℕ → List Grant
-listed grants count = map grant_of (take count grants)
 
 -- ---- how a list is made
 -- What becomes of it: the granted memory, or the index of the first grant that is refused, and why,

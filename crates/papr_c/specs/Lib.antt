@@ -1,11 +1,9 @@
 pub mod Lent
-pub mod Places
 pub mod Tried
-pub mod Stale
+pub mod StaleLaw
 pub mod Calls
 pub mod Grants
-pub mod Rights
-pub mod WalkEnds
+pub mod RightsLaws
 pub mod Walks
 pub mod Rehash
 pub mod Resizing

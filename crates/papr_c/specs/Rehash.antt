@@ -8,7 +8,7 @@ use Rattle.entry_model.specs.State.{State, empty_state}
 use Rattle.hpt_resize.specs.declared.carry.Collision.{Collision}
 use Rattle.hpt_resize.specs.Rehash.{collision_of, rehashed_states}
 use Rattle.papr_c.specs.declared.rehashing.PaprRehash.{PaprRehash}
-use Rattle.papr_c.specs.Lent.{is_table}
+use Rattle.c_layout.specs.Tables.{is_table}
 
 -- ---- answers
 -- The code of a rehash that isn't made, and nothing else.

@@ -8,7 +8,7 @@ use Rattle.papr_codes.specs.declared.codes.Rc.TheVariants.{Success}
 use Rattle.hpt_resize.specs.Pending.{PendingTable}
 use Rattle.hpt_resize.specs.Resize.{Table, pool_without, is_pending, outcome_of_prepare, commit_refusal, outcome_of_commit}
 use Rattle.papr_c.specs.declared.resizing.PaprResize.{PaprResize}
-use Rattle.papr_c.specs.Lent.{is_table}
+use Rattle.c_layout.specs.Tables.{is_table}
 use Rattle.papr_c.specs.Resizing.{ResizeMemory, nothing_pending, with_pending, pending_of, outcome_of_resize_prepare, outcome_of_resize_commit}
 
 -- What is pending as C has it: a table without its place.

@@ -11,7 +11,7 @@ use Rattle.hpt_resize.specs.Rehash.{collision_of}
 use Rattle.hpt_resize.specs.Resize.{is_prepare_request, commit_refusal}
 use Rattle.papr_c.specs.declared.rehashing.PaprRehash.{PaprRehash}
 use Rattle.papr_c.specs.declared.resizing.PaprResize.{PaprResize}
-use Rattle.papr_c.specs.Lent.{is_table}
+use Rattle.c_layout.specs.Tables.{is_table}
 use Rattle.papr_c.specs.Rehash.{refused_rehash, rehash_told, table_after}
 
 -- What a resize call may change: what is pending, and the memory that is lent for its table.

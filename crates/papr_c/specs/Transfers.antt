@@ -17,8 +17,8 @@ use Rattle.table_image.specs.declared.layout.Layout.TheVariants.{Old, New}
 use Rattle.papr_c.specs.declared.transfer.Refusal.{Refusal}
 use Rattle.papr_c.specs.declared.transfer.Refusal.TheVariants.{Arguments, Unheld, Unentered}
 use Rattle.papr_c.specs.declared.transfer.PaprTransfer.{PaprTransfer}
-use Rattle.papr_c.specs.Lent.{is_table}
-use Rattle.papr_c.specs.Places.{filled}
+use Rattle.c_layout.specs.Tables.{is_table}
+use Rattle.c_layout.specs.Places.{filled}
 
 -- ---- arguments
 -- The layout of a number.

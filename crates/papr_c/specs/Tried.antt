@@ -9,9 +9,9 @@ use Rattle.entry_model.specs.declared.operation.Answer.{Answer}
 use Rattle.entry_model.specs.declared.operation.Op.{Op}
 use Rattle.entry_model.specs.declared.receipt.Receipt.{Receipt}
 use Rattle.call_trials.specs.Calls.{call_at}
-use Rattle.papr_c.specs.declared.receipts.PaprReceipt.{PaprReceipt}
+use Rattle.c_layout.specs.declared.receipts.PaprReceipt.{PaprReceipt}
 use Rattle.papr_c.specs.declared.trying.Tried.{Tried}
-use Rattle.papr_c.specs.Places.{shown_receipt}
+use Rattle.c_layout.specs.Places.{shown_receipt}
 
 -- Both doublewords of entries that stand one behind the other.
 abbrev pub words_of_entries : List State → ℕ → ℕ → List ℕ

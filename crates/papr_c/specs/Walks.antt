@@ -1,20 +1,20 @@
 -- What a walk of C leaves: what it found, the entries, and the places for receipts.
-use Rattle.std.specs.Prelude.{◌≡◌, ℕ, ◌==◌, if◌then◌else◌, List, length, map, min, Option, Some, None}
+use Rattle.std.specs.Prelude.{◌≡◌, ℕ, if◌then◌else◌, List, length, map, min, Option, Some}
 use Rattle.storage_prot.specs.declared.want.Want.{Want}
-use Rattle.storage_prot.specs.declared.want.Want.TheVariants.{Load, Store, Fetch}
-use Rattle.power_addr.specs.Pages.{VirtualPage, page_of_address}
+use Rattle.power_addr.specs.Pages.{VirtualPage}
 use Rattle.hpte_fields.specs.Fields.{without_rc}
 use Rattle.entry_model.specs.State.{State}
 use Rattle.entry_model.specs.Receipt.{is_no_match, found_of, after_of}
 use Rattle.entry_model.specs.Trial.{Call, receipt_at, trial_run}
 use Rattle.entry_model.specs.declared.receipt.Receipt.{Receipt}
 use Rattle.hpt_walk.specs.Walk.{walk_calls}
-use Rattle.papr_c.specs.declared.receipts.PaprReceipt.{PaprReceipt}
-use Rattle.papr_c.specs.declared.walking.PaprAccess.{PaprAccess}
-use Rattle.papr_c.specs.declared.walking.PaprWalk.{PaprWalk}
-use Rattle.papr_c.specs.Lent.{is_table}
-use Rattle.papr_c.specs.Places.{filled, shown_receipt}
-use Rattle.papr_c.specs.WalkEnds.{mode_of, refused_walk, walk_end}
+use Rattle.c_layout.specs.declared.receipts.PaprReceipt.{PaprReceipt}
+use Rattle.c_layout.specs.declared.walking.PaprAccess.{PaprAccess}
+use Rattle.c_layout.specs.declared.walking.PaprWalk.{PaprWalk}
+use Rattle.c_layout.specs.Tables.{is_table}
+use Rattle.c_layout.specs.Places.{filled, shown_receipt}
+use Rattle.c_layout.specs.Accesses.{want_of, page_of}
+use Rattle.c_layout.specs.WalkEnds.{mode_of, refused_walk, walk_end}
 
 -- The memory that a walk may change: the entries, and the places for receipts.
 pub record WalkMemory : Type 0 where
@@ -24,19 +24,6 @@ pub record WalkMemory : Type 0 where
 -- The memory of these parts.
 abbrev pub walk_memory : List State → List PaprReceipt → WalkMemory
 walk_memory entries receipts = record { entries = entries; receipts = receipts }
-
--- ---- arguments
--- What the number of an access wants.
-abbrev pub want_of : ℕ → Option Want
-want_of want =
-    if want == 0 then Some Load
-    else if want == 1 then Some Store
-    else if want == 2 then Some Fetch
-    else None
-
--- The page of the access, where its segment's number and page size are in range.
-abbrev pub page_of : PaprAccess → Option VirtualPage
-page_of a = page_of_address a.one_tb a.vsid a.shift a.ea
 
 -- ---- outcomes
 -- The walk of a page's groups, in walk order, up to the first entry that translates the page: its

@@ -12,11 +12,11 @@ use Rattle.entry_model.specs.declared.operation.Op.TheVariants.{Read}
 use Rattle.entry_model.specs.declared.device_reply.DeviceOutcome.{DeviceOutcome}
 use Rattle.entry_model.specs.declared.device_reply.DeviceOutcome.TheVariants.{At, Denied, NoWindow, Ungranted}
 use Rattle.dma_window.specs.Devices.{outcome_of}
-use Rattle.papr_c.specs.declared.receipts.PaprReceipt.{PaprReceipt}
-use Rattle.papr_c.specs.declared.reply.PaprReply.{PaprReply}
+use Rattle.c_layout.specs.declared.receipts.PaprReceipt.{PaprReceipt}
+use Rattle.c_layout.specs.declared.reply.PaprReply.{PaprReply}
 use Rattle.papr_c.specs.declared.windows.PaprDevice.{PaprDevice}
 use Rattle.papr_c.specs.Calls.{LentMemory, outcome_where}
-use Rattle.papr_c.specs.Places.{filled, shown_receipt}
+use Rattle.c_layout.specs.Places.{filled, shown_receipt}
 
 -- The window of so many entries, from this bus address on. Its number is its caller's own.
 abbrev pub window_of : ℕ → List State → BusWindow

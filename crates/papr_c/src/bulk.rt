@@ -2,10 +2,8 @@ ghost use Rattle.std.specs.Prelude.{◌≡◌};
 ghost use Rattle.h_update.specs.Bulk.{h_bulk_remove_plan};
 ghost use Rattle.papr_c.specs.Calls.{memory, outcome_of_bulk};
 
-use crate::lent::is_table;
-use crate::receipts::PaprReceipt;
-use crate::reply::PaprReply;
 use crate::running::run_lent;
+use c_layout::{PaprReceipt, PaprReply, is_table};
 use call_plan::bulk_remove_plan;
 use entry_model::EntryState;
 

@@ -1,13 +1,10 @@
 ghost use Rattle.std.specs.Prelude.{◌≡◌};
 ghost use Rattle.h_enter.specs.Checks.{h_enter_plan};
 ghost use Rattle.papr_c.specs.Calls.{memory, outcome_of_call};
-ghost use Rattle.papr_c.specs.Grants.{listed};
+ghost use Rattle.c_layout.specs.Grants.{listed};
 
-use crate::grants::PaprGrants;
-use crate::lent::is_table;
-use crate::receipts::PaprReceipt;
-use crate::reply::PaprReply;
 use crate::running::run_lent;
+use c_layout::{PaprGrants, PaprReceipt, PaprReply, is_table};
 use call_plan::enter_plan;
 use entry_model::EntryState;
 

@@ -2,12 +2,12 @@ ghost use Rattle.std.specs.Prelude.{◌≡◌, ◌+◌, ◌*◌, ◌≤◌, ◌+
 ghost use Rattle.byteorder.specs.Endian.{big_bytes};
 ghost use Rattle.table_image.specs.Layouts.{laid_out};
 ghost use Rattle.entry_model.specs.Reply.{words_of};
-ghost use Rattle.papr_c.specs.Places.{filled};
+ghost use Rattle.c_layout.specs.Places.{filled};
 ghost use Rattle.papr_c.specs.Transfers.{bytes_of_entries, outcome_of_export};
 
-use crate::lent::is_table;
 use crate::transfer::{PaprTransfer, Refusal, is_range, layout_of};
 use byteorder::{BigEndian, ByteOrder};
+use c_layout::is_table;
 use entry_model::EntryState;
 use table_image::Layout;
 

@@ -1,8 +1,9 @@
 ghost use Rattle.std.specs.Prelude.{◌≡◌};
 ghost use Rattle.frame_grants.specs.Grants.{machine_range};
-ghost use Rattle.papr_c.specs.Grants.{listed, making_of, making_told, list_after, grant_refusal_number, pool_refusal_number, range_told};
+ghost use Rattle.c_layout.specs.Grants.{listed};
+ghost use Rattle.papr_c.specs.Grants.{making_of, making_told, list_after, grant_refusal_number, pool_refusal_number, range_told};
 
-use crate::grants::{PaprGrant, PaprGrants};
+use c_layout::{PaprGrant, PaprGrants};
 use frame_grants::{GrantError, Grants, Kind};
 use page_grants::GrantedMemory;
 use pool_range::{PoolRange, RangeError};

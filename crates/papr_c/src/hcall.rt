@@ -1,15 +1,13 @@
 ghost use Rattle.std.specs.Prelude.{◌≡◌};
 ghost use Rattle.papr_c.specs.Calls.{memory};
-ghost use Rattle.papr_c.specs.Grants.{listed};
+ghost use Rattle.c_layout.specs.Grants.{listed};
 ghost use Rattle.papr_c.specs.Hcalls.{outcome_of_hcall};
 
 use crate::bulk::papr_h_bulk_remove;
 use crate::enter::papr_h_enter;
-use crate::grants::PaprGrants;
 use crate::read::papr_h_read;
-use crate::receipts::PaprReceipt;
-use crate::reply::PaprReply;
 use crate::single::{papr_h_clear_mod, papr_h_clear_ref, papr_h_protect, papr_h_remove};
+use c_layout::{PaprGrants, PaprReceipt, PaprReply};
 use entry_model::EntryState;
 use papr_codes::{Hcall, Rc};
 

@@ -1,13 +1,12 @@
 ghost use Rattle.std.specs.Prelude.{◌≡◌, ◌+◌, ◌*◌, ◌≤◌, ◌<◌, None, IfSome, length};
 ghost use Rattle.entry_model.specs.Reply.{entered_state};
 ghost use Rattle.table_image.specs.Layouts.{read_words};
-ghost use Rattle.papr_c.specs.Grants.{listed};
+ghost use Rattle.c_layout.specs.Grants.{listed};
 ghost use Rattle.papr_c.specs.Transfers.{replaced, entries_of_bytes, outcome_of_import};
 
-use crate::grants::PaprGrants;
-use crate::lent::is_table;
 use crate::transfer::{PaprTransfer, Refusal, is_range, layout_of};
 use byteorder::{BigEndian, ByteOrder};
+use c_layout::{PaprGrants, is_table};
 use entry_model::{EntryState, Op, reply};
 use hpte_fields::VALID;
 use page_grants::entered_words;

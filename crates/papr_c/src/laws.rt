@@ -2,8 +2,8 @@
 
 ghost use Rattle.papr_c.specs.Decoding.{PlacesAreThoseOfPages, NoCauseExactlyAtPages, BaseSizesAreThePages};
 ghost use Rattle.papr_c.specs.ResizeLaw.{IsPrepareOfPool, IsCommitOfPool};
-ghost use Rattle.papr_c.specs.Rights.{RightsAreWhatStays, NoCauseExactlyWhereAllowed};
-ghost use Rattle.papr_c.specs.Stale.{UnstaleKeepsTranslations};
+ghost use Rattle.papr_c.specs.RightsLaws.{RightsAreWhatStays, NoCauseExactlyWhereAllowed};
+ghost use Rattle.papr_c.specs.StaleLaw.{UnstaleKeepsTranslations};
 ghost use Rattle.papr_c.specs.TransferLaw.{IsRoundTrip};
 ghost use Rattle.papr_c.specs.Walks.{ProbesAgreeWithWalks};
 

@@ -1,22 +1,8 @@
 ghost use Rattle.std.specs.Prelude.{◌≡◌, ◌≤◌, length};
 ghost use Rattle.hpte_fields.specs.TableSize.{entry_count};
-ghost use Rattle.papr_c.specs.Lent.{is_table};
 
 use crate::trying::make;
 use entry_model::{EntryState, EntryStore, Line, Op, Receipt};
-
-/// The order of the smallest table.
-pub const LEAST: u8 = 18;
-
-/// The order of the largest table.
-pub const GREATEST: u8 = 22;
-
-/// Whether the entries are all those of one table of `2^order` bytes.
-pub fn is_table(entries: &[EntryState], order: u8) -> bool
-    ensures { result ≡ Rattle.papr_c.specs.Lent.is_table order entries.now }
-{
-    LEAST <= order && order <= GREATEST && entries.len() == 1 << (order - 4)
-}
 
 /// A table that its owner lends for a call.
 #[derive(Drop)]

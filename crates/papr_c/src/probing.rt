@@ -5,9 +5,8 @@ ghost use Rattle.entry_model.specs.Trial.{Call};
 ghost use Rattle.call_plan.specs.PageCalls.{calls_of};
 ghost use Rattle.papr_c.specs.Walks.{each_as_is, outcome_of_probe};
 
-use crate::lent::is_table;
 use crate::trying::asked;
-use crate::walking::{NO_PAGE, PaprAccess, PaprWalk, want_of};
+use c_layout::{NO_PAGE, PaprAccess, PaprWalk, is_table, want_of};
 use call_plan::PageCalls;
 use call_trials::CallList;
 use entry_model::{EntryState, Receipt};

@@ -1,13 +1,11 @@
 ghost use Rattle.std.specs.Prelude.{◌≡◌, ◌≤◌, ◌+◌, ◌*◌, ◌^◌, ◌<◌, length, min};
 ghost use Rattle.h_update.specs.Single.{h_read_plan};
 ghost use Rattle.papr_c.specs.Calls.{memory, outcome_of_call};
-ghost use Rattle.papr_c.specs.Places.{placed};
+ghost use Rattle.c_layout.specs.Places.{placed};
 ghost use Rattle.papr_c.specs.Tried.{words_of_entries};
 
-use crate::lent::is_table;
-use crate::receipts::PaprReceipt;
-use crate::reply::{PaprReply, filled_count, put_word};
 use crate::running::run_lent;
+use c_layout::{PaprReceipt, PaprReply, filled_count, is_table, put_word};
 use call_plan::read_plan;
 use entry_model::EntryState;
 

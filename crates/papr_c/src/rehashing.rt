@@ -4,7 +4,7 @@ ghost use Rattle.hpte_fields.specs.TableSize.{entry_count};
 ghost use Rattle.hpt_resize.specs.Rehash.{collision_of};
 ghost use Rattle.papr_c.specs.Rehash.{refused_rehash, rehash_told, table_after, outcome_of_rehash};
 
-use crate::lent::is_table;
+use c_layout::is_table;
 use entry_model::EntryState;
 use hpt_resize::rehash_into;
 use papr_codes::Rc;

@@ -3,8 +3,8 @@ ghost use Rattle.hpte_fields.specs.TableSize.{entry_count};
 ghost use Rattle.hpt_resize.specs.Resize.{commit_refusal};
 ghost use Rattle.papr_c.specs.Resizing.{resize_memory, nothing_pending, pending_of, is_pending_table, table_of_order, emptied, prepared, outcome_of_resize_prepare, outcome_of_resize_commit};
 
-use crate::lent::{GREATEST, LEAST, is_table};
 use crate::rehashing::{PaprRehash, carry, clear};
+use c_layout::{GREATEST, LEAST, is_table};
 use entry_model::EntryState;
 use hpte_fields::entry_count;
 use papr_codes::Rc;

@@ -1,15 +1,13 @@
 ghost use Rattle.std.specs.Prelude.{◌≡◌, true};
 ghost use Rattle.call_plan.specs.Plans as plans;
 ghost use Rattle.papr_c.specs.Calls.{memory, outcome_of_call};
-ghost use Rattle.papr_c.specs.Lent.{is_table};
+ghost use Rattle.c_layout.specs.Tables.{is_table};
 ghost use Rattle.h_update.specs.Bulk.{h_bulk_remove_plan};
 
 use crate::lent::LentTable;
 use crate::read::put_entries;
-use crate::receipts::{PaprReceipt, put_receipts};
-use crate::reply::{PaprReply, filled_count, hand_over};
-use crate::stale::{any_stale, ends_stale, is_stale};
 use crate::trying::{make, try_lent};
+use c_layout::{PaprReceipt, PaprReply, any_stale, ends_stale, filled_count, hand_over, is_stale, put_receipts};
 use call_plan::{CallPlan, Told, Trial};
 use entry_model::{EntryState, Receipts};
 use h_update::h_bulk_remove_into;

@@ -2,10 +2,8 @@ ghost use Rattle.std.specs.Prelude.{◌≡◌};
 ghost use Rattle.h_update.specs.Single.{h_remove_plan, h_protect_plan, h_clear_ref_plan, h_clear_mod_plan};
 ghost use Rattle.papr_c.specs.Calls.{memory, outcome_of_call};
 
-use crate::lent::is_table;
-use crate::receipts::PaprReceipt;
-use crate::reply::PaprReply;
 use crate::running::run_lent;
+use c_layout::{PaprReceipt, PaprReply, is_table};
 use call_plan::{clear_mod_plan, clear_ref_plan, protect_plan, remove_plan};
 use entry_model::EntryState;
 

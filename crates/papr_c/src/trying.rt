@@ -3,10 +3,10 @@ ghost use Rattle.std.specs.List.{AllByRecursion};
 ghost use Rattle.entry_model.specs.Receipt.{after_of, receipt_of};
 ghost use Rattle.entry_model.specs.Run.{state_at, states_after};
 ghost use Rattle.entry_model.specs.Trial.{Call, ending_of, trial_run};
-ghost use Rattle.papr_c.specs.Places.{placed, shown_receipt};
+ghost use Rattle.c_layout.specs.Places.{placed, shown_receipt};
 ghost use Rattle.papr_c.specs.Tried.{IsTriedNext};
 
-use crate::receipts::{PaprReceipt, put_receipt};
+use c_layout::{PaprReceipt, put_receipt};
 use call_trials::CallList;
 use entry_model::{Answer, EntryState, Op, Receipt, reply};
 

@@ -6,15 +6,12 @@ ghost use Rattle.dma_window.specs.Entries as words;
 ghost use Rattle.dma_window.specs.Pages as pages;
 ghost use Rattle.entry_model.specs.Receipt;
 ghost use Rattle.papr_c.specs.Calls.{memory, outcome_where};
-ghost use Rattle.papr_c.specs.Grants.{listed};
+ghost use Rattle.c_layout.specs.Grants.{listed};
 ghost use Rattle.papr_c.specs.Windows.{window_of, page_entry, outcome_of_tce, device_told, refused_device, outcome_of_device};
 
-use crate::grants::PaprGrants;
-use crate::receipts::PaprReceipt;
-use crate::reply::{PaprReply, filled_count, put_word};
-use crate::stale::{either_stale, is_stale};
 use crate::trying::make;
 use bus_window::Window;
+use c_layout::{PaprGrants, PaprReceipt, PaprReply, either_stale, filled_count, is_stale, put_word};
 use dma_window::{entering, tce_of};
 use entry_model::{Answer, DeviceOutcome, EntryState, Op, Test};
 use frame_grants::Kind;

@@ -1,5 +1,5 @@
 use Rattle.std.proofs.Common.{◌∙◌, refl}
-use Rattle.papr_c.specs.Grants.{no_fields}
+use Rattle.c_layout.specs.Grants.{no_fields}
 use Rattle.papr_c.proofs.Makings.{without_pool, beside_pool, one_taken, one_refused, all_taken}
 use Rattle.papr_c.proofs.granting.papr_make_grants.Goals as goal
 

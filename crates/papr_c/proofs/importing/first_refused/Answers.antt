@@ -1,6 +1,6 @@
 use Rattle.std.proofs.Common.{◌≡◌, sym, arith, true, false, ℕ, Bool}
 use Rattle.std.specs.Prelude.{is_err}
-use Rattle.papr_c.specs.Grants.{listed}
+use Rattle.c_layout.specs.Grants.{listed}
 use Rattle.papr_c.specs.Transfers.{entry_of_bytes}
 use Rattle.papr_c.proofs.Transfers.{fails_more, first_at, none_at}
 use Rattle.papr_c.proofs.importing.first_refused.Goals as goal

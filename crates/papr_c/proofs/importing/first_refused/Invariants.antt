@@ -1,6 +1,6 @@
 use Rattle.std.proofs.Common.{◌≡◌, ◌<◌, false, ℕ}
 use Rattle.std.specs.Prelude.{is_err}
-use Rattle.papr_c.specs.Grants.{listed}
+use Rattle.c_layout.specs.Grants.{listed}
 use Rattle.papr_c.specs.Transfers.{entry_of_bytes}
 use Rattle.papr_c.proofs.importing.first_refused.Given as goal
 

@@ -2,7 +2,7 @@ use Rattle.std.proofs.Common.{◌≡◌, ◌+◌, ◌∙◌, ap, sym, arith, set
 use Rattle.std.specs.Result.{result_unwrap_or}
 use Rattle.std.proofs.lemmas.List.FromFn.{length-map-range_with_len}
 use Rattle.entry_model.specs.State.{State, empty_state}
-use Rattle.papr_c.specs.Grants.{listed}
+use Rattle.c_layout.specs.Grants.{listed}
 use Rattle.papr_c.specs.Transfers.{entry_of_bytes, entries_of_bytes, replaced}
 use Rattle.papr_c.proofs.Transfers.{entered_at, entries-more, set_replaced}
 use Rattle.papr_c.proofs.importing.put_entries.Goals as goal

@@ -1,5 +1,5 @@
 use Rattle.std.proofs.Common.{◌≡◌}
-use Rattle.papr_c.specs.Grants.{listed}
+use Rattle.c_layout.specs.Grants.{listed}
 use Rattle.papr_c.specs.Transfers.{replaced, entries_of_bytes}
 use Rattle.papr_c.proofs.importing.put_entries.Given as goal
 

@@ -1,5 +1,5 @@
 use Rattle.std.proofs.Common.{◌≡◌}
-use Rattle.papr_c.specs.Places.{placed}
+use Rattle.c_layout.specs.Places.{placed}
 use Rattle.papr_c.specs.Tried.{words_of_entries}
 use Rattle.papr_c.proofs.read.put_entries.Given as goal
 

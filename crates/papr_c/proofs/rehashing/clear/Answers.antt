@@ -1,7 +1,7 @@
 use Rattle.std.proofs.Common.{◌≡◌, ◌++◌, [], length, replicate, take, drop, get_or, refl, sym, ◌∙◌, arith}
 use Rattle.std.proofs.lemmas.List.{length-replicate, get_or-replicate, take_all, drop_all, append-nil}
 use Rattle.entry_model.specs.State.{empty_state}
-use Rattle.papr_c.proofs.Filling.{fill_more}
+use Rattle.c_layout.proofs.Filling.{fill_more}
 use Rattle.papr_c.proofs.rehashing.clear.Goals as goal
 
 pub loop-i-preserved : goal.loop-i-preserved

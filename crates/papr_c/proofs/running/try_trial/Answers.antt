@@ -13,10 +13,10 @@ use Rattle.h_enter.specs.Enter.{told_by_ending}
 use Rattle.h_enter.proofs.Search.{told_is}
 use Rattle.call_plan.specs.Plans.{goes_of, told_of, most_of, plan_of_trial, IsToldOf}
 use Rattle.call_plan.proofs.TrialCalls.{trial_in}
-use Rattle.papr_c.specs.Places.{placed, shown_receipt}
-use Rattle.papr_c.specs.Stale.{is_stale, any_stale}
+use Rattle.c_layout.specs.Places.{placed, shown_receipt}
+use Rattle.c_layout.specs.Stale.{is_stale, any_stale}
 use Rattle.papr_c.specs.Tried.{words_of_entries}
-use Rattle.papr_c.proofs.Filling.{placed_filled}
+use Rattle.c_layout.proofs.Filling.{placed_filled}
 use Rattle.papr_c.proofs.Outcomes.{alone, call_tried, calls_inside}
 use Rattle.papr_c.proofs.Reading.{read_all, reads, words-length}
 use Rattle.papr_c.proofs.StaleTrials.{stale_alone, stale_entered}

@@ -3,7 +3,7 @@ use Rattle.std.proofs.lemmas.List.{get_or_read}
 use Rattle.entry_model.specs.State.{State, empty_state}
 use Rattle.entry_model.specs.Receipt.{after_of, is_no_match}
 use Rattle.call_plan.specs.PageCalls.{calls_of}
-use Rattle.papr_c.specs.WalkEnds.{end_at}
+use Rattle.c_layout.specs.WalkEnds.{end_at}
 use Rattle.papr_c.proofs.EndedTrials.{IsLeft, ended_left}
 use Rattle.papr_c.proofs.Outcomes.{calls_inside, walk_is}
 use Rattle.papr_c.proofs.walking.papr_walk.Goals as goal

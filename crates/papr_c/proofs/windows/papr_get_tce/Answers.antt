@@ -6,8 +6,8 @@ use Rattle.entry_model.specs.declared.operation.Op.TheVariants.{Read}
 use Rattle.entry_model.specs.declared.receipt.Receipt.{Receipt}
 use Rattle.dma_window.specs.Calls.{get_plan_at, get_tce_plan}
 use Rattle.papr_c.specs.Calls.{memory}
-use Rattle.papr_c.specs.Stale.{is_stale, any_stale}
-use Rattle.papr_c.proofs.Filling.{placed_filled}
+use Rattle.c_layout.specs.Stale.{is_stale, any_stale}
+use Rattle.c_layout.proofs.Filling.{placed_filled}
 use Rattle.papr_c.proofs.Outcomes.{call_tried}
 use Rattle.papr_c.proofs.StaleTrials.{stale_alone}
 use Rattle.papr_c.proofs.Tces.{one_call, no_page, has_page}

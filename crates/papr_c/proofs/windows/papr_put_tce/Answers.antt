@@ -1,7 +1,7 @@
 use Rattle.std.proofs.Common.{[], ap, sym, ◌∙◌}
 use Rattle.dma_window.specs.Calls.{put_plan_at, put_tce_plan}
 use Rattle.papr_c.specs.Calls.{memory}
-use Rattle.papr_c.specs.Grants.{listed}
+use Rattle.c_layout.specs.Grants.{listed}
 use Rattle.papr_c.proofs.Tces.{no_page, has_page}
 use Rattle.papr_c.proofs.windows.papr_put_tce.Goals as goal
 

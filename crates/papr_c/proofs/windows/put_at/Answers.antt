@@ -6,7 +6,7 @@ use Rattle.dma_window.specs.Calls.{put_plan_at}
 use Rattle.dma_window.specs.Entries.{address_of, permits}
 use Rattle.dma_window.specs.Pages.{is_ram}
 use Rattle.papr_c.specs.Calls.{memory, outcome_where}
-use Rattle.papr_c.specs.Grants.{listed}
+use Rattle.c_layout.specs.Grants.{listed}
 use Rattle.papr_c.proofs.Outcomes.{coded}
 use Rattle.papr_c.proofs.windows.put_at.Goals as goal
 

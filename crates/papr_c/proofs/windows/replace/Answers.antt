@@ -11,8 +11,8 @@ use Rattle.entry_model.specs.declared.operation.Op.TheVariants.{Remove}
 use Rattle.dma_window.specs.Calls.{replace_plan, code_of}
 use Rattle.dma_window.specs.Entries.{no_test}
 use Rattle.papr_c.specs.Calls.{memory}
-use Rattle.papr_c.specs.Places.{shown_receipt}
-use Rattle.papr_c.specs.Stale.{any_stale}
+use Rattle.c_layout.specs.Places.{shown_receipt}
+use Rattle.c_layout.specs.Stale.{any_stale}
 use Rattle.papr_c.proofs.Outcomes.{call_tried}
 use Rattle.papr_c.proofs.StaleTrials.{stale_alone, stale_pair}
 use Rattle.papr_c.proofs.Tces.{first_ends, two_calls}

@@ -1,0 +1,9 @@
+pub mod Places
+pub mod Stale
+pub mod Replies
+pub mod Tables
+pub mod Grants
+pub mod Hcalls
+pub mod Rights
+pub mod Accesses
+pub mod WalkEnds

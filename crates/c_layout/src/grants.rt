@@ -1,0 +1,146 @@
+ghost use Rattle.std.specs.Prelude.{◌≡◌, ◌≤◌, ◌<◌, ℕ, length};
+ghost use Rattle.frame_grants.specs.Grants.{holds};
+ghost use Rattle.c_layout.specs.Grants.{kind_of, grant_of, fields_at, listed, IsInOrder, AreListed};
+
+use frame_grants::{Grant, Kind};
+use page_grants::GrantedMemory;
+
+/// A range of the guest's logical addresses and the machine range behind it, in bytes.
+#[repr(C)]
+#[derive(Clone, Copy)]
+pub struct PaprGrant {
+    /// The first logical address.
+    pub logical: u64,
+    /// The machine address of the first byte.
+    pub machine: u64,
+    /// The length of both ranges.
+    pub length: u64,
+    /// Whether a device's registers lie behind the range, in place of main storage.
+    pub is_io: bool,
+}
+
+impl PaprGrant {
+    /// No byte, at address 0.
+    pub const NONE: PaprGrant = PaprGrant {
+        logical: 0,
+        machine: 0,
+        length: 0,
+        is_io: false,
+    };
+
+    /// The same grant, as it is added to others.
+    pub fn grant(&self) -> Grant
+        ensures { result ≡ grant_of self.now }
+    {
+        Grant {
+            logical: self.logical,
+            machine: self.machine,
+            length: self.length,
+            kind: self.kind(),
+        }
+    }
+
+    /// What lies behind it.
+    fn kind(&self) -> Kind
+        ensures { result ≡ kind_of self.now.is_io }
+    {
+        if self.is_io { Kind::Io } else { Kind::Ram }
+    }
+
+    /// Whether the whole logical range lies in the grant. Its end may be past 2^64.
+    fn holds(&self, logical: u64, length: u64) -> bool
+        ensures { result ≡ holds logical length (grant_of self.now) }
+    {
+        self.logical <= logical
+            && logical - self.logical <= self.length
+            && length <= self.length - (logical - self.logical)
+    }
+
+    /// The same grant, as C has it.
+    pub fn of(grant: &Grant) -> PaprGrant
+        ensures { grant_of result ≡ grant.now }
+    {
+        PaprGrant {
+            logical: grant.logical,
+            machine: grant.machine,
+            length: grant.length,
+            is_io: matches!(grant.kind, Kind::Io),
+        }
+    }
+}
+
+/// A list of at most 64 grants that was checked, in order of logical address. All zero is the list
+/// of none.
+#[repr(C)]
+#[derive(Clone, Copy)]
+pub struct PaprGrants {
+    /// In order of logical address; those from `count` on are empty.
+    pub grants: [PaprGrant; 64],
+    /// How many there are: 0 to 64.
+    pub count: u32,
+
+    ghost few: { count ≤ length grants },
+    ghost in_order: { IsInOrder grants count },
+}
+
+impl PaprGrants {
+    /// The list of grants that stand apart.
+    pub fn of(grants: &[Grant]) -> PaprGrants
+        requires few { length grants.now ≤ 64 }
+        requires apart { AreListed grants.now }
+        ensures { listed result.grants result.count ≡ grants.now }
+    {
+        let mut list = [PaprGrant::NONE; 64];
+        for i in 0..grants.len() {
+            list[i] = PaprGrant::of(&grants[i]);
+        }
+        PaprGrants {
+            grants: list,
+            count: grants.len() as u32,
+        }
+    }
+
+    /// How many grants begin at or below the address. The list is halved, so this takes at most
+    /// seven looks.
+    fn count_below(&self, logical: u64) -> usize
+        ensures bound { result ≤ self.now.count }
+        ensures below { (k : ℕ)
+            → k < result
+            → (fields_at self.now.grants k).logical ≤ logical }
+        ensures above { (k : ℕ)
+            → result ≤ k
+            → k < self.now.count
+            → logical < (fields_at self.now.grants k).logical }
+    {
+        let mut low = 0;
+        let mut high = self.count as usize;
+        while low < high {
+            let middle = low + (high - low) / 2;
+            if self.grants[middle].logical <= logical {
+                low = middle + 1;
+            } else {
+                high = middle;
+            }
+        }
+        low
+    }
+}
+
+impl GrantedMemory for PaprGrants {
+    ghost grants = { λ list. listed list.grants list.count };
+
+    fn machine_of(&self, logical: u64, length: u64) -> Option<(u64, Kind)> {
+        if length == 0 {
+            return None;
+        }
+        let below = self.count_below(logical);
+        if below == 0 {
+            return None;
+        }
+        let grant = &self.grants[below - 1];
+        if !grant.holds(logical, length) {
+            return None;
+        }
+        Some((grant.machine + (logical - grant.logical), grant.kind()))
+    }
+}

@@ -1,6 +1,0 @@
-use Rattle.std.proofs.Common.{◌≡◌, ◌++◌, map, take, drop}
-use Rattle.papr_c.specs.Places.{shown_receipt}
-use Rattle.papr_c.proofs.receipts.put_receipts.Given as goal
-
-abbrev pub invariant-loop-i : goal.invariant-loop-i
-invariant-loop-i l = l.places ≡ take l.i (map shown_receipt l.made) ++ drop l.i l.initial.places

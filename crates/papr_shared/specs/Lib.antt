@@ -1,0 +1,5 @@
+pub mod Answers
+pub mod Calls
+pub mod Walks
+pub mod Passes
+pub mod HeldUp

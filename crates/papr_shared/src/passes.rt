@@ -1,0 +1,143 @@
+ghost use Rattle.std.specs.Prelude.{◌≡◌, nat_le, length, Some, None, IfOk, IfErr};
+ghost use Rattle.papr_codes.specs.ReturnCodes.{rc_code};
+ghost use Rattle.papr_codes.specs.declared.codes.Rc.TheVariants.{Success};
+ghost use Rattle.papr_shared.specs.Passes as spec;
+
+use entry_model::EntryState;
+use hpte_fields::entry_count;
+use papr_codes::Rc;
+use shared_pass::{PaprPass, Room, Working, close};
+use std::alloc::Global;
+
+/// Puts a new pass with one of the shares into `other`.
+fn split(alloc: Global, working: &mut Working, other: &mut PaprPass) -> Rc
+    requires { other.old.place.held ≡ None }
+    ensures { spec.SplitsBy
+        (nat_le 2 working.old.sharer.pass.shares)
+        working.old
+        (spec.two_after (Some working.new) other.new.place.held (rc_code result)) }
+{
+    if working.shares() < 2 {
+        return Rc::Resource;
+    }
+    let Some(room) = Room::take(alloc) else {
+        return Rc::NoMem;
+    };
+    let Some(made) = working.split() else {
+        room.free();
+        return Rc::NoMem;
+    };
+    other.put(room.fill(made));
+    Rc::Success
+}
+
+/// Makes `other`, which must be closed, a new pass of the same table, with one of the shares of
+/// `pass`.
+#[unsafe(no_mangle)]
+pub extern "C" fn papr_split(alloc: Global, pass: &mut PaprPass, other: &mut PaprPass) -> i64
+    ensures { spec.IsSplitting
+        pass.old.place.held
+        other.old.place.held
+        (spec.two_after pass.new.place.held other.new.place.held result) }
+{
+    if other.is_open() {
+        return Rc::Parameter.code();
+    }
+    let Some(mut working) = pass.take(alloc) else {
+        return Rc::Parameter.code();
+    };
+    let rc = split(alloc, &mut working, other);
+    pass.put(working);
+    rc.code()
+}
+
+/// Takes `other` into `pass`: its shares and what it has made. `other` is closed then.
+#[unsafe(no_mangle)]
+pub extern "C" fn papr_join(alloc: Global, pass: &mut PaprPass, other: &mut PaprPass) -> i64
+    requires { spec.AreOfOneTable pass.old.place.held other.old.place.held }
+    ensures { spec.IsJoining
+        pass.old.place.held
+        other.old.place.held
+        (spec.two_after pass.new.place.held other.new.place.held result) }
+{
+    let Some(mut working) = pass.take(alloc) else {
+        return Rc::Parameter.code();
+    };
+    let Some(taken) = other.take(alloc) else {
+        pass.put(working);
+        return Rc::Parameter.code();
+    };
+    if !(working.is_free() && taken.is_free()) {
+        pass.put(working);
+        other.put(taken);
+        return Rc::Busy.code();
+    }
+    working.join(Box::into_inner(taken));
+    pass.put(working);
+    Rc::Success.code()
+}
+
+/// A pass that isn't closed, and why.
+struct StillOpen {
+    working: Box<Working>,
+    rc: Rc,
+}
+
+/// Closes the table of a pass, and writes its entries back.
+fn write_back(working: Box<Working>, entries: &mut [EntryState]) -> Result<(), StillOpen>
+    ensures closed { let after = spec.closed_after entries.old entries.new in
+        IfOk result
+        (λ done. spec.ClosesBy
+        (spec.close_refusal (length entries.old) working.value)
+        working.value
+        (after None (rc_code Success))) }
+    ensures still { let after = spec.closed_after entries.old entries.new in
+        IfErr result
+        (λ still. spec.ClosesBy
+        (spec.close_refusal (length entries.old) working.value)
+        working.value
+        (after (Some still.working.value) (rc_code still.rc))) }
+{
+    if entries.len() != entry_count(working.order()) as usize {
+        let rc = Rc::Parameter;
+        return Err(StillOpen { working, rc });
+    }
+    if !working.has_all_shares() {
+        let rc = Rc::Resource;
+        return Err(StillOpen { working, rc });
+    }
+    if !working.is_free() {
+        let rc = Rc::Busy;
+        return Err(StillOpen { working, rc });
+    }
+    match close(working) {
+        Ok(closed) => {
+            entries.copy_from_slice(closed.closing.as_slice());
+            Ok(())
+        }
+        Err(working) => {
+            let rc = Rc::Resource;
+            Err(StillOpen { working, rc })
+        }
+    }
+}
+
+/// Writes the entries back, frees the table, and closes the pass, which must have all shares.
+#[unsafe(no_mangle)]
+pub extern "C" fn papr_close(alloc: Global, pass: &mut PaprPass, entries: &mut [EntryState]) -> i64
+    ensures { spec.IsClosing
+        pass.old.place.held
+        (spec.closed_after entries.old entries.new pass.new.place.held result) }
+{
+    let Some(working) = pass.take(alloc) else {
+        return Rc::Parameter.code();
+    };
+    match write_back(working, entries) {
+        Ok(()) => Rc::Success.code(),
+        Err(still) => {
+            let StillOpen { working, rc } = still;
+            pass.put(working);
+            rc.code()
+        }
+    }
+}

@@ -1,0 +1,24 @@
+-- A place with a value, and its parts, own what a box at the same types owns.
+use mir.Syntax.{impl, tnil, dnil}
+use mathlib.Core.List.{[]}
+use denote.Signature.{Slot, plain}
+use Rattle.std_alloc.proofs.BoxSteps.Form.{Bx}
+use Rattle.std_heap.specs.contracts.Global as Heap
+use Rattle.std_heap.specs.contracts.GlobalAllocator.TheImpl.{ghosts, dict}
+use Rattle.std_heap.proofs.Global.TheLaws as heap
+use Rattle.shared_pass.specs.contracts.working.Working as Working
+use Rattle.shared_pass.proofs.working.Working.TheLaws as working
+use Rattle.shared_pass.specs.contracts.parts.Parts as Parts
+use Rattle.shared_pass.specs.contracts.place.Place as Place
+
+abbrev pub E : Bx
+E = record { row = Working.the_row; laws = working.the_row_laws; al = record { row = Heap.the_row; laws = heap.the_row_laws; g = ghosts; d = dict; drops = impl [] tnil dnil } }
+
+abbrev pub FromParts : Slot 0
+FromParts = plain (λ _. Parts.the_row Working.the_row Heap.the_row ghosts)
+
+abbrev pub FromPlace : Slot 0
+FromPlace = plain (λ _. Place.the_row)
+
+abbrev pub FromGlobal : Slot 0
+FromGlobal = plain (λ _. Heap.the_row)

@@ -1,0 +1,24 @@
+-- What a pass keeps where a call or a walk is held up.
+use Rattle.std.specs.Prelude.{◌≡◌, ℕ}
+use Rattle.entry_model.specs.Trial.{Plan}
+use Rattle.entry_lock.specs.declared.busy.Busy.{Busy}
+use Rattle.shared_pass.specs.declared.held.HeldCall.{HeldCall}
+use Rattle.shared_pass.specs.declared.held.Pending.TheVariants.{Call, Walk}
+use Rattle.shared_pass.specs.declared.walk.PageWalk.{PageWalk}
+use Rattle.shared_pass.specs.declared.working.Working.{Working}
+use Rattle.shared_pass.specs.Held.{plan_of_held, IsHeldPlan, IsHeldWalk}
+
+-- What it has to go on with is this very call. Its receipts are of the call's first operations, and
+-- the next one is busy, which it tells.
+pub record KeepsCall (plan : Plan) (w : Working) (b : Busy) : Type 0 where
+  pub call : HeldCall
+  pub pending : w.pending ≡ Call call
+  pub plan_is : plan_of_held call ≡ plan
+  pub held_up : IsHeldPlan plan w.receipts b
+  pub told : w.busy ≡ b
+
+-- The same of a walk on a table of 2 ^ order bytes.
+pub record KeepsWalk (order : ℕ) (walk : PageWalk) (w : Working) (b : Busy) : Type 0 where
+  pub pending : w.pending ≡ Walk walk
+  pub held_up : IsHeldWalk order walk w.receipts b
+  pub told : w.busy ≡ b

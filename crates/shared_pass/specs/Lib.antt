@@ -1,0 +1,9 @@
+pub mod Shares
+pub mod Made
+pub mod Walks
+pub mod Held
+pub mod HeldFacts
+pub mod Workings
+pub mod Attempts
+pub mod Holding
+pub mod Owned

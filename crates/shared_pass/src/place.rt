@@ -1,0 +1,74 @@
+ghost use Rattle.std.specs.Prelude.{◌≡◌, true, Option, Some, None};
+ghost use Rattle.shared_pass.specs.declared.working.Working.{Working};
+ghost use Rattle.shared_pass.specs.Owned.{held_coded, place_owns};
+ghost use Rattle.shared_pass.specs.Holding.{is_some};
+
+use crate::parts::Parts;
+use crate::working::Working;
+use std::alloc::Global;
+use std::marker::Model;
+use std::ptr::null_mut;
+
+/// A boxed pass at work, or nothing, by its pointer. Dropping it frees nothing.
+#[repr(C)]
+#[derive(Drop)]
+pub struct Place {
+    at: *mut u8,
+    alloc: Global,
+    pub ghost held: { Option Working } by { held_coded },
+}
+
+impl Model for Place {
+    ghost also_owns = { λ s. place_owns s.alloc s.at s.held };
+}
+
+impl Place {
+    /// Nothing.
+    pub(crate) fn none(alloc: Global) -> Place
+        ensures { result.held ≡ None }
+    {
+        Place {
+            at: null_mut(),
+            alloc,
+        }
+    }
+
+    fn of_parts(parts: Parts<Working, Global>) -> Place
+        ensures { result.held ≡ Some parts.value }
+    {
+        let Parts { ptr, alloc } = parts;
+        Place {
+            at: ptr as *mut u8,
+            alloc,
+        }
+    }
+
+    fn into_parts(self) -> Parts<Working, Global>
+        requires { is_some self.held ≡ true }
+        ensures { self.held ≡ Some result.value }
+    {
+        let Place { at, alloc } = self;
+        Parts {
+            ptr: at as *mut Working,
+            alloc,
+        }
+    }
+
+    /// What is in the box.
+    pub(crate) fn of(working: Box<Working>) -> Place
+        ensures { result.held ≡ Some working.value }
+    {
+        Place::of_parts(Parts::of(working))
+    }
+
+    /// The box.
+    pub(crate) fn into_box(self) -> Box<Working>
+        requires { is_some self.held ≡ true }
+        ensures { self.held ≡ Some result.value }
+    {
+        self.into_parts().into_box()
+    }
+}
+
+// What is in the box may go to another thread: a table that threads share, and a pass.
+unsafe impl Send for Place {}

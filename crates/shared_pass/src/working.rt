@@ -1,0 +1,164 @@
+ghost use Rattle.std.specs.Arc.{arc_value};
+ghost use Rattle.shared_pass.specs.Held.{IsPendingBy};
+ghost use Rattle.shared_pass.specs.HeldFacts.{pending_prop};
+
+use crate::held::Pending;
+use crate::sharer::Sharer;
+use entry_lock::{Busy, Closed};
+use entry_model::{EntryState, Receipts};
+use std::alloc::Global;
+
+/// A pass at work: with what it has to go on with, if a call or a walk was held up.
+#[derive(Drop)]
+pub struct Working {
+    /// The pass and its table.
+    pub sharer: Sharer,
+    /// What it has to go on with.
+    pub pending: Pending,
+    /// What that made so far; else the receipts of the last call.
+    pub receipts: Receipts,
+    /// Why it was held up.
+    pub busy: Busy,
+    pub ghost begun: { IsPendingBy (arc_value sharer.table).order pending receipts } by { pending_prop (arc_value sharer.table).order pending receipts },
+}
+
+impl Working {
+    ghost use Rattle.std.specs.Prelude.{◌≡◌, ◌≤◌, ◌<◌, [], IfOk, IfErr, IfSome, IfNone, vec_len};
+    ghost use Rattle.hpte_fields.specs.TableSize.{entry_count};
+    ghost use Rattle.entry_lock.specs.PassOfTable.{view_of};
+    ghost use Rattle.entry_lock.specs.Closing.{Closes};
+    ghost use Rattle.shared_pass.specs.declared.held.Pending.TheVariants.{Nothing};
+    ghost use Rattle.shared_pass.specs.Shares.{AreOfOne};
+    ghost use Rattle.shared_pass.specs.Workings as workings;
+
+    /// A pass that has nothing to go on with.
+    fn new(sharer: Sharer) -> Working
+        ensures sharer { result.sharer ≡ sharer }
+        ensures nothing { result.pending ≡ Nothing }
+        ensures receipts { result.receipts ≡ [] }
+    {
+        Working {
+            sharer,
+            pending: Pending::Nothing,
+            receipts: Receipts::new(),
+            busy: Busy {
+                entry: 0,
+                looked: 0,
+                found: 0,
+            },
+        }
+    }
+
+    /// Opens a table of these states, with all shares. `None` for want of memory.
+    pub fn open(alloc: Global, states: Vec<EntryState>, order: u8, passes: u32) -> Option<Working>
+        requires low { 18 ≤ order }
+        requires high { order ≤ 22 }
+        requires whole { vec_len states ≡ entry_count order }
+        requires some_pass { 0 < passes }
+        requires few { passes ≤ 64 }
+        ensures { IfSome result (λ working. workings.IsNew states.items order passes working) }
+    {
+        let Some(sharer) = Sharer::open(alloc, states, order, passes) else {
+            return None;
+        };
+        Some(Working::new(sharer))
+    }
+
+    /// The binary logarithm of the table's size in bytes.
+    #[inline]
+    pub fn order(&self) -> u8
+        ensures value { result ≡ (arc_value self.now.sharer.table).order }
+        ensures low { 18 ≤ result }
+        ensures high { result ≤ 22 }
+    {
+        self.sharer.order()
+    }
+
+    /// How many shares the pass has.
+    pub fn shares(&self) -> u32
+        ensures { result ≡ self.now.sharer.pass.shares }
+    {
+        self.sharer.shares()
+    }
+
+    /// Whether the pass has all shares of its table.
+    pub fn has_all_shares(&self) -> bool
+        ensures { result ≡ workings.has_all_shares self.now }
+    {
+        self.sharer.has_all()
+    }
+
+    /// Whether it has nothing to go on with.
+    #[inline]
+    pub fn is_free(&self) -> bool
+        ensures { result ≡ workings.is_free self.now }
+    {
+        self.pending.is_nothing()
+    }
+
+    /// A new pass with one of the shares. It takes no memory. `None` where the table has as many
+    /// owners as it can have; then nothing changes.
+    pub fn split(&mut self) -> Option<Working>
+        requires { 2 ≤ self.old.sharer.pass.shares }
+        ensures split { IfSome result (λ other. workings.IsSplitOff self.old self.new other) }
+        ensures same { IfNone result (self.new ≡ self.old) }
+    {
+        let Some(sharer) = self.sharer.split() else {
+            return None;
+        };
+        Some(Working::new(sharer))
+    }
+
+    /// Takes in another pass of the same table.
+    pub fn join(&mut self, other: Working)
+        requires one { AreOfOne self.old.sharer other.sharer }
+        requires free { self.old.pending ≡ Nothing }
+        ensures { workings.IsTakenIn self.old other self.new }
+    {
+        let Working {
+            sharer,
+            pending: _,
+            receipts: _,
+            busy: _,
+        } = other;
+        self.sharer.join(sharer);
+    }
+
+    /// Gives up what it has to go on with. What that made stays made.
+    pub fn give_up(&mut self)
+        ensures sharer { self.new.sharer ≡ self.old.sharer }
+        ensures receipts { self.new.receipts ≡ self.old.receipts }
+        ensures nothing { self.new.pending ≡ Nothing }
+    {
+        self.pending = Pending::Nothing;
+    }
+
+    /// The states at the end, by a pass with all shares.
+    ///
+    /// # Errors
+    /// The pass as it is, where the table has other owners still.
+    pub fn close(self) -> Result<Closed, Working>
+        requires { self.sharer.pass.shares ≡ (arc_value self.sharer.table).passes }
+        ensures closes { IfOk result (λ closed. Closes
+            (arc_value self.sharer.table).opening.items
+            (view_of self.sharer.pass)
+            closed.closing.items) }
+        ensures same { IfErr result (λ working. working ≡ self) }
+    {
+        let Working {
+            sharer,
+            pending,
+            receipts,
+            busy,
+        } = self;
+        match sharer.close() {
+            Ok(closed) => Ok(closed),
+            Err(sharer) => Err(Working {
+                sharer,
+                pending,
+                receipts,
+                busy,
+            }),
+        }
+    }
+}

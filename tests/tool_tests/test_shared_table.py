@@ -175,6 +175,25 @@ class Hammered(SharedTest):
         self.assert_legal(run(*VALGRIND, self.built("hammer"), "3", "1000", "check"))
 
 
+@needs("nm")
+@needs_shared_table
+class Archive(ToolTest):
+    """The archive."""
+
+    def symbols(self, option: str) -> set[str]:
+        """The symbols of this kind, over all of its objects."""
+        ran = run("nm", option, "--extern-only", "--just-symbols", "--quiet", SHARED_TABLE)
+        self.assert_ran(ran, out=None)
+        return {word for word in ran.out.split() if not word.endswith(":")}
+
+    def test_it_has_the_functions_of_the_header_and_needs_a_heap(self) -> None:
+        defined, heap = self.symbols("--defined-only"), {"rattle_alloc", "rattle_realloc", "rattle_dealloc"}
+        declared = set(re.findall(r"\b(papr_[a-z_0-9]+)\(", (INCLUDE / "papr_shared.h").read_text(encoding="ascii")))
+        self.assertEqual(defined, declared | heap)
+        needed = self.symbols("--undefined-only") - defined
+        self.assertEqual(needed, {"malloc", "realloc", "free", "memcpy", "memmove", "memset"})
+
+
 @needs("make", "pkg-config")
 class Installed(SharedTest):
     """The small example over what `make install-library` installs."""

@@ -35,7 +35,7 @@ static void stop_if(bool failed, const char *what)
 static void *work_shared(void *given)
 {
     struct worker *worker = given;
-    struct answer answer;
+    struct answer answer = {.is_watched = false};
     for (int i = 0; i < CALLS; i++) {
         struct call call = draw_call(&worker->seed, worker->is_far);
         call_pass(&worker->pass, &grants, &call, &answer);

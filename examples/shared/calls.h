@@ -15,14 +15,15 @@ struct call {
     struct papr_access access;
 };
 
-/* What was answered. Of a walk `reply` has the count of receipts alone. */
+/* What was answered. Of a walk `reply` has the count of receipts alone. `is_watched` is for the caller to set. */
 struct answer {
     struct papr_reply reply;
     struct papr_walk walk;
     uint64_t words[WORDS];
     struct papr_receipt receipts[RECEIPTS];
     uint64_t busy;              /* how often an entry was busy */
-    bool goes_on;               /* each try went on from the one before */
+    bool is_watched;            /* whether each try is compared with the one before */
+    bool goes_on;               /* .. and goes on from there */
 };
 
 /* A random number below another, which is below 2^32. The seed isn't 0. */

@@ -49,7 +49,7 @@ static bool fail(const char *why)
 static void *work(void *given)
 {
     struct worker *worker = given;
-    struct answer answer;
+    struct answer answer = {.is_watched = is_checked};
     worker->is_well = true;
     for (uint64_t i = 0; i < calls && worker->is_well; i++) {
         struct call call = draw_call(&worker->seed, is_far);

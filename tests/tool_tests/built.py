@@ -44,9 +44,9 @@ def make_shared(folder: Path, archives: Mapping[str, Path]) -> dict[str, Path]:
     return made
 
 
-def declared(variable: str) -> list[str]:
-    """The functions of a shared object: those that its headers declare, and don't define themselves."""
-    texts = [(TOP / "include" / HEADERS[part]).read_text(encoding="ascii") for part in OBJECTS[variable][1]]
+def declared(*libraries: str) -> list[str]:
+    """The functions that the headers of libraries declare, and don't define themselves."""
+    texts = [(TOP / "include" / HEADERS[variable]).read_text(encoding="ascii") for variable in libraries]
     return sorted(set(re.findall(r"(?m)^(?!static ).*\b(papr_[a-z_0-9]+)\(", "".join(texts))))
 
 

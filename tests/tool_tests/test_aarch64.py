@@ -174,9 +174,9 @@ class Library(ToolTest):
     @for_each(*OBJECTS)
     def test_the_shared_object_is_as_the_one_here(self, variable: str) -> None:
         """It exports the functions of the headers, which that one does."""
-        name = OBJECTS[variable][0]
+        name, parts = OBJECTS[variable]
         told = run_bytes("aarch64-linux-gnu-nm", "-D", "--defined-only", BUILT / name).decode().splitlines()
-        self.assertEqual([line.split()[1:] for line in told], [["T", function] for function in declared(variable)])
+        self.assertEqual([line.split()[1:] for line in told], [["T", function] for function in declared(*parts)])
         head = run("aarch64-linux-gnu-readelf", "-h", "-d", BUILT / name).out
         self.assertIn(f"[{name.partition('.so')[0]}.so.{MAJOR}]", head)
         self.assertIn("AArch64", head)

@@ -132,7 +132,8 @@ class Shared(ToolTest):
     def test_it_exports_the_functions_of_the_headers_and_nothing_else(self, case: tuple[str, int]) -> None:
         variable, count = case
         told = run("nm", "-D", "--defined-only", self.objects[variable]).out.splitlines()
-        self.assertEqual([line.split()[1:] for line in told], [["T", name] for name in declared(variable)])
+        expected = declared(*OBJECTS[variable][1])
+        self.assertEqual([line.split()[1:] for line in told], [["T", name] for name in expected])
         self.assertEqual(len(told), count)
 
     @for_each(*OBJECTS)

@@ -9,7 +9,7 @@ import time
 from pathlib import Path
 from typing import ClassVar, Sequence
 
-from .built import make_built, words_of
+from .built import declared, make_built, words_of
 from .support import DATA, EXAMPLES, LIBRARY, SHARED_TABLE, TOP, Ran, ToolTest, Word
 from .support import for_each, needs, needs_library, needs_shared_table, run
 
@@ -174,6 +174,24 @@ class Hammered(SharedTest):
     @needs("valgrind")
     def test_nothing_is_leaked_nor_read_before_it_is_written(self) -> None:
         self.assert_legal(run(*VALGRIND, self.built("hammer"), "3", "1000", "check"))
+
+
+@needs("nm")
+@needs_shared_table
+class Archive(ToolTest):
+    """The archive."""
+
+    def symbols(self, option: str) -> set[str]:
+        """The symbols of this kind, over all of its objects."""
+        ran = run("nm", option, "--extern-only", "--just-symbols", "--quiet", SHARED_TABLE)
+        self.assert_ran(ran, out=None)
+        return {word for word in ran.out.split() if not word.endswith(":")}
+
+    def test_it_has_the_functions_of_the_header_and_needs_a_heap(self) -> None:
+        defined, heap = self.symbols("--defined-only"), {"rattle_alloc", "rattle_realloc", "rattle_dealloc"}
+        self.assertEqual(defined, {*declared("SHARED_TABLE"), *heap})
+        needed = self.symbols("--undefined-only") - defined
+        self.assertEqual(needed, {"malloc", "realloc", "free", "memcpy", "memmove", "memset"})
 
 
 @needs("make", "pkg-config")

@@ -6,21 +6,36 @@ use Rattle.std.proofs.lemmas.Bool.{cases_lt}
 use Rattle.c_layout.specs.Places.{filled, placed}
 
 -- One more place: the next item.
-fill_next : {X : Type 0} (items old : List X) (i : ℕ) (d : X) → i < length items → i < length old → set (take i items ++ drop i old) i (get_or items i d) ≡ take (suc i) items ++ drop (suc i) old
+fill_next :
+    {X : Type 0} (items old : List X) (i : ℕ) (d : X)
+    → i < length items
+    → i < length old
+    → set (take i items ++ drop i old) i (get_or items i d) ≡ take (suc i) items ++ drop (suc i) old
 fill_next [] old i d below inside = absurd (omega (arith, below))
 fill_next (x ∷ items) [] i d below inside = absurd (omega (arith, inside))
 fill_next (x ∷ items) (o ∷ old) zero d below inside = refl
 fill_next (x ∷ items) (o ∷ old) (suc i) d below inside =
     ap (λ rest. x ∷ rest) (fill_next items old i d (omega (arith, below)) (omega (arith, inside)))
 
-pub fill_more : {X : Type 0} (items old now : List X) (i : ℕ) (d x : X) → i < length items → i < length old → now ≡ take i items ++ drop i old → x ≡ get_or items i d → set now i x ≡ take (i + 1) items ++ drop (i + 1) old
+pub fill_more :
+    {X : Type 0} (items old now : List X) (i : ℕ) (d x : X)
+    → i < length items
+    → i < length old
+    → now ≡ take i items ++ drop i old
+    → x ≡ get_or items i d
+    → set now i x ≡ take (i + 1) items ++ drop (i + 1) old
 fill_more items old now i d x below inside is read =
     rw (is, read, add-one) (fill_next items old i d below inside)
 
 -- All that go.
-pub fill_whole : {X : Type 0} (items old : List X) (i : ℕ) → i ≡ min (length items) (length old) → take i items ++ drop i old ≡ filled old items
+pub fill_whole :
+    {X : Type 0} (items old : List X) (i : ℕ)
+    → i ≡ min (length items) (length old)
+    → take i items ++ drop i old ≡ filled old items
 fill_whole items old i all = at (cases_lt (length items) (length old)) where
-  at : (length items < length old) ⊎ (length old ≤ length items) → take i items ++ drop i old ≡ filled old items
+  at :
+      (length items < length old) ⊎ (length old ≤ length items)
+      → take i items ++ drop i old ≡ filled old items
   at (inl fits) =
       let i_is : i ≡ length items = omega (arith, all) in
       let whole : take (length old) items ≡ items = take_all (length old) items (omega arith) in
@@ -34,13 +49,18 @@ fill_whole items old i all = at (cases_lt (length items) (length old)) where
 
 -- ---- the same, put one after the other
 -- More items are put behind the first ones.
-pub placed-append : {X : Type 0} (xs ys old : List X) (i : ℕ) → placed old i (xs ++ ys) ≡ placed (placed old i xs) (i + length xs) ys
+pub placed-append :
+    {X : Type 0} (xs ys old : List X) (i : ℕ)
+    → placed old i (xs ++ ys) ≡ placed (placed old i xs) (i + length xs) ys
 placed-append [] ys old i = rw add-zero refl
 placed-append (x ∷ xs) ys old i =
     let next : (i + 1) + length xs ≡ i + length (x ∷ xs) = omega arith in
-    placed-append xs ys (set old i x) (i + 1) ∙ ap (λ k. placed (placed (set old i x) (i + 1) xs) k ys) next
+    placed-append xs ys (set old i x) (i + 1)
+    ∙ ap (λ k. placed (placed (set old i x) (i + 1) xs) k ys) next
 
-placed-shift : {X : Type 0} (items old : List X) (o : X) (i : ℕ) → placed (o ∷ old) (suc i) items ≡ o ∷ placed old i items
+placed-shift :
+    {X : Type 0} (items old : List X) (o : X) (i : ℕ)
+    → placed (o ∷ old) (suc i) items ≡ o ∷ placed old i items
 placed-shift [] old o i = refl
 placed-shift (x ∷ items) old o i =
     let next : suc i + 1 ≡ suc (i + 1) = omega arith in
@@ -57,9 +77,13 @@ filled-nil (o ∷ old) = refl
 pub placed_filled : {X : Type 0} (items old : List X) → placed old 0 items ≡ filled old items
 placed_filled [] old = sym (filled-nil old)
 placed_filled (x ∷ items) [] = placed-none items 1
-placed_filled (x ∷ items) (o ∷ old) = placed-shift items old x 0 ∙ ap (λ rest. x ∷ rest) (placed_filled items old)
+placed_filled (x ∷ items) (o ∷ old) =
+    placed-shift items old x 0 ∙ ap (λ rest. x ∷ rest) (placed_filled items old)
 
-take_next : {X : Type 0} (xs : List X) (i : ℕ) (d : X) → i < length xs → take (suc i) xs ≡ take i xs ++ get_or xs i d ∷ []
+take_next :
+    {X : Type 0} (xs : List X) (i : ℕ) (d : X)
+    → i < length xs
+    → take (suc i) xs ≡ take i xs ++ get_or xs i d ∷ []
 take_next [] i d h = absurd (omega (arith, h))
 take_next (x ∷ xs) zero d h = refl
 take_next (x ∷ xs) (suc i) d h = ap (λ rest. x ∷ rest) (take_next xs i d (omega (arith, h)))
@@ -70,12 +94,24 @@ length-first (x ∷ xs) zero h = refl
 length-first (x ∷ xs) (suc i) h = ap suc (length-first xs i (omega (arith, h)))
 
 -- One more item of a list.
-pub put_item : {X : Type 0} (items old now : List X) (i : ℕ) (d x : X) → i < length items → now ≡ placed old 0 (take i items) → x ≡ get_or items i d → set now i x ≡ placed old 0 (take (i + 1) items)
+pub put_item :
+    {X : Type 0} (items old now : List X) (i : ℕ) (d x : X)
+    → i < length items
+    → now ≡ placed old 0 (take i items)
+    → x ≡ get_or items i d
+    → set now i x ≡ placed old 0 (take (i + 1) items)
 put_item items old now i d x below is read =
     let at : 0 + length (take i items) ≡ i = omega (arith, length-first items i below) in
     let next : i + 1 ≡ suc i = omega arith in
-    sym (ap (λ k. placed old 0 (take k items)) next ∙ ap (placed old 0) (take_next items i d below) ∙ placed-append (take i items) (get_or items i d ∷ []) old 0 ∙ (λ k. set (sym is k) (at k) (sym read k)))
+    sym
+        (ap (λ k. placed old 0 (take k items)) next
+         ∙ ap (placed old 0) (take_next items i d below)
+         ∙ placed-append (take i items) (get_or items i d ∷ []) old 0
+         ∙ (λ k. set (sym is k) (at k) (sym read k)))
 
 -- All of them.
-pub put_all : {X : Type 0} (items old : List X) (i : ℕ) → length items ≤ i → placed old 0 (take i items) ≡ filled old items
+pub put_all :
+    {X : Type 0} (items old : List X) (i : ℕ)
+    → length items ≤ i
+    → placed old 0 (take i items) ≡ filled old items
 put_all items old i all = ap (placed old 0) (take_all i items all) ∙ placed_filled items old

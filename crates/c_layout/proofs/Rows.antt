@@ -16,10 +16,15 @@ to_spare = refl
 -- ---- receipts
 -- An entry with R and C, at stamp 4.
 entry : State
-entry = record { valid = true; dword0 = 0x1001; dword1 = 0x3012; referenced = true; changed = true; stamp = 4 }
+entry =
+    record {
+        valid = true; dword0 = 0x1001; dword1 = 0x3012; referenced = true; changed = true; stamp = 4
+    }
 
 -- The receipt of its removal has the words from before, with R and C.
-removed : shown_receipt (receipt_of 0x20 entry (Remove (record { avpn = None; andcond = None }))) ≡ record { dword0 = 0x1001; dword1 = 0x3192; entry = 0x20; stamp = 4; bits = 3; answer = 2 }
+removed :
+    shown_receipt (receipt_of 0x20 entry (Remove (record { avpn = None; andcond = None })))
+    ≡ record { dword0 = 0x1001; dword1 = 0x3192; entry = 0x20; stamp = 4; bits = 3; answer = 2 }
 unfolding entry
 removed = refl
 

@@ -33,17 +33,25 @@ no_match_is : (x : Answer) → is_no_match x ≡ true → is_at x ≡ false
 no_match_is NoMatch e = refl
 no_match_is other e = cc
 
-found_as_is : (a : List State) (cs : List Call) → AllByRecursion (λ (c : Call). is_access c.op ≡ true) cs → found_of (trial_run is_no_match a cs).0 ≡ found_of (each_as_is a cs)
+found_as_is :
+    (a : List State) (cs : List Call)
+    → AllByRecursion (λ (c : Call). is_access c.op ≡ true) cs
+    → found_of (trial_run is_no_match a cs).0 ≡ found_of (each_as_is a cs)
 unfolding each_as_is
 found_as_is a [] all = ap (λ (z : List Receipt × List State). found_of z.0) (no_more is_no_match a)
 found_as_is a (c ∷ cs) all = at (cases_Bool (is_no_match r.answer)) (found_as_is a cs all.1) where
   r : Receipt
   r = receipt_at a c
 
-  at : (is_no_match r.answer ≡ true) ⊎ (is_no_match r.answer ≡ false) → found_of (trial_run is_no_match a cs).0 ≡ found_of (each_as_is a cs) → found_of (trial_run is_no_match a (c ∷ cs)).0 ≡ found_of (r ∷ each_as_is a cs)
+  at :
+      (is_no_match r.answer ≡ true) ⊎ (is_no_match r.answer ≡ false)
+      → found_of (trial_run is_no_match a cs).0 ≡ found_of (each_as_is a cs)
+      → found_of (trial_run is_no_match a (c ∷ cs)).0 ≡ found_of (r ∷ each_as_is a cs)
   at (inl on) rest =
-      let same : after_of r ≡ r.before = access_undone r.before c.op all.0 (no_match_is r.answer on) in
-      let stays : states_after a r ≡ a = ap (λ (s : State). slice_set a c.entry s) same ∙ set-get_or a c.entry (empty_state 0) in
+      let same : after_of r ≡ r.before = access_undone r.before c.op all.0 (no_match_is r.answer on)
+          in
+      let stays : states_after a r ≡ a = ap (λ (s : State). slice_set a c.entry s) same ∙ set-get_or
+          a c.entry (empty_state 0) in
       ap (λ (z : List Receipt × List State). found_of z.0) (step_on is_no_match a c cs r refl on)
       ∙ found-on r (trial_run is_no_match (states_after a r) cs).0 on
       ∙ ap (λ b. found_of (trial_run is_no_match b cs).0) stays
@@ -55,64 +63,128 @@ found_as_is a (c ∷ cs) all = at (cases_Bool (is_no_match r.answer)) (found_as_
       ∙ sym (found-off r (each_as_is a cs) off)
 
 -- ---- the calls of a walk
-all_accesses : (page : VirtualPage) (a : PaprAccess) (want : Want) (secondary : Bool) (es : List ℕ) → AllByRecursion (λ (c : Call). is_access c.op ≡ true) (map (call (access_op page (mode_of a want) secondary)) es)
+all_accesses :
+    (page : VirtualPage) (a : PaprAccess) (want : Want) (secondary : Bool) (es : List ℕ)
+    → AllByRecursion (λ (c : Call). is_access c.op ≡ true)
+        (map (call (access_op page (mode_of a want) secondary)) es)
 all_accesses page a want secondary [] = tt
 all_accesses page a want secondary (e ∷ es) = (refl, all_accesses page a want secondary es)
 
-both_all : (cs ds : List Call) → AllByRecursion (λ (c : Call). is_access c.op ≡ true) cs → AllByRecursion (λ (c : Call). is_access c.op ≡ true) ds → AllByRecursion (λ (c : Call). is_access c.op ≡ true) (cs ++ ds)
+both_all :
+    (cs ds : List Call)
+    → AllByRecursion (λ (c : Call). is_access c.op ≡ true) cs
+    → AllByRecursion (λ (c : Call). is_access c.op ≡ true) ds
+    → AllByRecursion (λ (c : Call). is_access c.op ≡ true) (cs ++ ds)
 both_all [] ds p q = q
 both_all (c ∷ cs) ds p q = (p.0, both_all cs ds p.1 q)
 
-walk_accesses : (order : ℕ) (a : PaprAccess) (page : VirtualPage) (want : Want) → AllByRecursion (λ (c : Call). is_access c.op ≡ true) (walk_calls order page (mode_of a want))
+walk_accesses :
+    (order : ℕ) (a : PaprAccess) (page : VirtualPage) (want : Want)
+    → AllByRecursion (λ (c : Call). is_access c.op ≡ true) (walk_calls order page (mode_of a want))
 unfolding walk_calls
 walk_accesses order a page want =
-    both_all (group_calls (access_op page (mode_of a want) false) (group_of page order false)) (group_calls (access_op page (mode_of a want) true) (group_of page order true)) (all_accesses page a want false (range_with_len (group_of page order false * 8) 8)) (all_accesses page a want true (range_with_len (group_of page order true * 8) 8))
+    both_all (group_calls (access_op page (mode_of a want) false) (group_of page order false))
+        (group_calls (access_op page (mode_of a want) true) (group_of page order true))
+        (all_accesses page a want false (range_with_len (group_of page order false * 8) 8))
+        (all_accesses page a want true (range_with_len (group_of page order true * 8) 8))
 
 -- What a walk finds, of entries as they are.
-pub probed : (order : ℕ) (a : PaprAccess) (page : VirtualPage) (want : Want) (entries : List State) (cs : List Call) → cs ≡ walk_calls order page (mode_of a want) → found_of (each_as_is entries cs) ≡ found_of (walk_run order a page want entries).0
+pub probed :
+    (order : ℕ) (a : PaprAccess) (page : VirtualPage) (want : Want) (entries : List State)
+        (cs : List Call)
+    → cs ≡ walk_calls order page (mode_of a want)
+    → found_of (each_as_is entries cs) ≡ found_of (walk_run order a page want entries).0
 probed order a page want entries cs is =
-    ap (λ (ds : List Call). found_of (each_as_is entries ds)) is ∙ sym (found_as_is entries (walk_calls order page (mode_of a want)) (walk_accesses order a page want))
+    ap (λ (ds : List Call). found_of (each_as_is entries ds)) is
+    ∙ sym
+        (found_as_is entries (walk_calls order page (mode_of a want))
+             (walk_accesses order a page want))
 
 -- What is told of it is what a probe tells.
-pub probe_is : (order : ℕ) (a : PaprAccess) (page : VirtualPage) (want : Want) (entries : List State) (cs : List Call) (found : Option Receipt) (told : PaprWalk) → is_table order entries ≡ true → page_of a ≡ Some page → want_of a.want ≡ Some want → cs ≡ walk_calls order page (mode_of a want) → found ≡ found_of (each_as_is entries cs) → told ≡ walk_end (λ r. r.before) a want found 0 → told ≡ outcome_of_probe order a entries
+pub probe_is :
+    (order : ℕ) (a : PaprAccess) (page : VirtualPage) (want : Want) (entries : List State)
+        (cs : List Call) (found : Option Receipt) (told : PaprWalk)
+    → is_table order entries ≡ true
+    → page_of a ≡ Some page
+    → want_of a.want ≡ Some want
+    → cs ≡ walk_calls order page (mode_of a want)
+    → found ≡ found_of (each_as_is entries cs)
+    → told ≡ walk_end (λ r. r.before) a want found 0
+    → told ≡ outcome_of_probe order a entries
 probe_is order a page want entries cs found told fit at_page wants calls is ended =
-    let here : told ≡ walk_end (λ r. r.before) a want (found_of (walk_run order a page want entries).0) 0 =
-    ended ∙ ap (λ o. walk_end (λ r. r.before) a want o 0) (is ∙ probed order a page want entries cs calls) in
+    let here :
+        told ≡ walk_end (λ r. r.before) a want (found_of (walk_run order a page want entries).0) 0 =
+    ended
+    ∙ ap (λ o. walk_end (λ r. r.before) a want o 0) (is ∙ probed order a page want entries cs calls)
+        in
     rw (fit, at_page, wants) here
 
 -- ---- one entry after the other
 -- The call is the first of the rest.
-asked_step : (cs : List Call) (i entry : ℕ) (op : Op) (a : List State) → call_at cs i ≡ Some (entry, op) → each_as_is a (drop i cs) ≡ receipt_at a (call op entry) ∷ each_as_is a (drop (i + 1) cs)
+asked_step :
+    (cs : List Call) (i entry : ℕ) (op : Op) (a : List State)
+    → call_at cs i ≡ Some (entry, op)
+    → each_as_is a (drop i cs) ≡ receipt_at a (call op entry) ∷ each_as_is a (drop (i + 1) cs)
 unfolding each_as_is
 asked_step cs i entry op a at = rw add-one (ap (each_as_is a) (drop_at cs i entry op at))
 
-pub asked_on : (cs : List Call) (i entry : ℕ) (op : Op) (a : List State) (r : Receipt) → call_at cs i ≡ Some (entry, op) → r ≡ receipt_at a (call op entry) → is_no_match r.answer ≡ true → found_of (each_as_is a (drop i cs)) ≡ found_of (each_as_is a (drop (i + 1) cs))
+pub asked_on :
+    (cs : List Call) (i entry : ℕ) (op : Op) (a : List State) (r : Receipt)
+    → call_at cs i ≡ Some (entry, op)
+    → r ≡ receipt_at a (call op entry)
+    → is_no_match r.answer ≡ true
+    → found_of (each_as_is a (drop i cs)) ≡ found_of (each_as_is a (drop (i + 1) cs))
 asked_on cs i entry op a r at is on =
-    ap found_of (asked_step cs i entry op a at) ∙ found-on (receipt_at a (call op entry)) (each_as_is a (drop (i + 1) cs)) (rw is at on)
+    ap found_of (asked_step cs i entry op a at)
+    ∙ found-on (receipt_at a (call op entry)) (each_as_is a (drop (i + 1) cs)) (rw is at on)
 
-pub asked_off : (cs : List Call) (i entry : ℕ) (op : Op) (a : List State) (r : Receipt) → call_at cs i ≡ Some (entry, op) → r ≡ receipt_at a (call op entry) → is_no_match r.answer ≡ false → found_of (each_as_is a (drop i cs)) ≡ Some r
+pub asked_off :
+    (cs : List Call) (i entry : ℕ) (op : Op) (a : List State) (r : Receipt)
+    → call_at cs i ≡ Some (entry, op)
+    → r ≡ receipt_at a (call op entry)
+    → is_no_match r.answer ≡ false
+    → found_of (each_as_is a (drop i cs)) ≡ Some r
 asked_off cs i entry op a r at is off =
-    ap found_of (asked_step cs i entry op a at) ∙ found-off (receipt_at a (call op entry)) (each_as_is a (drop (i + 1) cs)) (rw is at off) ∙ ap Some (sym is)
+    ap found_of (asked_step cs i entry op a at)
+    ∙ found-off (receipt_at a (call op entry)) (each_as_is a (drop (i + 1) cs)) (rw is at off)
+    ∙ ap Some (sym is)
 
 -- There is no further call.
-pub asked_none : (cs : List Call) (i : ℕ) (a : List State) → call_at cs i ≡ None → found_of (each_as_is a (drop i cs)) ≡ None
+pub asked_none :
+    (cs : List Call) (i : ℕ) (a : List State)
+    → call_at cs i ≡ None
+    → found_of (each_as_is a (drop i cs)) ≡ None
 unfolding each_as_is
 asked_none cs i a none = ap (λ (ds : List Call). found_of (each_as_is a ds)) (drop_none cs i none)
 
 -- ---- the operation of what is found
-found_of_access : (a : List State) (cs : List Call) (r : Receipt) → AllByRecursion (λ (c : Call). is_access c.op ≡ true) cs → found_of (each_as_is a cs) ≡ Some r → is_access r.op ≡ true
+found_of_access :
+    (a : List State) (cs : List Call) (r : Receipt)
+    → AllByRecursion (λ (c : Call). is_access c.op ≡ true) cs
+    → found_of (each_as_is a cs) ≡ Some r
+    → is_access r.op ≡ true
 unfolding each_as_is
 found_of_access a [] r all found = cc
-found_of_access a (c ∷ cs) r all found = at (cases_Bool (is_no_match (receipt_at a c).answer)) (found_of_access a cs r all.1) where
-  at : (is_no_match (receipt_at a c).answer ≡ true) ⊎ (is_no_match (receipt_at a c).answer ≡ false) → (found_of (each_as_is a cs) ≡ Some r → is_access r.op ≡ true) → is_access r.op ≡ true
+found_of_access a (c ∷ cs) r all found =
+    at (cases_Bool (is_no_match (receipt_at a c).answer)) (found_of_access a cs r all.1) where
+  at :
+      (is_no_match (receipt_at a c).answer ≡ true) ⊎ (is_no_match (receipt_at a c).answer ≡ false)
+      → (found_of (each_as_is a cs) ≡ Some r → is_access r.op ≡ true)
+      → is_access r.op ≡ true
   at (inl on) rest = rest (sym (found-on (receipt_at a c) (each_as_is a cs) on) ∙ found)
   at (inr off) rest =
-      let some : Some (receipt_at a c) ≡ Some r = sym (found-off (receipt_at a c) (each_as_is a cs) off) ∙ found in
+      let some : Some (receipt_at a c) ≡ Some r = sym
+          (found-off (receipt_at a c) (each_as_is a cs) off) ∙ found in
       let same : receipt_at a c ≡ r = cc in
       subst (λ (x : Receipt). is_access x.op ≡ true) same all.0
 
 -- What a walk finds has the receipt of an access.
-pub found_access : (order : ℕ) (a : PaprAccess) (page : VirtualPage) (want : Want) (entries : List State) (r : Receipt) → found_of (walk_run order a page want entries).0 ≡ Some r → is_access r.op ≡ true
+pub found_access :
+    (order : ℕ) (a : PaprAccess) (page : VirtualPage) (want : Want) (entries : List State)
+        (r : Receipt)
+    → found_of (walk_run order a page want entries).0 ≡ Some r
+    → is_access r.op ≡ true
 found_access order a page want entries r found =
-    found_of_access entries (walk_calls order page (mode_of a want)) r (walk_accesses order a page want)
+    found_of_access entries (walk_calls order page (mode_of a want)) r
+        (walk_accesses order a page want)
     (probed order a page want entries (walk_calls order page (mode_of a want)) refl ∙ found)

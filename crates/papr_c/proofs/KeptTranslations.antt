@@ -21,41 +21,73 @@ use Rattle.papr_c.proofs.SoFar.{step_on, step_off, no_more}
 
 -- ---- one entry
 -- A change that would be stale isn't made.
-change_stays : (found : Bool) (s : State) (answer : Answer) (next : State) → is_stale answer ≡ true → is_stale (change_where found s answer next).0 ≡ false → OnlyRaisesBits s (change_where found s answer next).1
+change_stays :
+    (found : Bool) (s : State) (answer : Answer) (next : State)
+    → is_stale answer ≡ true
+    → is_stale (change_where found s answer next).0 ≡ false
+    → OnlyRaisesBits s (change_where found s answer next).1
 change_stays false s answer next stale fresh = no_further s
 change_stays true s answer next stale fresh = at (cases_Bool (s.stamp == 0xFFFFFFFF)) where
-  at : ((s.stamp == 0xFFFFFFFF) ≡ true) ⊎ ((s.stamp == 0xFFFFFFFF) ≡ false) → OnlyRaisesBits s (change_where true s answer next).1
+  at :
+      ((s.stamp == 0xFFFFFFFF) ≡ true) ⊎ ((s.stamp == 0xFFFFFFFF) ≡ false)
+      → OnlyRaisesBits s (change_where true s answer next).1
   at (inl worn) = rw worn (no_further s)
-  at (inr fit) = let clash : is_stale answer ≡ false = rw fit at fresh in let e : true ≡ false = sym stale ∙ clash in cc
+  at (inr fit) = let clash :
+      is_stale answer ≡ false = rw fit at fresh in let e : true ≡ false = sym stale ∙ clash in cc
 
-taken_stays : (valid : Bool) (s : State) (other : Answer × State) → valid ≡ true → OnlyRaisesBits s (if◌then◌else◌ {A = Answer × State} valid (Taken, s) other).1
+taken_stays :
+    (valid : Bool) (s : State) (other : Answer × State)
+    → valid ≡ true
+    → OnlyRaisesBits s (if◌then◌else◌ {A = Answer × State} valid (Taken, s) other).1
 taken_stays true s other e = no_further s
 taken_stays false s other e = cc
 
-kept : (s : State) (op : Op) → s.valid ≡ true → is_stale (reply_of s op).0 ≡ false → OnlyRaisesBits s (reply_of s op).1
-kept s (Enter dword0 dword1) valid fresh = taken_stays s.valid s (change_to s Entered (entered_state dword0 dword1)) valid
-kept s (Remove test) valid fresh = change_stays (is_found s test) s Removed (empty_state 0) refl fresh
-kept s (Protect test flags) valid fresh = change_stays (is_found s test) s Protected (record s { dword1 = protected_word s.dword1 flags }) refl fresh
+kept :
+    (s : State) (op : Op)
+    → s.valid ≡ true
+    → is_stale (reply_of s op).0 ≡ false
+    → OnlyRaisesBits s (reply_of s op).1
+kept s (Enter dword0 dword1) valid fresh =
+    taken_stays s.valid s (change_to s Entered (entered_state dword0 dword1)) valid
+kept s (Remove test) valid fresh =
+    change_stays (is_found s test) s Removed (empty_state 0) refl fresh
+kept s (Protect test flags) valid fresh =
+    change_stays (is_found s test) s Protected (record s { dword1 = protected_word s.dword1 flags })
+        refl fresh
 kept s Read valid fresh = no_further s
-kept s ClearRef valid fresh = change_stays s.valid s Was (record s { referenced = false }) refl fresh
+kept s ClearRef valid fresh =
+    change_stays s.valid s Was (record s { referenced = false }) refl fresh
 kept s ClearMod valid fresh = change_stays s.valid s Was (record s { changed = false }) refl fresh
-kept s (Access tag base key no_execute want masks) valid fresh = access_further s (Access tag base key no_execute want masks) refl
+kept s (Access tag base key no_execute want masks) valid fresh =
+    access_further s (Access tag base key no_execute want masks) refl
 
 -- ---- one call, of a list of entries
-step_kept : (a : List State) (c : Call) (entry : ℕ) → (state_at a entry).valid ≡ true → is_stale (receipt_at a c).answer ≡ false → OnlyRaisesBits (state_at a entry) (state_at (states_after a (receipt_at a c)) entry)
+step_kept :
+    (a : List State) (c : Call) (entry : ℕ)
+    → (state_at a entry).valid ≡ true
+    → is_stale (receipt_at a c).answer ≡ false
+    → OnlyRaisesBits (state_at a entry) (state_at (states_after a (receipt_at a c)) entry)
 step_kept a c entry valid fresh = at (cases_eq entry c.entry) (cases_lt c.entry (length a)) where
   r : Receipt
   r = receipt_at a c
 
-  at : (entry ≡ c.entry) ⊎ (entry ≡ c.entry → ⊥) → (c.entry < length a) ⊎ (length a ≤ c.entry) → OnlyRaisesBits (state_at a entry) (state_at (states_after a r) entry)
+  at :
+      (entry ≡ c.entry) ⊎ (entry ≡ c.entry → ⊥)
+      → (c.entry < length a) ⊎ (length a ≤ c.entry)
+      → OnlyRaisesBits (state_at a entry) (state_at (states_after a r) entry)
   at (inr other) where_it_is =
-      subst (λ (s : State). OnlyRaisesBits (state_at a entry) s) (sym (get_or-set_other a c.entry entry (after_of r) (empty_state 0) other)) (no_further (state_at a entry))
+      subst (λ (s : State). OnlyRaisesBits (state_at a entry) s)
+          (sym (get_or-set_other a c.entry entry (after_of r) (empty_state 0) other))
+          (no_further (state_at a entry))
   at (inl same) (inl inside) =
-      let here : OnlyRaisesBits (state_at a c.entry) (after_of r) = kept (state_at a c.entry) c.op (subst (λ k. (state_at a k).valid ≡ true) same valid) fresh in
+      let here : OnlyRaisesBits (state_at a c.entry) (after_of r) = kept (state_at a c.entry) c.op
+          (subst (λ k. (state_at a k).valid ≡ true) same valid) fresh in
       subst (λ k. OnlyRaisesBits (state_at a k) (state_at (states_after a r) k)) (sym same)
-      (subst (λ (s : State). OnlyRaisesBits (state_at a c.entry) s) (sym (get_or-set_same a c.entry (after_of r) (empty_state 0) inside)) here)
+      (subst (λ (s : State). OnlyRaisesBits (state_at a c.entry) s)
+           (sym (get_or-set_same a c.entry (after_of r) (empty_state 0) inside)) here)
   at (inl same) (inr past) =
-      let none : state_at a entry ≡ empty_state 0 = ap (state_at a) same ∙ get_or_past a c.entry (empty_state 0) past in
+      let none : state_at a entry ≡ empty_state 0 = ap (state_at a) same ∙ get_or_past a c.entry
+          (empty_state 0) past in
       let e : false ≡ true = sym (ap (λ (s : State). s.valid) none) ∙ valid in
       cc
 
@@ -64,27 +96,50 @@ or_parts : (x y : Bool) → (x || y) ≡ false → (x ≡ false) × (y ≡ false
 or_parts false y e = (refl, e)
 or_parts true y e = cc
 
-stale_parts : (r : Receipt) (rs : List Receipt) → any_stale (r ∷ rs) ≡ false → (is_stale r.answer ≡ false) × (any_stale rs ≡ false)
+stale_parts :
+    (r : Receipt) (rs : List Receipt)
+    → any_stale (r ∷ rs) ≡ false
+    → (is_stale r.answer ≡ false) × (any_stale rs ≡ false)
 unfolding any_stale
 stale_parts r rs e = or_parts (is_stale r.answer) (any_stale rs) e
 
-trial_kept : (goes : Answer → Bool) (a : List State) (cs : List Call) (entry : ℕ) → any_stale (trial_run goes a cs).0 ≡ false → (state_at a entry).valid ≡ true → OnlyRaisesBits (state_at a entry) (state_at (trial_run goes a cs).1 entry)
+trial_kept :
+    (goes : Answer → Bool) (a : List State) (cs : List Call) (entry : ℕ)
+    → any_stale (trial_run goes a cs).0 ≡ false
+    → (state_at a entry).valid ≡ true
+    → OnlyRaisesBits (state_at a entry) (state_at (trial_run goes a cs).1 entry)
 trial_kept goes a [] entry fresh valid = rw (no_more goes a) (no_further (state_at a entry))
-trial_kept goes a (c ∷ cs) entry fresh valid = at (cases_Bool (goes r.answer)) (trial_kept goes (states_after a r) cs entry) where
+trial_kept goes a (c ∷ cs) entry fresh valid =
+    at (cases_Bool (goes r.answer)) (trial_kept goes (states_after a r) cs entry) where
   r : Receipt
   r = receipt_at a c
 
-  at : (goes r.answer ≡ true) ⊎ (goes r.answer ≡ false) → (any_stale (trial_run goes (states_after a r) cs).0 ≡ false → (state_at (states_after a r) entry).valid ≡ true → OnlyRaisesBits (state_at (states_after a r) entry) (state_at (trial_run goes (states_after a r) cs).1 entry)) → OnlyRaisesBits (state_at a entry) (state_at (trial_run goes a (c ∷ cs)).1 entry)
+  at :
+      (goes r.answer ≡ true) ⊎ (goes r.answer ≡ false)
+      →
+          (any_stale (trial_run goes (states_after a r) cs).0 ≡ false
+           → (state_at (states_after a r) entry).valid ≡ true
+           → OnlyRaisesBits (state_at (states_after a r) entry)
+               (state_at (trial_run goes (states_after a r) cs).1 entry))
+      → OnlyRaisesBits (state_at a entry) (state_at (trial_run goes a (c ∷ cs)).1 entry)
   at (inl on) later =
       let whole = step_on goes a c cs r refl on in
       let parts = stale_parts r (trial_run goes (states_after a r) cs).0 (rw whole at fresh) in
       let first = step_kept a c entry valid parts.0 in
-      rw whole (further_on (state_at a entry) (state_at (states_after a r) entry) (state_at (trial_run goes (states_after a r) cs).1 entry) first (later parts.1 (first.valid ∙ valid)))
+      rw whole
+          (further_on (state_at a entry) (state_at (states_after a r) entry)
+               (state_at (trial_run goes (states_after a r) cs).1 entry) first
+               (later parts.1 (first.valid ∙ valid)))
   at (inr off) later =
       let whole = step_off goes a c cs r refl off in
       let parts = stale_parts r [] (rw whole at fresh) in
       rw whole (step_kept a c entry valid parts.0)
 
-pub unstale_kept : (plan : Plan) (entries : List State) (entry : ℕ) → any_stale (plan_run plan entries).0.receipts ≡ false → (state_at entries entry).valid ≡ true → OnlyRaisesBits (state_at entries entry) (state_at (plan_run plan entries).1 entry)
+pub unstale_kept :
+    (plan : Plan) (entries : List State) (entry : ℕ)
+    → any_stale (plan_run plan entries).0.receipts ≡ false
+    → (state_at entries entry).valid ≡ true
+    → OnlyRaisesBits (state_at entries entry) (state_at (plan_run plan entries).1 entry)
 unfolding plan_run
-unstale_kept plan entries entry fresh valid = trial_kept plan.goes_on entries plan.calls entry fresh valid
+unstale_kept plan entries entry fresh valid =
+    trial_kept plan.goes_on entries plan.calls entry fresh valid

@@ -12,15 +12,22 @@ use Rattle.papr_c.specs.Grants.{making_of, making_told, range_told}
 
 -- ---- tables
 -- Eight entries are no table of order 18: H_PARAMETER, and nothing changes.
-eight : outcome_of_call 18 (h_remove_plan 18 0 0 0) (memory (replicate 8 (empty_state 0)) (5 ∷ []) []) ≡ (refused_reply, memory (replicate 8 (empty_state 0)) (5 ∷ []) [])
+eight :
+    outcome_of_call 18 (h_remove_plan 18 0 0 0) (memory (replicate 8 (empty_state 0)) (5 ∷ []) [])
+    ≡ (refused_reply, memory (replicate 8 (empty_state 0)) (5 ∷ []) [])
 eight = refl
 
 -- ---- grants
 grant : ℕ → ℕ → ℕ → PaprGrant
-grant logical machine length = record { logical = logical; machine = machine; length = length; is_io = false }
+grant logical machine length =
+    record { logical = logical; machine = machine; length = length; is_io = false }
 
 -- The second of these isn't aligned.
-unaligned : making_told (making_of 0x1000000000 24 (grant 0 0x2000000000 0x1000 ∷ grant 0x1800 0x2000010000 0x1000 ∷ [])) ≡ record { index = 1; refusal = 2 }
+unaligned :
+    making_told
+        (making_of 0x1000000000 24
+             (grant 0 0x2000000000 0x1000 ∷ grant 0x1800 0x2000010000 0x1000 ∷ []))
+    ≡ record { index = 1; refusal = 2 }
 unfolding grant making_of range_refusal add_refusal refusals with_grant
 unaligned = refl
 

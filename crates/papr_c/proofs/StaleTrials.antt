@@ -37,7 +37,10 @@ taken_stays : (x : Answer) → is_taken x ≡ true → is_stale x ≡ false
 taken_stays Taken e = refl
 taken_stays other e = cc
 
-stale_on : (r : Receipt) (rs : List Receipt) → is_stale r.answer ≡ false → any_stale (r ∷ rs) ≡ any_stale rs
+stale_on :
+    (r : Receipt) (rs : List Receipt)
+    → is_stale r.answer ≡ false
+    → any_stale (r ∷ rs) ≡ any_stale rs
 unfolding any_stale
 stale_on r rs stays = rw stays refl
 
@@ -45,19 +48,30 @@ stale_none : any_stale [] ≡ false
 unfolding any_stale
 stale_none = refl
 
-pub stale_entered : (a : List State) (cs : List Call) → ends_so (trial_run is_taken a cs).0 ≡ any_stale (trial_run is_taken a cs).0
+pub stale_entered :
+    (a : List State) (cs : List Call)
+    → ends_so (trial_run is_taken a cs).0 ≡ any_stale (trial_run is_taken a cs).0
 stale_entered a [] = rw (no_more is_taken a) (sym stale_none)
-stale_entered a (c ∷ cs) = at (cases_Bool (is_taken r.answer)) (stale_entered (states_after a r) cs) where
+stale_entered a (c ∷ cs) =
+    at (cases_Bool (is_taken r.answer)) (stale_entered (states_after a r) cs) where
   r : Receipt
   r = receipt_at a c
 
   rest : List Receipt
   rest = (trial_run is_taken (states_after a r) cs).0
 
-  at : (is_taken r.answer ≡ true) ⊎ (is_taken r.answer ≡ false) → ends_so rest ≡ any_stale rest → ends_so (trial_run is_taken a (c ∷ cs)).0 ≡ any_stale (trial_run is_taken a (c ∷ cs)).0
+  at :
+      (is_taken r.answer ≡ true) ⊎ (is_taken r.answer ≡ false)
+      → ends_so rest ≡ any_stale rest
+      → ends_so (trial_run is_taken a (c ∷ cs)).0 ≡ any_stale (trial_run is_taken a (c ∷ cs)).0
   at (inl on) later =
       rw (step_on is_taken a c cs r refl on)
-      (ap (λ o. option_map_or (λ (x : Receipt). is_stale x.answer) o false) (ending-on is_taken r rest on) ∙ later ∙ sym (stale_on r rest (taken_stays r.answer on)))
+      (ap (λ o. option_map_or (λ (x : Receipt). is_stale x.answer) o false)
+           (ending-on is_taken r rest on)
+       ∙ later
+       ∙ sym (stale_on r rest (taken_stays r.answer on)))
   at (inr off) later =
       rw (step_off is_taken a c cs r refl off)
-      (ap (λ o. option_map_or (λ (x : Receipt). is_stale x.answer) o false) (ending-off is_taken r [] off) ∙ stale_alone r)
+      (ap (λ o. option_map_or (λ (x : Receipt). is_stale x.answer) o false)
+           (ending-off is_taken r [] off)
+       ∙ stale_alone r)

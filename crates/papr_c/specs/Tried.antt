@@ -28,7 +28,8 @@ pub record LentPair : Type 0 where
   pub places_after : List PaprReceipt
 
 -- The call behind the first ones was made, with this receipt, and the trial goes on or it doesn't.
-pub record IsMadeAt (goes : Answer → Bool) (cs : List Call) (i : ℕ) (m : LentPair) (r : Receipt) (on : Bool)
+pub record IsMadeAt (goes : Answer → Bool) (cs : List Call) (i : ℕ) (m : LentPair) (r : Receipt)
+    (on : Bool)
     : Type 0 where
   pub entry : ℕ
   pub op : Op

@@ -30,7 +30,11 @@ use Rattle.shared_pass.specs.Held.{plan_of_held}
 use Rattle.papr_shared.specs.Calls.{NeverBusy, or_function}
 
 -- ---- choices
-either : (b : Bool) (x y : Rc × List ℕ) → x.0 ≢ rc.Busy → y.0 ≢ rc.Busy → (if b then x else y).0 ≢ rc.Busy
+either :
+    (b : Bool) (x y : Rc × List ℕ)
+    → x.0 ≢ rc.Busy
+    → y.0 ≢ rc.Busy
+    → (if b then x else y).0 ≢ rc.Busy
 either true x y one other = one
 either false x y one other = other
 
@@ -63,7 +67,9 @@ by_receipt : (words : Receipt → List ℕ) (rs : List Receipt) → (told_by wor
 by_receipt words [] = λ is. cc
 by_receipt words (r ∷ rs) = by_answer r.answer (words r)
 
-single : (order ptex : ℕ) (op : Op) (words : Receipt → List ℕ) → NeverBusy (single_plan order ptex op words)
+single :
+    (order ptex : ℕ) (op : Op) (words : Receipt → List ℕ)
+    → NeverBusy (single_plan order ptex op words)
 single order ptex op words = either_plan _ _ _ (by_receipt words) parameter
 
 pub remove_never : (order flags ptex avpn : ℕ) → NeverBusy (h_remove_plan order flags ptex avpn)
@@ -93,19 +99,26 @@ read_never order flags ptex = either_plan _ _ _ (λ rs. success) parameter
 entered : (rs : List Receipt) → (enter_told rs).0 ≢ rc.Busy
 entered [] = λ is. cc
 entered (r ∷ rs) =
-    either (is_taken r.answer) _ _ (entered rs) (either (is_worn r.answer) _ _ (λ is. cc) (λ is. cc))
+    either (is_taken r.answer) _ _ (entered rs)
+        (either (is_worn r.answer) _ _ (λ is. cc) (λ is. cc))
 
 of_words : (flags ptex : ℕ) (words : Option (ℕ × ℕ)) → NeverBusy (words_plan flags ptex words)
 of_words flags ptex None = parameter
 of_words flags ptex (Some w) = entered
 
-pub enter_never : (order : ℕ) (grants : List Grant) (flags ptex pteh ptel : ℕ) → NeverBusy (h_enter_plan order grants flags ptex pteh ptel)
+pub enter_never :
+    (order : ℕ) (grants : List Grant) (flags ptex pteh ptel : ℕ)
+    → NeverBusy (h_enter_plan order grants flags ptex pteh ptel)
 unfolding h_enter_plan
 enter_never order grants flags ptex pteh ptel =
     either_plan _ _ _ (of_words flags ptex (entered_words grants pteh ptel)) parameter
 
 -- ---- H_BULK_REMOVE
-of_pair : (asked : Asked) (p : Pair) (ps : List Pair) (rs : List Receipt) (rest : List Receipt → Rc × List ℕ) → ((qs : List Receipt) → (rest qs).0 ≢ rc.Busy) → (pair_told asked p ps rs rest).0 ≢ rc.Busy
+of_pair :
+    (asked : Asked) (p : Pair) (ps : List Pair) (rs : List Receipt)
+        (rest : List Receipt → Rc × List ℕ)
+    → ((qs : List Receipt) → (rest qs).0 ≢ rc.Busy)
+    → (pair_told asked p ps rs rest).0 ≢ rc.Busy
 of_pair asks.End p ps rs rest never = λ is. cc
 of_pair asks.Refused p ps rs rest never = λ is. cc
 of_pair (asks.Remove entry test) p ps [] rest never = λ is. cc
@@ -115,7 +128,8 @@ of_pair (asks.Remove entry test) p ps (r ∷ rs) rest never =
 of_pairs : (order : ℕ) (ps : List Pair) (rs : List Receipt) → (bulk_told order ps rs).0 ≢ rc.Busy
 unfolding bulk_told
 of_pairs order [] rs = λ is. cc
-of_pairs order (p ∷ ps) rs = of_pair (asked_by order p) p ps rs (bulk_told order ps) (of_pairs order ps)
+of_pairs order (p ∷ ps) rs =
+    of_pair (asked_by order p) p ps rs (bulk_told order ps) (of_pairs order ps)
 
 pub bulk_never : (order : ℕ) (words : List ℕ) → NeverBusy (h_bulk_remove_plan order words)
 unfolding h_bulk_remove_plan
@@ -125,7 +139,9 @@ bulk_never order words = of_pairs order (pairs_of words)
 function : NeverBusy (plan_of_code rc.Function)
 function = coded rc.Function (λ is. cc)
 
-pub numbered_never : (order : ℕ) (grants : List Grant) (ws : List ℕ) (call : Hcall) → NeverBusy (or_function (plan_of_hcall order grants ws call))
+pub numbered_never :
+    (order : ℕ) (grants : List Grant) (ws : List ℕ) (call : Hcall)
+    → NeverBusy (or_function (plan_of_hcall order grants ws call))
 numbered_never order grants ws hcall.Enter = enter_never order grants _ _ _ _
 numbered_never order grants ws hcall.Remove = remove_never order _ _ _
 numbered_never order grants ws hcall.Protect = protect_never order _ _ _

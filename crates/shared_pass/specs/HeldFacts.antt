@@ -26,10 +26,12 @@ Op_set = Coded-set the_row.coded
 of_prop : (entry : ℕ) (op : Op) (r : Receipt) → IsProp (IsReceiptOf entry op r)
 of_prop entry op r = Prim.hlevel (props, Op_set)
 
-begun_prop : (goes : Answer → Bool) (cs : List Call) (rs : List Receipt) → IsProp (IsBegunTrial goes cs rs)
+begun_prop :
+    (goes : Answer → Bool) (cs : List Call) (rs : List Receipt) → IsProp (IsBegunTrial goes cs rs)
 begun_prop goes cs [] = Prim.hlevel props
 begun_prop goes [] (r ∷ rs) = Prim.hlevel props
-begun_prop goes (c ∷ cs) (r ∷ rs) = Prim.hlevel (props, of_prop c.entry c.op r, begun_prop goes cs rs)
+begun_prop goes (c ∷ cs) (r ∷ rs) =
+    Prim.hlevel (props, of_prop c.entry c.op r, begun_prop goes cs rs)
 
 normal_prop : (op : Op) → IsProp (IsNormal op)
 normal_prop (Enter a b) = Prim.hlevel props

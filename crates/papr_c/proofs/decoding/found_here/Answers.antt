@@ -6,38 +6,72 @@ use Rattle.papr_c.proofs.decoding.found_here.Goals as goal
 
 pub returns-then-not-is_index-clause-none : goal.returns-then-not-is_index-clause-none
 returns-then-not-is_index-clause-none c =
-    let out : is_index c.args.order c.args.ptex ≡ false = let e = c.is_index.ensures in let f = c.if-not-is_index.ensures in cc in
+    let out : is_index c.args.order c.args.ptex ≡ false = let e = c.is_index.ensures in
+    let f = c.if-not-is_index.ensures in
+    cc in
     no_index c.args.order c.args.ptex c.args.dword0 c.args.dword1 out
 
 pub returns-then-not-is_valid-clause-none : goal.returns-then-not-is_valid-clause-none
 returns-then-not-is_valid-clause-none c =
-    let inside : is_index c.args.order c.args.ptex ≡ true = let e = c.is_index.ensures in let f = c.if-not-is_index.ensures in cc in
-    let clear : is_valid c.args.dword0 ≡ false = let e = c.is_valid.ensures in let f = c.if-not-is_valid.ensures in cc in
+    let inside : is_index c.args.order c.args.ptex ≡ true = let e = c.is_index.ensures in
+    let f = c.if-not-is_index.ensures in
+    cc in
+    let clear : is_valid c.args.dword0 ≡ false = let e = c.is_valid.ensures in
+    let f = c.if-not-is_valid.ensures in
+    cc in
     empty c.args.order c.args.ptex c.args.dword0 c.args.dword1 inside clear
 
 pub returns-in_default-clause-none : goal.returns-in_default-clause-none
 returns-in_default-clause-none c =
-    let inside : is_index c.args.order c.args.ptex ≡ true = let e = c.is_index.ensures in let f = c.if-not-is_index.ensures in cc in
-    let valid : is_valid c.args.dword0 ≡ true = let e = c.is_valid.ensures in let f = c.if-not-is_valid.ensures in cc in
-    no_size c.args.order c.args.ptex c.args.dword0 c.args.dword1 inside valid (sym c.decode.ensures.value ∙ c.in_default.is)
+    let inside : is_index c.args.order c.args.ptex ≡ true = let e = c.is_index.ensures in
+    let f = c.if-not-is_index.ensures in
+    cc in
+    let valid : is_valid c.args.dword0 ≡ true = let e = c.is_valid.ensures in
+    let f = c.if-not-is_valid.ensures in
+    cc in
+    no_size c.args.order c.args.ptex c.args.dword0 c.args.dword1 inside valid
+        (sym c.decode.ensures.value ∙ c.in_default.is)
 
 pub returns-then-not-has_place-clause-none : goal.returns-then-not-has_place-clause-none
 returns-then-not-has_place-clause-none c =
-    let inside : is_index c.args.order c.args.ptex ≡ true = let e = c.is_index.ensures in let f = c.if-not-is_index.ensures in cc in
-    let valid : is_valid c.args.dword0 ≡ true = let e = c.is_valid.ensures in let f = c.if-not-is_valid.ensures in cc in
-    let no : has_place c.args.dword0 c.in-Some.size.base ≡ false = let e = c.has_place.ensures in let f = c.if-not-has_place.ensures in cc in
-    no_segment c.args.order c.args.ptex c.args.dword0 c.args.dword1 c.in-Some.size c.ranges.dword0.fits inside valid (sym c.decode.ensures.value ∙ c.in-Some.is) no
+    let inside : is_index c.args.order c.args.ptex ≡ true = let e = c.is_index.ensures in
+    let f = c.if-not-is_index.ensures in
+    cc in
+    let valid : is_valid c.args.dword0 ≡ true = let e = c.is_valid.ensures in
+    let f = c.if-not-is_valid.ensures in
+    cc in
+    let no : has_place c.args.dword0 c.in-Some.size.base ≡ false = let e = c.has_place.ensures in
+    let f = c.if-not-has_place.ensures in
+    cc in
+    no_segment c.args.order c.args.ptex c.args.dword0 c.args.dword1 c.in-Some.size
+        c.ranges.dword0.fits inside valid (sym c.decode.ensures.value ∙ c.in-Some.is) no
 
 pub returns-in-Some-page_of-clause-page : goal.returns-in-Some-page_of-clause-page
 returns-in-Some-page_of-clause-page c =
-    let inside : is_index c.args.order c.args.ptex ≡ true = let e = c.is_index.ensures in let f = c.if-not-is_index.ensures in cc in
-    let valid : is_valid c.args.dword0 ≡ true = let e = c.is_valid.ensures in let f = c.if-not-is_valid.ensures in cc in
-    let place : has_place c.args.dword0 c.in-Some.size.base ≡ true = let e = c.has_place.ensures in let f = c.if-not-has_place.ensures in cc in
-    page_found c.args.order c.args.ptex c.args.dword0 c.args.dword1 c.in-Some.size c.in-Some-page_of.page inside valid (sym c.decode.ensures.value ∙ c.in-Some.is) place (sym c.page_of.ensures.value ∙ c.in-Some-page_of.is)
+    let inside : is_index c.args.order c.args.ptex ≡ true = let e = c.is_index.ensures in
+    let f = c.if-not-is_index.ensures in
+    cc in
+    let valid : is_valid c.args.dword0 ≡ true = let e = c.is_valid.ensures in
+    let f = c.if-not-is_valid.ensures in
+    cc in
+    let place : has_place c.args.dword0 c.in-Some.size.base ≡ true = let e = c.has_place.ensures in
+    let f = c.if-not-has_place.ensures in
+    cc in
+    page_found c.args.order c.args.ptex c.args.dword0 c.args.dword1 c.in-Some.size
+        c.in-Some-page_of.page inside valid (sym c.decode.ensures.value ∙ c.in-Some.is) place
+        (sym c.page_of.ensures.value ∙ c.in-Some-page_of.is)
 
 pub returns-in-None-clause-none : goal.returns-in-None-clause-none
 returns-in-None-clause-none c =
-    let inside : is_index c.args.order c.args.ptex ≡ true = let e = c.is_index.ensures in let f = c.if-not-is_index.ensures in cc in
-    let valid : is_valid c.args.dword0 ≡ true = let e = c.is_valid.ensures in let f = c.if-not-is_valid.ensures in cc in
-    let place : has_place c.args.dword0 c.in-Some.size.base ≡ true = let e = c.has_place.ensures in let f = c.if-not-has_place.ensures in cc in
-    other_group c.args.order c.args.ptex c.args.dword0 c.args.dword1 c.in-Some.size inside valid (sym c.decode.ensures.value ∙ c.in-Some.is) place (sym c.page_of.ensures.value ∙ c.in-None.is)
+    let inside : is_index c.args.order c.args.ptex ≡ true = let e = c.is_index.ensures in
+    let f = c.if-not-is_index.ensures in
+    cc in
+    let valid : is_valid c.args.dword0 ≡ true = let e = c.is_valid.ensures in
+    let f = c.if-not-is_valid.ensures in
+    cc in
+    let place : has_place c.args.dword0 c.in-Some.size.base ≡ true = let e = c.has_place.ensures in
+    let f = c.if-not-has_place.ensures in
+    cc in
+    other_group c.args.order c.args.ptex c.args.dword0 c.args.dword1 c.in-Some.size inside valid
+        (sym c.decode.ensures.value ∙ c.in-Some.is) place
+        (sym c.page_of.ensures.value ∙ c.in-None.is)

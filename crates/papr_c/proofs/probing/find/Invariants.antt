@@ -8,5 +8,7 @@ use Rattle.papr_c.proofs.probing.find.Given as goal
 abbrev pub invariant-loop-made : goal.invariant-loop-made
 invariant-loop-made l = record {
   inside : l.made ≤ length (calls_of l.calls);
-  none : found_of (each_as_is l.entries (calls_of l.calls)) ≡ found_of (each_as_is l.entries (drop l.made (calls_of l.calls)));
+  none :
+      found_of (each_as_is l.entries (calls_of l.calls))
+      ≡ found_of (each_as_is l.entries (drop l.made (calls_of l.calls)));
 }

@@ -6,10 +6,16 @@ use Rattle.papr_c.proofs.trying.try_by_groups.Given as goal
 -- The calls before this one were made, and each answer went on.
 abbrev pub invariant-loop-made : goal.invariant-loop-made
 invariant-loop-made g l = record {
-  so_far : (rs : List Receipt) × IsSoFar (g.C.CallList.goes_on l.calls) (g.C.CallList.calls l.calls) l.made l.fn.entries l.entries l.fn.receipts l.receipts rs;
+  so_far :
+      (rs : List Receipt)
+      × IsSoFar (g.C.CallList.goes_on l.calls) (g.C.CallList.calls l.calls) l.made l.fn.entries
+          l.entries l.fn.receipts l.receipts rs;
 }
 
 abbrev pub invariant-loop-made-2 : goal.invariant-loop-made-2
 invariant-loop-made-2 g l = record {
-  so_far : (rs : List Receipt) × IsSoFar (g.C.CallList.goes_on l.calls) (g.C.CallList.calls l.calls) l.made l.fn.entries l.entries l.fn.receipts l.receipts rs;
+  so_far :
+      (rs : List Receipt)
+      × IsSoFar (g.C.CallList.goes_on l.calls) (g.C.CallList.calls l.calls) l.made l.fn.entries
+          l.entries l.fn.receipts l.receipts rs;
 }

@@ -6,5 +6,8 @@ use Rattle.papr_c.proofs.trying.try_lent.Given as goal
 -- The calls before this one were made, and each answer went on.
 abbrev pub invariant-loop-made : goal.invariant-loop-made
 invariant-loop-made g l = record {
-  so_far : (rs : List Receipt) × IsSoFar (g.C.CallList.goes_on l.calls) (g.C.CallList.calls l.calls) l.made l.fn.entries l.entries l.fn.receipts l.receipts rs;
+  so_far :
+      (rs : List Receipt)
+      × IsSoFar (g.C.CallList.goes_on l.calls) (g.C.CallList.calls l.calls) l.made l.fn.entries
+          l.entries l.fn.receipts l.receipts rs;
 }

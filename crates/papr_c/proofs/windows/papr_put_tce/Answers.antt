@@ -11,7 +11,8 @@ returns-in_default c =
     let m = memory c.args.entries.now [] c.args.receipts.now in
     let grants = listed c.args.grants.now.grants c.args.grants.now.count in
     ap (λ reply. (reply, m)) c.refused.ensures
-    ∙ no_page c.args.base c.args.ioba m (put_plan_at grants c.args.tce) (sym c.entry_of.ensures.entry ∙ c.in_default.is)
+    ∙ no_page c.args.base c.args.ioba m (put_plan_at grants c.args.tce)
+        (sym c.entry_of.ensures.entry ∙ c.in_default.is)
 
 pub returns : goal.returns
 unfolding put_tce_plan
@@ -19,4 +20,5 @@ returns c =
     let m = memory c.args.entries.now [] c.args.receipts.now in
     let grants = listed c.args.grants.now.grants c.args.grants.now.count in
     c.put_at.ensures
-    ∙ has_page c.args.base c.args.ioba c.in-Some.entry m (put_plan_at grants c.args.tce) (sym c.entry_of.ensures.entry ∙ c.in-Some.is)
+    ∙ has_page c.args.base c.args.ioba c.in-Some.entry m (put_plan_at grants c.args.tce)
+        (sym c.entry_of.ensures.entry ∙ c.in-Some.is)

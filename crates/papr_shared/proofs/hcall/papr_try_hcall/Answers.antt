@@ -9,4 +9,5 @@ pub begin-reply-requires-clause-never_busy : goal.begin-reply-requires-clause-ne
 begin-reply-requires-clause-never_busy c =
     let grants = c.args.grants.now in
     subst NeverBusy (sym c.numbered-plan.ensures.plan)
-    (numbered_never c.order.result (listed grants.grants grants.count) c.args.args.now (hcall_of c.args.number))
+    (numbered_never c.order.result (listed grants.grants grants.count) c.args.args.now
+         (hcall_of c.args.number))

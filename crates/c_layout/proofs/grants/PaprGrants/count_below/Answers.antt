@@ -7,5 +7,8 @@ loop-low-preserved c = record {
   ordered = omega (arith, c.loop-low-test.true);
   bound = omega (arith, c.loop-low-test.true, c.loop-low.invariant.bound);
   below = c.loop-low.invariant.below;
-  above = λ k from inside. above_more c.args.self.now.grants c.args.self.now.count _ c.args.logical c.args.self.now.in_order c.if-self-middle.false k from inside;
+  above =
+      λ k from inside.
+      above_more c.args.self.now.grants c.args.self.now.count _ c.args.logical
+          c.args.self.now.in_order c.if-self-middle.false k from inside;
 }

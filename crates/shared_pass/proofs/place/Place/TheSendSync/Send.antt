@@ -16,12 +16,17 @@ use Rattle.shared_pass.proofs.working.Working.TheSendSync.{the_send as working}
 use Rattle.shared_pass.specs.Owned.{place_owns}
 use Rattle.shared_pass.specs.contracts.place.Place.{the_row, the_type}
 
-owned : (alloc : Global) (p : Ptr) (held : Option Working.the_row.Denot) → Keyless (place_owns alloc p held)
+owned :
+    (alloc : Global) (p : Ptr) (held : Option Working.the_row.Denot)
+    → Keyless (place_owns alloc p held)
 owned alloc p None = tt
-owned alloc p (Some x) = (lies Working.the_row working p x, heap.frees.frees alloc (raw (lone Working.the_row.mir)) p)
+owned alloc p (Some x) =
+    (lies Working.the_row working p x, heap.frees.frees alloc (raw (lone Working.the_row.mir)) p)
 
 pub send : IsSend the_row
 send =
     let all : AllSend (fields the_type) = (search sendable, (handle.the_field_send, tt)) in
     owning_send the_type all (λ d. owned d.alloc d.at d.held)
-    (λ k. quiet (to the_type) (exits_of k (fields the_type)) ((struct_send (shape the_type) all).leaving k))
+    (λ k.
+     quiet (to the_type) (exits_of k (fields the_type))
+         ((struct_send (shape the_type) all).leaving k))

@@ -11,6 +11,7 @@ invariant_of-self-in-Err c =
     record {
       begun = (
         subst (λ order. HeldFits order c.of.result) same (c.of.ensures.fits _ c.requires.fits),
-        subst (λ (plan : Plan). IsBegun plan c.try_plan.new.receipts) (sym c.of.ensures.plan) c.in-Err.ensures.begun,
+        subst (λ (plan : Plan). IsBegun plan c.try_plan.new.receipts) (sym c.of.ensures.plan)
+            c.in-Err.ensures.begun,
       );
     }

@@ -17,7 +17,7 @@ WAITING = frozenset(
     """
     authority_mask basics bus_window call_plan call_trials dma_window entry_lock entry_model frame_grants h_enter
     h_update history_check hpt_hash hpt_pool hpt_resize hpt_resize_tests hpt_walk hpte_fields lock_core lock_machine
-    lock_machine_tests lock_uses lpar_set number_text papr_bytes papr_c papr_codes papr_edge papr_top papr_uses
+    lock_machine_tests lock_uses lpar_set number_text papr_bytes papr_codes papr_edge papr_top papr_uses
     partition pass_calls pool_bench pool_range power_addr receipt_text reply_text run_model slb_model storage_prot
     store_tests table_image tlb_model trace_gen trace_io trace_read trace_runner trace_runner_tests vcpu vcpu_tests
     """.split()

@@ -76,7 +76,7 @@ texts = README.md CHANGELOG.md CONTRIBUTING.md LICENSE-APACHE LICENSE-MIT
 documents = $(wildcard docs/*.md docs/*.svg docs/*.html docs/*.png)
 
 .PHONY: all check install install-program install-library library aarch64 wheel page uninstall dist deb gate release \
-    $(own_program) $(own_library) $(own_bytes_library)
+    $(own_program) $(own_library)
 
 all $(own_program):
 	./papr run <examples/first.trace >/dev/null
@@ -87,14 +87,11 @@ check: all
 
 library: $(own_shared) $(own_bytes_shared)
 
-# These prove the crates below first, as ./papr does. The first builds the archive of the shared table too.
+# It proves the crates below first, as ./papr does, and builds all three archives.
 $(own_library):
 	tools/build --library
 
-$(own_shared_table): $(own_library) ;
-
-$(own_bytes_library):
-	page/build-page --library $@
+$(own_shared_table) $(own_bytes_library): $(own_library) ;
 
 $(own_shared): $(LIBRARY) $(SHARED_TABLE) include/papr.h include/papr_shared.h
 	tools/shared-library $(LIBRARY) $(SHARED_TABLE) $@

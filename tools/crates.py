@@ -9,7 +9,7 @@ TOP = HERE.parent
 CRATES = TOP / "crates"
 PARTS = ("src", "specs", "proofs")
 # The static libraries that take memory.
-WITH_HEAP = ("papr_shared",)
+WITH_HEAP = ("papr_bytes", "papr_shared")
 
 
 def lines_of(listed: Path) -> dict[str, str]:

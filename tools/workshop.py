@@ -105,10 +105,6 @@ class Workshop:
         script = [f"create {out.resolve()}", *(f"addlib {it}" for it in archives), "save", "end", ""]
         run([self.archiver, "-M"], "\n".join(script))
 
-    def library(self, out: Path) -> None:
-        """The library of the program on bytes: the crate, and the toolchain's heap over the C library's."""
-        self.join(out, self.archive(PROGRAM), self.kit.kit / "c" / "liblibc_c.a")
-
 
 def prove_below() -> None:
     """Proves the crates that the libraries for C stand on, as far as that isn't kept, side by side."""

@@ -11,7 +11,7 @@ from typing import Callable, Optional
 
 from .support import TOOLS, TOP, Ran, Word, run, write_script
 
-# Each crate with what stands behind its name in crates.txt. The program stands on low, mid and trace_runner, and both
+# Each crate with what stands behind its name in crates.txt. The program stands on low, mid and trace_runner, and the
 # libraries for C on low and beside.
 LINES = {
     "low": "",
@@ -20,10 +20,12 @@ LINES = {
     "beside": ": low",
     "papr_c": " staticlib: beside",
     "papr_shared": " staticlib: beside",
+    "papr_bytes": " staticlib: beside",
     "papr_main": ": mid trace_runner",
 }
 IN_PROGRAM = ["low", "mid", "trace_runner", "papr_main"]
-IN_LIBRARY = ["low", "beside", "papr_c", "papr_shared"]
+STATIC = ["papr_c", "papr_shared", "papr_bytes"]
+IN_LIBRARIES = ["low", "beside", *STATIC]
 
 PATIENCE = 120  # seconds that something is waited for
 
@@ -83,9 +85,8 @@ class Checkout:
     def __init__(self, folder: Path) -> None:
         self.top, self.kit, self.times = folder / "checkout", folder / "kit", folder / "kit" / "bin" / "times"
         self.built, self.log = self.top / ".git" / "papr-build", self.top / "out" / "build.log"
-        files = {"papr_main": "papr_main", "papr_c": "libpapr_c.a", "papr_shared": "libpapr_shared.a"}
-        made = (self.top / "crates" / crate / "out" / file for crate, file in files.items())
-        self.program, self.archive, self.shared_table = made
+        self.program = self.top / "crates" / "papr_main" / "out" / "papr_main"
+        self.archives = {name: self.top / "crates" / name / "out" / f"lib{name}.a" for name in STATIC}
         self.tools = f"{self.kit}/bin:/usr/bin:/bin"
         (self.top / "tools").mkdir(parents=True)
         for file in (TOP / "papr", TOOLS / "build", *TOOLS.glob("*.py"), *TOOLS.glob("*.*sh")):

@@ -1,12 +1,13 @@
-"""Tests of builds by a stand-in for the toolchain: the library for C, builds that are ended, and what goes wrong."""
+"""Tests of builds by a stand-in for the toolchain: the libraries for C, builds that are ended, and what goes wrong."""
 
 import os
 import shutil
 import signal
 
-from .stand_in import IN_LIBRARY, IN_PROGRAM, Begun, Checkout, is_running
+from .stand_in import IN_LIBRARIES, IN_PROGRAM, STATIC, Begun, Checkout, is_running
 from .support import TOP, Ran, ToolTest, for_each, needs, run
 
+INSTALLED = {"papr_c": "libpapr.a", "papr_shared": "libpapr_shared.a", "papr_bytes": "libpapr_bytes.a"}
 INT, TERM, HUP, KILL = signal.SIGINT, signal.SIGTERM, signal.SIGHUP, signal.SIGKILL
 
 
@@ -24,18 +25,18 @@ class BuildTest(ToolTest):
         self.assertEqual(ran.err.splitlines()[-1:], [message])
 
 
-class Library(BuildTest):
-    """The library for C."""
+class Libraries(BuildTest):
+    """The libraries for C."""
 
     def test_it_is_proved_with_all_that_it_stands_on_and_nothing_else(self) -> None:
         ran = self.checkout.build("--library")
         self.assert_ran(ran, err=None)
-        self.assertEqual(self.checkout.archive.read_text(), "an archive over papr_c\n")
-        self.assertCountEqual(self.checkout.proved(), IN_LIBRARY)
+        self.assertEqual(self.checkout.archives["papr_c"].read_text(), "an archive over papr_c\n")
+        self.assertCountEqual(self.checkout.proved(), IN_LIBRARIES)
         for words in (
-            "building the library for C: 4 crates to prove, the first time ",
+            "building the libraries for C: 5 crates to prove, the first time ",
             f"log: {self.checkout.log}\n",
-            "crate 4 of 4: papr_",
+            "crate 5 of 5: papr_",
             "built in 0 min ",
         ):
             self.assertIn(f"papr: {words}", ran.err)
@@ -49,34 +50,36 @@ class Library(BuildTest):
         self.assertTrue(words.endswith(f" --crate-type staticlib {toolchain} -o {archive}"), words)
         self.assertNotIn("--statements", words)
 
-    def test_the_heap_is_put_into_the_archive_of_the_shared_table(self) -> None:
+    @for_each("papr_shared", "papr_bytes")
+    def test_the_heap_is_put_into_the_archive_of(self, name: str) -> None:
         self.checkout.build("--library")
         heap = f"and {self.checkout.kit}/c/liblibc_c.a\n"
-        self.assertEqual(self.checkout.shared_table.read_text(), f"an archive over papr_shared\n{heap}")
+        self.assertEqual(self.checkout.archives[name].read_text(), f"an archive over {name}\n{heap}")
 
     def test_a_second_build_does_nothing_and_says_nothing(self) -> None:
         self.checkout.build("--library")
-        archives = (self.checkout.archive, self.checkout.shared_table)
+        archives = self.checkout.archives.values()
         made = [it.stat().st_mtime_ns for it in archives]
         self.checkout.times.unlink()
         self.assert_ran(self.checkout.build("--library"))
         self.assertFalse(self.checkout.times.exists())
         self.assertEqual([it.stat().st_mtime_ns for it in archives], made)
 
-    def test_an_archive_that_is_missing_is_put_back(self) -> None:
+    @for_each(*STATIC)
+    def test_an_archive_that_is_missing_is_put_back(self, name: str) -> None:
         """What is proved is kept, so nothing is proved for it."""
         self.checkout.build("--library")
-        self.checkout.shared_table.unlink()
+        self.checkout.archives[name].unlink()
         self.checkout.times.unlink()
         self.assert_ran(self.checkout.build("--library"), err=None)
-        self.assertTrue(self.checkout.shared_table.is_file())
+        self.assertTrue(self.checkout.archives[name].is_file())
         self.assertFalse(self.checkout.times.exists())
 
     def test_it_takes_over_what_the_program_proved(self) -> None:
         self.checkout.papr("run")
         ran = self.checkout.build("--library")
-        self.assertIn("building the library for C: 3 of 4 crates to prove\n", ran.err)
-        self.assertCountEqual(self.checkout.proved(), ["beside", "papr_c", "papr_shared"])
+        self.assertIn("building the libraries for C: 4 of 5 crates to prove\n", ran.err)
+        self.assertCountEqual(self.checkout.proved(), ["beside", *STATIC])
 
     def leave(self, *names: str) -> None:
         """Leaves the library of each crate where the gate does."""
@@ -88,7 +91,7 @@ class Library(BuildTest):
         ran = self.checkout.build("--from-gate")
         self.assert_ran(ran, err="build: 2 of 4 libraries are those that the gate left\n")
         self.checkout.build("--library")
-        self.assertCountEqual(self.checkout.proved(), ["papr_c", "papr_shared"])
+        self.assertCountEqual(self.checkout.proved(), STATIC)
 
     def test_nothing_is_taken_over_that_is_older_than_a_source_below(self) -> None:
         self.leave("low", "beside")
@@ -112,7 +115,7 @@ class Library(BuildTest):
         self.checkout.build("--library")
         self.checkout.change("beside")
         self.checkout.build("--library")
-        self.assertCountEqual(self.checkout.proved(), ["beside", "papr_c", "papr_shared"])
+        self.assertCountEqual(self.checkout.proved(), ["beside", *STATIC])
         self.checkout.change("papr_c")
         self.checkout.build("--library")
         self.assertEqual(self.checkout.proved(), ["papr_c"])
@@ -129,7 +132,7 @@ class Library(BuildTest):
         self.assertEqual(
             ran.err.splitlines()[-1], f"build: papr_c could not be built; {self.checkout.log} says why"
         )
-        self.assertFalse(self.checkout.archive.exists())
+        self.assertFalse(self.checkout.archives["papr_c"].exists())
 
     def test_no_toolchain_on_the_path(self) -> None:
         self.checkout.tools = "/usr/bin:/bin"
@@ -153,13 +156,13 @@ class Installed(BuildTest):
             if tool.is_file() and not (self.checkout.top / "tools" / tool.name).exists():
                 shutil.copy(tool, self.checkout.top / "tools")
         self.tree = self.folder / "tree"
-        # An archive of the stand-in has no objects of which a shared one could be made, and page/ isn't here.
+        # An archive of the stand-in has no objects of which a shared one could be made.
         self.stand_in = self.folder / "library"
         self.stand_in.touch()
 
     def make(self, *words: str) -> Ran:
         """Runs make in the checkout, whose program ends with status 0."""
-        given = [f"{name}={self.stand_in}" for name in ("BYTES_LIBRARY", "SHARED", "BYTES_SHARED")]
+        given = [f"{name}={self.stand_in}" for name in ("SHARED", "BYTES_SHARED")]
         places = (f"DESTDIR={self.tree}", "PREFIX=/usr", *given)
         environment = self.checkout.environment(ENDS="0")
         return run("make", "-s", "-C", self.checkout.top, *places, *words, environment=environment)
@@ -169,26 +172,26 @@ class Installed(BuildTest):
         self.assert_same_file(self.tree / "usr/libexec/papr/papr", self.checkout.program)
         version = (self.tree / "usr/share/papr/version").read_text().splitlines()
         self.assertEqual(version[2], "a kit")
-        self.assert_same_file(self.tree / "usr/lib/libpapr.a", self.checkout.archive)
-        self.assert_same_file(self.tree / "usr/lib/libpapr_shared.a", self.checkout.shared_table)
-        self.assertEqual(len(self.checkout.compilers()), len({*IN_PROGRAM, *IN_LIBRARY}))
+        for name, installed in INSTALLED.items():
+            self.assert_same_file(self.tree / "usr/lib" / installed, self.checkout.archives[name])
+        self.assertEqual(len(self.checkout.compilers()), len({*IN_PROGRAM, *IN_LIBRARIES}))
         self.assert_ran(self.make("install"))
         self.checkout.times.unlink()
         self.checkout.change("beside")
         self.checkout.change("mid")
         self.assert_ran(self.make("install"), err=None)
         begun = {line.split()[1] for line in self.checkout.steps()}
-        self.assertEqual(begun, {"beside", "papr_c", "papr_shared", "mid", "papr_main"})
+        self.assertEqual(begun, {"beside", *STATIC, "mid", "papr_main"})
 
     def test_the_library_alone(self) -> None:
         self.assert_ran(self.make("install-library"), err=None)
-        self.assert_same_file(self.tree / "usr/lib/libpapr.a", self.checkout.archive)
+        self.assert_same_file(self.tree / "usr/lib/libpapr.a", self.checkout.archives["papr_c"])
         self.assertFalse(self.checkout.program.exists())
 
     def test_make_builds_it_once(self) -> None:
-        archives = ("crates/papr_c/out/libpapr_c.a", "crates/papr_shared/out/libpapr_shared.a")
+        archives = [f"crates/{name}/out/lib{name}.a" for name in STATIC]
         self.assert_ran(self.make(*archives), err=None)
-        self.assertTrue(self.checkout.archive.is_file() and self.checkout.shared_table.is_file())
+        self.assertEqual([it for it in self.checkout.archives.values() if not it.is_file()], [])
         self.assert_ran(self.make(*archives))
 
 
@@ -265,7 +268,7 @@ class Ended(BuildTest):
     def test_a_build_of_the_library(self) -> None:
         begun = self.checkout.begin(self.checkout.top / "tools" / "build", "--library")
         begun.wait_for_proofs()
-        self.assert_ended(begun.end(INT), 128 + INT, command="make library", count=4)
+        self.assert_ended(begun.end(INT), 128 + INT, command="make library", count=5)
 
     def test_a_build_that_waits_for_another_promises_nothing(self) -> None:
         first = self.begin()

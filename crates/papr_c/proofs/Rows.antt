@@ -1,5 +1,5 @@
 -- Worked values of the definitions, which the checker computes.
-use Rattle.std.proofs.Common.{◌≡◌, ℕ, [], ◌∷◌, true, false, Some, None, refl, replicate}
+use Rattle.std.proofs.Common.{◌≡◌, ℕ, [], ◌∷◌, true, false, Some, refl, replicate}
 use Rattle.entry_model.specs.State.{empty_state}
 use Rattle.h_update.specs.Single.{h_remove_plan}
 use Rattle.pool_range.specs.Ranges.{range_refusal}

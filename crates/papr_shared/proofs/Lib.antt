@@ -1,1 +1,3 @@
 pub mod TwoPasses
+pub mod NeverBusy
+pub mod Endings

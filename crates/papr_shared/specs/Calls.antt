@@ -1,6 +1,7 @@
 -- Hypervisor calls on the running table: the pass before a call is x, and after it y.
-use Rattle.std.specs.Prelude.{◌≡◌, ◌≢◌, ◌⊎◌, ◌==◌, ◌++◌, ℕ, Bool, MatchBool, List, length, Option, Some, None}
+use Rattle.std.specs.Prelude.{◌≡◌, ◌≢◌, ◌⊎◌, ◌==◌, ◌++◌, ℕ, MatchBool, List, length, Option, Some, None}
 use Rattle.std.specs.Arc.{arc_value}
+use Rattle.papr_codes.specs.ReturnCodes.{rc_code}
 use Rattle.papr_codes.specs.declared.codes.Rc.TheVariants.{Busy, Function}
 use Rattle.papr_codes.specs.Hcalls.{hcall_of}
 use Rattle.frame_grants.specs.declared.grant.Grant.{Grant}
@@ -17,11 +18,12 @@ use Rattle.shared_pass.specs.Attempts.{KeepsCall}
 use Rattle.papr_shared.specs.Answers.{Handed, HandsOver, IsRefused}
 
 -- ---- one try
--- The call came to its end, and hands over the reply that its receipts give.
+-- The call came to its end, and hands over the reply that its receipts give, which isn't H_BUSY.
 pub record HasEnded (plan : Plan) (y : Working) (h : Handed) : Type 0 where
   pub trial : IsTrial plan.goes_on plan.calls y.receipts
   pub nothing : y.pending ≡ Nothing
   pub over : HandsOver (reply_by plan y.receipts) h
+  pub not_busy : h.answer.rc ≢ rc_code Busy
 
 -- H_BUSY, with the words of the receipts so far.
 abbrev pub reply_so_far : Plan → List Receipt → HReply
@@ -32,6 +34,10 @@ pub record IsHeldUp (plan : Plan) (y : Working) (h : Handed) : Type 0 where
   pub kept : KeepsCall plan y y.busy
   pub not_alone : y.sharer.pass.shares ≢ (arc_value y.sharer.table).passes
   pub over : HandsOver (reply_so_far plan y.receipts) h
+
+-- No receipts of a call give H_BUSY.
+abbrev pub NeverBusy : Plan → Type 0
+NeverBusy plan = (rs : List Receipt) → (plan.told rs).0 ≢ Busy
 
 -- One of the two.
 abbrev pub IsTried : Plan → Working → Handed → Type 0

@@ -29,12 +29,13 @@ end_told w rs places =
 abbrev pub busy_told : List Receipt → List PaprReceipt → PaprWalk
 busy_told rs places = no_entry 6 (min (length places) (length rs))
 
--- The walk came to its end.
+-- The walk came to its end, and doesn't say that it is busy.
 pub record HasFound (w : PageWalk) (y : Working) (h : HandedWalk) : Type 0 where
   pub trial :
       IsTrial is_no_match (calls_of_walk (arc_value y.sharer.table).order w) y.receipts
   pub nothing : y.pending ≡ Nothing
   pub found : h.found ≡ end_told w y.receipts h.receipts
+  pub not_busy : h.found.outcome ≢ 6
 
 -- The walk is held up at its next entry, and the pass keeps it. Another pass has a share.
 pub record IsHeldUpWalk (w : PageWalk) (y : Working) (h : HandedWalk) : Type 0 where

@@ -1,7 +1,7 @@
 ghost use Rattle.std.specs.Arc.{arc_value};
 ghost use Rattle.call_plan.specs.Plans.{plan_of, Fits};
 ghost use Rattle.papr_shared.specs.Answers.{handed};
-ghost use Rattle.papr_shared.specs.Calls.{IsCallBy, IsAgainBy};
+ghost use Rattle.papr_shared.specs.Calls.{IsCallBy, IsAgainBy, NeverBusy};
 
 use crate::handing::hand_over_call;
 use c_layout::{PaprReceipt, PaprReply};
@@ -15,7 +15,8 @@ pub fn begin(
     words: &mut [u64],
     receipts: &mut [PaprReceipt],
 ) -> PaprReply
-    requires { Fits (arc_value working.old.sharer.table).order plan.now }
+    requires fits { Fits (arc_value working.old.sharer.table).order plan.now }
+    requires never_busy { NeverBusy (plan_of plan.now) }
     ensures { IsCallBy
         working.old.pending
         (plan_of plan.now)

@@ -1,4 +1,4 @@
-use Rattle.std.proofs.Common.{◌≡◌, None, Some, true, rules, to_z, of_z, w64}
+use Rattle.std.proofs.Common.{◌≡◌, Some, true, rules, to_z, of_z, w64}
 use Rattle.papr_codes.specs.ReturnCodes.{rc_code}
 use Rattle.papr_codes.specs.declared.codes.Rc.TheVariants.{Success}
 use Rattle.shared_pass.specs.Workings.{is_free, IsTakenIn}

@@ -1,0 +1,8 @@
+use Rattle.std.proofs.Common.{sym, subst}
+use Rattle.papr_shared.specs.Calls.{NeverBusy}
+use Rattle.papr_shared.proofs.NeverBusy.{protect_never}
+use Rattle.papr_shared.proofs.single.papr_try_h_protect.Goals as goal
+
+pub begin-reply-requires-clause-never_busy : goal.begin-reply-requires-clause-never_busy
+begin-reply-requires-clause-never_busy c =
+    subst NeverBusy (sym c.protect_plan-plan.ensures.plan) (protect_never _ _ _ _)

@@ -44,6 +44,7 @@ REFUSED = (
 # and 4 is 5 xor 1.
 OFFSET, PROTECTION, ADDRESS = "offset in the segment", "protection (PP)", "logical address"
 NO_SEGMENT = "none: B is above 1, or no page of that size lies where the tag says"
+OTHER_GROUP = "none: the page's group isn't the one of this index"
 ENTRIES = (
     ("0x1001", "0x3012", "old", "0x20", {"VSID": "0x1", "page": "4 KB", ADDRESS: "0x3000", OFFSET: "0x5000"}),
     ("0x1001", "0x3012", "old", "0x20", {"W, I, M, G": "M", "bolted": "no", "group (H)": "primary"}),
@@ -62,7 +63,7 @@ ENTRIES = (
     ("0x1005", "0x1008012", "old", "0x20", {"page": "64 KB inside 16 MB", ADDRESS: "0x1000000"}),
     ("0x1005", "0x2000012", "old", "0x8", {"page": "16 MB", ADDRESS: "0x2000000", OFFSET: "0x0"}),
     ("0x1005", "0x2000012", "old", "", {"page": "16 MB", ADDRESS: "0x2000000", OFFSET: "0x0"}),
-    ("0x1005", "0x2000012", "old", "0x20", {"page": "none: the page's group isn't the one of this index", "VSID": "–"}),
+    ("0x1005", "0x2000012", "old", "0x20", {"page": OTHER_GROUP, "VSID": "–"}),
     ("0x1001", "0x3012", "old", "0x40000", {"page": "none: no table has this index"}),
     ("0x1000001", "0x0400000000003012", "new", "", {"segment (B)": "1 TB", "VSID": "0x1"}),
     ("0x4000000001000001", "0x3012", "old", "", {"segment (B)": "1 TB", "VSID": "0x1"}),

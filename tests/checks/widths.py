@@ -1,7 +1,7 @@
 """The columns of definitions and proofs: at most 100, as tools/lay-out-antt wraps them.
 
-Crates that were written before that wait for their next change, and are listed here. Fails where a file of another crate
-has wider lines, or where a crate that is listed has none.
+Crates that were written before that wait for their next change, and are listed here. Fails where a file of another
+crate has wider lines, or where a crate that is listed has none.
 """
 
 import argparse

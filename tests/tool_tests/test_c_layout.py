@@ -1,7 +1,7 @@
 """Tests that include/papr.h says what the sources of the library for C say; nothing is built for them.
 
-Structs, constants and functions are parsed out of the header and out of the sources of crates/papr_c and
-crates/c_layout, and compared by name, order and type. A slice of the sources is a pointer and a count in C.
+Structs, constants and functions are parsed out of the header and out of the sources of crates/papr_c and of
+crates/c_layout below it, and compared by name, order and type. A slice of the sources is a pointer and a count in C.
 """
 
 import re
@@ -11,8 +11,8 @@ from pathlib import Path
 from .support import TOP, ToolTest, for_each
 
 HEADER = TOP / "include" / "papr.h"
-CRATES = [TOP / "crates" / name / "src" for name in ("c_layout", "papr_c")]
-SOURCES = [path for crate in CRATES for path in sorted(crate.glob("*.rt"))]
+FOLDERS = [TOP / "crates" / crate / "src" for crate in ("c_layout", "papr_c")]
+SOURCES = [path for folder in FOLDERS for path in sorted(folder.glob("*.rt"))]
 # What the sources have from the crates below: an entry, return codes, and flags.
 BELOW = [
     TOP / "crates" / "entry_model" / "src" / "state.rt",
@@ -244,8 +244,8 @@ def text_of(path: Path) -> str:
 
 
 def constants_of(name: str, type_: str) -> dict[str, int]:
-    """The constants of this type in the files of the sources that have this name."""
-    text = "".join(without_remarks(text_of(path)) for path in SOURCES if path.name == name)
+    """The constants of this type in the files of the sources with this name."""
+    text = without_remarks("\n".join(text_of(path) for path in SOURCES if path.name == name))
     return {it: int(number) for it, number in re.findall(rf"\bconst (\w+): {type_} = ([0-9]+);", text)}
 
 

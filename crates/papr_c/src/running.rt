@@ -7,7 +7,9 @@ ghost use Rattle.h_update.specs.Bulk.{h_bulk_remove_plan};
 use crate::lent::LentTable;
 use crate::read::put_entries;
 use crate::trying::{make, try_lent};
-use c_layout::{PaprReceipt, PaprReply, any_stale, ends_stale, filled_count, hand_over, is_stale, put_receipts};
+use c_layout::{
+    PaprReceipt, PaprReply, any_stale, ends_stale, filled_count, hand_over, is_stale, put_receipts,
+};
 use call_plan::{CallPlan, Told, Trial};
 use entry_model::{EntryState, Receipts};
 use h_update::h_bulk_remove_into;

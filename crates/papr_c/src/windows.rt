@@ -11,7 +11,9 @@ ghost use Rattle.papr_c.specs.Windows.{window_of, page_entry, outcome_of_tce, de
 
 use crate::trying::make;
 use bus_window::Window;
-use c_layout::{PaprGrants, PaprReceipt, PaprReply, either_stale, filled_count, is_stale, put_word};
+use c_layout::{
+    PaprGrants, PaprReceipt, PaprReply, either_stale, filled_count, is_stale, put_word,
+};
 use dma_window::{entering, tce_of};
 use entry_model::{Answer, DeviceOutcome, EntryState, Op, Test};
 use frame_grants::Kind;

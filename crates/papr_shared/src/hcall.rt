@@ -16,12 +16,7 @@ use std::alloc::Global;
 
 /// The plan of the call with this number, on a table of `2^order` bytes: H_FUNCTION, if it isn't one
 /// of a call on entries.
-fn numbered<'a>(
-    order: u8,
-    grants: &PaprGrants,
-    number: u64,
-    asked: &'a [u64; 8],
-) -> CallPlan<'a>
+fn numbered<'a>(order: u8, grants: &PaprGrants, number: u64, asked: &'a [u64; 8]) -> CallPlan<'a>
     requires low { 18 ≤ order }
     requires high { order ≤ 22 }
     ensures plan { let list = listed grants.now.grants grants.now.count in

@@ -47,9 +47,9 @@ abbrev pub IsHeldWalk : ℕ → PageWalk → List Receipt → Busy → Type 0
 IsHeldWalk order w rs b = IsHeldAt is_no_match (calls_of_walk order w) rs b
 
 -- What is pending is one on a table of this order, and these receipts are of its first operations.
-abbrev pub IsPendingBy : ℕ → Pending → List Receipt → Type 0
-IsPendingBy order pending.Nothing rs = Unit {0}
-IsPendingBy order (pending.Call call) rs =
+abbrev pub IsHeldBy : ℕ → Pending → List Receipt → Type 0
+IsHeldBy order pending.Nothing rs = Unit {0}
+IsHeldBy order (pending.Call call) rs =
     HeldFits order call × IsBegunTrial (plan_of_held call).goes_on (plan_of_held call).calls rs
-IsPendingBy order (pending.Walk walk) rs =
+IsHeldBy order (pending.Walk walk) rs =
     IsBegunTrial is_no_match (calls_of_walk order walk) rs

@@ -18,7 +18,7 @@ use Rattle.shared_pass.specs.declared.held.HeldCall.{HeldCall}
 use Rattle.shared_pass.specs.declared.held.HeldCall.TheVariants.{Tries, Removes}
 use Rattle.shared_pass.specs.declared.held.Pending.{Pending}
 use Rattle.shared_pass.specs.declared.held.Pending.TheVariants as pending
-use Rattle.shared_pass.specs.Held.{HeldFits, IsPendingBy}
+use Rattle.shared_pass.specs.Held.{HeldFits, IsHeldBy}
 
 Op_set : (a b : Op) → IsProp (a ≡ b)
 Op_set = Coded-set the_row.coded
@@ -26,10 +26,13 @@ Op_set = Coded-set the_row.coded
 of_prop : (entry : ℕ) (op : Op) (r : Receipt) → IsProp (IsReceiptOf entry op r)
 of_prop entry op r = Prim.hlevel (props, Op_set)
 
-begun_prop : (goes : Answer → Bool) (cs : List Call) (rs : List Receipt) → IsProp (IsBegunTrial goes cs rs)
+begun_prop :
+    (goes : Answer → Bool) (cs : List Call) (rs : List Receipt)
+    → IsProp (IsBegunTrial goes cs rs)
 begun_prop goes cs [] = Prim.hlevel props
 begun_prop goes [] (r ∷ rs) = Prim.hlevel props
-begun_prop goes (c ∷ cs) (r ∷ rs) = Prim.hlevel (props, of_prop c.entry c.op r, begun_prop goes cs rs)
+begun_prop goes (c ∷ cs) (r ∷ rs) =
+    Prim.hlevel (props, of_prop c.entry c.op r, begun_prop goes cs rs)
 
 normal_prop : (op : Op) → IsProp (IsNormal op)
 normal_prop (Enter a b) = Prim.hlevel props
@@ -52,7 +55,7 @@ fits_prop : (order : ℕ) (call : HeldCall) → IsProp (HeldFits order call)
 fits_prop order (Tries trial) = trial_prop order trial
 fits_prop order (Removes named pairs) = Prim.hlevel props
 
-pub pending_prop : (order : ℕ) (p : Pending) (rs : List Receipt) → IsProp (IsPendingBy order p rs)
-pending_prop order pending.Nothing rs = Prim.hlevel props
-pending_prop order (pending.Call call) rs = Prim.hlevel (props, fits_prop, begun_prop)
-pending_prop order (pending.Walk walk) rs = Prim.hlevel (props, begun_prop)
+pub held_prop : (order : ℕ) (p : Pending) (rs : List Receipt) → IsProp (IsHeldBy order p rs)
+held_prop order pending.Nothing rs = Prim.hlevel props
+held_prop order (pending.Call call) rs = Prim.hlevel (props, fits_prop, begun_prop)
+held_prop order (pending.Walk walk) rs = Prim.hlevel (props, begun_prop)

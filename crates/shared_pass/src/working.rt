@@ -1,6 +1,6 @@
-ghost use Rattle.std.specs.Arc.{arc_value};
-ghost use Rattle.shared_pass.specs.Held.{IsPendingBy};
-ghost use Rattle.shared_pass.specs.HeldFacts.{pending_prop};
+ghost use Rattle.shared_pass.specs.Held.{IsHeldBy};
+ghost use Rattle.shared_pass.specs.HeldFacts.{held_prop};
+ghost use Rattle.shared_pass.specs.Made.{order_of};
 
 use crate::held::Pending;
 use crate::sharer::Sharer;
@@ -19,11 +19,12 @@ pub struct Working {
     pub receipts: Receipts,
     /// Why it was held up.
     pub busy: Busy,
-    pub ghost begun: { IsPendingBy (arc_value sharer.table).order pending receipts } by { pending_prop (arc_value sharer.table).order pending receipts },
+    pub ghost begun: { IsHeldBy (order_of sharer.table) pending receipts } by { held_prop _ _ _ },
 }
 
 impl Working {
     ghost use Rattle.std.specs.Prelude.{◌≡◌, ◌≤◌, ◌<◌, [], IfOk, IfErr, IfSome, IfNone, vec_len};
+    ghost use Rattle.std.specs.Arc.{arc_value};
     ghost use Rattle.hpte_fields.specs.TableSize.{entry_count};
     ghost use Rattle.entry_lock.specs.PassOfTable.{view_of};
     ghost use Rattle.entry_lock.specs.Closing.{Closes};

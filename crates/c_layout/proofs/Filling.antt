@@ -104,10 +104,10 @@ put_item items old now i d x below is read =
     let at : 0 + length (take i items) ≡ i = omega (arith, length-first items i below) in
     let next : i + 1 ≡ suc i = omega arith in
     sym
-        (ap (λ k. placed old 0 (take k items)) next
-         ∙ ap (placed old 0) (take_next items i d below)
-         ∙ placed-append (take i items) (get_or items i d ∷ []) old 0
-         ∙ (λ k. set (sym is k) (at k) (sym read k)))
+    (ap (λ k. placed old 0 (take k items)) next
+    ∙ ap (placed old 0) (take_next items i d below)
+    ∙ placed-append (take i items) (get_or items i d ∷ []) old 0
+    ∙ (λ k. set (sym is k) (at k) (sym read k)))
 
 -- All of them.
 pub put_all :

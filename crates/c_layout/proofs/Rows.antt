@@ -18,7 +18,12 @@ to_spare = refl
 entry : State
 entry =
     record {
-        valid = true; dword0 = 0x1001; dword1 = 0x3012; referenced = true; changed = true; stamp = 4
+      valid = true;
+      dword0 = 0x1001;
+      dword1 = 0x3012;
+      referenced = true;
+      changed = true;
+      stamp = 4;
     }
 
 -- The receipt of its removal has the words from before, with R and C.

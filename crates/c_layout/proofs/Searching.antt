@@ -40,8 +40,8 @@ find_only p (x ∷ xs) d zero below others = at (cases_Bool (p x)) where
 find_only p (x ∷ xs) d (suc i) below others =
     let first : p x ≡ false = others zero (omega arith) (λ e. omega (arith, e)) in
     rw first
-        (find_only p xs d i (omega (arith, below))
-             (λ k inside ne. others (suc k) (omega (arith, inside)) (λ e. ne (omega (arith, e)))))
+    (find_only p xs d i (omega (arith, below))
+    (λ k inside ne. others (suc k) (omega (arith, inside)) (λ e. ne (omega (arith, e)))))
 
 -- Two elements of which one is later.
 pairs_at :
@@ -85,13 +85,14 @@ pub listed_more :
     → grant_of g ≡ get_or grants i d
     → map grant_of (take (i + 1) (set list i g)) ≡ take (i + 1) grants
 listed_more list grants i g d below inside same is =
-    rw
-        (add-one,
-         take-suc-set list i g below,
-         map_end grant_of (take i list) g,
-         same,
-         is,
-         take-suc grants i d inside) refl where
+    rw (
+      add-one,
+      take-suc-set list i g below,
+      map_end grant_of (take i list) g,
+      same,
+      is,
+      take-suc grants i d inside,
+    ) refl where
       map_end :
           {X Y : Type 0} (f : X → Y) (xs : List X) (x : X)
           → map f (xs ++ x ∷ []) ≡ map f xs ++ f x ∷ []
@@ -107,17 +108,19 @@ ends_before :
     → lower.logical + lower.length ≤ higher.logical
 ends_before lower higher less has apart =
     at (cases_lt higher.logical (lower.logical + lower.length)) where
-  at :
-      (higher.logical < lower.logical + lower.length)
-      ⊎ (lower.logical + lower.length ≤ higher.logical)
-      → lower.logical + lower.length ≤ higher.logical
-  at (inr before) = before
-  at (inl meets) =
-      let one : nat_lt lower.logical (higher.logical + higher.length) ≡ true = lt-ltb lower.logical
+      at :
+          (higher.logical < lower.logical + lower.length)
+          ⊎ (lower.logical + lower.length ≤ higher.logical)
+          → lower.logical + lower.length ≤ higher.logical
+      at (inr before) = before
+      at (inl meets) =
+          let one :
+          nat_lt lower.logical (higher.logical + higher.length) ≡ true = lt-ltb lower.logical
           (higher.logical + higher.length) (omega (arith, less, has)) in
-      let two : nat_lt higher.logical (lower.logical + lower.length) ≡ true = lt-ltb higher.logical
+          let two :
+          nat_lt higher.logical (lower.logical + lower.length) ≡ true = lt-ltb higher.logical
           (lower.logical + lower.length) meets in
-      absurd (cc)
+          absurd (cc)
 
 -- The list of grants that stand apart is in order.
 pub in_order :
@@ -140,19 +143,19 @@ in_order list grants room same apart = record { rising = rising; low = low } whe
   rising j k less inside =
       let below : j < length grants = omega arith in
       let placed : IsPlaced (get_or grants k no_grant) = All-get_or IsPlaced grants k no_grant
-          inside apart.placed in
+      inside apart.placed in
       let before = ends_before (get_or grants j no_grant) (get_or grants k no_grant)
-          (pairs_at (λ (lower higher : Grant). lower.logical < higher.logical) grants no_grant j k
-               apart.rising less inside) placed.has_bytes
-          (pairs_at (λ (lower higher : Grant). meets_logical lower higher ≡ false) grants no_grant j
-               k apart.apart less inside) in
+      (pairs_at (λ (lower higher : Grant). lower.logical < higher.logical) grants no_grant j k
+      apart.rising less inside) placed.has_bytes
+      (pairs_at (λ (lower higher : Grant). meets_logical lower higher ≡ false) grants no_grant j
+      k apart.apart less inside) in
       rw (← here j below, ← here k inside) at before
 
   low :
       (k : ℕ) → k < length grants → (fields_at list k).machine + (fields_at list k).length ≤ 2 ^ 60
   low k inside =
       let placed : IsPlaced (get_or grants k no_grant) = All-get_or IsPlaced grants k no_grant
-          inside apart.placed in
+      inside apart.placed in
       let ends = placed.machine_end in
       rw (← here k inside) at ends
 
@@ -201,7 +204,7 @@ holds_not :
     → holds logical length (grant_of g) ≡ false
 holds_not logical length g from past =
     and_right (nat_le g.logical logical) (nat_le (logical + length) (g.logical + g.length))
-        (not_le (logical + length) (g.logical + g.length) past)
+    (not_le (logical + length) (g.logical + g.length) past)
 
 -- How many grants begin at or below the address.
 pub record IsCountBelow (grants : List PaprGrant) (count logical below : ℕ) : Type 0 where
@@ -220,21 +223,22 @@ others_fail :
     → holds logical length (grant_of (fields_at grants k)) ≡ false
 others_fail grants count logical length below k order counted some inside other =
     at (cases_lt k below) where
-  at : (k < below) ⊎ (below ≤ k) → holds logical length (grant_of (fields_at grants k)) ≡ false
-  at (inl before) = last (cases_lt (suc k) below) where
-    last :
-        (suc k < below) ⊎ (below ≤ suc k)
-        → holds logical length (grant_of (fields_at grants k)) ≡ false
-    last (inl earlier) =
-        holds_not logical length (fields_at grants k) (counted.at_most k before)
-        (omega
-             (arith,
+      at : (k < below) ⊎ (below ≤ k) → holds logical length (grant_of (fields_at grants k)) ≡ false
+      at (inl before) = last (cases_lt (suc k) below) where
+        last :
+            (suc k < below) ⊎ (below ≤ suc k)
+            → holds logical length (grant_of (fields_at grants k)) ≡ false
+        last (inl earlier) =
+            holds_not logical length (fields_at grants k) (counted.at_most k before)
+            (omega (
+              arith,
               some,
               order.rising k (suc k) (omega arith) (omega (arith, earlier, counted.bound)),
-              counted.at_most (suc k) earlier))
-    last (inr it) = absurd (other (omega (arith, before, it)))
-  at (inr past) =
-      and_left (nat_le (fields_at grants k).logical logical)
+              counted.at_most (suc k) earlier,
+            ))
+        last (inr it) = absurd (other (omega (arith, before, it)))
+      at (inr past) =
+          and_left (nat_le (fields_at grants k).logical logical)
           (nat_le (logical + length) ((fields_at grants k).logical + (fields_at grants k).length))
           (not_le (fields_at grants k).logical logical (counted.above k past inside))
 
@@ -266,13 +270,13 @@ machine_none grants count logical bytes room order counted = at (cases_lt 0 byte
   at (inl some) =
       let none : find (holds logical bytes) (listed grants count) ≡ None =
       find_none (holds logical bytes) (listed grants count) no_grant
-          (λ k inside.
-           fails_at (holds logical bytes) grants count (λ j. suc j ≢ 0) room
-               (λ j below other.
-                others_fail grants count logical bytes 0 j order counted some below other) k inside
-               (λ e. omega (arith, e))) in
+      (λ k inside.
+      fails_at (holds logical bytes) grants count (λ j. suc j ≢ 0) room
+      (λ j below other.
+      others_fail grants count logical bytes 0 j order counted some below other) k inside
+      (λ e. omega (arith, e))) in
       if_zero bytes None
-          (option_map (machine_at logical) (find (holds logical bytes) (listed grants count))) some
+      (option_map (machine_at logical) (find (holds logical bytes) (listed grants count))) some
       ∙ ap (option_map (machine_at logical)) none
   at (inr zero_bytes) =
       let no_bytes : bytes ≡ 0 = omega arith in
@@ -294,24 +298,24 @@ pub machine_by :
     → 0 < bytes
     → machine_range (listed grants count) logical bytes
     ≡
-        (if holds logical bytes (grant_of (fields_at grants last)) then Some
-             (machine_at logical (grant_of (fields_at grants last))) else None)
+    (if holds logical bytes (grant_of (fields_at grants last)) then Some
+    (machine_at logical (grant_of (fields_at grants last))) else None)
 unfolding machine_range
 machine_by grants count logical bytes last room order counted some =
     let inside : last < length (listed grants count) = omega
-        (arith, listed_long grants count room, counted.bound) in
+    (arith, listed_long grants count room, counted.bound) in
     let only = find_only (holds logical bytes) (listed grants count) no_grant last inside
-        (λ k below ne.
-         fails_at (holds logical bytes) grants count (λ j. suc j ≢ suc last) room
-             (λ j within other.
-              others_fail grants count logical bytes (suc last) j order counted some within other) k
-             below (λ e. ne (omega (arith, e)))) in
+    (λ k below ne.
+    fails_at (holds logical bytes) grants count (λ j. suc j ≢ suc last) room
+    (λ j within other.
+    others_fail grants count logical bytes (suc last) j order counted some within other) k
+    below (λ e. ne (omega (arith, e)))) in
     let here = listed_at grants count last room (omega (arith, counted.bound)) in
     if_zero bytes None
-        (option_map (machine_at logical) (find (holds logical bytes) (listed grants count))) some
+    (option_map (machine_at logical) (find (holds logical bytes) (listed grants count))) some
     ∙ ap (option_map (machine_at logical)) only
     ∙ pushed (holds logical bytes) (get_or (listed grants count) last no_grant)
-        (grant_of (fields_at grants last)) here where
+    (grant_of (fields_at grants last)) here where
       pushed :
           (p : Grant → Bool) (g h : Grant)
           → g ≡ h
@@ -335,9 +339,9 @@ pub machine_last :
     → 0 < bytes
     → machine_range (listed grants count) logical bytes
     ≡
-        (if holds logical bytes (grant_of (fields_at grants (below - 1))) then Some
-             (machine_at logical (grant_of (fields_at grants (below - 1)))) else None)
+    (if holds logical bytes (grant_of (fields_at grants (below - 1))) then Some
+    (machine_at logical (grant_of (fields_at grants (below - 1)))) else None)
 machine_last grants count logical bytes below room order counted begins some =
     let same : below ≡ suc (below - 1) = omega arith in
     machine_by grants count logical bytes (below - 1) room order
-        (subst (λ (n : ℕ). IsCountBelow grants count logical n) same counted) some
+    (subst (λ (n : ℕ). IsCountBelow grants count logical n) same counted) some

@@ -13,8 +13,8 @@ use Rattle.h_update.specs.Bulk.{h_bulk_remove_plan}
 abbrev pub plan_of_hcall : ℕ → List Grant → List ℕ → Hcall → Option Plan
 plan_of_hcall order grants ws Enter =
     Some
-        (h_enter_plan order grants (slice_index ws 0) (slice_index ws 1) (slice_index ws 2)
-             (slice_index ws 3))
+    (h_enter_plan order grants (slice_index ws 0) (slice_index ws 1) (slice_index ws 2)
+    (slice_index ws 3))
 plan_of_hcall order grants ws Remove =
     Some (h_remove_plan order (slice_index ws 0) (slice_index ws 1) (slice_index ws 2))
 plan_of_hcall order grants ws Protect =

@@ -36,9 +36,9 @@ other_bits :
     → without_rc (with_rc dword1 referenced changed) ≡ without_rc dword1
 other_bits dword1 referenced changed =
     mask_of_or (bit_or dword1 (if referenced then 0x100 else 0)) (if changed then 0x80 else 0)
-        0xFFFFFFFFFFFFFE7F
+    0xFFFFFFFFFFFFFE7F
     ∙ ap (bit_or (bit_and (bit_or dword1 (if referenced then 0x100 else 0)) 0xFFFFFFFFFFFFFE7F))
-        (no_changed changed)
+    (no_changed changed)
     ∙ or_zero_r (bit_and (bit_or dword1 (if referenced then 0x100 else 0)) 0xFFFFFFFFFFFFFE7F)
     ∙ mask_of_or dword1 (if referenced then 0x100 else 0) 0xFFFFFFFFFFFFFE7F
     ∙ ap (bit_or (bit_and dword1 0xFFFFFFFFFFFFFE7F)) (no_referenced referenced)
@@ -51,7 +51,7 @@ agree_at :
     → Agree (end_at a want r now receipts) (end_at a want r r.before 0)
 agree_at a want r now receipts raised =
     let sizes : size_of r.before.dword0 r.before.dword1 ≡ size_of now.dword0 now.dword1 = λ i.
-        size_of (sym raised.dword0 i) (sym raised.dword1 i) in
+    size_of (sym raised.dword0 i) (sym raised.dword1 i) in
     record {
       logical = refl;
       entry = refl;
@@ -89,28 +89,28 @@ agree_refused :
     → Agree (walk_where page want order a m).0 (probe_where page want order a m.entries)
 agree_refused order a m (Some page) (Some want) =
     agree_found a want (found_of (walk_run order a page want m.entries).0) _
-        (λ r e. found_access order a page want m.entries r e)
+    (λ r e. found_access order a page want m.entries r e)
 agree_refused order a m (Some page) None =
     record {
-        logical = refl;
-        entry = refl;
-        outcome = refl;
-        causes = refl;
-        base_shift = refl;
-        actual_shift = refl;
-        dword0 = refl;
-        dword1 = refl
+      logical = refl;
+      entry = refl;
+      outcome = refl;
+      causes = refl;
+      base_shift = refl;
+      actual_shift = refl;
+      dword0 = refl;
+      dword1 = refl;
     }
 agree_refused order a m None want =
     record {
-        logical = refl;
-        entry = refl;
-        outcome = refl;
-        causes = refl;
-        base_shift = refl;
-        actual_shift = refl;
-        dword0 = refl;
-        dword1 = refl
+      logical = refl;
+      entry = refl;
+      outcome = refl;
+      causes = refl;
+      base_shift = refl;
+      actual_shift = refl;
+      dword0 = refl;
+      dword1 = refl;
     }
 
 pub probes_agree :
@@ -123,13 +123,13 @@ probes_agree order a m = at (cases_Bool (is_table order m.entries)) where
   at (inl fit) = rw fit (agree_refused order a m (page_of a) (want_of a.want))
   at (inr other) =
       rw other
-          (record {
-               logical = refl;
-               entry = refl;
-               outcome = refl;
-               causes = refl;
-               base_shift = refl;
-               actual_shift = refl;
-               dword0 = refl;
-               dword1 = refl
-           })
+      (record {
+        logical = refl;
+        entry = refl;
+        outcome = refl;
+        causes = refl;
+        base_shift = refl;
+        actual_shift = refl;
+        dword0 = refl;
+        dword1 = refl;
+      })

@@ -65,7 +65,7 @@ pub found_has_place :
 found_has_place order ptex dword0 dword1 size p range sized found =
     let sound = page_at-sound order ptex dword0 dword1 p range found in
     place_of_page p dword0 size.base sound.0 range
-        (sym (size_is (size_of dword0 dword1) size p.shift sized sound.1.size)) sound.1.tag
+    (sym (size_is (size_of dword0 dword1) size p.shift sized sound.1.size)) sound.1.tag
 
 none_without_place :
     (order ptex dword0 dword1 : ℕ) (size : PageSize) (o : Option VirtualPage)
@@ -77,7 +77,7 @@ none_without_place :
 none_without_place order ptex dword0 dword1 size None range sized none is = refl
 none_without_place order ptex dword0 dword1 size (Some p) range sized none is =
     absurd
-        (true≢false (sym (found_has_place order ptex dword0 dword1 size p range sized is) ∙ none))
+    (true≢false (sym (found_has_place order ptex dword0 dword1 size p range sized is) ∙ none))
 
 pub no_segment :
     (order ptex dword0 dword1 : ℕ) (size : PageSize)
@@ -90,7 +90,7 @@ pub no_segment :
 unfolding cause_of
 no_segment order ptex dword0 dword1 size range inside valid sized away =
     let none : page_at order ptex dword0 dword1 ≡ None = none_without_place order ptex dword0 dword1
-        size (page_at order ptex dword0 dword1) range sized away refl in
+    size (page_at order ptex dword0 dword1) range sized away refl in
     (rw inside none, rw (inside, valid, sized, away) refl)
 
 pub other_group :
@@ -195,14 +195,16 @@ no_cause_at_pages order ptex dword0 dword1 range = at (here order ptex dword0 dw
       ((p : VirtualPage) × IsHere order ptex dword0 dword1 (Some p) None)
       ⊎ ((cause : NoPage) × IsHere order ptex dword0 dword1 None (Some cause))
       → (why_of order ptex dword0 dword1 ≡ 0) ↔ IsSome (page_here order ptex dword0 dword1)
-  at (inl (p, h)) =
-      (λ e.
-       subst (λ (o : Option VirtualPage). IsSome o) (sym h.0) refl,
-       λ e. ap (λ o. option_map_or cause_number o 0) h.1)
-  at (inr (cause, h)) =
-      (λ e.
-       absurd (some_cause cause (sym (ap (λ o. option_map_or cause_number o 0) h.1) ∙ e)),
-       λ e. absurd (false≢true (subst (λ (o : Option VirtualPage). is_some o ≡ true) h.0 e)))
+  at (inl (p, h)) = (
+    λ e.
+        subst (λ (o : Option VirtualPage). IsSome o) (sym h.0) refl,
+    λ e. ap (λ o. option_map_or cause_number o 0) h.1,
+  )
+  at (inr (cause, h)) = (
+    λ e.
+        absurd (some_cause cause (sym (ap (λ o. option_map_or cause_number o 0) h.1) ∙ e)),
+    λ e. absurd (false≢true (subst (λ (o : Option VirtualPage). is_some o ≡ true) h.0 e)),
+  )
 
 inside_here :
     (inside : Bool) (o : Option VirtualPage) (p : VirtualPage)
@@ -237,9 +239,9 @@ pub base_of_page :
     → (decoded order ptex dword0 dword1).base_shift ≡ p.shift
 base_of_page order ptex dword0 dword1 p range is =
     let sound = page_at-sound order ptex dword0 dword1 p range
-        (inside_here (is_index order ptex) (page_at order ptex dword0 dword1) p is) in
+    (inside_here (is_index order ptex) (page_at order ptex dword0 dword1) p is) in
     let sized = some_size (size_of dword0 dword1) p.shift sound.1.size in
     base_with_page (words_said dword0 dword1 (why_of order ptex dword0 dword1))
-        (page_here order ptex dword0 dword1)
+    (page_here order ptex dword0 dword1)
     ∙ base_of_words dword0 dword1 (why_of order ptex dword0 dword1) sized.0 sound.1.valid sized.1
     ∙ sized.2

@@ -23,7 +23,7 @@ inside_after :
     → AllByRecursion (λ (c : Call). c.entry < length (states_after a r)) cs
 inside_after a r cs all =
     subst (λ n. AllByRecursion (λ (c : Call). c.entry < n) cs)
-        (sym (length-set a r.entry (after_of r))) all
+    (sym (length-set a r.entry (after_of r))) all
 
 pub ended_left :
     (goes : Answer → Bool) (a : List State) (cs : List Call) (r : Receipt)
@@ -32,35 +32,35 @@ pub ended_left :
     → IsLeft (trial_run goes a cs).1 r
 ended_left goes a [] r all ended =
     let none : Some r ≡ None = ended ∙ ap (λ (x : List Receipt × List State). ending_of goes x.0)
-        (no_more goes a) in
+    (no_more goes a) in
     cc
 ended_left goes a (c ∷ cs) r all ended =
     at (cases_Bool (goes first.answer))
-        (ended_left goes (states_after a first) cs r (inside_after a first cs all.1)) where
-  first : Receipt
-  first = receipt_at a c
+    (ended_left goes (states_after a first) cs r (inside_after a first cs all.1)) where
+      first : Receipt
+      first = receipt_at a c
 
-  at :
-      (goes first.answer ≡ true) ⊎ (goes first.answer ≡ false)
-      →
+      at :
+          (goes first.answer ≡ true) ⊎ (goes first.answer ≡ false)
+          →
           (Some r ≡ ending_of goes (trial_run goes (states_after a first) cs).0
-           → IsLeft (trial_run goes (states_after a first) cs).1 r)
-      → IsLeft (trial_run goes a (c ∷ cs)).1 r
-  at (inl on) later =
-      let whole = step_on goes a c cs first refl on in
-      rw whole
+          → IsLeft (trial_run goes (states_after a first) cs).1 r)
+          → IsLeft (trial_run goes a (c ∷ cs)).1 r
+      at (inl on) later =
+          let whole = step_on goes a c cs first refl on in
+          rw whole
           (later
-               (ended
-                ∙ ap (λ (x : List Receipt × List State). ending_of goes x.0) whole
-                ∙ ending-on goes first (trial_run goes (states_after a first) cs).0 on))
-  at (inr off) later =
-      let whole = step_off goes a c cs first refl off in
-      let some : Some r ≡ Some first = ended ∙ ap
+          (ended
+          ∙ ap (λ (x : List Receipt × List State). ending_of goes x.0) whole
+          ∙ ending-on goes first (trial_run goes (states_after a first) cs).0 on))
+      at (inr off) later =
+          let whole = step_off goes a c cs first refl off in
+          let some : Some r ≡ Some first = ended ∙ ap
           (λ (x : List Receipt × List State). ending_of goes x.0) whole ∙ ending-off goes first []
           off in
-      let same : first ≡ r = cc in
-      let here : IsLeft (states_after a first) first = record {
-        inside = subst (λ n. c.entry < n) (sym (length-set a c.entry (after_of first))) all.0;
-        state = get_or-set_same a c.entry (after_of first) (empty_state 0) all.0;
-      } in
-      rw whole (subst (λ (x : Receipt). IsLeft (states_after a first) x) same here)
+          let same : first ≡ r = cc in
+          let here : IsLeft (states_after a first) first = record {
+            inside = subst (λ n. c.entry < n) (sym (length-set a c.entry (after_of first))) all.0;
+            state = get_or-set_same a c.entry (after_of first) (empty_state 0) all.0;
+          } in
+          rw whole (subst (λ (x : Receipt). IsLeft (states_after a first) x) same here)

@@ -49,9 +49,9 @@ found_as_is a (c ∷ cs) all = at (cases_Bool (is_no_match r.answer)) (found_as_
       → found_of (trial_run is_no_match a (c ∷ cs)).0 ≡ found_of (r ∷ each_as_is a cs)
   at (inl on) rest =
       let same : after_of r ≡ r.before = access_undone r.before c.op all.0 (no_match_is r.answer on)
-          in
+      in
       let stays : states_after a r ≡ a = ap (λ (s : State). slice_set a c.entry s) same ∙ set-get_or
-          a c.entry (empty_state 0) in
+      a c.entry (empty_state 0) in
       ap (λ (z : List Receipt × List State). found_of z.0) (step_on is_no_match a c cs r refl on)
       ∙ found-on r (trial_run is_no_match (states_after a r) cs).0 on
       ∙ ap (λ b. found_of (trial_run is_no_match b cs).0) stays
@@ -66,7 +66,7 @@ found_as_is a (c ∷ cs) all = at (cases_Bool (is_no_match r.answer)) (found_as_
 all_accesses :
     (page : VirtualPage) (a : PaprAccess) (want : Want) (secondary : Bool) (es : List ℕ)
     → AllByRecursion (λ (c : Call). is_access c.op ≡ true)
-        (map (call (access_op page (mode_of a want) secondary)) es)
+    (map (call (access_op page (mode_of a want) secondary)) es)
 all_accesses page a want secondary [] = tt
 all_accesses page a want secondary (e ∷ es) = (refl, all_accesses page a want secondary es)
 
@@ -84,26 +84,26 @@ walk_accesses :
 unfolding walk_calls
 walk_accesses order a page want =
     both_all (group_calls (access_op page (mode_of a want) false) (group_of page order false))
-        (group_calls (access_op page (mode_of a want) true) (group_of page order true))
-        (all_accesses page a want false (range_with_len (group_of page order false * 8) 8))
-        (all_accesses page a want true (range_with_len (group_of page order true * 8) 8))
+    (group_calls (access_op page (mode_of a want) true) (group_of page order true))
+    (all_accesses page a want false (range_with_len (group_of page order false * 8) 8))
+    (all_accesses page a want true (range_with_len (group_of page order true * 8) 8))
 
 -- What a walk finds, of entries as they are.
 pub probed :
     (order : ℕ) (a : PaprAccess) (page : VirtualPage) (want : Want) (entries : List State)
-        (cs : List Call)
+    (cs : List Call)
     → cs ≡ walk_calls order page (mode_of a want)
     → found_of (each_as_is entries cs) ≡ found_of (walk_run order a page want entries).0
 probed order a page want entries cs is =
     ap (λ (ds : List Call). found_of (each_as_is entries ds)) is
     ∙ sym
-        (found_as_is entries (walk_calls order page (mode_of a want))
-             (walk_accesses order a page want))
+    (found_as_is entries (walk_calls order page (mode_of a want))
+    (walk_accesses order a page want))
 
 -- What is told of it is what a probe tells.
 pub probe_is :
     (order : ℕ) (a : PaprAccess) (page : VirtualPage) (want : Want) (entries : List State)
-        (cs : List Call) (found : Option Receipt) (told : PaprWalk)
+    (cs : List Call) (found : Option Receipt) (told : PaprWalk)
     → is_table order entries ≡ true
     → page_of a ≡ Some page
     → want_of a.want ≡ Some want
@@ -113,10 +113,10 @@ pub probe_is :
     → told ≡ outcome_of_probe order a entries
 probe_is order a page want entries cs found told fit at_page wants calls is ended =
     let here :
-        told ≡ walk_end (λ r. r.before) a want (found_of (walk_run order a page want entries).0) 0 =
+    told ≡ walk_end (λ r. r.before) a want (found_of (walk_run order a page want entries).0) 0 =
     ended
     ∙ ap (λ o. walk_end (λ r. r.before) a want o 0) (is ∙ probed order a page want entries cs calls)
-        in
+    in
     rw (fit, at_page, wants) here
 
 -- ---- one entry after the other
@@ -167,24 +167,25 @@ unfolding each_as_is
 found_of_access a [] r all found = cc
 found_of_access a (c ∷ cs) r all found =
     at (cases_Bool (is_no_match (receipt_at a c).answer)) (found_of_access a cs r all.1) where
-  at :
-      (is_no_match (receipt_at a c).answer ≡ true) ⊎ (is_no_match (receipt_at a c).answer ≡ false)
-      → (found_of (each_as_is a cs) ≡ Some r → is_access r.op ≡ true)
-      → is_access r.op ≡ true
-  at (inl on) rest = rest (sym (found-on (receipt_at a c) (each_as_is a cs) on) ∙ found)
-  at (inr off) rest =
-      let some : Some (receipt_at a c) ≡ Some r = sym
+      at :
+          (is_no_match (receipt_at a c).answer ≡ true)
+          ⊎ (is_no_match (receipt_at a c).answer ≡ false)
+          → (found_of (each_as_is a cs) ≡ Some r → is_access r.op ≡ true)
+          → is_access r.op ≡ true
+      at (inl on) rest = rest (sym (found-on (receipt_at a c) (each_as_is a cs) on) ∙ found)
+      at (inr off) rest =
+          let some : Some (receipt_at a c) ≡ Some r = sym
           (found-off (receipt_at a c) (each_as_is a cs) off) ∙ found in
-      let same : receipt_at a c ≡ r = cc in
-      subst (λ (x : Receipt). is_access x.op ≡ true) same all.0
+          let same : receipt_at a c ≡ r = cc in
+          subst (λ (x : Receipt). is_access x.op ≡ true) same all.0
 
 -- What a walk finds has the receipt of an access.
 pub found_access :
     (order : ℕ) (a : PaprAccess) (page : VirtualPage) (want : Want) (entries : List State)
-        (r : Receipt)
+    (r : Receipt)
     → found_of (walk_run order a page want entries).0 ≡ Some r
     → is_access r.op ≡ true
 found_access order a page want entries r found =
     found_of_access entries (walk_calls order page (mode_of a want)) r
-        (walk_accesses order a page want)
+    (walk_accesses order a page want)
     (probed order a page want entries (walk_calls order page (mode_of a want)) refl ∙ found)

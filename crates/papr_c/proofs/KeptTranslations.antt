@@ -53,7 +53,7 @@ kept s (Remove test) valid fresh =
     change_stays (is_found s test) s Removed (empty_state 0) refl fresh
 kept s (Protect test flags) valid fresh =
     change_stays (is_found s test) s Protected (record s { dword1 = protected_word s.dword1 flags })
-        refl fresh
+    refl fresh
 kept s Read valid fresh = no_further s
 kept s ClearRef valid fresh =
     change_stays s.valid s Was (record s { referenced = false }) refl fresh
@@ -77,17 +77,17 @@ step_kept a c entry valid fresh = at (cases_eq entry c.entry) (cases_lt c.entry 
       → OnlyRaisesBits (state_at a entry) (state_at (states_after a r) entry)
   at (inr other) where_it_is =
       subst (λ (s : State). OnlyRaisesBits (state_at a entry) s)
-          (sym (get_or-set_other a c.entry entry (after_of r) (empty_state 0) other))
-          (no_further (state_at a entry))
+      (sym (get_or-set_other a c.entry entry (after_of r) (empty_state 0) other))
+      (no_further (state_at a entry))
   at (inl same) (inl inside) =
       let here : OnlyRaisesBits (state_at a c.entry) (after_of r) = kept (state_at a c.entry) c.op
-          (subst (λ k. (state_at a k).valid ≡ true) same valid) fresh in
+      (subst (λ k. (state_at a k).valid ≡ true) same valid) fresh in
       subst (λ k. OnlyRaisesBits (state_at a k) (state_at (states_after a r) k)) (sym same)
       (subst (λ (s : State). OnlyRaisesBits (state_at a c.entry) s)
-           (sym (get_or-set_same a c.entry (after_of r) (empty_state 0) inside)) here)
+      (sym (get_or-set_same a c.entry (after_of r) (empty_state 0) inside)) here)
   at (inl same) (inr past) =
       let none : state_at a entry ≡ empty_state 0 = ap (state_at a) same ∙ get_or_past a c.entry
-          (empty_state 0) past in
+      (empty_state 0) past in
       let e : false ≡ true = sym (ap (λ (s : State). s.valid) none) ∙ valid in
       cc
 
@@ -111,29 +111,29 @@ trial_kept :
 trial_kept goes a [] entry fresh valid = rw (no_more goes a) (no_further (state_at a entry))
 trial_kept goes a (c ∷ cs) entry fresh valid =
     at (cases_Bool (goes r.answer)) (trial_kept goes (states_after a r) cs entry) where
-  r : Receipt
-  r = receipt_at a c
+      r : Receipt
+      r = receipt_at a c
 
-  at :
-      (goes r.answer ≡ true) ⊎ (goes r.answer ≡ false)
-      →
+      at :
+          (goes r.answer ≡ true) ⊎ (goes r.answer ≡ false)
+          →
           (any_stale (trial_run goes (states_after a r) cs).0 ≡ false
-           → (state_at (states_after a r) entry).valid ≡ true
-           → OnlyRaisesBits (state_at (states_after a r) entry)
-               (state_at (trial_run goes (states_after a r) cs).1 entry))
-      → OnlyRaisesBits (state_at a entry) (state_at (trial_run goes a (c ∷ cs)).1 entry)
-  at (inl on) later =
-      let whole = step_on goes a c cs r refl on in
-      let parts = stale_parts r (trial_run goes (states_after a r) cs).0 (rw whole at fresh) in
-      let first = step_kept a c entry valid parts.0 in
-      rw whole
+          → (state_at (states_after a r) entry).valid ≡ true
+          → OnlyRaisesBits (state_at (states_after a r) entry)
+          (state_at (trial_run goes (states_after a r) cs).1 entry))
+          → OnlyRaisesBits (state_at a entry) (state_at (trial_run goes a (c ∷ cs)).1 entry)
+      at (inl on) later =
+          let whole = step_on goes a c cs r refl on in
+          let parts = stale_parts r (trial_run goes (states_after a r) cs).0 (rw whole at fresh) in
+          let first = step_kept a c entry valid parts.0 in
+          rw whole
           (further_on (state_at a entry) (state_at (states_after a r) entry)
-               (state_at (trial_run goes (states_after a r) cs).1 entry) first
-               (later parts.1 (first.valid ∙ valid)))
-  at (inr off) later =
-      let whole = step_off goes a c cs r refl off in
-      let parts = stale_parts r [] (rw whole at fresh) in
-      rw whole (step_kept a c entry valid parts.0)
+          (state_at (trial_run goes (states_after a r) cs).1 entry) first
+          (later parts.1 (first.valid ∙ valid)))
+      at (inr off) later =
+          let whole = step_off goes a c cs r refl off in
+          let parts = stale_parts r [] (rw whole at fresh) in
+          rw whole (step_kept a c entry valid parts.0)
 
 pub unstale_kept :
     (plan : Plan) (entries : List State) (entry : ℕ)

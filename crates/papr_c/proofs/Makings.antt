@@ -34,7 +34,7 @@ pub one_taken :
     → add_refusal granted (grant_of (get_or given index d)) ≡ None
     → making_from granted index (drop index given)
     ≡ making_from (with_grant granted (grant_of (get_or given index d))) (index + 1)
-        (drop (index + 1) given)
+    (drop (index + 1) given)
 one_taken granted index given d inside taken =
     rw (drop-cons given index d inside, taken, add-one) refl
 

@@ -44,8 +44,8 @@ pub record IsHandedOver (registers : Registers) (rs : List Receipt) (m : LentMem
 -- A call whose arguments fit leaves what its plan does on the entries that were lent.
 pub call_is :
     (fits : Bool) (plan : Plan) (m : LentMemory) (registers : Registers) (rs : List Receipt)
-        (reply : PaprReply) (words : List ℕ) (receipts : List PaprReceipt)
-        (lent now after : List State)
+    (reply : PaprReply) (words : List ℕ) (receipts : List PaprReceipt)
+    (lent now after : List State)
     → fits ≡ true
     → IsReplyOf plan (reply_with registers rs)
     → IsRun lent rs now
@@ -55,16 +55,16 @@ pub call_is :
     → (reply, memory after words receipts) ≡ outcome_where fits plan m
 call_is fits plan m registers rs reply words receipts lent now after fit is run same handed kept =
     let made : (reply_with registers rs, now) ≡ plan_run plan m.entries = plan_is plan m.entries now
-        (reply_with registers rs) is (rw same at run) in
+    (reply_with registers rs) is (rw same at run) in
     let told : (reply, memory after words receipts) ≡ outcome_by m (reply_with registers rs, now) =
-        rw (handed.reply, handed.in_words, handed.in_receipts, kept) refl in
+    rw (handed.reply, handed.in_words, handed.in_receipts, kept) refl in
     rw fit (told ∙ ap (outcome_by m) made)
 
 -- A walk whose arguments fit leaves what its calls do on the entries that were lent.
 pub walk_is :
     (order : ℕ) (a : PaprAccess) (page : VirtualPage) (want : Want) (m : WalkMemory)
-        (cs : List Call) (found : Option Receipt) (count : ℕ) (told : PaprWalk)
-        (places : List PaprReceipt) (after : List State)
+    (cs : List Call) (found : Option Receipt) (count : ℕ) (told : PaprWalk)
+    (places : List PaprReceipt) (after : List State)
     → is_table order m.entries ≡ true
     → page_of a ≡ Some page
     → want_of a.want ≡ Some want
@@ -79,27 +79,27 @@ walk_is order a page want m cs found count told places after fit at_page wants c
     ended put kept =
     let x = trial_run is_no_match m.entries cs in
     let in_places : places ≡ filled m.receipts (map shown_receipt x.0) = put ∙ placed_filled
-        (map shown_receipt x.0) m.receipts in
+    (map shown_receipt x.0) m.receipts in
     let here : (told, walk_memory after places) ≡ walked_by a want m x = rw
-        (ended, is, counted, in_places, kept) refl in
+    (ended, is, counted, in_places, kept) refl in
     rw (fit, at_page, wants)
-        (here
-         ∙ ap (λ (ds : List Call). walked_by a want m (trial_run is_no_match m.entries ds)) calls)
+    (here
+    ∙ ap (λ (ds : List Call). walked_by a want m (trial_run is_no_match m.entries ds)) calls)
 
 -- A call whose arguments fit leaves what its trial does on the entries that were lent.
 pub call_tried :
     (fits : Bool) (plan : Plan) (m : LentMemory) (x : List Receipt × List State) (rc : Rc)
-        (ws : List ℕ) (reply : PaprReply) (words : List ℕ) (receipts : List PaprReceipt)
-        (after : List State)
+    (ws : List ℕ) (reply : PaprReply) (words : List ℕ) (receipts : List PaprReceipt)
+    (after : List State)
     → fits ≡ true
     → x ≡ trial_run plan.goes_on m.entries plan.calls
     → (rc, ws) ≡ plan.told x.0
     → reply
     ≡ record {
-        rc = rc_code rc;
-        words = min (length m.words) (length ws);
-        receipts = min (length m.receipts) (length x.0);
-        stale = any_stale x.0
+      rc = rc_code rc;
+      words = min (length m.words) (length ws);
+      receipts = min (length m.receipts) (length x.0);
+      stale = any_stale x.0;
     }
     → words ≡ filled m.words ws
     → receipts ≡ placed m.receipts 0 (map shown_receipt x.0)
@@ -109,18 +109,18 @@ unfolding plan_run
 call_tried fits plan m x rc ws reply words receipts after fit is told replied in_words in_receipts
     kept =
     let put : receipts ≡ filled m.receipts (map shown_receipt x.0) = in_receipts ∙ placed_filled
-        (map shown_receipt x.0) m.receipts in
+    (map shown_receipt x.0) m.receipts in
     let here : (reply, memory after words receipts) ≡ outcome_by m
-        (record { rc = rc; words = ws; receipts = x.0 }, x.1) = rw (replied, in_words, put, kept)
-        refl in
+    (record { rc = rc; words = ws; receipts = x.0 }, x.1) = rw (replied, in_words, put, kept)
+    refl in
     let by : outcome_by m (record { rc = rc; words = ws; receipts = x.0 }, x.1) ≡ outcome_by m
-        (reply_by plan x.0, x.1) = ap
-        (λ (z : Rc × List ℕ). outcome_by m (record { rc = z.0; words = z.1; receipts = x.0 }, x.1))
-        told in
+    (reply_by plan x.0, x.1) = ap
+    (λ (z : Rc × List ℕ). outcome_by m (record { rc = z.0; words = z.1; receipts = x.0 }, x.1))
+    told in
     rw fit
-        (here
-         ∙ by
-         ∙ ap (λ (z : List Receipt × List State). outcome_by m (reply_by plan z.0, z.1)) is)
+    (here
+    ∙ by
+    ∙ ap (λ (z : List Receipt × List State). outcome_by m (reply_by plan z.0, z.1)) is)
 
 -- A call that is answered by itself changes nothing.
 pub coded :
@@ -133,11 +133,15 @@ coded fits rc m fit =
     let no_words : min (length m.words) 0 ≡ 0 = omega arith in
     let no_receipts : min (length m.receipts) 0 ≡ 0 = omega arith in
     rw fit
-        (λ k.
-         (record {
-              rc = rc_code rc; words = sym no_words k; receipts = sym no_receipts k; stale = false
-          },
-          memory m.entries (sym (filled-nil m.words) k) (sym (filled-nil m.receipts) k)))
+    (λ k. (
+      record {
+        rc = rc_code rc;
+        words = sym no_words k;
+        receipts = sym no_receipts k;
+        stale = false;
+      },
+      memory m.entries (sym (filled-nil m.words) k) (sym (filled-nil m.receipts) k),
+    ))
 
 -- The trial of one call that is made on one entry.
 pub alone :
@@ -168,4 +172,4 @@ pub calls_inside :
     → AllByRecursion (λ (c : Call). c.entry < length entries) cs
 calls_inside order entries cs fit fits =
     subst (λ n. AllByRecursion (λ (c : Call). c.entry < n) cs) (sym (table_whole order entries fit))
-        fits.in_table
+    fits.in_table

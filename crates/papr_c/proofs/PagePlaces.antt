@@ -37,8 +37,8 @@ parts_of_page :
     × (virtual_address p / 2 ^ 23 ≡ number_field dword0)
 parts_of_page p dword0 is range e =
     same_parts (segment_code_of p.one_tb) (segment_code dword0) (virtual_address p)
-        (number_field dword0) (segment_code-le p.one_tb) (virtual_address-lt p is) (omega arith)
-        (sym (tag_of-parts p is) ∙ e ∙ parts_of_field dword0 range)
+    (number_field dword0) (segment_code-le p.one_tb) (virtual_address-lt p is) (omega arith)
+    (sym (tag_of-parts p is) ∙ e ∙ parts_of_field dword0 range)
 
 one_tb_of : (b : Bool) (dword0 : ℕ) → segment_code_of b ≡ segment_code dword0 → is_one_tb dword0 ≡ b
 one_tb_of false dword0 e = rw (← e) refl
@@ -79,12 +79,12 @@ pub place_of_page :
 place_of_page p dword0 base is range shift tag =
     let parts = parts_of_page p dword0 is range tag in
     let code : nat_le (segment_code dword0) 1 ≡ true = le-leb (segment_code dword0) 1
-        (subst (λ c. c ≤ 1) parts.0 (segment_code-le p.one_tb)) in
+    (subst (λ c. c ≤ 1) parts.0 (segment_code-le p.one_tb)) in
     let one_tb : is_one_tb dword0 ≡ p.one_tb = one_tb_of p.one_tb dword0 parts.0 in
     let fits : is_base_shift (is_one_tb dword0) base ≡ true = rw (one_tb, ← shift) is.shift in
     let clear : number_field dword0 % 2 ^ (base - 23) ≡ 0 = rw (← parts.1, ← shift)
-        (clear_inside (offset_bits p.one_tb) p.shift p.vsid p.index
-             (kind_of p.one_tb p.shift is.shift)) in
+    (clear_inside (offset_bits p.one_tb) p.shift p.vsid p.index
+    (kind_of p.one_tb p.shift is.shift)) in
     rw (code, fits, eq-eqb (number_field dword0 % 2 ^ (base - 23)) 0 clear) refl
 
 -- ---- a place has a page
@@ -92,7 +92,7 @@ place_of_page p dword0 base is range shift tag =
 abbrev page_at_tag : Bool → ℕ → ℕ → VirtualPage
 page_at_tag b n base =
     virtual_page b (n / 2 ^ (offset_bits b - 23)) base
-        (n % 2 ^ (offset_bits b - 23) * 2 ^ 23 / 2 ^ base)
+    (n % 2 ^ (offset_bits b - 23) * 2 ^ 23 / 2 ^ base)
 
 pub record IsAtTag (b : Bool) (n base : ℕ) : Type 0 where
   pub is : IsPage (page_at_tag b n base)
@@ -107,31 +107,38 @@ at_tag :
     → IsAtTag b n s
 at_tag false n s small_4k fits low clear =
     record {
-        is = record { vsid = omega arith; shift = fits; index = omega arith }; number = omega arith
+      is = record { vsid = omega arith; shift = fits; index = omega arith };
+      number = omega arith;
     }
 at_tag false n s small_64k fits low clear =
     record {
-        is = record { vsid = omega arith; shift = fits; index = omega arith }; number = omega arith
+      is = record { vsid = omega arith; shift = fits; index = omega arith };
+      number = omega arith;
     }
 at_tag false n s small_16m fits low clear =
     record {
-        is = record { vsid = omega arith; shift = fits; index = omega arith }; number = omega arith
+      is = record { vsid = omega arith; shift = fits; index = omega arith };
+      number = omega arith;
     }
 at_tag true n s large_4k fits low clear =
     record {
-        is = record { vsid = omega arith; shift = fits; index = omega arith }; number = omega arith
+      is = record { vsid = omega arith; shift = fits; index = omega arith };
+      number = omega arith;
     }
 at_tag true n s large_64k fits low clear =
     record {
-        is = record { vsid = omega arith; shift = fits; index = omega arith }; number = omega arith
+      is = record { vsid = omega arith; shift = fits; index = omega arith };
+      number = omega arith;
     }
 at_tag true n s large_16m fits low clear =
     record {
-        is = record { vsid = omega arith; shift = fits; index = omega arith }; number = omega arith
+      is = record { vsid = omega arith; shift = fits; index = omega arith };
+      number = omega arith;
     }
 at_tag true n s large_16g fits low clear =
     record {
-        is = record { vsid = omega arith; shift = fits; index = omega arith }; number = omega arith
+      is = record { vsid = omega arith; shift = fits; index = omega arith };
+      number = omega arith;
     }
 
 pub page_of_place :
@@ -141,17 +148,17 @@ pub page_of_place :
     → (p : VirtualPage) × IsPage p × (p.shift ≡ base) × (tag_of p ≡ tag_field dword0)
 page_of_place dword0 base range place =
     let halves = and_parts (nat_le (segment_code dword0) 1 && is_base_shift (is_one_tb dword0) base)
-        (number_field dword0 % 2 ^ (base - 23) == 0) place in
+    (number_field dword0 % 2 ^ (base - 23) == 0) place in
     let first = and_parts (nat_le (segment_code dword0) 1) (is_base_shift (is_one_tb dword0) base)
-        halves.0 in
+    halves.0 in
     let b : Bool = is_one_tb dword0 in
     let n : ℕ = number_field dword0 in
     let clear : n % 2 ^ (base - 23) ≡ 0 = eqb-true (n % 2 ^ (base - 23)) 0 halves.1 in
     let there : IsAtTag b n base = at_tag b n base (kind_of b base first.1) first.1 (omega arith)
-        clear in
+    clear in
     let p : VirtualPage = page_at_tag b n base in
     let code : segment_code_of b ≡ segment_code dword0 = code_of dword0
-        (leb-true (segment_code dword0) 1 first.0) in
+    (leb-true (segment_code dword0) 1 first.0) in
     let tag : tag_of p ≡ tag_field dword0 = tag_of-parts p there.is ∙
-        (λ k. code k * 2 ^ 62 + there.number k * 2 ^ 7) ∙ sym (parts_of_field dword0 range) in
+    (λ k. code k * 2 ^ 62 + there.number k * 2 ^ 7) ∙ sym (parts_of_field dword0 range) in
     (p, there.is, refl, tag)

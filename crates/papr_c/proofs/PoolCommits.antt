@@ -30,32 +30,32 @@ not_success :
     → ⊥
 not_success rc p flags shift refused is =
     at p (cases_Bool (is_commit_request flags shift)) (refused ∙ ap Some is) where
-  by :
-      (t : PendingTable)
-      → (t.order == shift ≡ true) ⊎ (t.order == shift ≡ false)
-      → (is_ready t ≡ true) ⊎ (is_ready t ≡ false)
-      → pending_refusal shift (Some t) ≡ Some Success
-      → ⊥
-  by t (inr other) ready e = let told :
-      pending_refusal shift (Some t) ≡ Some Closed = rw other refl in absurd (cc)
-  by t (inl same) (inl ready) e = let told :
-      pending_refusal shift (Some t) ≡ None = rw (same, ready) refl in absurd (cc)
-  by t (inl same) (inr busy) e = let told :
-      pending_refusal shift (Some t) ≡ Some Busy = rw (same, busy) refl in absurd (cc)
+      by :
+          (t : PendingTable)
+          → (t.order == shift ≡ true) ⊎ (t.order == shift ≡ false)
+          → (is_ready t ≡ true) ⊎ (is_ready t ≡ false)
+          → pending_refusal shift (Some t) ≡ Some Success
+          → ⊥
+      by t (inr other) ready e = let told :
+          pending_refusal shift (Some t) ≡ Some Closed = rw other refl in absurd (cc)
+      by t (inl same) (inl ready) e = let told :
+          pending_refusal shift (Some t) ≡ None = rw (same, ready) refl in absurd (cc)
+      by t (inl same) (inr busy) e = let told :
+          pending_refusal shift (Some t) ≡ Some Busy = rw (same, busy) refl in absurd (cc)
 
-  at :
-      (q : Option PendingTable)
-      → (is_commit_request flags shift ≡ true) ⊎ (is_commit_request flags shift ≡ false)
-      → commit_refusal flags shift q ≡ Some Success
-      → ⊥
-  at q (inr bad) e = let told :
-      commit_refusal flags shift q ≡ Some Parameter = rw bad refl in absurd (cc)
-  at None (inl asked) e = let told :
-      commit_refusal flags shift None ≡ Some Closed = rw asked refl in absurd (cc)
-  at (Some t) (inl asked) e =
-      let told : commit_refusal flags shift (Some t) ≡ pending_refusal shift (Some t) = rw asked
+      at :
+          (q : Option PendingTable)
+          → (is_commit_request flags shift ≡ true) ⊎ (is_commit_request flags shift ≡ false)
+          → commit_refusal flags shift q ≡ Some Success
+          → ⊥
+      at q (inr bad) e = let told :
+          commit_refusal flags shift q ≡ Some Parameter = rw bad refl in absurd (cc)
+      at None (inl asked) e = let told :
+          commit_refusal flags shift None ≡ Some Closed = rw asked refl in absurd (cc)
+      at (Some t) (inl asked) e =
+          let told : commit_refusal flags shift (Some t) ≡ pending_refusal shift (Some t) = rw asked
           refl in
-      by t (cases_Bool (t.order == shift)) (cases_Bool (is_ready t)) (sym told ∙ e)
+          by t (cases_Bool (t.order == shift)) (cases_Bool (is_ready t)) (sym told ∙ e)
 
 -- Where nothing refuses a commit a table of the order is pending.
 pending_order :
@@ -64,15 +64,15 @@ pending_order :
     → t.order ≡ shift
 pending_order t flags shift none =
     at (cases_Bool (is_commit_request flags shift)) (cases_Bool (t.order == shift)) where
-  at :
-      (is_commit_request flags shift ≡ true) ⊎ (is_commit_request flags shift ≡ false)
-      → (t.order == shift ≡ true) ⊎ (t.order == shift ≡ false)
-      → t.order ≡ shift
-  at (inr bad) same = let told :
-      commit_refusal flags shift (Some t) ≡ Some Parameter = rw bad refl in absurd (cc)
-  at (inl asked) (inl same) = eqb-true t.order shift same
-  at (inl asked) (inr other) = let told :
-      commit_refusal flags shift (Some t) ≡ Some Closed = rw (asked, other) refl in absurd (cc)
+      at :
+          (is_commit_request flags shift ≡ true) ⊎ (is_commit_request flags shift ≡ false)
+          → (t.order == shift ≡ true) ⊎ (t.order == shift ≡ false)
+          → t.order ≡ shift
+      at (inr bad) same = let told :
+          commit_refusal flags shift (Some t) ≡ Some Parameter = rw bad refl in absurd (cc)
+      at (inl asked) (inl same) = eqb-true t.order shift same
+      at (inl asked) (inr other) = let told :
+          commit_refusal flags shift (Some t) ≡ Some Closed = rw (asked, other) refl in absurd (cc)
 
 -- The entries are carried, or two would meet.
 carried :
@@ -102,25 +102,26 @@ completed None flags shift pool table none = at (cases_Bool (is_commit_request f
 completed (Some t) flags shift pool table none =
     let order = pending_order t flags shift none in
     subst
-        (λ (n : ℕ).
-         AreAlike (committed table.order table.states shift)
-             (carry_outcome t pool table (collision_of table.order n table.states))) (sym order)
-        (carried t shift pool table (collision_of table.order shift table.states) order refl)
+    (λ (n : ℕ).
+    AreAlike (committed table.order table.states shift)
+    (carry_outcome t pool table (collision_of table.order n table.states))) (sym order)
+    (carried t shift pool table (collision_of table.order shift table.states) order refl)
 
 pub commits : IsCommitOfPool
 unfolding outcome_of_resize_commit outcome_of_commit AreAlike
 commits flags shift m pool table whole fits =
     at (commit_refusal flags shift (pending_of m.resize)) refl where
-  at :
-      (o : Option Rc)
-      → commit_refusal flags shift (pending_of m.resize) ≡ o
-      → AreAlike (outcome_of_resize_commit table.order table.states flags shift m)
+      at :
+          (o : Option Rc)
+          → commit_refusal flags shift (pending_of m.resize) ≡ o
+          → AreAlike (outcome_of_resize_commit table.order table.states flags shift m)
           (outcome_of_commit flags shift (pending_of m.resize) pool table)
-  at (Some rc) is =
-      rw (whole, is)
-          (refl,
-           refl,
-           λ success. absurd (not_success rc (pending_of m.resize) flags shift is success))
-  at None is =
-      let long : (length m.into == entry_count shift) ≡ true = grind (arith, fits is) in
-      rw (whole, is, long) (completed (pending_of m.resize) flags shift pool table is)
+      at (Some rc) is =
+          rw (whole, is) (
+            refl,
+            refl,
+            λ success. absurd (not_success rc (pending_of m.resize) flags shift is success),
+          )
+      at None is =
+          let long : (length m.into == entry_count shift) ≡ true = grind (arith, fits is) in
+          rw (whole, is, long) (completed (pending_of m.resize) flags shift pool table is)

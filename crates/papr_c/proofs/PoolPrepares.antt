@@ -36,8 +36,8 @@ fitting :
     → shift ≤ 22
     → is_some (lowest_place (pool_without (pending_of m.resize) pool) shift) ≡ true
     → AreAlike (prepared (table_of_order shift (pending_of m.resize)) m.into)
-        (advance_outcome (start_outcome shift (pending_of m.resize) pool)
-             (start_outcome shift (pending_of m.resize) pool).pending)
+    (advance_outcome (start_outcome shift (pending_of m.resize) pool)
+    (start_outcome shift (pending_of m.resize) pool).pending)
 unfolding AreAlike
 fitting shift m pool low high block = at (pending_of m.resize) block where
   new :
@@ -45,11 +45,11 @@ fitting shift m pool low high block = at (pending_of m.resize) block where
       → lowest_place (pool_without p pool) shift ≡ o
       → is_some o ≡ true
       → AreAlike (prepared (no_entries shift 0) m.into)
-          (advance_outcome
-               (new_table_outcome shift (pool_without p pool)
-                    (lowest_place (pool_without p pool) shift))
-               (new_table_outcome shift (pool_without p pool)
-                    (lowest_place (pool_without p pool) shift)).pending)
+      (advance_outcome
+      (new_table_outcome shift (pool_without p pool)
+      (lowest_place (pool_without p pool) shift))
+      (new_table_outcome shift (pool_without p pool)
+      (lowest_place (pool_without p pool) shift)).pending)
   new p None is there = absurd (cc)
   new p (Some place) is there =
       rw is (refl, ready_back (with_more_ready (no_entries shift 0)) low high (omega arith))
@@ -58,20 +58,21 @@ fitting shift m pool low high block = at (pending_of m.resize) block where
       (p : Option PendingTable)
       → is_some (lowest_place (pool_without p pool) shift) ≡ true
       → AreAlike (prepared (table_of_order shift p) m.into)
-          (advance_outcome (start_outcome shift p pool) (start_outcome shift p pool).pending)
+      (advance_outcome (start_outcome shift p pool) (start_outcome shift p pool).pending)
   at None there = new None (lowest_place (pool_without None pool) shift) refl there
   at (Some t) there = by (cases_Bool (t.order == shift)) where
     by :
         (t.order == shift ≡ true) ⊎ (t.order == shift ≡ false)
         → AreAlike (prepared (table_of_order shift (Some t)) m.into)
-            (advance_outcome (start_outcome shift (Some t) pool)
-                 (start_outcome shift (Some t) pool).pending)
+        (advance_outcome (start_outcome shift (Some t) pool)
+        (start_outcome shift (Some t) pool).pending)
     by (inl same) =
         let order : t.order ≡ shift = eqb-true t.order shift same in
-        rw same
-            (refl,
-             ready_back (with_more_ready t) (omega (arith, order, low)) (omega (arith, order, high))
-                 (omega arith))
+        rw same (
+          refl,
+          ready_back (with_more_ready t) (omega (arith, order, low)) (omega (arith, order, high))
+              (omega arith),
+        )
     by (inr other) =
         rw other (new (Some t) (lowest_place (pool_without (Some t) pool) shift) refl there)
 
@@ -81,8 +82,8 @@ lacking :
     → HasLentBlock shift m pool
     → (length m.into == entry_count shift) ≡ false
     → AreAlike (rc_code NoMem, resize_memory nothing_pending m.into)
-        (advance_outcome (start_outcome shift (pending_of m.resize) pool)
-             (start_outcome shift (pending_of m.resize) pool).pending)
+    (advance_outcome (start_outcome shift (pending_of m.resize) pool)
+    (start_outcome shift (pending_of m.resize) pool).pending)
 unfolding AreAlike
 lacking shift m pool lent short = at (cases_Bool (is_pending shift (pending_of m.resize))) where
   none :
@@ -91,8 +92,8 @@ lacking shift m pool lent short = at (cases_Bool (is_pending shift (pending_of m
       → is_some o ≡ false
       → is_pending shift (pending_of m.resize) ≡ false
       → AreAlike (rc_code NoMem, resize_memory nothing_pending m.into)
-          (advance_outcome (start_outcome shift (pending_of m.resize) pool)
-               (start_outcome shift (pending_of m.resize) pool).pending)
+      (advance_outcome (start_outcome shift (pending_of m.resize) pool)
+      (start_outcome shift (pending_of m.resize) pool).pending)
   none (Some place) is there other = absurd (cc)
   none None is there other = rw (other, is) (refl, refl)
 
@@ -100,32 +101,32 @@ lacking shift m pool lent short = at (cases_Bool (is_pending shift (pending_of m
       (is_pending shift (pending_of m.resize) ≡ true)
       ⊎ (is_pending shift (pending_of m.resize) ≡ false)
       → AreAlike (rc_code NoMem, resize_memory nothing_pending m.into)
-          (advance_outcome (start_outcome shift (pending_of m.resize) pool)
-               (start_outcome shift (pending_of m.resize) pool).pending)
+      (advance_outcome (start_outcome shift (pending_of m.resize) pool)
+      (start_outcome shift (pending_of m.resize) pool).pending)
   at (inl same) = let whole :
       (length m.into == entry_count shift) ≡ true = grind (arith, lent.stands same) in absurd (cc)
   at (inr other) =
       none (lowest_place (pool_without (pending_of m.resize) pool) shift) refl (lent.block ∙ short)
-          other
+      other
 
 pub prepares : IsPrepareOfPool
 unfolding outcome_of_resize_prepare outcome_of_prepare AreAlike
 prepares limit flags shift m pool lent =
     at (cases_Bool (is_prepare_request flags shift)) (cases_Bool (nat_lt (min limit 22) shift))
-        (cases_Bool (shift == 0)) (cases_Bool (length m.into == entry_count shift)) where
-  at :
-      (is_prepare_request flags shift ≡ true) ⊎ (is_prepare_request flags shift ≡ false)
-      → (nat_lt (min limit 22) shift ≡ true) ⊎ (nat_lt (min limit 22) shift ≡ false)
-      → ((shift == 0) ≡ true) ⊎ ((shift == 0) ≡ false)
-      → ((length m.into == entry_count shift) ≡ true)
-      ⊎ ((length m.into == entry_count shift) ≡ false)
-      → AreAlike (outcome_of_resize_prepare limit flags shift m)
+    (cases_Bool (shift == 0)) (cases_Bool (length m.into == entry_count shift)) where
+      at :
+          (is_prepare_request flags shift ≡ true) ⊎ (is_prepare_request flags shift ≡ false)
+          → (nat_lt (min limit 22) shift ≡ true) ⊎ (nat_lt (min limit 22) shift ≡ false)
+          → ((shift == 0) ≡ true) ⊎ ((shift == 0) ≡ false)
+          → ((length m.into == entry_count shift) ≡ true)
+          ⊎ ((length m.into == entry_count shift) ≡ false)
+          → AreAlike (outcome_of_resize_prepare limit flags shift m)
           (outcome_of_prepare (min limit 22) flags shift (pending_of m.resize) pool)
-  at (inr bad) above zero fits = rw bad (refl, refl)
-  at (inl request) (inl above) zero fits = rw (request, above) (refl, refl)
-  at (inl request) (inr below) (inl zero) fits = rw (request, below, zero) (refl, refl)
-  at (inl request) (inr below) (inr some) (inl whole) =
-      rw (request, below, some, whole)
+      at (inr bad) above zero fits = rw bad (refl, refl)
+      at (inl request) (inl above) zero fits = rw (request, above) (refl, refl)
+      at (inl request) (inr below) (inl zero) fits = rw (request, below, zero) (refl, refl)
+      at (inl request) (inr below) (inr some) (inl whole) =
+          rw (request, below, some, whole)
           (fitting shift m pool (grind arith) (grind arith) (lent.block ∙ whole))
-  at (inl request) (inr below) (inr some) (inr short) =
-      rw (request, below, some, short) (lacking shift m pool lent short)
+      at (inl request) (inr below) (inr some) (inr short) =
+          rw (request, below, some, short) (lacking shift m pool lent short)

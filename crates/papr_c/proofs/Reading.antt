@@ -42,13 +42,13 @@ reads a first (suc count) =
       entries = subst (λ b. (trial_run (λ answer. true) b cs).1 ≡ a) (sym stays) rest.entries;
       words =
           subst
-              (λ b.
-               both_words r ++ flat_map both_words (trial_run (λ answer. true) b cs).0
-               ≡ words_of_entries a first (suc count)) (sym stays)
-              (ap (λ ws. both_words r ++ ws) rest.words);
+          (λ b.
+          both_words r ++ flat_map both_words (trial_run (λ answer. true) b cs).0
+          ≡ words_of_entries a first (suc count)) (sym stays)
+          (ap (λ ws. both_words r ++ ws) rest.words);
       many =
           subst (λ b. suc (length (trial_run (λ answer. true) b cs).0) ≡ suc count) (sym stays)
-              (ap suc rest.many);
+          (ap suc rest.many);
       fresh =
           subst (λ b. any_stale (trial_run (λ answer. true) b cs).0 ≡ false) (sym stays) rest.fresh;
     }
@@ -68,7 +68,7 @@ words-more a first (suc i) =
     let e : (first + 1) + i ≡ first + suc i = omega arith in
     ap (words_of_entries a first) n
     ∙ ap (λ ws. pair_at a first ++ ws)
-        (words-more a (first + 1) i ∙ ap (λ q. words_of_entries a (first + 1) i ++ pair_at a q) e)
+    (words-more a (first + 1) i ∙ ap (λ q. words_of_entries a (first + 1) i ++ pair_at a q) e)
 
 pub put_more :
     (a : List State) (first i : ℕ) (old now : List ℕ) (x y : ℕ)
@@ -77,8 +77,8 @@ pub put_more :
     → set (set now (2 * i) x) (2 * i + 1) y ≡ placed old 0 (words_of_entries a first (i + 1))
 put_more a first i old now x y read is =
     let at : 0 + length (words_of_entries a first i) ≡ 2 * i = omega (arith, words-length a first i)
-        in
+    in
     sym
-        (ap (placed old 0) (words-more a first i)
-         ∙ placed-append (words_of_entries a first i) (pair_at a (first + i)) old 0
-         ∙ (λ k. set (set (sym is k) (at k) (sym read k).0) (at k + 1) (sym read k).1))
+    (ap (placed old 0) (words-more a first i)
+    ∙ placed-append (words_of_entries a first i) (pair_at a (first + i)) old 0
+    ∙ (λ k. set (set (sym is k) (at k) (sym read k).0) (at k + 1) (sym read k).1))

@@ -8,12 +8,13 @@ past_rows :
     (protection : ℕ) (key : Bool) → 7 < protection → permission protection key ≡ Permission.Nothing
 unfolding permission rows
 past_rows protection key past =
-    rw
-        (ne_eqb 0 protection (λ e. omega arith),
-         ne_eqb 1 protection (λ e. omega arith),
-         ne_eqb 2 protection (λ e. omega arith),
-         ne_eqb 3 protection (λ e. omega arith),
-         ne_eqb 6 protection (λ e. omega arith)) refl
+    rw (
+      ne_eqb 0 protection (λ e. omega arith),
+      ne_eqb 1 protection (λ e. omega arith),
+      ne_eqb 2 protection (λ e. omega arith),
+      ne_eqb 3 protection (λ e. omega arith),
+      ne_eqb 6 protection (λ e. omega arith),
+    ) refl
 
 pub nothing_past :
     (protection : ℕ) (key : Bool) → 7 < protection → 0 ≡ protection_rights protection key

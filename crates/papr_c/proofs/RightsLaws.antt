@@ -41,24 +41,24 @@ touched_same : (s : State) (want : Want) → is_recorded s want ≡ true → tou
 touched_same s want recorded =
     let parts = and_parts s.referenced (s.changed || not (is_store want)) recorded in
     let changed : (s.changed || is_store want) ≡ s.changed = recorded_stays s.changed
-        (is_store want) parts.1 in
+    (is_store want) parts.1 in
     λ i. record s { referenced = sym parts.0 i; changed = changed i }
 
 same_touched : (s : State) (want : Want) → touched_state s want ≡ s → is_recorded s want ≡ true
 same_touched s want same =
     let referenced : s.referenced ≡ true = sym (ap (λ (t : State). t.referenced) same) in
     let changed : (s.changed || not (is_store want)) ≡ true = stays_recorded s.changed
-        (is_store want) (ap (λ (t : State). t.changed) same) in
+    (is_store want) (ap (λ (t : State). t.changed) same) in
     rw (referenced, changed) refl
 
 right_stays :
     (s : State) (mode : AccessMode) → has_right s mode ≡ true → answer_of_match s mode ≡ (At, s)
 right_stays s mode right =
     let parts = and_parts (is_allowed s mode && not (masks_refuse s mode)) (is_recorded s mode.want)
-        right in
+    right in
     let first = and_parts (is_allowed s mode) (not (masks_refuse s mode)) parts.0 in
     rw (first.0, not-true (masks_refuse s mode) first.1)
-        (λ i. (At, touched_same s mode.want parts.1 i))
+    (λ i. (At, touched_same s mode.want parts.1 i))
 
 stays_right :
     (s : State) (mode : AccessMode) → answer_of_match s mode ≡ (At, s) → has_right s mode ≡ true
@@ -132,9 +132,9 @@ no_cause_allows :
     (s : State) (mode : AccessMode) → causes_of s mode ≡ 0 → (answer_of_match s mode).0 ≡ At
 no_cause_allows s mode none =
     let holds = none_holds (protection_refuses s mode) (execution_refused s mode)
-        (mask_against s mode.masks mode.want) none in
+    (mask_against s mode.masks mode.want) none in
     let yes : is_allowed s mode ≡ true = allowed_by s mode ∙
-        (λ i. not (holds.0 i) && not (holds.1 i)) in
+    (λ i. not (holds.0 i) && not (holds.1 i)) in
     let free : masks_refuse s mode ≡ false = ap (λ (o : Option MaskName). is_some o) holds.2 in
     rw (yes, free) refl
 
@@ -142,19 +142,19 @@ allowed_without :
     (s : State) (mode : AccessMode) → (answer_of_match s mode).0 ≡ At → causes_of s mode ≡ 0
 allowed_without s mode e =
     at (cases_Bool (is_allowed s mode)) (cases_Bool (masks_refuse s mode)) where
-  at :
-      (is_allowed s mode ≡ true) ⊎ (is_allowed s mode ≡ false)
-      → (masks_refuse s mode ≡ true) ⊎ (masks_refuse s mode ≡ false)
-      → causes_of s mode ≡ 0
-  at (inl fine) (inl masked) = let clash : Masked ≡ At = rw (fine, masked) at e in cc
-  at (inl fine) (inr free) =
-      let parts = and_parts (not (protection_refuses s mode)) (not (execution_refused s mode))
+      at :
+          (is_allowed s mode ≡ true) ⊎ (is_allowed s mode ≡ false)
+          → (masks_refuse s mode ≡ true) ⊎ (masks_refuse s mode ≡ false)
+          → causes_of s mode ≡ 0
+      at (inl fine) (inl masked) = let clash : Masked ≡ At = rw (fine, masked) at e in cc
+      at (inl fine) (inr free) =
+          let parts = and_parts (not (protection_refuses s mode)) (not (execution_refused s mode))
           (sym (allowed_by s mode) ∙ fine) in
-      λ i.
-      sum_of (not-true (protection_refuses s mode) parts.0 i)
+          λ i.
+          sum_of (not-true (protection_refuses s mode) parts.0 i)
           (not-true (execution_refused s mode) parts.1 i)
           (unmasked (mask_against s mode.masks mode.want) free i)
-  at (inr denied) masks = let clash : Denied ≡ At = rw denied at e in cc
+      at (inr denied) masks = let clash : Denied ≡ At = rw denied at e in cc
 
 pub causes_hold :
     (s : State) (page : VirtualPage) (mode : AccessMode) (secondary : Bool)

@@ -29,7 +29,7 @@ record AreBack (layout : Layout) (v w : ℕ × ℕ) : Type 0 where
 same_valid : (h : ℕ) → is_valid (h % 2 ^ 52) ≡ is_valid h
 same_valid h =
     let low : bit_and (h % 2 ^ 52) 1 ≡ bit_and h 1 = and_mask (h % 2 ^ 52) 1 ∙
-        (let e : h % 2 ^ 52 % 2 ^ 1 ≡ h % 2 ^ 1 = omega arith in e) ∙ sym (and_mask h 1) in
+    (let e : h % 2 ^ 52 % 2 ^ 1 ≡ h % 2 ^ 1 = omega arith in e) ∙ sym (and_mask h 1) in
     ap (λ n. n == 1) low
 
 new_back :
@@ -41,32 +41,33 @@ new_back :
     → AreBack New (h, l) w
 new_back h l w small fits clear laid =
     at (cases_Bool (bit_and h unheld == 0)) (cases_Bool (bit_and l segment_place == 0)) where
-  at :
-      ((bit_and h unheld == 0) ≡ true) ⊎ ((bit_and h unheld == 0) ≡ false)
-      → ((bit_and l segment_place == 0) ≡ true) ⊎ ((bit_and l segment_place == 0) ≡ false)
-      → AreBack New (h, l) w
-  at (inr set_h) free = let none : laid_out New (h, l) ≡ None = rw set_h refl in absurd (cc)
-  at (inl held) (inr set_l) = let none :
-      laid_out New (h, l) ≡ None = rw (held, set_l) refl in absurd (cc)
-  at (inl held) (inl free) =
-      let told : laid_out New (h, l) ≡ Some (new_words (h, l)) = rw (held, free) refl in
-      let is : new_words (h, l) ≡ w = cc in
-      let clear_h : bit_and h unheld ≡ 0 = grind (arith, held) in
-      let clear_l : bit_and l segment_place ≡ 0 = grind (arith, free) in
-      let s : h / 2 ^ 62 < 4 = omega arith in
-      subst (AreBack New (h, l)) is
-      (record {
-        first = omega arith;
-        second = place_fits l (h / 2 ^ 62) fits s clear_l;
-        read =
-            rw
-                (stays_cleared l (h / 2 ^ 62) s clear_l clear,
-                 none_left h,
-                 segment_back l (h / 2 ^ 62) s clear_l,
-                 second_back l (h / 2 ^ 62) fits s clear_l,
-                 first_back h small clear_h) refl;
-        valid = same_valid h;
-      })
+      at :
+          ((bit_and h unheld == 0) ≡ true) ⊎ ((bit_and h unheld == 0) ≡ false)
+          → ((bit_and l segment_place == 0) ≡ true) ⊎ ((bit_and l segment_place == 0) ≡ false)
+          → AreBack New (h, l) w
+      at (inr set_h) free = let none : laid_out New (h, l) ≡ None = rw set_h refl in absurd (cc)
+      at (inl held) (inr set_l) = let none :
+          laid_out New (h, l) ≡ None = rw (held, set_l) refl in absurd (cc)
+      at (inl held) (inl free) =
+          let told : laid_out New (h, l) ≡ Some (new_words (h, l)) = rw (held, free) refl in
+          let is : new_words (h, l) ≡ w = cc in
+          let clear_h : bit_and h unheld ≡ 0 = grind (arith, held) in
+          let clear_l : bit_and l segment_place ≡ 0 = grind (arith, free) in
+          let s : h / 2 ^ 62 < 4 = omega arith in
+          subst (AreBack New (h, l)) is
+          (record {
+            first = omega arith;
+            second = place_fits l (h / 2 ^ 62) fits s clear_l;
+            read =
+                rw (
+                  stays_cleared l (h / 2 ^ 62) s clear_l clear,
+                  none_left h,
+                  segment_back l (h / 2 ^ 62) s clear_l,
+                  second_back l (h / 2 ^ 62) fits s clear_l,
+                  first_back h small clear_h,
+                ) refl;
+            valid = same_valid h;
+          })
 
 back :
     (layout : Layout) (v w : ℕ × ℕ)
@@ -79,7 +80,7 @@ back New v w small fits clear laid = new_back v.0 v.1 w small fits clear laid
 back Old v w small fits clear laid =
     let is : v ≡ w = cc in
     subst (AreBack Old v) is
-        (record { first = small; second = fits; read = rw clear refl; valid = refl })
+    (record { first = small; second = fits; read = rw clear refl; valid = refl })
 
 -- The bytes of two doublewords are read as these.
 bytes_back :
@@ -88,9 +89,10 @@ bytes_back :
     → w.1 < 2 ^ 64
     → words_of_bytes (((big_bytes 8 w.0 ++ big_bytes 8 w.1) ++ rest)) ≡ w
 bytes_back w rest small fits =
-    rw
-        (big_number-reads_back 8 w.0 (big_bytes 8 w.1 ++ rest) small,
-         big_number-reads_back 8 w.1 rest fits) refl
+    rw (
+      big_number-reads_back 8 w.0 (big_bytes 8 w.1 ++ rest) small,
+      big_number-reads_back 8 w.1 rest fits,
+    ) refl
 
 -- The doublewords of a valid entry are imported as it.
 valid_back :
@@ -125,28 +127,28 @@ empty_back grants layout s w g b invalid =
 pub round_trip : IsRoundTrip
 round_trip grants layout s front bytes rest i long g told =
     at (laid_out layout (words_of s)) refl where
-  by :
-      (w : ℕ × ℕ)
-      → AreBack layout (words_of s) w
-      → (s.valid ≡ true) ⊎ (s.valid ≡ false)
-      → entry_of_words grants layout w ≡ Ok (record s { stamp = 0 })
-  by w b (inl valid) = valid_back grants layout s w g b valid
-  by w b (inr invalid) = empty_back grants layout s w g b invalid
+      by :
+          (w : ℕ × ℕ)
+          → AreBack layout (words_of s) w
+          → (s.valid ≡ true) ⊎ (s.valid ≡ false)
+          → entry_of_words grants layout w ≡ Ok (record s { stamp = 0 })
+      by w b (inl valid) = valid_back grants layout s w g b valid
+      by w b (inr invalid) = empty_back grants layout s w g b invalid
 
-  at :
-      (o : Option (ℕ × ℕ))
-      → laid_out layout (words_of s) ≡ o
-      → entry_of_bytes grants layout (front ++ (bytes ++ rest)) i ≡ Ok (record s { stamp = 0 })
-  at None laid = let none : entry_bytes layout s ≡ None = rw laid refl in absurd (cc)
-  at (Some w) laid =
-      let b = back layout (words_of s) w g.first g.second g.cleared laid in
-      let some : entry_bytes layout s ≡ Some (big_bytes 8 w.0 ++ big_bytes 8 w.1) = ap
+      at :
+          (o : Option (ℕ × ℕ))
+          → laid_out layout (words_of s) ≡ o
+          → entry_of_bytes grants layout (front ++ (bytes ++ rest)) i ≡ Ok (record s { stamp = 0 })
+      at None laid = let none : entry_bytes layout s ≡ None = rw laid refl in absurd (cc)
+      at (Some w) laid =
+          let b = back layout (words_of s) w g.first g.second g.cleared laid in
+          let some : entry_bytes layout s ≡ Some (big_bytes 8 w.0 ++ big_bytes 8 w.1) = ap
           (option_map (λ (x : ℕ × ℕ). big_bytes 8 x.0 ++ big_bytes 8 x.1)) laid in
-      let is : bytes ≡ big_bytes 8 w.0 ++ big_bytes 8 w.1 = cc in
-      let behind : drop (16 * i) (front ++ (bytes ++ rest)) ≡ bytes ++ rest = ap
+          let is : bytes ≡ big_bytes 8 w.0 ++ big_bytes 8 w.1 = cc in
+          let behind : drop (16 * i) (front ++ (bytes ++ rest)) ≡ bytes ++ rest = ap
           (λ n. drop n (front ++ (bytes ++ rest))) (sym long) ∙ drop-append_seam front
           (bytes ++ rest) in
-      ap (λ (bs : List ℕ). entry_of_words grants layout (words_of_bytes bs))
+          ap (λ (bs : List ℕ). entry_of_words grants layout (words_of_bytes bs))
           (behind ∙ ap (λ (bs : List ℕ). bs ++ rest) is)
-      ∙ ap (entry_of_words grants layout) (bytes_back w rest b.first b.second)
-      ∙ by w b (cases_Bool s.valid)
+          ∙ ap (entry_of_words grants layout) (bytes_back w rest b.first b.second)
+          ∙ by w b (cases_Bool s.valid)

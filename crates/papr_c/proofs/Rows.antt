@@ -25,8 +25,8 @@ grant logical machine length =
 -- The second of these isn't aligned.
 unaligned :
     making_told
-        (making_of 0x1000000000 24
-             (grant 0 0x2000000000 0x1000 ∷ grant 0x1800 0x2000010000 0x1000 ∷ []))
+    (making_of 0x1000000000 24
+    (grant 0 0x2000000000 0x1000 ∷ grant 0x1800 0x2000010000 0x1000 ∷ []))
     ≡ record { index = 1; refusal = 2 }
 unfolding grant making_of range_refusal add_refusal refusals with_grant
 unaligned = refl

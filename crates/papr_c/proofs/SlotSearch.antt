@@ -47,11 +47,11 @@ found s slots ea passes = at (cases_Bool s.valid) where
   at (inl valid) =
       let is : slot_of s ≡ Some (slot_in s) = rw valid refl in
       let here : covers ea (slot_in s) ≡ true = sym (ap (λ o. option_map_or (covers ea) o false) is)
-          ∙ passes in
+      ∙ passes in
       ap
-          (λ o.
-           slot_told
-               (find (covers ea) (filter_map (λ (x : Option Slot). x) (o ∷ map slot_of slots)))) is
+      (λ o.
+      slot_told
+      (find (covers ea) (filter_map (λ (x : Option Slot). x) (o ∷ map slot_of slots)))) is
       ∙ rw here refl
       ∙ ap (λ v. record s { valid = v }) (sym valid)
   at (inr invalid) =
@@ -71,7 +71,7 @@ first_found (s ∷ slots) ea zero d below lower passes = found s slots ea passes
 first_found (s ∷ slots) ea (suc i) d below lower passes =
     ap slot_told (passed s slots ea (lower 0 (omega arith)))
     ∙ first_found slots ea i d (omega (arith, below))
-        (λ k before. lower (suc k) (omega (arith, before))) passes
+    (λ k before. lower (suc k) (omega (arith, before))) passes
 
 -- Where none has it there is none.
 pub none_found :

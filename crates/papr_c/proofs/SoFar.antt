@@ -99,22 +99,27 @@ put_next :
 put_next old new i rs r is tried =
     let at : 0 + length (map shown_receipt rs) ≡ i = omega (arith, length-map_shown rs, tried) in
     sym
-        (ap (placed old 0) (map-more rs r)
-         ∙ placed-append (map shown_receipt rs) (shown_receipt r ∷ []) old 0
-         ∙ (λ k. set (sym is k) (at k) (shown_receipt r)))
+    (ap (placed old 0) (map-more rs r)
+    ∙ placed-append (map shown_receipt rs) (shown_receipt r ∷ []) old 0
+    ∙ (λ k. set (sym is k) (at k) (shown_receipt r)))
 
 pub starts :
     (goes : Answer → Bool) (cs : List Call) (a : List State) (old : List PaprReceipt)
     → IsSoFar goes cs 0 a a old old []
 starts goes cs a old =
     record {
-        whole = refl; on = λ ss. refl; put = refl; tried = refl; same = refl; inside = omega arith
+      whole = refl;
+      on = λ ss. refl;
+      put = refl;
+      tried = refl;
+      same = refl;
+      inside = omega arith;
     }
 
 -- One more call, whose answer goes on.
 pub so_far_goes :
     (goes : Answer → Bool) (cs : List Call) (i entry : ℕ) (op : Op) (a b c : List State)
-        (old new next : List PaprReceipt) (rs : List Receipt) (r : Receipt)
+    (old new next : List PaprReceipt) (rs : List Receipt) (r : Receipt)
     → call_at cs i ≡ Some (entry, op)
     → r ≡ receipt_at b (call op entry)
     → c ≡ states_after b r
@@ -130,9 +135,9 @@ so_far_goes goes cs i entry op a b c old new next rs r at is after put on h =
     record {
       whole =
           rw (add-one, after)
-              (h.whole
-               ∙ ap (before_rest rs) one
-               ∙ ap (λ z. (z, rest.1)) (sym (append_assoc rs (r ∷ []) rest.0)));
+          (h.whole
+          ∙ ap (before_rest rs) one
+          ∙ ap (λ z. (z, rest.1)) (sym (append_assoc rs (r ∷ []) rest.0)));
       on =
           λ ss.
           ap (ending_of goes) (append_assoc rs (r ∷ []) ss)
@@ -157,7 +162,7 @@ pub record IsTold (goes : Answer → Bool) (cs : List Call) (count : ℕ) (a c :
 -- The answer ends it.
 pub ends :
     (goes : Answer → Bool) (cs : List Call) (i entry : ℕ) (op : Op) (a b c : List State)
-        (old new next : List PaprReceipt) (rs : List Receipt) (r : Receipt)
+    (old new next : List PaprReceipt) (rs : List Receipt) (r : Receipt)
     → call_at cs i ≡ Some (entry, op)
     → r ≡ receipt_at b (call op entry)
     → c ≡ states_after b r
@@ -169,8 +174,8 @@ ends goes cs i entry op a b c old new next rs r at is after put off h =
     let all : trial_run goes a cs ≡ (rs ++ r ∷ [], states_after b r) =
     h.whole
     ∙ ap (before_rest rs)
-        (ap (trial_run goes b) (drop_at cs i entry op at)
-         ∙ step_off goes b (call op entry) (drop (suc i) cs) r is off) in
+    (ap (trial_run goes b) (drop_at cs i entry op at)
+    ∙ step_off goes b (call op entry) (drop (suc i) cs) r is off) in
     let many : length (rs ++ r ∷ []) ≡ i + 1 = omega (arith, length-more rs r, h.tried) in
     record {
       entries = rw all after;
@@ -182,7 +187,7 @@ ends goes cs i entry op a b c old new next rs r at is after put off h =
 -- There is no further call.
 pub past_all :
     (goes : Answer → Bool) (cs : List Call) (i : ℕ) (a b : List State) (old new : List PaprReceipt)
-        (rs : List Receipt)
+    (rs : List Receipt)
     → call_at cs i ≡ None
     → IsSoFar goes cs i a b old new rs
     → IsTold goes cs i a b old new None
@@ -200,7 +205,7 @@ past_all goes cs i a b old new rs none h =
 
 pub past_last :
     (goes : Answer → Bool) (cs : List Call) (i : ℕ) (a b : List State) (old new : List PaprReceipt)
-        (rs : List Receipt)
+    (rs : List Receipt)
     → length cs ≤ i
     → IsSoFar goes cs i a b old new rs
     → IsTold goes cs i a b old new None
@@ -209,18 +214,19 @@ past_last goes cs i a b old new rs past h = past_all goes cs i a b old new rs (a
 -- One call more, or the end.
 pub so_far_next :
     (goes : Answer → Bool) (cs : List Call) (i : ℕ) (a : List State) (old : List PaprReceipt)
-        (m : LentPair)
+    (m : LentPair)
     → ((r : Receipt) × IsMadeAt goes cs i m r true)
     → ((rs : List Receipt) × IsSoFar goes cs i a m.before old m.places_before rs)
     → (rs : List Receipt) × IsSoFar goes cs (i + 1) a m.after old m.places_after rs
-so_far_next goes cs i a old m (r, made) (rs, h) =
-    (rs ++ r ∷ [],
-     so_far_goes goes cs i made.entry made.op a m.before m.after old m.places_before m.places_after
-         rs r made.at made.receipt made.after made.put made.goes_on h)
+so_far_next goes cs i a old m (r, made) (rs, h) = (
+  rs ++ r ∷ [],
+  so_far_goes goes cs i made.entry made.op a m.before m.after old m.places_before m.places_after
+      rs r made.at made.receipt made.after made.put made.goes_on h,
+)
 
 pub told_last :
     (goes : Answer → Bool) (cs : List Call) (i : ℕ) (a : List State) (old : List PaprReceipt)
-        (m : LentPair) (last : Option Receipt) (count : ℕ)
+    (m : LentPair) (last : Option Receipt) (count : ℕ)
     → IsTriedLast goes cs i m last count
     → ((rs : List Receipt) × IsSoFar goes cs i a m.before old m.places_before rs)
     → IsTold goes cs count a m.after old m.places_after last
@@ -228,5 +234,5 @@ told_last goes cs i a old m None count (none, (after, (put, counted))) (rs, h) =
     rw (after, put, counted) (past_all goes cs i a m.before old m.places_before rs none h)
 told_last goes cs i a old m (Some r) count (made, counted) (rs, h) =
     rw counted
-        (ends goes cs i made.entry made.op a m.before m.after old m.places_before m.places_after rs
-             r made.at made.receipt made.after made.put made.goes_on h)
+    (ends goes cs i made.entry made.op a m.before m.after old m.places_before m.places_after rs
+    r made.at made.receipt made.after made.put made.goes_on h)

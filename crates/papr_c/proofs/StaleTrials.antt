@@ -54,24 +54,24 @@ pub stale_entered :
 stale_entered a [] = rw (no_more is_taken a) (sym stale_none)
 stale_entered a (c ∷ cs) =
     at (cases_Bool (is_taken r.answer)) (stale_entered (states_after a r) cs) where
-  r : Receipt
-  r = receipt_at a c
+      r : Receipt
+      r = receipt_at a c
 
-  rest : List Receipt
-  rest = (trial_run is_taken (states_after a r) cs).0
+      rest : List Receipt
+      rest = (trial_run is_taken (states_after a r) cs).0
 
-  at :
-      (is_taken r.answer ≡ true) ⊎ (is_taken r.answer ≡ false)
-      → ends_so rest ≡ any_stale rest
-      → ends_so (trial_run is_taken a (c ∷ cs)).0 ≡ any_stale (trial_run is_taken a (c ∷ cs)).0
-  at (inl on) later =
-      rw (step_on is_taken a c cs r refl on)
-      (ap (λ o. option_map_or (λ (x : Receipt). is_stale x.answer) o false)
-           (ending-on is_taken r rest on)
-       ∙ later
-       ∙ sym (stale_on r rest (taken_stays r.answer on)))
-  at (inr off) later =
-      rw (step_off is_taken a c cs r refl off)
-      (ap (λ o. option_map_or (λ (x : Receipt). is_stale x.answer) o false)
-           (ending-off is_taken r [] off)
-       ∙ stale_alone r)
+      at :
+          (is_taken r.answer ≡ true) ⊎ (is_taken r.answer ≡ false)
+          → ends_so rest ≡ any_stale rest
+          → ends_so (trial_run is_taken a (c ∷ cs)).0 ≡ any_stale (trial_run is_taken a (c ∷ cs)).0
+      at (inl on) later =
+          rw (step_on is_taken a c cs r refl on)
+          (ap (λ o. option_map_or (λ (x : Receipt). is_stale x.answer) o false)
+          (ending-on is_taken r rest on)
+          ∙ later
+          ∙ sym (stale_on r rest (taken_stays r.answer on)))
+      at (inr off) later =
+          rw (step_off is_taken a c cs r refl off)
+          (ap (λ o. option_map_or (λ (x : Receipt). is_stale x.answer) o false)
+          (ending-off is_taken r [] off)
+          ∙ stale_alone r)

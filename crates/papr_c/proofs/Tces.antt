@@ -24,12 +24,12 @@ pub one_call :
 unfolding trial_run
 one_call goes op e entries r is =
     at (cases_Bool (goes (receipt_of e (state_at entries e) op).answer)) where
-  at :
-      (goes (receipt_of e (state_at entries e) op).answer ≡ true)
-      ⊎ (goes (receipt_of e (state_at entries e) op).answer ≡ false)
-      → (r ∷ [], states_after entries r) ≡ trial_run goes entries (call op e ∷ [])
-  at (inl on) = rw (is, on) refl
-  at (inr off) = rw (is, off) refl
+      at :
+          (goes (receipt_of e (state_at entries e) op).answer ≡ true)
+          ⊎ (goes (receipt_of e (state_at entries e) op).answer ≡ false)
+          → (r ∷ [], states_after entries r) ≡ trial_run goes entries (call op e ∷ [])
+      at (inl on) = rw (is, on) refl
+      at (inr off) = rw (is, off) refl
 
 -- Two calls, of which the first ends the trial.
 pub first_ends :
@@ -40,7 +40,7 @@ pub first_ends :
 unfolding trial_run
 first_ends goes op other e entries r is off =
     let here : goes (receipt_of e (state_at entries e) op).answer ≡ false = ap
-        (λ (q : Receipt). goes q.answer) (sym is) ∙ off in
+    (λ (q : Receipt). goes q.answer) (sym is) ∙ off in
     rw (is, here) refl
 
 -- Two calls.
@@ -54,27 +54,29 @@ pub two_calls :
 unfolding trial_run
 two_calls goes op other e entries r s is on next =
     let here : goes (receipt_of e (state_at entries e) op).answer ≡ true = ap
-        (λ (q : Receipt). goes q.answer) (sym is) ∙ on in
+    (λ (q : Receipt). goes q.answer) (sym is) ∙ on in
     let rest : (s ∷ [], states_after (states_after entries r) s) ≡ trial_run goes
-        (states_after entries r) (call other e ∷ []) = one_call goes other e
-        (states_after entries r) s next in
+    (states_after entries r) (call other e ∷ []) = one_call goes other e
+    (states_after entries r) s next in
     ap (λ (z : List Receipt × List State). (r ∷ z.0, z.1)) rest
     ∙ ap
-        (λ (q : Receipt).
-         (q ∷ (trial_run goes (states_after entries q) (call other e ∷ [])).0,
-          (trial_run goes (states_after entries q) (call other e ∷ [])).1)) is
+    (λ (q : Receipt). (
+      q ∷ (trial_run goes (states_after entries q) (call other e ∷ [])).0,
+      (trial_run goes (states_after entries q) (call other e ∷ [])).1,
+    )) is
     ∙ sym (goes_on here)
   where
     goes_on :
         goes (receipt_of e (state_at entries e) op).answer ≡ true
         → trial_run goes entries (call op e ∷ call other e ∷ [])
-        ≡
-            (receipt_of e (state_at entries e) op
-             ∷
-                 (trial_run goes (states_after entries (receipt_of e (state_at entries e) op))
-                      (call other e ∷ [])).0,
-             (trial_run goes (states_after entries (receipt_of e (state_at entries e) op))
-                  (call other e ∷ [])).1)
+        ≡ (
+          receipt_of e (state_at entries e) op
+              ∷
+              (trial_run goes (states_after entries (receipt_of e (state_at entries e) op))
+              (call other e ∷ [])).0,
+          (trial_run goes (states_after entries (receipt_of e (state_at entries e) op))
+              (call other e ∷ [])).1,
+        )
     goes_on h = rw h refl
 
 -- A page that the window lacks.
@@ -93,9 +95,9 @@ no_page base ioba m p none = at (cases_Bool (is_window (window_of base m.entries
       let out : entry_at (window_of base m.entries) ioba ≡ None = rw is at none in
       coded (is_window (window_of base m.entries)) Parameter m is
       ∙ ap
-          (λ o.
-           outcome_where (is_window (window_of base m.entries))
-               (option_map_or p o (plan_of_code Parameter)) m) (sym out)
+      (λ o.
+      outcome_where (is_window (window_of base m.entries))
+      (option_map_or p o (plan_of_code Parameter)) m) (sym out)
 
 -- A page that it has.
 pub has_page :

@@ -92,21 +92,21 @@ pub put_more :
     → put_mid (16 * i) (length out - 16 * i) out new ≡ (b ++ ws) ++ drop (16 * (i + 1)) old
 put_more b out old new ws i long is put =
     let front : take (16 * i) out ≡ b = rw is
-        (ap (λ n. take n (b ++ drop (16 * i) old)) (sym long)
-         ∙ take-append_seam b (drop (16 * i) old)) in
+    (ap (λ n. take n (b ++ drop (16 * i) old)) (sym long)
+    ∙ take-append_seam b (drop (16 * i) old)) in
     let back : drop (16 * i) out ≡ drop (16 * i) old = rw is
-        (ap (λ n. drop n (b ++ drop (16 * i) old)) (sym long)
-         ∙ drop-append_seam b (drop (16 * i) old)) in
+    (ap (λ n. drop n (b ++ drop (16 * i) old)) (sym long)
+    ∙ drop-append_seam b (drop (16 * i) old)) in
     let left : length (drop (16 * i) out) ≡ length out - 16 * i = length-drop (16 * i) out in
     let mid : mid_of (16 * i) (length out - 16 * i) out ≡ drop (16 * i) out = take_all
-        (length out - 16 * i) (drop (16 * i) out) (omega (arith, left)) in
+    (length out - 16 * i) (drop (16 * i) out) (omega (arith, left)) in
     let gone : post_of (16 * i) (length out - 16 * i) out ≡ [] = drop_all (length out - 16 * i)
-        (drop (16 * i) out) (omega (arith, left)) in
+    (drop (16 * i) out) (omega (arith, left)) in
     let next : 16 * i + 16 ≡ 16 * (i + 1) = omega arith in
     rw (gone, front, put, mid, back)
-        (ap (λ ys. b ++ ys) (append-nil (ws ++ drop 16 (drop (16 * i) old)))
-         ∙ sym (append_assoc b ws (drop 16 (drop (16 * i) old)))
-         ∙ ap (λ ys. (b ++ ws) ++ ys) (drop-drop 16 (16 * i) old ∙ ap (λ n. drop n old) next))
+    (ap (λ ys. b ++ ys) (append-nil (ws ++ drop 16 (drop (16 * i) old)))
+    ∙ sym (append_assoc b ws (drop 16 (drop (16 * i) old)))
+    ∙ ap (λ ys. (b ++ ws) ++ ys) (drop-drop 16 (16 * i) old ∙ ap (λ n. drop n old) next))
 
 -- The bytes of one entry more.
 pub bytes-more :
@@ -132,7 +132,7 @@ bytes-length layout entries first number (suc i) none below =
     let b = bytes_of_entries layout entries first i in
     let w = unwrap_or (entry_bytes layout (state_at entries (first + i))) [] in
     let last : length w ≡ 16 = bytes_16 (laid_out layout (words_of (state_at entries (first + i))))
-        (held_at layout entries first number i none (omega (arith, below))) in
+    (held_at layout entries first number i none (omega (arith, below))) in
     let more : suc i ≡ i + 1 = omega arith in
     let e : length b + length w ≡ 16 * suc i = omega (arith, before, last) in
     ap (λ k. length (bytes_of_entries layout entries first k)) more
@@ -150,7 +150,7 @@ pub entries-more :
     ∷ []
 entries-more grants layout bytes i =
     let f : ℕ → State = λ k. result_unwrap_or (entry_of_bytes grants layout bytes k) (empty_state 0)
-        in
+    in
     let e : 0 + i ≡ i = omega arith in
     ap (map f) (range_more 0 i)
     ∙ map-append f (range_with_len 0 i) ((0 + i) ∷ [])
@@ -166,14 +166,14 @@ set_replaced entries others first at s is below =
     let y = get_or entries at (empty_state 0) in
     let rest = drop (suc at) entries in
     let here : drop (first + length others) entries ≡ y ∷ rest = ap (λ k. drop k entries) is ∙
-        drop-cons entries at (empty_state 0) below in
+    drop-cons entries at (empty_state 0) below in
     let front : length (take first entries) ≡ first = length-take-le first entries
-        (omega (arith, is, below)) in
+    (omega (arith, is, below)) in
     let gap : at - first ≡ length others = omega (arith, is) in
     let longer : length (others ++ s ∷ []) ≡ length others + 1 = length-append others (s ∷ []) in
     let next : first + length (others ++ s ∷ []) ≡ suc at = omega (arith, is, longer) in
     set-append_right (take first entries) (others ++ drop (first + length others) entries) first at
-        s front (omega (arith, is))
+    s front (omega (arith, is))
     ∙ ap (λ ys. take first entries ++ ys)
     (ap (λ k. set (others ++ drop (first + length others) entries) k s) gap
     ∙ ap (λ ys. set (others ++ ys) (length others) s) here
@@ -194,5 +194,5 @@ pub entered_at :
 entered_at grants layout bytes number i none below =
     let here : 0 + i ≡ i = omega arith in
     ok_where (entry_of_bytes grants layout bytes i)
-        (ap (λ k. is_err (entry_of_bytes grants layout bytes k)) (sym here)
-         ∙ none_found (λ k. is_err (entry_of_bytes grants layout bytes k)) 0 number i none below)
+    (ap (λ k. is_err (entry_of_bytes grants layout bytes k)) (sym here)
+    ∙ none_found (λ k. is_err (entry_of_bytes grants layout bytes k)) 0 number i none below)

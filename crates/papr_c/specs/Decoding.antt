@@ -33,7 +33,7 @@ is_cause order ptex dword0 dword1 Empty = not (is_valid dword0)
 is_cause order ptex dword0 dword1 NoSize = is_none (size_of dword0 dword1)
 is_cause order ptex dword0 dword1 NoSegment =
     option_map_or (λ (size : PageSize). not (has_place dword0 size.base)) (size_of dword0 dword1)
-        false
+    false
 is_cause order ptex dword0 dword1 OtherGroup = is_none (page_at order ptex dword0 dword1)
 
 -- The first of the causes that holds, where one does.

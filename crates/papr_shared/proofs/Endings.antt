@@ -41,9 +41,9 @@ pub ended :
     → HasEnded plan y h
 ended plan y h registers never is nothing over =
     let same : reply_with registers y.receipts ≡ reply_by plan y.receipts = ap
-        (λ (z : Rc × List ℕ). record { rc = z.0; words = z.1; receipts = y.receipts }) is.told in
+    (λ (z : Rc × List ℕ). record { rc = z.0; words = z.1; receipts = y.receipts }) is.told in
     let code : h.answer.rc ≡ rc_code (plan.told y.receipts).0 = ap (λ a. a.rc) over.answer ∙ ap
-        (λ (reply : HReply). rc_code reply.rc) same in
+    (λ (reply : HReply). rc_code reply.rc) same in
     record {
       trial = is.trial;
       nothing = nothing;
@@ -74,7 +74,7 @@ end_never :
 end_never w None count = omega arith
 end_never w (Some r) count =
     outcome_told (is_at r.answer) (refusal_number (refusing_mask r))
-        (refusal_told (refusing_mask r))
+    (refusal_told (refusing_mask r))
 
 pub walk_begun :
     (p : Pending) (asked : Option PageWalk) (w : PageWalk) (x y : Working) (h : HandedWalk)
@@ -93,7 +93,7 @@ pub walk_tried :
     → IsMade x y y.receipts
     → h.receipts_after ≡ filled h.receipts (map shown_receipt y.receipts)
     → IfOk tried
-        (λ found. IsTrial is_no_match (calls_of_walk (arc_value x.sharer.table).order w) y.receipts)
+    (λ found. IsTrial is_no_match (calls_of_walk (arc_value x.sharer.table).order w) y.receipts)
     → IfOk tried (λ found. y.pending ≡ Nothing)
     → IfErr tried (λ busy. KeepsWalk (arc_value x.sharer.table).order w y busy)
     → (x.sharer.pass.shares ≡ (arc_value x.sharer.table).passes → IsOk tried)
@@ -108,7 +108,7 @@ walk_tried w x y h (Ok found) made put trial nothing kept alone end busy =
         tried = inl (record {
           trial =
               subst (λ order. IsTrial is_no_match (calls_of_walk order w) y.receipts)
-                  (sym (ap order_of made.table)) trial;
+              (sym (ap order_of made.table)) trial;
           nothing = nothing;
           found = end;
           not_busy = λ is. end_never w (found_of y.receipts) _ (sym (ap (λ f. f.outcome) end) ∙ is);

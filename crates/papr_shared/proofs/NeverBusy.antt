@@ -100,7 +100,7 @@ entered : (rs : List Receipt) → (enter_told rs).0 ≢ rc.Busy
 entered [] = λ is. cc
 entered (r ∷ rs) =
     either (is_taken r.answer) _ _ (entered rs)
-        (either (is_worn r.answer) _ _ (λ is. cc) (λ is. cc))
+    (either (is_worn r.answer) _ _ (λ is. cc) (λ is. cc))
 
 of_words : (flags ptex : ℕ) (words : Option (ℕ × ℕ)) → NeverBusy (words_plan flags ptex words)
 of_words flags ptex None = parameter
@@ -116,7 +116,7 @@ enter_never order grants flags ptex pteh ptel =
 -- ---- H_BULK_REMOVE
 of_pair :
     (asked : Asked) (p : Pair) (ps : List Pair) (rs : List Receipt)
-        (rest : List Receipt → Rc × List ℕ)
+    (rest : List Receipt → Rc × List ℕ)
     → ((qs : List Receipt) → (rest qs).0 ≢ rc.Busy)
     → (pair_told asked p ps rs rest).0 ≢ rc.Busy
 of_pair asks.End p ps rs rest never = λ is. cc

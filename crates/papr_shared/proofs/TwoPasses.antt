@@ -15,15 +15,15 @@ pub split_two :
     → SplitsBy (nat_le 2 x.sharer.pass.shares) x (two_after (Some y) other (rc_code Success))
 split_two x y z other two is off =
     rw two
-        (inl
-             (record {
-                  left = y;
-                  right = z;
-                  pass_is = refl;
-                  other_is = is;
-                  code_is = refl;
-                  split_off = off
-              }))
+    (inl
+    (record {
+      left = y;
+      right = z;
+      pass_is = refl;
+      other_is = is;
+      code_is = refl;
+      split_off = off;
+    }))
 
 pub split_in :
     (x y : Working) (before other after other_after : Option Working) (code told : ℤ)

@@ -14,16 +14,16 @@ use Rattle.shared_pass.specs.contracts.place.Place as Place
 abbrev pub E : Bx
 E =
     record {
-        row = Working.the_row;
-        laws = working.the_row_laws;
-        al =
-            record {
-                row = Heap.the_row;
-                laws = heap.the_row_laws;
-                g = ghosts;
-                d = dict;
-                drops = impl [] tnil dnil
-            }
+      row = Working.the_row;
+      laws = working.the_row_laws;
+      al =
+          record {
+            row = Heap.the_row;
+            laws = heap.the_row_laws;
+            g = ghosts;
+            d = dict;
+            drops = impl [] tnil dnil;
+          };
     }
 
 abbrev pub FromParts : Slot 0

@@ -30,7 +30,7 @@ returns-in_default-clause-none c =
     let f = c.if-not-is_valid.ensures in
     cc in
     no_size c.args.order c.args.ptex c.args.dword0 c.args.dword1 inside valid
-        (sym c.decode.ensures.value ∙ c.in_default.is)
+    (sym c.decode.ensures.value ∙ c.in_default.is)
 
 pub returns-then-not-has_place-clause-none : goal.returns-then-not-has_place-clause-none
 returns-then-not-has_place-clause-none c =
@@ -44,7 +44,7 @@ returns-then-not-has_place-clause-none c =
     let f = c.if-not-has_place.ensures in
     cc in
     no_segment c.args.order c.args.ptex c.args.dword0 c.args.dword1 c.in-Some.size
-        c.ranges.dword0.fits inside valid (sym c.decode.ensures.value ∙ c.in-Some.is) no
+    c.ranges.dword0.fits inside valid (sym c.decode.ensures.value ∙ c.in-Some.is) no
 
 pub returns-in-Some-page_of-clause-page : goal.returns-in-Some-page_of-clause-page
 returns-in-Some-page_of-clause-page c =
@@ -58,8 +58,8 @@ returns-in-Some-page_of-clause-page c =
     let f = c.if-not-has_place.ensures in
     cc in
     page_found c.args.order c.args.ptex c.args.dword0 c.args.dword1 c.in-Some.size
-        c.in-Some-page_of.page inside valid (sym c.decode.ensures.value ∙ c.in-Some.is) place
-        (sym c.page_of.ensures.value ∙ c.in-Some-page_of.is)
+    c.in-Some-page_of.page inside valid (sym c.decode.ensures.value ∙ c.in-Some.is) place
+    (sym c.page_of.ensures.value ∙ c.in-Some-page_of.is)
 
 pub returns-in-None-clause-none : goal.returns-in-None-clause-none
 returns-in-None-clause-none c =
@@ -73,5 +73,5 @@ returns-in-None-clause-none c =
     let f = c.if-not-has_place.ensures in
     cc in
     other_group c.args.order c.args.ptex c.args.dword0 c.args.dword1 c.in-Some.size inside valid
-        (sym c.decode.ensures.value ∙ c.in-Some.is) place
-        (sym c.page_of.ensures.value ∙ c.in-None.is)
+    (sym c.decode.ensures.value ∙ c.in-Some.is) place
+    (sym c.page_of.ensures.value ∙ c.in-None.is)

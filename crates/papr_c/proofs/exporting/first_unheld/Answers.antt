@@ -10,29 +10,29 @@ use Rattle.papr_c.proofs.exporting.first_unheld.Goals as goal
 pub returns-then-is_none : goal.returns-then-is_none
 returns-then-is_none c =
     let read = get_or_read c.args.entries.now (c.args.first + c.loop-i.i)
-        c.index-entries-first.result (omega (arith, c.loop-i-test.true, c.requires))
-        c.index-entries-first.is (empty_state 0) in
+    c.index-entries-first.result (omega (arith, c.loop-i-test.true, c.requires))
+    c.index-entries-first.is (empty_state 0) in
     let p : ℕ → Bool = λ e. is_unheld c.args.layout (state_at c.args.entries.now e) in
     let here : p (c.args.first + c.loop-i.i) ≡ true = grind
-        (arith, read, c.words_in.ensures, c.is_none.ensures, c.if-is_none.true) in
+    (arith, read, c.words_in.ensures, c.is_none.ensures, c.if-is_none.true) in
     sym
-        (find_first p c.args.first c.args.number c.loop-i.i c.loop-i-test.true c.loop-i.invariant
-             here)
+    (find_first p c.args.first c.args.number c.loop-i.i c.loop-i-test.true c.loop-i.invariant
+    here)
 
 pub loop-i-preserved : goal.loop-i-preserved
 loop-i-preserved c =
     let read = get_or_read c.args.entries.now (c.args.first + c.loop-i.i)
-        c.index-entries-first.result (omega (arith, c.loop-i-test.true, c.requires))
-        c.index-entries-first.is (empty_state 0) in
+    c.index-entries-first.result (omega (arith, c.loop-i-test.true, c.requires))
+    c.index-entries-first.is (empty_state 0) in
     let p : ℕ → Bool = λ k. is_unheld c.args.layout (state_at c.args.entries.now (c.args.first + k))
-        in
+    in
     let here : p c.loop-i.i ≡ false = grind
-        (arith, read, c.words_in.ensures, c.is_none.ensures, c.if-is_none.false) in
+    (arith, read, c.words_in.ensures, c.is_none.ensures, c.if-is_none.false) in
     fails_more p c.loop-i.i c.loop-i.invariant here
 
 pub returns : goal.returns
 returns c =
     let p : ℕ → Bool = λ e. is_unheld c.args.layout (state_at c.args.entries.now e) in
     sym
-        (find_none p c.args.first c.args.number
-             (λ k below. c.loop-i.invariant k (omega (arith, below, c.loop-i-test.false))))
+    (find_none p c.args.first c.args.number
+    (λ k below. c.loop-i.invariant k (omega (arith, below, c.loop-i-test.false))))

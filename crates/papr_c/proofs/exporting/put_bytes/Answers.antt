@@ -14,10 +14,10 @@ pub unwrap-dword0-requires : goal.unwrap-dword0-requires
 unwrap-dword0-requires c =
     let at = c.args.first + c.loop-i.i in
     let read = get_or_read c.args.entries.now at c.index-entries-first.result
-        (omega (arith, c.loop-i-test.true, c.requires.in_table)) c.index-entries-first.is
-        (empty_state 0) in
+    (omega (arith, c.loop-i-test.true, c.requires.in_table)) c.index-entries-first.is
+    (empty_state 0) in
     let held = held_at c.args.layout c.args.entries.now c.args.first c.args.number c.loop-i.i
-        c.requires.held c.loop-i-test.true in
+    c.requires.held c.loop-i-test.true in
     rw (c.words_in.ensures, read) held
 
 pub loop-i-preserved : goal.loop-i-preserved
@@ -26,19 +26,19 @@ loop-i-preserved c =
     let b = bytes_of_entries c.args.layout c.args.entries.now c.args.first c.loop-i.i in
     let w = c.unwrap-dword0.result in
     let read = get_or_read c.args.entries.now at c.index-entries-first.result
-        (omega (arith, c.loop-i-test.true, c.requires.in_table)) c.index-entries-first.is
-        (empty_state 0) in
+    (omega (arith, c.loop-i-test.true, c.requires.in_table)) c.index-entries-first.is
+    (empty_state 0) in
     let is : laid_out c.args.layout (words_of (state_at c.args.entries.now at)) ≡ Some w = ap
-        (λ s. laid_out c.args.layout (words_of s)) (sym read) ∙ sym c.words_in.ensures ∙
-        c.unwrap-dword0.ensures in
+    (λ s. laid_out c.args.layout (words_of s)) (sym read) ∙ sym c.words_in.ensures ∙
+    c.unwrap-dword0.ensures in
     let ws = big_bytes 8 w.0 ++ big_bytes 8 w.1 in
     let told : unwrap_or (entry_bytes c.args.layout (state_at c.args.entries.now at)) [] ≡ ws = ap
-        (λ o. unwrap_or (option_map (λ v. big_bytes 8 v.0 ++ big_bytes 8 v.1) o) []) is in
+    (λ o. unwrap_or (option_map (λ v. big_bytes 8 v.0 ++ big_bytes 8 v.1) o) []) is in
     let long : length b ≡ 16 * c.loop-i.i = bytes-length c.args.layout c.args.entries.now
-        c.args.first c.args.number c.loop-i.i c.requires.held (omega (arith, c.loop-i-test.true)) in
+    c.args.first c.args.number c.loop-i.i c.requires.held (omega (arith, c.loop-i-test.true)) in
     put_more b c.loop-i.out c.args.out.now c.put_words.new.out ws c.loop-i.i long c.loop-i.invariant
-        c.put_words.ensures
+    c.put_words.ensures
     ∙ ap (λ ys. ys ++ drop (16 * (c.loop-i.i + 1)) c.args.out.now)
-        (sym
-             (bytes-more c.args.layout c.args.entries.now c.args.first c.loop-i.i
-              ∙ ap (λ ys. b ++ ys) told))
+    (sym
+    (bytes-more c.args.layout c.args.entries.now c.args.first c.loop-i.i
+    ∙ ap (λ ys. b ++ ys) told))

@@ -21,6 +21,6 @@ newer w fits held free =
 pub returns-else-dword1-ne0 : goal.returns-else-dword1-ne0
 returns-else-dword1-ne0 c =
     rw c.in-New.is
-        (newer c.words-dword0.result (omega (arith, c.words-dword0.type_inv)) c.if-dword0-ne0.false
-             c.if-dword1-ne0.false
-         ∙ ap (laid_out New) c.words-dword0.ensures)
+    (newer c.words-dword0.result (omega (arith, c.words-dword0.type_inv)) c.if-dword0-ne0.false
+    c.if-dword1-ne0.false
+    ∙ ap (laid_out New) c.words-dword0.ensures)

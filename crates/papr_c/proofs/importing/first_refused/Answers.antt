@@ -8,26 +8,26 @@ use Rattle.papr_c.proofs.importing.first_refused.Goals as goal
 pub returns-then-is_err-clause-value : goal.returns-then-is_err-clause-value
 returns-then-is_err-clause-value c =
     let p : ℕ → Bool = λ k. is_err
-        (entry_of_bytes (listed c.args.grants.now.grants c.args.grants.now.count) c.args.layout
-             c.args.bytes.now k) in
+    (entry_of_bytes (listed c.args.grants.now.grants c.args.grants.now.count) c.args.layout
+    c.args.bytes.now k) in
     let here : p c.loop-i.i ≡ true = grind
-        (arith, c.entry_of_bytes.ensures, c.is_err.ensures.value, c.if-is_err.true) in
+    (arith, c.entry_of_bytes.ensures, c.is_err.ensures.value, c.if-is_err.true) in
     sym (first_at p c.args.number c.loop-i.i c.loop-i-test.true c.loop-i.invariant here)
 
 pub loop-i-preserved : goal.loop-i-preserved
 loop-i-preserved c =
     let p : ℕ → Bool = λ k. is_err
-        (entry_of_bytes (listed c.args.grants.now.grants c.args.grants.now.count) c.args.layout
-             c.args.bytes.now k) in
+    (entry_of_bytes (listed c.args.grants.now.grants c.args.grants.now.count) c.args.layout
+    c.args.bytes.now k) in
     let here : p c.loop-i.i ≡ false = grind
-        (arith, c.entry_of_bytes.ensures, c.is_err.ensures.value, c.if-is_err.false) in
+    (arith, c.entry_of_bytes.ensures, c.is_err.ensures.value, c.if-is_err.false) in
     fails_more p c.loop-i.i c.loop-i.invariant here
 
 pub returns-clause-value : goal.returns-clause-value
 returns-clause-value c =
     let p : ℕ → Bool = λ k. is_err
-        (entry_of_bytes (listed c.args.grants.now.grants c.args.grants.now.count) c.args.layout
-             c.args.bytes.now k) in
+    (entry_of_bytes (listed c.args.grants.now.grants c.args.grants.now.count) c.args.layout
+    c.args.bytes.now k) in
     sym
-        (none_at p c.args.number
-             (λ k below. c.loop-i.invariant k (omega (arith, below, c.loop-i-test.false))))
+    (none_at p c.args.number
+    (λ k below. c.loop-i.invariant k (omega (arith, below, c.loop-i-test.false))))

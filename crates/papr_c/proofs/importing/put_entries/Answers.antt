@@ -10,24 +10,24 @@ use Rattle.papr_c.proofs.importing.put_entries.Goals as goal
 pub unwrap-requires : goal.unwrap-requires
 unwrap-requires c =
     rw c.entry_of_bytes.ensures
-        (entered_at (listed c.args.grants.now.grants c.args.grants.now.count) c.args.layout
-             c.args.bytes.now c.args.number c.loop-i.i c.requires.entered c.loop-i-test.true)
+    (entered_at (listed c.args.grants.now.grants c.args.grants.now.count) c.args.layout
+    c.args.bytes.now c.args.number c.loop-i.i c.requires.entered c.loop-i-test.true)
 
 pub loop-i-preserved : goal.loop-i-preserved
 loop-i-preserved c =
     let grants = listed c.args.grants.now.grants c.args.grants.now.count in
     let f : ℕ → State = λ k. result_unwrap_or
-        (entry_of_bytes grants c.args.layout c.args.bytes.now k) (empty_state 0) in
+    (entry_of_bytes grants c.args.layout c.args.bytes.now k) (empty_state 0) in
     let others = entries_of_bytes grants c.args.layout c.args.bytes.now c.loop-i.i in
     let long : length others ≡ c.loop-i.i = length-map-range_with_len f 0 c.loop-i.i in
     let here : result_unwrap_or (entry_of_bytes grants c.args.layout c.args.bytes.now c.loop-i.i)
-        (empty_state 0) ≡ c.unwrap.result = ap (λ r. result_unwrap_or r (empty_state 0))
-        (sym c.entry_of_bytes.ensures ∙ c.unwrap.ensures) in
+    (empty_state 0) ≡ c.unwrap.result = ap (λ r. result_unwrap_or r (empty_state 0))
+    (sym c.entry_of_bytes.ensures ∙ c.unwrap.ensures) in
     ap (λ es. set es (c.args.first + c.loop-i.i) c.unwrap.result) c.loop-i.invariant
     ∙ set_replaced c.args.entries.now others c.args.first (c.args.first + c.loop-i.i)
-        c.unwrap.result (omega (arith, long))
-        (omega (arith, c.loop-i-test.true, c.requires.in_table))
+    c.unwrap.result (omega (arith, long))
+    (omega (arith, c.loop-i-test.true, c.requires.in_table))
     ∙ ap (replaced c.args.entries.now c.args.first)
-        (sym
-             (entries-more grants c.args.layout c.args.bytes.now c.loop-i.i
-              ∙ ap (λ s. others ++ s ∷ []) here))
+    (sym
+    (entries-more grants c.args.layout c.args.bytes.now c.loop-i.i
+    ∙ ap (λ s. others ++ s ∷ []) here))

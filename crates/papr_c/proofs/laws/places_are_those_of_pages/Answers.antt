@@ -3,6 +3,7 @@ use Rattle.papr_c.proofs.laws.places_are_those_of_pages.Goals as goal
 
 pub returns : goal.returns
 returns c =
-    λ dword0 base range.
-    (page_of_place dword0 base range,
-     λ has. place_of_page has.0 dword0 base has.1 range has.2 has.3)
+    λ dword0 base range. (
+      page_of_place dword0 base range,
+      λ has. place_of_page has.0 dword0 base has.1 range has.2 has.3,
+    )

@@ -17,9 +17,9 @@ call_at-requires c = c.loop-made.invariant.inside
 pub returns-in_default : goal.returns-in_default
 returns-in_default c =
     sym
-        (c.loop-made.invariant.none
-         ∙ asked_none (calls_of c.args.calls.now) c.loop-made.made c.args.entries.now
-             (sym c.call_at.ensures ∙ c.in_default.is))
+    (c.loop-made.invariant.none
+    ∙ asked_none (calls_of c.args.calls.now) c.loop-made.made c.args.entries.now
+    (sym c.call_at.ensures ∙ c.in_default.is))
 
 pub returns-then-not-goes_on_after : goal.returns-then-not-goes_on_after
 returns-then-not-goes_on_after c =
@@ -27,20 +27,20 @@ returns-then-not-goes_on_after c =
     let e = c.in-Some.entry in
     let r = c.asked-receipt.result.0 in
     let inside : e < length a = at_has (λ (d : Call). d.entry < length a)
-        (calls_of c.args.calls.now) c.loop-made.made e c.in-Some.op c.requires.in_table
-        (sym c.call_at.ensures ∙ c.in-Some.is) in
+    (calls_of c.args.calls.now) c.loop-made.made e c.in-Some.op c.requires.in_table
+    (sym c.call_at.ensures ∙ c.in-Some.is) in
     let is : r ≡ receipt_at a (call c.in-Some.op e) =
     c.asked-receipt.ensures.receipt
     ∙ ap (λ s. receipt_of e s c.in-Some.op)
-        (get_or_read a e c.index-entries-entry.result inside c.index-entries-entry.is
-             (empty_state 0)) in
+    (get_or_read a e c.index-entries-entry.result inside c.index-entries-entry.is
+    (empty_state 0)) in
     let off : is_no_match r.answer ≡ false = let x = c.if-not-goes_on_after.ensures in
     let y = c.goes_on_after.ensures in
     cc in
     sym
-        (c.loop-made.invariant.none
-         ∙ asked_off (calls_of c.args.calls.now) c.loop-made.made e c.in-Some.op a r
-             (sym c.call_at.ensures ∙ c.in-Some.is) is off)
+    (c.loop-made.invariant.none
+    ∙ asked_off (calls_of c.args.calls.now) c.loop-made.made e c.in-Some.op a r
+    (sym c.call_at.ensures ∙ c.in-Some.is) is off)
 
 pub loop-made-preserved : goal.loop-made-preserved
 loop-made-preserved c =
@@ -49,19 +49,19 @@ loop-made-preserved c =
     let r = c.asked-receipt.result.0 in
     let at = sym c.call_at.ensures ∙ c.in-Some.is in
     let inside : e < length a = at_has (λ (d : Call). d.entry < length a)
-        (calls_of c.args.calls.now) c.loop-made.made e c.in-Some.op c.requires.in_table at in
+    (calls_of c.args.calls.now) c.loop-made.made e c.in-Some.op c.requires.in_table at in
     let is : r ≡ receipt_at a (call c.in-Some.op e) =
     c.asked-receipt.ensures.receipt
     ∙ ap (λ s. receipt_of e s c.in-Some.op)
-        (get_or_read a e c.index-entries-entry.result inside c.index-entries-entry.is
-             (empty_state 0)) in
+    (get_or_read a e c.index-entries-entry.result inside c.index-entries-entry.is
+    (empty_state 0)) in
     let on : is_no_match r.answer ≡ true = let x = c.if-not-goes_on_after.ensures in
     let y = c.goes_on_after.ensures in
     cc in
     record {
       inside =
           omega
-              (arith, at_inside (calls_of c.args.calls.now) c.loop-made.made (e, c.in-Some.op) at);
+          (arith, at_inside (calls_of c.args.calls.now) c.loop-made.made (e, c.in-Some.op) at);
       none =
           c.loop-made.invariant.none
           ∙ asked_on (calls_of c.args.calls.now) c.loop-made.made e c.in-Some.op a r at is on;
@@ -70,8 +70,8 @@ loop-made-preserved c =
 pub returns : goal.returns
 returns c =
     let past : length (calls_of c.args.calls.now) ≤ c.loop-made.made = omega (arith, c.requires.few)
-        in
+    in
     sym
-        (c.loop-made.invariant.none
-         ∙ asked_none (calls_of c.args.calls.now) c.loop-made.made c.args.entries.now
-             (at_end (calls_of c.args.calls.now) c.loop-made.made past))
+    (c.loop-made.invariant.none
+    ∙ asked_none (calls_of c.args.calls.now) c.loop-made.made c.args.entries.now
+    (at_end (calls_of c.args.calls.now) c.loop-made.made past))

@@ -13,7 +13,7 @@ find-requires-clause-few c = c.of-calls.ensures.fits.few
 pub returns-in-Some : goal.returns-in-Some
 returns-in-Some c =
     probe_is c.args.order c.args.access.now c.in-Some-Some.page c.in-Some-Some.want
-        c.args.entries.now _ (Some c.in-Some.receipt) c.end.result
+    c.args.entries.now _ (Some c.in-Some.receipt) c.end.result
     (search rules)
     (search rules)
     (search rules)
@@ -24,7 +24,7 @@ returns-in-Some c =
 pub returns-in-None : goal.returns-in-None
 returns-in-None c =
     probe_is c.args.order c.args.access.now c.in-Some-Some.page c.in-Some-Some.want
-        c.args.entries.now _ None c.no_entry.result
+    c.args.entries.now _ None c.no_entry.result
     (search rules)
     (search rules)
     (search rules)

@@ -29,7 +29,7 @@ ends_so ending = option_map_or (λ (r : Receipt). is_stale r.answer) ending fals
 pub try_lent-tried-requires-clause-in_table : goal.try_lent-tried-requires-clause-in_table
 try_lent-tried-requires-clause-in_table c =
     calls_inside c.args.order c.args.entries.now _ c.requires.table
-        (trial_in c.args.order c.args.trial.now c.requires.fits)
+    (trial_in c.args.order c.args.trial.now c.requires.fits)
 
 pub try_lent-tried-requires-clause-few : goal.try_lent-tried-requires-clause-few
 try_lent-tried-requires-clause-few c = (trial_in c.args.order c.args.trial.now c.requires.fits).few
@@ -38,21 +38,21 @@ pub returns-in-Entered : goal.returns-in-Entered
 returns-in-Entered c =
     let t = c.args.trial.now in
     let x = trial_run (goes_after (goes_of t.told)) c.args.entries.now
-        (calls_from t.op t.first t.count) in
+    (calls_from t.op t.first t.count) in
     let goes : goes_after (goes_of t.told) ≡ is_taken = ap (λ d. goes_after (goes_of d))
-        c.in-Entered.is in
+    c.in-Entered.is in
     let stale : c.ends_stale-stale.result ≡ any_stale x.0 =
     c.ends_stale-stale.ensures
     ∙ ap ends_so
-        (c.try_lent-tried.ensures.ending
-         ∙ ap
-             (λ g. ending_of g (trial_run g c.args.entries.now (calls_from t.op t.first t.count)).0)
-             goes)
+    (c.try_lent-tried.ensures.ending
+    ∙ ap
+    (λ g. ending_of g (trial_run g c.args.entries.now (calls_from t.op t.first t.count)).0)
+    goes)
     ∙ stale_entered c.args.entries.now (calls_from t.op t.first t.count)
     ∙ ap (λ g. any_stale (trial_run g c.args.entries.now (calls_from t.op t.first t.count)).0)
-        (sym goes) in
+    (sym goes) in
     call_tried _ _ _ x c.registers.result.rc c.registers.result.words c.hand_over.result
-        c.hand_over.new.words c.try_lent-tried.new.receipts c.try_lent-tried.new.entries
+    c.hand_over.new.words c.try_lent-tried.new.receipts c.try_lent-tried.new.entries
     c.requires.table
     refl
     (c.registers.ensures
@@ -72,13 +72,13 @@ returns-in-Answer c =
     let few : t.count ≤ 1 = subst (λ d. t.count ≤ most_of d) c.in-Answer.is c.requires.fits.few in
     let one : t.count ≡ 1 = omega (arith, few, c.requires.fits.some) in
     call_tried _ (plan_of_trial t) _ (r ∷ [], states_after c.args.entries.now r)
-        c.registers-in-Answer.result.rc c.registers-in-Answer.result.words
-        c.hand_over-in-Answer.result c.hand_over-in-Answer.new.words c.make-receipt.new.receipts
-        c.make-receipt.new.entries
+    c.registers-in-Answer.result.rc c.registers-in-Answer.result.words
+    c.hand_over-in-Answer.result c.hand_over-in-Answer.new.words c.make-receipt.new.receipts
+    c.make-receipt.new.entries
     c.requires.table
     (alone t.op t.first c.args.entries.now r c.make-receipt.ensures.receipt
     ∙ λ k. trial_run (goes_after (goes_of (sym c.in-Answer.is k))) c.args.entries.now
-        (calls_from t.op t.first (sym one k)))
+    (calls_from t.op t.first (sym one k)))
     (c.registers-in-Answer.ensures ∙ ap (λ d. told_of d (r ∷ [])) (sym c.in-Answer.is))
     (rw (c.is_stale-stale.ensures, stale_alone r) at c.hand_over-in-Answer.ensures.reply)
     c.hand_over-in-Answer.ensures.words
@@ -89,7 +89,7 @@ pub try_lent-tried-requires-in-Contents-clause-in_table :
     goal.try_lent-tried-requires-in-Contents-clause-in_table
 try_lent-tried-requires-in-Contents-clause-in_table c =
     calls_inside c.args.order c.args.entries.now _ c.requires.table
-        (trial_in c.args.order c.args.trial.now c.requires.fits)
+    (trial_in c.args.order c.args.trial.now c.requires.fits)
 
 pub try_lent-tried-requires-in-Contents-clause-few :
     goal.try_lent-tried-requires-in-Contents-clause-few
@@ -105,28 +105,31 @@ returns-in-Contents c =
     let read = reads entries t.first t.count in
     let op : t.op ≡ Read = subst (λ d. IsToldOf d t.op) c.in-Contents.is c.requires.fits.told in
     let same : trial_run (goes_after (goes_of t.told)) entries (calls_from t.op t.first t.count) ≡ x
-        = λ k. trial_run (goes_after (goes_of (c.in-Contents.is k))) entries
-        (calls_from (op k) t.first t.count) in
+    = λ k. trial_run (goes_after (goes_of (c.in-Contents.is k))) entries
+    (calls_from (op k) t.first t.count) in
     let stays : c.try_lent-tried-in-Contents.new.entries ≡ entries =
-        c.try_lent-tried-in-Contents.ensures.entries ∙ ap (λ z. z.1) same ∙ read.entries in
+    c.try_lent-tried-in-Contents.ensures.entries ∙ ap (λ z. z.1) same ∙ read.entries in
     let shown : c.put_entries-shown.result ≡ min (length c.args.words.now) (length ws) =
-        c.put_entries-shown.ensures.count ∙ ap (min (length c.args.words.now))
-        (sym (words-length entries t.first t.count)) in
+    c.put_entries-shown.ensures.count ∙ ap (min (length c.args.words.now))
+    (sym (words-length entries t.first t.count)) in
     let many = rw c.try_lent-tried-in-Contents.ensures.count at c.filled_count.ensures in
     let filled : c.filled_count.result ≡ min (length c.args.receipts.now) (length x.0) = many ∙ ap
-        (λ z. min (length c.args.receipts.now) (length z.0)) same in
+    (λ z. min (length c.args.receipts.now) (length z.0)) same in
     call_tried _ (plan_of_trial t) _ x Success ws c.told.result c.put_entries-shown.new.places
-        c.try_lent-tried-in-Contents.new.receipts c.try_lent-tried-in-Contents.new.entries
+    c.try_lent-tried-in-Contents.new.receipts c.try_lent-tried-in-Contents.new.entries
     c.requires.table
     (sym same)
     (ap (λ z. (Success, z)) (sym read.words) ∙ ap (λ d. told_of d x.0) (sym c.in-Contents.is))
     (c.told.ensures
-     ∙ λ k. record {
-         rc = rc_code Success; words = shown k; receipts = filled k; stale = sym read.fresh k
-     })
+    ∙ λ k. record {
+      rc = rc_code Success;
+      words = shown k;
+      receipts = filled k;
+      stale = sym read.fresh k;
+    })
     (c.put_entries-shown.ensures.put
-     ∙ ap (λ e. placed c.args.words.now 0 (words_of_entries e t.first t.count)) stays
-     ∙ placed_filled ws c.args.words.now)
+    ∙ ap (λ e. placed c.args.words.now 0 (words_of_entries e t.first t.count)) stays
+    ∙ placed_filled ws c.args.words.now)
     (c.try_lent-tried-in-Contents.ensures.receipts
-     ∙ ap (λ z. placed c.args.receipts.now 0 (map shown_receipt z.0)) same)
+    ∙ ap (λ z. placed c.args.receipts.now 0 (map shown_receipt z.0)) same)
     (c.try_lent-tried-in-Contents.ensures.entries ∙ ap (λ z. z.1) same)

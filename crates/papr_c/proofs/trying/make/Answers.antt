@@ -8,5 +8,5 @@ pub returns-clause-receipt : goal.returns-clause-receipt
 returns-clause-receipt c =
     c.asked-receipt.ensures.receipt
     ∙ ap (λ s. receipt_of c.args.entry s c.args.op.now)
-        (get_or_read c.args.entries.now c.args.entry c.index-entries-entry.result c.requires
-             c.index-entries-entry.is (empty_state 0))
+    (get_or_read c.args.entries.now c.args.entry c.index-entries-entry.result c.requires
+    c.index-entries-entry.is (empty_state 0))

@@ -9,7 +9,7 @@ invariant-loop-made g l = record {
   so_far :
       (rs : List Receipt)
       × IsSoFar (g.C.CallList.goes_on l.calls) (g.C.CallList.calls l.calls) l.made l.fn.entries
-          l.entries l.fn.receipts l.receipts rs;
+      l.entries l.fn.receipts l.receipts rs;
 }
 
 abbrev pub invariant-loop-made-2 : goal.invariant-loop-made-2
@@ -17,5 +17,5 @@ invariant-loop-made-2 g l = record {
   so_far :
       (rs : List Receipt)
       × IsSoFar (g.C.CallList.goes_on l.calls) (g.C.CallList.calls l.calls) l.made l.fn.entries
-          l.entries l.fn.receipts l.receipts rs;
+      l.entries l.fn.receipts l.receipts rs;
 }

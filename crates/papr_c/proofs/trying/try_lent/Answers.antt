@@ -13,7 +13,7 @@ loop-made-init g c = record { so_far = ([], starts _ _ _ _) }
 pub try_next-requires-clause-in_table : goal.try_next-requires-clause-in_table
 try_next-requires-clause-in_table g c =
     subst (λ n. AllByRecursion (λ (d : Call). d.entry < n) (g.C.CallList.calls c.args.calls.now))
-        (sym c.loop-made.invariant.so_far.1.same) c.requires.in_table
+    (sym c.loop-made.invariant.so_far.1.same) c.requires.in_table
 
 pub try_next-requires-clause-near : goal.try_next-requires-clause-near
 try_next-requires-clause-near g c = c.loop-made.invariant.so_far.1.inside
@@ -21,93 +21,93 @@ try_next-requires-clause-near g c = c.loop-made.invariant.so_far.1.inside
 pub returns-in-Some-clause-entries : goal.returns-in-Some-clause-entries
 returns-in-Some-clause-entries g c =
     let m : LentPair = record {
-        before = c.loop-made.entries;
-        after = c.try_next.new.entries;
-        places_before = c.loop-made.receipts;
-        places_after = c.try_next.new.receipts
+      before = c.loop-made.entries;
+      after = c.try_next.new.entries;
+      places_before = c.loop-made.receipts;
+      places_after = c.try_next.new.receipts;
     } in
     (told_last _ (g.C.CallList.calls c.args.calls.now) c.loop-made.made c.args.entries.now
-         c.args.receipts.now m _ _ c.in-Some.ensures c.loop-made.invariant.so_far).entries
+    c.args.receipts.now m _ _ c.in-Some.ensures c.loop-made.invariant.so_far).entries
 
 pub returns-in-Some-clause-receipts : goal.returns-in-Some-clause-receipts
 returns-in-Some-clause-receipts g c =
     let m : LentPair = record {
-        before = c.loop-made.entries;
-        after = c.try_next.new.entries;
-        places_before = c.loop-made.receipts;
-        places_after = c.try_next.new.receipts
+      before = c.loop-made.entries;
+      after = c.try_next.new.entries;
+      places_before = c.loop-made.receipts;
+      places_after = c.try_next.new.receipts;
     } in
     (told_last _ (g.C.CallList.calls c.args.calls.now) c.loop-made.made c.args.entries.now
-         c.args.receipts.now m _ _ c.in-Some.ensures c.loop-made.invariant.so_far).receipts
+    c.args.receipts.now m _ _ c.in-Some.ensures c.loop-made.invariant.so_far).receipts
 
 pub returns-in-Some-clause-count : goal.returns-in-Some-clause-count
 returns-in-Some-clause-count g c =
     let m : LentPair = record {
-        before = c.loop-made.entries;
-        after = c.try_next.new.entries;
-        places_before = c.loop-made.receipts;
-        places_after = c.try_next.new.receipts
+      before = c.loop-made.entries;
+      after = c.try_next.new.entries;
+      places_before = c.loop-made.receipts;
+      places_after = c.try_next.new.receipts;
     } in
     (told_last _ (g.C.CallList.calls c.args.calls.now) c.loop-made.made c.args.entries.now
-         c.args.receipts.now m _ _ c.in-Some.ensures c.loop-made.invariant.so_far).counted
+    c.args.receipts.now m _ _ c.in-Some.ensures c.loop-made.invariant.so_far).counted
 
 pub returns-in-Some-clause-ending : goal.returns-in-Some-clause-ending
 returns-in-Some-clause-ending g c =
     let m : LentPair = record {
-        before = c.loop-made.entries;
-        after = c.try_next.new.entries;
-        places_before = c.loop-made.receipts;
-        places_after = c.try_next.new.receipts
+      before = c.loop-made.entries;
+      after = c.try_next.new.entries;
+      places_before = c.loop-made.receipts;
+      places_after = c.try_next.new.receipts;
     } in
     (told_last _ (g.C.CallList.calls c.args.calls.now) c.loop-made.made c.args.entries.now
-         c.args.receipts.now m _ _ c.in-Some.ensures c.loop-made.invariant.so_far).ending
+    c.args.receipts.now m _ _ c.in-Some.ensures c.loop-made.invariant.so_far).ending
 
 pub loop-made-preserved : goal.loop-made-preserved
 loop-made-preserved g c =
     let m : LentPair = record {
-        before = c.loop-made.entries;
-        after = c.try_next.new.entries;
-        places_before = c.loop-made.receipts;
-        places_after = c.try_next.new.receipts
+      before = c.loop-made.entries;
+      after = c.try_next.new.entries;
+      places_before = c.loop-made.receipts;
+      places_after = c.try_next.new.receipts;
     } in
     let next : IsTriedNext (g.C.CallList.goes_on c.args.calls.now)
-        (g.C.CallList.calls c.args.calls.now) c.loop-made.made m None = subst
-        (IsTriedNext (g.C.CallList.goes_on c.args.calls.now) (g.C.CallList.calls c.args.calls.now)
-             c.loop-made.made m) c.in_default.is c.try_next.ensures in
+    (g.C.CallList.calls c.args.calls.now) c.loop-made.made m None = subst
+    (IsTriedNext (g.C.CallList.goes_on c.args.calls.now) (g.C.CallList.calls c.args.calls.now)
+    c.loop-made.made m) c.in_default.is c.try_next.ensures in
     record {
-        so_far =
-            so_far_next _ (g.C.CallList.calls c.args.calls.now) c.loop-made.made c.args.entries.now
-                c.args.receipts.now m next c.loop-made.invariant.so_far
+      so_far =
+          so_far_next _ (g.C.CallList.calls c.args.calls.now) c.loop-made.made c.args.entries.now
+          c.args.receipts.now m next c.loop-made.invariant.so_far;
     }
 
 -- ---- behind the last call
 pub returns-clause-entries : goal.returns-clause-entries
 returns-clause-entries g c =
     let past : length (g.C.CallList.calls c.args.calls.now) ≤ c.loop-made.made = omega
-        (arith, c.requires.few) in
+    (arith, c.requires.few) in
     (past_last _ (g.C.CallList.calls c.args.calls.now) c.loop-made.made _ _ _ _ _ past
-         c.loop-made.invariant.so_far.1).entries
+    c.loop-made.invariant.so_far.1).entries
 
 pub returns-clause-receipts : goal.returns-clause-receipts
 returns-clause-receipts g c =
     let past : length (g.C.CallList.calls c.args.calls.now) ≤ c.loop-made.made = omega
-        (arith, c.requires.few) in
+    (arith, c.requires.few) in
     (past_last _ (g.C.CallList.calls c.args.calls.now) c.loop-made.made _ _ _ _ _ past
-         c.loop-made.invariant.so_far.1).receipts
+    c.loop-made.invariant.so_far.1).receipts
 
 pub returns-clause-count : goal.returns-clause-count
 returns-clause-count g c =
     let past : length (g.C.CallList.calls c.args.calls.now) ≤ c.loop-made.made = omega
-        (arith, c.requires.few) in
+    (arith, c.requires.few) in
     let all : 16 ≡ c.loop-made.made = omega arith in
     all
     ∙
-        (past_last _ (g.C.CallList.calls c.args.calls.now) c.loop-made.made _ _ _ _ _ past
-             c.loop-made.invariant.so_far.1).counted
+    (past_last _ (g.C.CallList.calls c.args.calls.now) c.loop-made.made _ _ _ _ _ past
+    c.loop-made.invariant.so_far.1).counted
 
 pub returns-clause-ending : goal.returns-clause-ending
 returns-clause-ending g c =
     let past : length (g.C.CallList.calls c.args.calls.now) ≤ c.loop-made.made = omega
-        (arith, c.requires.few) in
+    (arith, c.requires.few) in
     (past_last _ (g.C.CallList.calls c.args.calls.now) c.loop-made.made _ _ _ _ _ past
-         c.loop-made.invariant.so_far.1).ending
+    c.loop-made.invariant.so_far.1).ending

@@ -9,5 +9,5 @@ invariant-loop-made g l = record {
   so_far :
       (rs : List Receipt)
       × IsSoFar (g.C.CallList.goes_on l.calls) (g.C.CallList.calls l.calls) l.made l.fn.entries
-          l.entries l.fn.receipts l.receipts rs;
+      l.entries l.fn.receipts l.receipts rs;
 }

@@ -9,7 +9,7 @@ returns-in_default g c = (sym c.call_at.ensures ∙ c.in_default.is, (refl, (ref
 pub make-receipt-requires : goal.make-receipt-requires
 make-receipt-requires g c =
     at_has (λ (d : Call). d.entry < length c.args.entries.now) _ c.args.made c.in-Some.entry
-        c.in-Some.op c.requires.in_table (sym c.call_at.ensures ∙ c.in-Some.is)
+    c.in-Some.op c.requires.in_table (sym c.call_at.ensures ∙ c.in-Some.is)
 
 pub returns-then-goes_on_after : goal.returns-then-goes_on_after
 returns-then-goes_on_after g c = (

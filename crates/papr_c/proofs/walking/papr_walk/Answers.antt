@@ -29,15 +29,15 @@ bounds-entries-receipt c = rw c.in-Some.receipt-is (left c).inside
 pub returns-in-None : goal.returns-in-None
 returns-in-None c =
     walk_is c.args.order c.args.access.now c.in-Some-Some.page c.in-Some-Some.want _ _ None
-        c.filled_count-filled.result c.no_entry.result c.try_by_groups-tried.new.receipts
-        c.try_by_groups-tried.new.entries
+    c.filled_count-filled.result c.no_entry.result c.try_by_groups-tried.new.receipts
+    c.try_by_groups-tried.new.entries
     (search rules)
     (search rules)
     (search rules)
     (rw c.masks-masks.ensures at c.of-calls.ensures.calls)
     (sym c.in-None.is ∙ c.try_by_groups-tried.ensures.ending)
     (rw (c.try_by_groups-tried.auto.receipts, c.try_by_groups-tried.ensures.count) at
-         c.filled_count-filled.ensures)
+    c.filled_count-filled.ensures)
     c.no_entry.ensures
     c.try_by_groups-tried.ensures.receipts
     c.try_by_groups-tried.ensures.entries
@@ -53,20 +53,20 @@ returns-in-Some c =
     (sym c.in-Some.is ∙ c.try_by_groups-tried.ensures.ending)) in
     let now : c.index-entries-receipt.result ≡ after_of r =
     get_or_read a r.entry c.index-entries-receipt.result is.inside
-        (rw c.in-Some.receipt-is at c.index-entries-receipt.is) (empty_state 0)
+    (rw c.in-Some.receipt-is at c.index-entries-receipt.is) (empty_state 0)
     ∙ is.state in
     walk_is c.args.order c.args.access.now c.in-Some-Some.page c.in-Some-Some.want _ _ (Some r)
-        c.filled_count-filled.result c.end.result c.try_by_groups-tried.new.receipts a
+    c.filled_count-filled.result c.end.result c.try_by_groups-tried.new.receipts a
     (search rules)
     (search rules)
     (search rules)
     (rw c.masks-masks.ensures at c.of-calls.ensures.calls)
     (sym c.in-Some.is ∙ c.try_by_groups-tried.ensures.ending)
     (rw (c.try_by_groups-tried.auto.receipts, c.try_by_groups-tried.ensures.count) at
-         c.filled_count-filled.ensures)
+    c.filled_count-filled.ensures)
     ((rw c.in-Some.receipt-is at c.end.ensures)
-     ∙ ap
-         (λ (s : State).
-          end_at c.args.access.now c.in-Some-Some.want r s c.filled_count-filled.result) now)
+    ∙ ap
+    (λ (s : State).
+    end_at c.args.access.now c.in-Some-Some.want r s c.filled_count-filled.result) now)
     c.try_by_groups-tried.ensures.receipts
     c.try_by_groups-tried.ensures.entries

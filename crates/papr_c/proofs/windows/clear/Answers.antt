@@ -17,19 +17,19 @@ returns c =
     let r = c.make-removed.result in
     let entries = c.args.entries.now in
     call_tried true (clear_plan c.args.entry) (memory entries [] c.args.receipts.now)
-        (r ∷ [], states_after entries r) c.code_of.result [] c.told.result []
-        c.make-removed.new.receipts c.make-removed.new.entries
+    (r ∷ [], states_after entries r) c.code_of.result [] c.told.result []
+    c.make-removed.new.receipts c.make-removed.new.entries
     refl
     (one_call (λ answer. not (is_worn answer)) (Remove no_test) c.args.entry entries r
-         c.make-removed.ensures.receipt)
+    c.make-removed.ensures.receipt)
     (ap (λ rc. (rc, [])) c.code_of.ensures)
     (c.told.ensures
-     ∙ λ k. record {
-         rc = rc_code c.code_of.result;
-         words = 0;
-         receipts = c.filled_count.ensures k;
-         stale = (c.is_stale-stale.ensures ∙ stale_alone r) k
-     })
+    ∙ λ k. record {
+      rc = rc_code c.code_of.result;
+      words = 0;
+      receipts = c.filled_count.ensures k;
+      stale = (c.is_stale-stale.ensures ∙ stale_alone r) k;
+    })
     refl
     c.make-removed.ensures.receipts
     c.make-removed.ensures.entries

@@ -28,21 +28,21 @@ returns c =
     let m = memory entries c.args.words.now c.args.receipts.now in
     let ws = c.tce_of.result ∷ [] in
     let fresh : false ≡ any_stale (r ∷ []) = ap (λ (q : Receipt). is_stale q.answer)
-        (sym c.make-read.ensures.receipt) ∙ stale_alone r in
+    (sym c.make-read.ensures.receipt) ∙ stale_alone r in
     call_tried true (get_plan_at c.in-Some.entry) m (r ∷ [], states_after entries r) Success ws
-        c.told.result c.put_word.new.places c.make-read.new.receipts c.make-read.new.entries
+    c.told.result c.put_word.new.places c.make-read.new.receipts c.make-read.new.entries
     refl
     (one_call (λ answer. true) Read c.in-Some.entry entries r c.make-read.ensures.receipt)
     (ap (λ w. (Success, w ∷ [])) c.tce_of.ensures)
     (c.told.ensures
-     ∙ λ k. record {
-         rc = rc_code Success;
-         words = c.filled_count-shown.ensures k;
-         receipts = c.filled_count-filled.ensures k;
-         stale = fresh k
-     })
+    ∙ λ k. record {
+      rc = rc_code Success;
+      words = c.filled_count-shown.ensures k;
+      receipts = c.filled_count-filled.ensures k;
+      stale = fresh k;
+    })
     (c.put_word.ensures ∙ placed_filled ws c.args.words.now)
     c.make-read.ensures.receipts
     c.make-read.ensures.entries
     ∙ has_page c.args.base c.args.ioba c.in-Some.entry m get_plan_at
-        (sym c.entry_of.ensures.entry ∙ c.in-Some.is)
+    (sym c.entry_of.ensures.entry ∙ c.in-Some.is)

@@ -12,7 +12,7 @@ returns-in_default c =
     let grants = listed c.args.grants.now.grants c.args.grants.now.count in
     ap (λ reply. (reply, m)) c.refused.ensures
     ∙ no_page c.args.base c.args.ioba m (put_plan_at grants c.args.tce)
-        (sym c.entry_of.ensures.entry ∙ c.in_default.is)
+    (sym c.entry_of.ensures.entry ∙ c.in_default.is)
 
 pub returns : goal.returns
 unfolding put_tce_plan
@@ -21,4 +21,4 @@ returns c =
     let grants = listed c.args.grants.now.grants c.args.grants.now.count in
     c.put_at.ensures
     ∙ has_page c.args.base c.args.ioba c.in-Some.entry m (put_plan_at grants c.args.tce)
-        (sym c.entry_of.ensures.entry ∙ c.in-Some.is)
+    (sym c.entry_of.ensures.entry ∙ c.in-Some.is)

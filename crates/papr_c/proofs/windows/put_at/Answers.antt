@@ -15,11 +15,11 @@ returns-then-not-is_ram c =
     let m = memory c.args.entries.now [] c.args.receipts.now in
     let grants = listed c.args.grants.now.grants c.args.grants.now.count in
     let any : (permits c.args.tce false || permits c.args.tce true) ≡ true = grind
-        (arith, c.permits_any.ensures, c.if-not-permits_any.false) in
+    (arith, c.permits_any.ensures, c.if-not-permits_any.false) in
     let ram : is_ram grants (address_of c.args.tce) ≡ false = grind
-        (arith, c.is_ram.ensures, c.if-not-is_ram.true) in
+    (arith, c.is_ram.ensures, c.if-not-is_ram.true) in
     let plan : plan_of_code Parameter ≡ put_plan_at grants c.args.tce c.args.entry = rw (any, ram)
-        refl in
+    refl in
     ap (λ reply. (reply, m)) c.refused.ensures
     ∙ coded true Parameter m refl
     ∙ ap (λ (p : Plan). outcome_where true p m) plan

@@ -29,19 +29,19 @@ returns-then-is_worn c =
     let entries = c.args.entries.now in
     let worn : is_worn r.answer ≡ true = sym c.is_worn.ensures ∙ c.if-is_worn.true in
     call_tried true (replace_plan c.args.entry c.args.op.now)
-        (memory entries [] c.args.receipts.now) (r ∷ [], states_after entries r) Hardware []
-        c.told.result [] c.make-removed.new.receipts c.make-removed.new.entries
+    (memory entries [] c.args.receipts.now) (r ∷ [], states_after entries r) Hardware []
+    c.told.result [] c.make-removed.new.receipts c.make-removed.new.entries
     refl
     (first_ends (λ answer. not (is_worn answer)) (Remove no_test) c.args.op.now c.args.entry entries
-         r c.make-removed.ensures.receipt (ap not worn))
+    r c.make-removed.ensures.receipt (ap not worn))
     (ap (λ rc. (rc, [])) (worn_code r.answer worn))
     (c.told.ensures
-     ∙ λ k. record {
-         rc = rc_code Hardware;
-         words = 0;
-         receipts = c.filled_count.ensures k;
-         stale = (c.is_stale-stale.ensures ∙ stale_alone r) k
-     })
+    ∙ λ k. record {
+      rc = rc_code Hardware;
+      words = 0;
+      receipts = c.filled_count.ensures k;
+      stale = (c.is_stale-stale.ensures ∙ stale_alone r) k;
+    })
     refl
     c.make-removed.ensures.receipts
     c.make-removed.ensures.entries
@@ -53,28 +53,28 @@ returns c =
     let entries = c.args.entries.now in
     let goes : is_worn r.answer ≡ false = sym c.is_worn.ensures ∙ c.if-is_worn.false in
     let stale : c.either_stale-stale.result ≡ any_stale (r ∷ s ∷ []) = c.either_stale-stale.ensures
-        ∙ stale_pair r s in
+    ∙ stale_pair r s in
     let next : s ≡ receipt_of c.args.entry (state_at (states_after entries r) c.args.entry)
-        c.args.op.now = c.make-entered.ensures.receipt ∙ ap
-        (λ (xs : List State). receipt_of c.args.entry (state_at xs c.args.entry) c.args.op.now)
-        c.make-removed.ensures.entries in
+    c.args.op.now = c.make-entered.ensures.receipt ∙ ap
+    (λ (xs : List State). receipt_of c.args.entry (state_at xs c.args.entry) c.args.op.now)
+    c.make-removed.ensures.entries in
     call_tried true (replace_plan c.args.entry c.args.op.now)
-        (memory entries [] c.args.receipts.now)
-        (r ∷ s ∷ [], states_after (states_after entries r) s) c.code_of.result [] c.told-2.result []
-        c.make-entered.new.receipts c.make-entered.new.entries
+    (memory entries [] c.args.receipts.now)
+    (r ∷ s ∷ [], states_after (states_after entries r) s) c.code_of.result [] c.told-2.result []
+    c.make-entered.new.receipts c.make-entered.new.entries
     refl
     (two_calls (λ answer. not (is_worn answer)) (Remove no_test) c.args.op.now c.args.entry entries
-         r s c.make-removed.ensures.receipt (ap not goes) next)
+    r s c.make-removed.ensures.receipt (ap not goes) next)
     (ap (λ rc. (rc, [])) c.code_of.ensures)
     (c.told-2.ensures
-     ∙ λ k. record {
-         rc = rc_code c.code_of.result;
-         words = 0;
-         receipts = c.filled_count-2.ensures k;
-         stale = stale k
-     })
+    ∙ λ k. record {
+      rc = rc_code c.code_of.result;
+      words = 0;
+      receipts = c.filled_count-2.ensures k;
+      stale = stale k;
+    })
     refl
     (c.make-entered.ensures.receipts
-     ∙ ap (λ ps. set ps 1 (shown_receipt s)) c.make-removed.ensures.receipts)
+    ∙ ap (λ ps. set ps 1 (shown_receipt s)) c.make-removed.ensures.receipts)
     (c.make-entered.ensures.entries
-     ∙ ap (λ (xs : List State). states_after xs s) c.make-removed.ensures.entries)
+    ∙ ap (λ (xs : List State). states_after xs s) c.make-removed.ensures.entries)

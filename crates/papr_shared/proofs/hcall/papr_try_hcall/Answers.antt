@@ -10,4 +10,4 @@ begin-reply-requires-clause-never_busy c =
     let grants = c.args.grants.now in
     subst NeverBusy (sym c.numbered-plan.ensures.plan)
     (numbered_never c.order.result (listed grants.grants grants.count) c.args.args.now
-         (hcall_of c.args.number))
+    (hcall_of c.args.number))

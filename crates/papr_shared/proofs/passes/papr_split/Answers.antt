@@ -11,5 +11,5 @@ returns c =
     let after : c.put.new.self.place.held ≡ Some c.split-rc.new.working = search rules in
     let told : to_z w64 (of_z w64 c.code-2.result) ≡ rc_code c.split-rc.result = search rules in
     split_in x c.split-rc.new.working c.args.pass.now.place.held c.args.other.now.place.held
-        c.put.new.self.place.held c.split-rc.new.other.place.held _ _ was closed after told
-        c.split-rc.ensures
+    c.put.new.self.place.held c.split-rc.new.other.place.held _ _ was closed after told
+    c.split-rc.ensures

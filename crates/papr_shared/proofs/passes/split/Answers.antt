@@ -6,4 +6,4 @@ pub returns : goal.returns
 returns c =
     let two : nat_le 2 c.args.working.now.sharer.pass.shares ≡ true = search rules in
     split_two c.args.working.now c.split.new.self c.in-Some-split.made c.put.new.self.place.held two
-        (c.put.ensures ∙ ap Some c.fill.ensures) c.in-Some-split.ensures.split
+    (c.put.ensures ∙ ap Some c.fill.ensures) c.in-Some-split.ensures.split

@@ -11,8 +11,8 @@ returns-in-Ok c =
     let y = c.again.new.self in
     let call = c.in-Call.call in
     let h : Handed = handed c.args.words.now c.hand_over_call.new.words c.args.receipts.now
-        c.hand_over_call.new.receipts c.hand_over_call.result in
+    c.hand_over_call.new.receipts c.hand_over_call.result in
     let end = ended (plan_of_held call) y h c.in-Ok.registers (held_never call)
-        c.in-Ok.ensures.reply c.in-Ok.ensures.ended c.hand_over_call.ensures in
+    c.in-Ok.ensures.reply c.in-Ok.ensures.ended c.hand_over_call.ensures in
     gone_on x.pending call x y h c.in-Call.is
     (record { behind = c.again.ensures.behind; made = c.again.ensures.made; tried = inl end })

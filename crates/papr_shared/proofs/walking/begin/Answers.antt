@@ -11,11 +11,11 @@ returns c =
     let y = c.begin_walk-tried.new.self in
     let w = c.in-Some.walk in
     let h : HandedWalk = handed_walk c.args.receipts.now c.hand_over_walk.new.receipts
-        c.hand_over_walk.result in
+    c.hand_over_walk.result in
     let free : x.pending ≡ Nothing = search rules in
     let asked : walk_asked c.args.access.now ≡ Some w = search rules in
     let tried = c.begin_walk-tried.ensures in
     let over = c.hand_over_walk.ensures in
     walk_begun x.pending (walk_asked c.args.access.now) w x y h free asked
     (walk_tried w x y h c.begin_walk-tried.result tried.made over.put tried.trial tried.ended
-         tried.kept tried.alone over.end over.busy)
+    tried.kept tried.alone over.end over.busy)

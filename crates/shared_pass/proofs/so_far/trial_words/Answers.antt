@@ -8,11 +8,12 @@ use Rattle.shared_pass.proofs.so_far.trial_words.Goals as goal
 pub told_registers-words-requires-clause-few : goal.told_registers-words-requires-clause-few
 told_registers-words-requires-clause-few c =
     let t = c.args.trial.now in
-    omega
-        (arith,
-         begun_short _ _ _ c.requires.begun,
-         row_length t.op t.first t.count,
-         c.requires.fits.few)
+    omega (
+      arith,
+      begun_short _ _ _ c.requires.begun,
+      row_length t.op t.first t.count,
+      c.requires.fits.few,
+    )
 
 pub told_registers-words-requires-clause-ending : goal.told_registers-words-requires-clause-ending
 told_registers-words-requires-clause-ending c =

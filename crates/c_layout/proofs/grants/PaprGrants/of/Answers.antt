@@ -9,16 +9,16 @@ loop-i-preserved c = record {
   room = length-set c.loop-i.list c.loop-i.i c.of.result ∙ c.loop-i.invariant.room;
   same =
       listed_more c.loop-i.list c.args.grants.now c.loop-i.i c.of.result no_grant
-          (omega (arith, c.loop-i.invariant.room, c.loop-i-test.true, c.requires.few))
-          c.loop-i-test.true c.loop-i.invariant.same c.of.ensures;
+      (omega (arith, c.loop-i.invariant.room, c.loop-i-test.true, c.requires.few))
+      c.loop-i-test.true c.loop-i.invariant.same c.of.ensures;
 }
 
 pub invariant_of-result-clause-in_order : goal.invariant_of-result-clause-in_order
 invariant_of-result-clause-in_order c =
     let all : c.loop-i.i ≡ length c.args.grants.now = omega
-        (arith, c.loop-i-test.false, c.loop-i.auto.i-end) in
+    (arith, c.loop-i-test.false, c.loop-i.auto.i-end) in
     let same = rw all at c.loop-i.invariant.same in
     in_order c.loop-i.list c.args.grants.now
-        (omega (arith, c.loop-i.invariant.room, c.requires.few))
-        (same ∙ take_all (length c.args.grants.now) c.args.grants.now (omega arith))
-        c.requires.apart
+    (omega (arith, c.loop-i.invariant.room, c.requires.few))
+    (same ∙ take_all (length c.args.grants.now) c.args.grants.now (omega arith))
+    c.requires.apart

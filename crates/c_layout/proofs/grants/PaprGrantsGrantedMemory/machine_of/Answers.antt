@@ -8,39 +8,39 @@ returns-then-length-eq0 c = sym (machine_empty _ c.args.logical c.args.length c.
 pub returns-then-below-eq0 : goal.returns-then-below-eq0
 returns-then-below-eq0 c =
     let counted : IsCountBelow c.args.self.now.grants c.args.self.now.count c.args.logical
-        c.count_below-below.result = record {
-        bound = c.count_below-below.ensures.bound;
-        at_most = c.count_below-below.ensures.below;
-        above = c.count_below-below.ensures.above
+    c.count_below-below.result = record {
+      bound = c.count_below-below.ensures.bound;
+      at_most = c.count_below-below.ensures.below;
+      above = c.count_below-below.ensures.above;
     } in
     sym
-        (machine_none c.args.self.now.grants c.args.self.now.count c.args.logical c.args.length
-             c.args.self.now.few c.args.self.now.in_order (rw c.if-below-eq0.true at counted))
+    (machine_none c.args.self.now.grants c.args.self.now.count c.args.logical c.args.length
+    c.args.self.now.few c.args.self.now.in_order (rw c.if-below-eq0.true at counted))
 
 pub returns-then-not-holds : goal.returns-then-not-holds
 returns-then-not-holds c =
     let counted : IsCountBelow c.args.self.now.grants c.args.self.now.count c.args.logical
-        c.count_below-below.result = record {
-        bound = c.count_below-below.ensures.bound;
-        at_most = c.count_below-below.ensures.below;
-        above = c.count_below-below.ensures.above
+    c.count_below-below.result = record {
+      bound = c.count_below-below.ensures.bound;
+      at_most = c.count_below-below.ensures.below;
+      above = c.count_below-below.ensures.above;
     } in
     let by = machine_last c.args.self.now.grants c.args.self.now.count c.args.logical c.args.length
-        c.count_below-below.result c.args.self.now.few c.args.self.now.in_order counted
-        (omega (arith, c.if-below-eq0.false)) (omega (arith, c.if-length-eq0.false)) in
+    c.count_below-below.result c.args.self.now.few c.args.self.now.in_order counted
+    (omega (arith, c.if-below-eq0.false)) (omega (arith, c.if-length-eq0.false)) in
     let fails = sym c.holds.ensures ∙ c.if-not-holds.true in
     sym (rw fails at by)
 
 pub returns : goal.returns
 returns c =
     let counted : IsCountBelow c.args.self.now.grants c.args.self.now.count c.args.logical
-        c.count_below-below.result = record {
-        bound = c.count_below-below.ensures.bound;
-        at_most = c.count_below-below.ensures.below;
-        above = c.count_below-below.ensures.above
+    c.count_below-below.result = record {
+      bound = c.count_below-below.ensures.bound;
+      at_most = c.count_below-below.ensures.below;
+      above = c.count_below-below.ensures.above;
     } in
     let by = machine_last c.args.self.now.grants c.args.self.now.count c.args.logical c.args.length
-        c.count_below-below.result c.args.self.now.few c.args.self.now.in_order counted
-        (omega (arith, c.if-below-eq0.false)) (omega (arith, c.if-length-eq0.false)) in
+    c.count_below-below.result c.args.self.now.few c.args.self.now.in_order counted
+    (omega (arith, c.if-below-eq0.false)) (omega (arith, c.if-length-eq0.false)) in
     let passes = sym c.holds.ensures ∙ c.if-not-holds.false in
     rw c.kind.ensures (sym (rw passes at by))

@@ -57,14 +57,14 @@ module _ (E : Bx) where
   abbrev ended : Ended
   ended =
       record {
-          signature =
-              record {
-                  lifetimes = 0;
-                  outlives = [];
-                  params = plain (λ _. From) ∷ [];
-                  result = plain (λ _. Tuple (R E ∷ V ∷ []))
-              };
-          kept = (no, tt)
+        signature =
+            record {
+              lifetimes = 0;
+              outlives = [];
+              params = plain (λ _. From) ∷ [];
+              result = plain (λ _. Tuple (R E ∷ V ∷ []));
+            };
+        kept = (no, tt);
       }
 
   abbrev stayed : Stays ended.signature.params ended.kept
@@ -73,7 +73,9 @@ module _ (E : Bx) where
   abbrev spec : {M : Type 1} (𝓤 : Ura M) → Clauses 𝓤 ended
   spec 𝓤 κs a =
       record {
-          ghost = Unit {0}; requires = λ _. emp 𝓤; ensures = λ _ r _. fact 𝓤 (r.0 ≡ a.0.value)
+        ghost = Unit {0};
+        requires = λ _. emp 𝓤;
+        ensures = λ _ r _. fact 𝓤 (r.0 ≡ a.0.value);
       }
 
 module _ (E : Bx) {M : Type 1} {𝓤 : Ura M} (𝓛 : Logic 𝓤) (C : Calls 𝓤 𝓛.H) (Λ : Loops 𝓤 𝓛.H)
@@ -89,7 +91,7 @@ module _ (E : Bx) {M : Type 1} {𝓤 : Ura M} (𝓛 : Logic 𝓤) (C : Calls �
   abbrev Had : ℕ → ℕ → Val → SProp 𝓤
   Had b o hv =
       sep 𝓤 (sem 𝓛 (part_at (R E) full_share d.value b o))
-          (sep 𝓤 (sem 𝓛 (token E.al a (bare (τ E)) (block_ptr b o))) (sem 𝓛 (handle E a hv)))
+      (sep 𝓤 (sem 𝓛 (token E.al a (bare (τ E)) (block_ptr b o))) (sem 𝓛 (handle E a hv)))
 
   walk :
       (b o : ℕ) (hv : Val)
@@ -98,68 +100,70 @@ module _ (E : Bx) {M : Type 1} {𝓤 : Ura M} (𝓛 : Logic 𝓤) (C : Calls �
   walk b o hv fa =
       let x = d.value in let room : (V E).Denot = record { ptr = block_ptr b o; alloc = a } in
       qed 𝓛
-          (‵ (part_at (R E) full_share x b o)
-           ∷ ‵ (token E.al a (bare (τ E)) (block_ptr b o))
-           ∷ ‵ (handle E a hv)
-           ∷ []) ∵
+      (‵ (part_at (R E) full_share x b o)
+      ∷ ‵ (token E.al a (bare (τ E)) (block_ptr b o))
+      ∷ ‵ (handle E a hv)
+      ∷ []) ∵
       use1 𝓛
-          (some
-               (λ (v : Val).
-                given (Good E v) (‵ (fat full_share (τ E) b o v) ⊛ ‵ (own E x (v ∷ [])))))
-          (el_out E 𝓛 x b o) $ pick ! (λ v. learn ! (λ t. split ! $
+      (some
+      (λ (v : Val).
+      given (Good E v) (‵ (fat full_share (τ E) b o v) ⊛ ‵ (own E x (v ∷ [])))))
+      (el_out E 𝓛 x b o) $ pick ! (λ v. learn ! (λ t. split ! $
       enter ! C Λ (fn' E) (word E hv b o ∷ []) _ $ alloc_all !
-          (λ l. pass_all ! refl (box_typed E hv b o fa, tt) $
+      (λ l. pass_all ! refl (box_typed E hv b o fa, tt) $
       let En : Env 𝓤 H = env (fn' E).locals l in let u : Val = vacant_val hv b o in
       sets ! (of_opd ! (get_in ! (fld ! refl (stop !)) (sub ! 0 refl (whole !)))) refl (tt, tt) $
-          sets ! (of_opd ! (get_in ! (fld ! refl (stop !)) (sub ! 1 refl (whole !)))) refl fa $
+      sets ! (of_opd ! (get_in ! (fld ! refl (stop !)) (sub ! 1 refl (whole !)))) refl fa $
       first ! $ blocks ! $ sets_last ! (of_opd ! (load ! (through ! refl (stop !)) (look ! 0 refl)))
-          refl t $
+      refl t $
       exec ! C Λ En (after 3 (fn' E).body) (at_ret En Post) $
       sets ! (of_opd ! (get ! refl)) refl t $ sets ! (of_opd ! (get ! refl)) refl t $ sets !
-          (of_opd ! (get ! refl)) refl fa $
+      (of_opd ! (get ! refl)) refl fa $
       sets ! (agg ! (and_then ! (get ! refl) (and_then ! (get ! refl) (no_more !)))) refl
-          (vacant_typed E.al (R E) hv b o fa) $
+      (vacant_typed E.al (R E) hv b o fa) $
       sets ! (agg ! (and_then ! (get ! refl) (and_then ! (get ! refl) (no_more !)))) refl
-          (pair_Typed (τ E) (vacant_ty E.al (R E)) v u t (vacant_typed E.al (R E) hv b o fa)) $
+      (pair_Typed (τ E) (vacant_ty E.al (R E)) v u t (vacant_typed E.al (R E) hv b o fa)) $
       returns ! (look_at ! 0 refl) $ free_all ! refl $
       use1 𝓛 (‵ (froom (τ E) b o)) (𝓛.laws.at_room (τ E) b o v) $ as_raw ! (τ E) b o $ move !
-          (0 ∷ 2 ∷ 3 ∷ []) $ Vacant-made E.al (R E) ! a b o $ move ! (1 ∷ []) $
+      (0 ∷ 2 ∷ 3 ∷ []) $ Vacant-made E.al (R E) ! a b o $ move ! (1 ∷ []) $
       use2 𝓛 (‵ ((Tuple (R E ∷ V E ∷ [])).own_val (x, room) (pair_val v u ∷ [])))
-          (pair_of 𝓛 (R E) (V E) x room v u) $
+      (pair_of 𝓛 (R E) (V E) x room v u) $
       suffices ! _
-          (ends_at 𝓛 (ended E) (stayed E) (spec E 𝓤) ((tt, tt, tt, (d, tt), (vs, tt)), tt)
-               (pair_val v u) (x, room) ((tt, (tt, tt)), tt) (tt, tt)) $ says ! refl $
+      (ends_at 𝓛 (ended E) (stayed E) (spec E 𝓤) ((tt, tt, tt, (d, tt), (vs, tt)), tt)
+      (pair_val v u) (x, room) ((tt, (tt, tt)), tt) (tt, tt)) $ says ! refl $
       nothing ! $ nothing ! $ fjoin ! $ join ! $ nothing ! $ join ! $ done !)))
 
   entry :
       ent 𝓤 (on_entry 𝓛 (ended E).signature tt tt (d, tt) (vs, tt))
-          (WpFn 𝓤 H C Λ (fn' E) (vs ++ []) Post)
+      (WpFn 𝓤 H C Λ (fn' E) (vs ++ []) Post)
   entry =
       let boxed : D E = record { ptr = d.ptr; alloc = d.alloc; value = d.value } in
       qed 𝓛 ((‵ ftrue ⊛ ‵ (owns (B E ∷ []) (boxed, tt) (vs, tt))) ∷ []) ∵ split ! $ drop ! $ fsplit
-          ! $ box_out E ! boxed vs (λ b o hv e is fa.
+      ! $ box_out E ! boxed vs (λ b o hv e is fa.
       keep ! (0 ∷ 1 ∷ 2 ∷ []) $ by !
-          (subst (λ (ws : List Val). ent 𝓤 (Had b o hv) (WpFn 𝓤 H C Λ (fn' E) (ws ++ []) Post))
-               (sym is) (walk b o hv fa)))
+      (subst (λ (ws : List Val). ent 𝓤 (Had b o hv) (WpFn 𝓤 H C Λ (fn' E) (ws ++ []) Post))
+      (sym is) (walk b o hv fa)))
 
 meets : (E : Bx) {M : Type 1} {𝓤 : Ura M} (𝓛 : Logic 𝓤) (𝓣 : Tables 𝓤 𝓛.H)
     → Meets 𝓛 (ended E).signature (WpFn 𝓤 𝓛.H 𝓣.C 𝓣.Λ (fn' E)) (closing 𝓛 (ended E) (spec E 𝓤))
 meets E {𝓤 = 𝓤} 𝓛 𝓣 =
     walk_Meets 𝓛 (ended E) (stayed E) (Goes-blank 𝓛 0 (plain (λ _. From E)) no (λ κs x f. tt), tt)
-        (spec E 𝓤) (WpFn 𝓤 𝓛.H 𝓣.C 𝓣.Λ (fn' E)) (WpFn-mono 𝓤 𝓛.H 𝓛.laws 𝓣 (fn' E))
+    (spec E 𝓤) (WpFn 𝓤 𝓛.H 𝓣.C 𝓣.Λ (fn' E)) (WpFn-mono 𝓤 𝓛.H 𝓛.laws 𝓣 (fn' E))
     (λ z. via 𝓤 _ (fst∗ 𝓤 _ (emp 𝓤)) (entry E 𝓛 𝓣.C 𝓣.Λ z.0.3.0 z.0.4.0))
 
 pub empty_spec : {M : Type 1} → stated.statement M
 unfolding tables_of
 empty_spec 𝓤 𝓛 𝓜 𝓡 wired Y Z L LZ g d dd met md y =
     let E : Bx = record {
-        row = Y; laws = L; al = record { row = Z; laws = LZ; g = g; d = d; drops = dd }
+      row = Y;
+      laws = L;
+      al = record { row = Z; laws = LZ; g = g; d = d; drops = dd };
     } in
     let A = 𝓛.A in
     let 𝓣 : Tables 𝓤 𝓛.H = tables_of 𝓤 𝓛.H 𝓜 (tables 𝓤 𝓛.H 𝓜 𝓡 𝓡.env) in
     spared 𝓛 (ended E).signature (𝓡.run (𝓡.env (#self (args E))))
-        (run_framed 𝓤 𝓛.H 𝓜 𝓡 (𝓡.env (#self (args E)))) 2 (Y.lives, (Z.lives, tt))
-        (closing 𝓛 (ended E) (spec E 𝓤))
+    (run_framed 𝓤 𝓛.H 𝓜 𝓡 (𝓡.env (#self (args E)))) 2 (Y.lives, (Z.lives, tt))
+    (closing 𝓛 (ended E) (spec E 𝓤))
     (entered 𝓤 𝓛.H (triple_of 𝓛 (ended E).signature (closing 𝓛 (ended E) (spec E 𝓤))) 𝓣.C 𝓣.Λ
-         (#self (args E)) (fn' E) (code.unfolded 𝓤 𝓛.H 𝓜 𝓡 wired (Y, (Z, tt)) d dd) (meets E 𝓛 𝓣))
+    (#self (args E)) (fn' E) (code.unfolded 𝓤 𝓛.H 𝓜 𝓡 wired (Y, (Z, tt)) d dd) (meets E 𝓛 𝓣))
     ((y.0.0, y.0.1, tt, y.0.3, y.0.4), y.1)

@@ -55,14 +55,14 @@ module _ (E : Bx) where
   abbrev ended : Ended
   ended =
       record {
-          signature =
-              record {
-                  lifetimes = 0;
-                  outlives = [];
-                  params = plain (λ _. V) ∷ plain (λ _. R E) ∷ [];
-                  result = plain (λ _. To)
-              };
-          kept = (no, (no, tt))
+        signature =
+            record {
+              lifetimes = 0;
+              outlives = [];
+              params = plain (λ _. V) ∷ plain (λ _. R E) ∷ [];
+              result = plain (λ _. To);
+            };
+        kept = (no, (no, tt));
       }
 
   abbrev stayed : Stays ended.signature.params ended.kept
@@ -71,7 +71,9 @@ module _ (E : Bx) where
   abbrev spec : {M : Type 1} (𝓤 : Ura M) → Clauses 𝓤 ended
   spec 𝓤 κs a =
       record {
-          ghost = Unit {0}; requires = λ _. emp 𝓤; ensures = λ _ r _. fact 𝓤 (r.value ≡ a.1.0)
+        ghost = Unit {0};
+        requires = λ _. emp 𝓤;
+        ensures = λ _ r _. fact 𝓤 (r.value ≡ a.1.0);
       }
 
 module _ (E : Bx) {M : Type 1} {𝓤 : Ura M} (𝓛 : Logic 𝓤) (C : Calls 𝓤 𝓛.H) (Λ : Loops 𝓤 𝓛.H)
@@ -81,7 +83,7 @@ module _ (E : Bx) {M : Type 1} {𝓤 : Ura M} (𝓛 : Logic 𝓤) (C : Calls �
   abbrev Post : Val → SProp 𝓤
   Post =
       (walk_of 𝓛 (ended E) (stayed E) (spec E 𝓤)).post
-          ((tt, tt, tt, (d, (x, tt)), (us, (vs, tt))), tt)
+      ((tt, tt, tt, (d, (x, tt)), (us, (vs, tt))), tt)
 
   abbrev a : E.al.row.Denot
   a = d.alloc
@@ -89,8 +91,8 @@ module _ (E : Bx) {M : Type 1} {𝓤 : Ura M} (𝓛 : Logic 𝓤) (C : Calls �
   abbrev Had : ℕ → ℕ → Val → Val → SProp 𝓤
   Had b o hv v =
       sep 𝓤 (H.room (bare (τ E)) b o)
-          (sep 𝓤 (sem 𝓛 (own E x (v ∷ [])))
-               (sep 𝓤 (sem 𝓛 (token E.al a (bare (τ E)) (block_ptr b o))) (sem 𝓛 (handle E a hv))))
+      (sep 𝓤 (sem 𝓛 (own E x (v ∷ [])))
+      (sep 𝓤 (sem 𝓛 (token E.al a (bare (τ E)) (block_ptr b o))) (sem 𝓛 (handle E a hv))))
 
   walk :
       (b o : ℕ) (hv v : Val)
@@ -101,63 +103,66 @@ module _ (E : Bx) {M : Type 1} {𝓤 : Ura M} (𝓛 : Logic 𝓤) (C : Calls �
       let new : D E = record { ptr = block_ptr b o; alloc = a; value = x } in
       let made : (To E).Denot = record { ptr = block_ptr b o; alloc = a; value = x } in
       qed 𝓛
-          (‵ (froom (bare (τ E)) b o)
-           ∷ ‵ (own E x (v ∷ []))
-           ∷ ‵ (token E.al a (bare (τ E)) (block_ptr b o))
-           ∷ ‵ (handle E a hv)
-           ∷ []) ∵ as_written ! (τ E) b o $ enter ! C Λ (fn' E) (vacant_val hv b o ∷ v ∷ []) _ $
+      (‵ (froom (bare (τ E)) b o)
+      ∷ ‵ (own E x (v ∷ []))
+      ∷ ‵ (token E.al a (bare (τ E)) (block_ptr b o))
+      ∷ ‵ (handle E a hv)
+      ∷ []) ∵ as_written ! (τ E) b o $ enter ! C Λ (fn' E) (vacant_val hv b o ∷ v ∷ []) _ $
       alloc_all ! (λ l. pass_all ! refl (vacant_typed E.al (R E) hv b o fa, (t, tt)) $
       let En : Env 𝓤 H = env (fn' E).locals l in
       sets ! (of_opd ! (get_in ! (fld ! refl (stop !)) (sub ! 0 refl (whole !)))) refl (tt, tt) $
-          sets ! (of_opd ! (get_in ! (fld ! refl (stop !)) (sub ! 1 refl (whole !)))) refl fa $
+      sets ! (of_opd ! (get_in ! (fld ! refl (stop !)) (sub ! 1 refl (whole !)))) refl fa $
       first ! $ blocks ! $ sets ! (of_opd ! (get ! refl)) refl t $ assigns_last !
-          (of_opd ! (get ! refl)) (through ! refl (stop !)) (init ! 0 refl t) $
+      (of_opd ! (get ! refl)) (through ! refl (stop !)) (init ! 0 refl t) $
       exec ! C Λ En (after 3 (fn' E).body) (at_ret En Post) $
       sets ! (of_opd ! (get ! refl)) refl fa $ sets !
-          (agg ! (and_then ! (get ! refl) (and_then ! (get ! refl) (no_more !)))) refl
-          (box_typed E hv b o fa) $
+      (agg ! (and_then ! (get ! refl) (and_then ! (get ! refl) (no_more !)))) refl
+      (box_typed E hv b o fa) $
       returns ! (look_at ! 0 refl) $ free_all ! refl $
       use2 𝓛 (‵ (part_at (R E) full_share x b o)) (el_in E 𝓛 x b o v) $ box_in E ! new b o x refl
-          refl $ use1 𝓛 (‵ ((To E).own_val made (word E hv b o ∷ []))) (id⊢ 𝓤 _) $
+      refl $ use1 𝓛 (‵ ((To E).own_val made (word E hv b o ∷ []))) (id⊢ 𝓤 _) $
       suffices ! _
-          (ends_at 𝓛 (ended E) (stayed E) (spec E 𝓤)
-               ((tt, tt, tt, (d, (x, tt)), (us, (vs, tt))), tt) (word E hv b o) made
-               ((tt, (tt, tt)), (tt, tt)) (tt, (tt, tt))) $ says ! refl $
+      (ends_at 𝓛 (ended E) (stayed E) (spec E 𝓤)
+      ((tt, tt, tt, (d, (x, tt)), (us, (vs, tt))), tt) (word E hv b o) made
+      ((tt, (tt, tt)), (tt, tt)) (tt, (tt, tt))) $ says ! refl $
       nothing ! $ nothing ! $ fjoin ! $ nothing ! $ fjoin ! $ join ! $ nothing ! $ join ! $ done !)
 
   entry :
       ent 𝓤 (on_entry 𝓛 (ended E).signature tt tt (d, (x, tt)) (us, (vs, tt)))
-          (WpFn 𝓤 H C Λ (fn' E) (us ++ (vs ++ [])) Post)
+      (WpFn 𝓤 H C Λ (fn' E) (us ++ (vs ++ [])) Post)
   entry =
       qed 𝓛 ((‵ ftrue ⊛ ‵ (owns (V E ∷ R E ∷ []) (d, (x, tt)) (us, (vs, tt)))) ∷ []) ∵ split ! $
-          drop ! $ fsplit ! $ Vacant-had E.al (R E) ! d us (λ b o hv e is fa.
+      drop ! $ fsplit ! $ Vacant-had E.al (R E) ! d us (λ b o hv e is fa.
       move ! (3 ∷ []) $ fsplit ! $ el_tells E ! x vs (λ v ev t. keep ! (2 ∷ 0 ∷ 3 ∷ 4 ∷ []) $
       by !
-          (subst
-               (λ (ws : List Val × List Val).
-                ent 𝓤 (Had b o hv v) (WpFn 𝓤 H C Λ (fn' E) (ws.0 ++ (ws.1 ++ [])) Post))
-               (λ i. (sym is i, sym ev i)) (walk b o hv v fa t))))
+      (subst
+      (λ (ws : List Val × List Val).
+      ent 𝓤 (Had b o hv v) (WpFn 𝓤 H C Λ (fn' E) (ws.0 ++ (ws.1 ++ [])) Post))
+      (λ i. (sym is i, sym ev i)) (walk b o hv v fa t))))
 
 meets : (E : Bx) {M : Type 1} {𝓤 : Ura M} (𝓛 : Logic 𝓤) (𝓣 : Tables 𝓤 𝓛.H)
     → Meets 𝓛 (ended E).signature (WpFn 𝓤 𝓛.H 𝓣.C 𝓣.Λ (fn' E)) (closing 𝓛 (ended E) (spec E 𝓤))
 meets E {𝓤 = 𝓤} 𝓛 𝓣 =
-    walk_Meets 𝓛 (ended E) (stayed E)
-        (Goes-blank 𝓛 0 (plain (λ _. V E)) no (λ κs x f. tt),
-         (Goes-dropped 𝓛 0 (plain (λ _. R E)) no (λ κs x f. refl), tt)) (spec E 𝓤)
-        (WpFn 𝓤 𝓛.H 𝓣.C 𝓣.Λ (fn' E)) (WpFn-mono 𝓤 𝓛.H 𝓛.laws 𝓣 (fn' E))
+    walk_Meets 𝓛 (ended E) (stayed E) (
+      Goes-blank 𝓛 0 (plain (λ _. V E)) no (λ κs x f. tt),
+      (Goes-dropped 𝓛 0 (plain (λ _. R E)) no (λ κs x f. refl), tt),
+    ) (spec E 𝓤)
+    (WpFn 𝓤 𝓛.H 𝓣.C 𝓣.Λ (fn' E)) (WpFn-mono 𝓤 𝓛.H 𝓛.laws 𝓣 (fn' E))
     (λ z. via 𝓤 _ (fst∗ 𝓤 _ (emp 𝓤)) (entry E 𝓛 𝓣.C 𝓣.Λ z.0.3.0 z.0.3.1.0 z.0.4.0 z.0.4.1.0))
 
 pub fill_spec : {M : Type 1} → stated.statement M
 unfolding tables_of
 fill_spec 𝓤 𝓛 𝓜 𝓡 wired Y Z L LZ g d dd met md y =
     let E : Bx = record {
-        row = Y; laws = L; al = record { row = Z; laws = LZ; g = g; d = d; drops = dd }
+      row = Y;
+      laws = L;
+      al = record { row = Z; laws = LZ; g = g; d = d; drops = dd };
     } in
     let A = 𝓛.A in
     let 𝓣 : Tables 𝓤 𝓛.H = tables_of 𝓤 𝓛.H 𝓜 (tables 𝓤 𝓛.H 𝓜 𝓡 𝓡.env) in
     spared 𝓛 (ended E).signature (𝓡.run (𝓡.env (#self (args E))))
-        (run_framed 𝓤 𝓛.H 𝓜 𝓡 (𝓡.env (#self (args E)))) 2 (Y.lives, (Z.lives, tt))
-        (closing 𝓛 (ended E) (spec E 𝓤))
+    (run_framed 𝓤 𝓛.H 𝓜 𝓡 (𝓡.env (#self (args E)))) 2 (Y.lives, (Z.lives, tt))
+    (closing 𝓛 (ended E) (spec E 𝓤))
     (entered 𝓤 𝓛.H (triple_of 𝓛 (ended E).signature (closing 𝓛 (ended E) (spec E 𝓤))) 𝓣.C 𝓣.Λ
-         (#self (args E)) (fn' E) (code.unfolded 𝓤 𝓛.H 𝓜 𝓡 wired (Y, (Z, tt)) d dd) (meets E 𝓛 𝓣))
+    (#self (args E)) (fn' E) (code.unfolded 𝓤 𝓛.H 𝓜 𝓡 wired (Y, (Z, tt)) d dd) (meets E 𝓛 𝓣))
     ((y.0.0, y.0.1, tt, y.0.3, y.0.4), y.1)

@@ -49,35 +49,35 @@ module _ {M : Type 1} {𝓤 : Ura M} (𝓛 : Logic 𝓤) (at_mem : Memory → SP
 
   walk : (z : (walk_of 𝓛 F.ended stayed (F.clauses 𝓛 at_mem run)).Ghost)
       → ent 𝓤 ((walk_of 𝓛 F.ended stayed (F.clauses 𝓛 at_mem run)).pre z)
-          (WpFn 𝓤 H 𝓣.C 𝓣.Λ code.function (z.0.4.0 ++ [])
-               ((walk_of 𝓛 F.ended stayed (F.clauses 𝓛 at_mem run)).post z))
+      (WpFn 𝓤 H 𝓣.C 𝓣.Λ code.function (z.0.4.0 ++ [])
+      ((walk_of 𝓛 F.ended stayed (F.clauses 𝓛 at_mem run)).post z))
   walk z =
       let Post = (walk_of 𝓛 F.ended stayed (F.clauses 𝓛 at_mem run)).post z in
       let a = z.0.3.0 in
       let made : place.the_row.Denot = record { at = null_ptr; alloc = a; held = None } in
       qed 𝓛 ((‵ ftrue ⊛ ‵ (fsep (Heap.the_row.own_val a z.0.4.0) ftrue)) ∷ raw (emp 𝓤) ∷ []) ∵ split
-          ! $ drop ! $ fsplit ! $
+      ! $ drop ! $ fsplit ! $
       handle_tells E.al ! a z.0.4.0 (λ h ws fa. move ! (1 ∷ 2 ∷ []) $ drop ! $ drop ! $
       let v : Val = vstruct (vcons (ptr_val null_ptr) (vcons h vnil)) in
       let typed : Good (layout place.the_row) v =
-          (and_tt (has_ty (layout Heap.the_row) h) fa.0, ((Ptr-Good null_ptr).1, (fa.1, tt))) in
+      (and_tt (has_ty (layout Heap.the_row) h) fa.0, ((Ptr-Good null_ptr).1, (fa.1, tt))) in
       let Γ : List (Item 𝓤) = ‵ (Heap.the_row.own_val a (h ∷ [])) ∷ [] in
       by !
-          (subst
-               (λ (us : List Val).
-                ent 𝓤 (types.Kit.⋆ 𝓛 Γ) (WpFn 𝓤 H 𝓣.C 𝓣.Λ code.function (us ++ []) Post)) (sym ws)
+      (subst
+      (λ (us : List Val).
+      ent 𝓤 (types.Kit.⋆ 𝓛 Γ) (WpFn 𝓤 H 𝓣.C 𝓣.Λ code.function (us ++ []) Post)) (sym ws)
       (qed 𝓛 Γ ∵ enter ! 𝓣.C 𝓣.Λ code.function (h ∷ []) _ $ alloc_all !
-           (λ ls. pass_all ! refl (fa, tt) $
+      (λ ls. pass_all ! refl (fa, tt) $
       sets ! (agg ! (and_then ! (lit ! tt) (and_then ! (get ! refl) (no_more !)))) refl typed $
-          returns ! (look_at ! 0 refl) $ free_all ! refl $
+      returns ! (look_at ! 0 refl) $ free_all ! refl $
       nothing ! $ nothing ! $ move ! (2 ∷ 0 ∷ []) $ fjoin ! $ feq_i ! (List Val)
-          (ptr_val null_ptr ∷ []) (ptr_val null_ptr ∷ []) refl $ fjoin ! $ feq_i ! (List Val)
-          (v ∷ []) (v ∷ []) refl $ fjoin ! $
+      (ptr_val null_ptr ∷ []) (ptr_val null_ptr ∷ []) refl $ fjoin ! $ feq_i ! (List Val)
+      (v ∷ []) (v ∷ []) refl $ fjoin ! $
       fpack ! (Valss (RawPtr ∷ Heap.the_row ∷ []))
-          (within (shape place.the_type) (to place.the_type made) (v ∷ []))
-          (ptr_val null_ptr ∷ [], (h ∷ [], tt)) $ fjoin ! $
+      (within (shape place.the_type) (to place.the_type made) (v ∷ []))
+      (ptr_val null_ptr ∷ [], (h ∷ [], tt)) $ fjoin ! $
       suffices ! _ (ends_at 𝓛 F.ended stayed (F.clauses 𝓛 at_mem run) z v made (tt, tt) (tt, tt)) $
-          says ! refl $
+      says ! refl $
       nothing ! $ nothing ! $ fjoin ! $ join ! $ nothing ! $ join ! $ done !))))
 
 pub none_spec : {M : Type 1} → stated.statement M
@@ -85,8 +85,8 @@ unfolding tables_of
 none_spec 𝓤 𝓛 𝓜 𝓡 wired =
     let 𝓣 : Tables 𝓤 𝓛.H = tables_of 𝓤 𝓛.H 𝓜 (tables 𝓤 𝓛.H 𝓜 𝓡 𝓡.env) in
     entered 𝓤 𝓛.H (triple_of 𝓛 F.signature (F.spec 𝓛 𝓜.mem 𝓡.returns)) 𝓣.C 𝓣.Λ #self code.function
-        (code.unfolded 𝓤 𝓛.H 𝓜 𝓡 wired)
+    (code.unfolded 𝓤 𝓛.H 𝓜 𝓡 wired)
     (walk_Meets 𝓛 F.ended stayed (Goes-dropped 𝓛 0 From yes (λ κs x f. refl), tt)
-         (F.clauses 𝓛 𝓜.mem 𝓡.returns) (WpFn 𝓤 𝓛.H 𝓣.C 𝓣.Λ code.function)
-         (WpFn-mono 𝓤 𝓛.H 𝓛.laws 𝓣 code.function)
+    (F.clauses 𝓛 𝓜.mem 𝓡.returns) (WpFn 𝓤 𝓛.H 𝓣.C 𝓣.Λ code.function)
+    (WpFn-mono 𝓤 𝓛.H 𝓛.laws 𝓣 code.function)
     (walk 𝓛 𝓜.mem 𝓡.returns 𝓣))

@@ -7,5 +7,5 @@ pub attempt-requires-clause-fits : goal.attempt-requires-clause-fits
 attempt-requires-clause-fits c =
     let working = c.args.self.now in
     let begun = subst (λ p. IsHeldBy (arc_value working.sharer.table).order p working.receipts)
-        c.requires working.begun in
+    c.requires working.begun in
     c.plan.ensures.fits _ begun.0

@@ -251,7 +251,7 @@ class Judged(RecordingTest):
     def test_a_good_recording(self) -> None:
         self.whole()
         text = (
-            "part 1: 12 lines, 6 sections, 5 calls, 3 walks, 2 hits, 1 segments: good\n"
+            "part 1: 10 lines, 4 sections, 5 calls, 3 walks, 1 hits, 1 segments: good\n"
             "part 2: 2 lines, 1 sections, 0 calls, 1 walks, 0 hits, 1 segments: good\n"
         )
         self.assert_ran(self.convert(), text)

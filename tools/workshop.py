@@ -96,7 +96,8 @@ class Workshop:
         self.archive(crate, target)
         kept = self.kept(crate, target)
         text = kept.with_suffix(".ll")
-        run([self.clang, *TEXT_OF_MODULE, str(kept), "-o", str(text)])
+        of_target = [f"--target={target}"] if target else []
+        run([self.clang, *of_target, *TEXT_OF_MODULE, str(kept), "-o", str(text)])
         return text.read_text(encoding="utf-8")
 
     def join(self, out: Path, *archives: Path) -> None:

@@ -4,7 +4,8 @@ from typing import Iterable, Iterator
 
 from common import Bad
 from papr import BadReplies, replies
-from papr.replies import CHANGED, CHANGES, COMMIT, RECEIPT, REFERENCED, TABLE, Receipt, Reply, Shown
+from papr.records import CHANGED, REFERENCED
+from papr.replies import CHANGES, COMMIT, RECEIPT, TABLE, Receipt, Reply, Shown
 
 __all__ = [
     "CHANGED",

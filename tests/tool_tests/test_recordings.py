@@ -4,19 +4,16 @@ A recording is written here word by word, as the head of papr-record.h describes
 four threads use without a QEMU.
 """
 
-import os
 import shutil
 import struct
-import unittest
 from pathlib import Path
 from typing import Sequence
 
-from .support import DATA, EXAMPLES, LIBRARY, TOOLS, TOP, Ran, ToolTest, for_each, needs, needs_library, needs_program
-from .support import run
+from .support import DATA, EXAMPLES, LIBRARY, SHARED_TABLE, TOOLS, TOP, Ran, ToolTest, for_each, needs
+from .support import needs_library, needs_program, needs_shared_table, run
 
 OWN = TOOLS / "qemu-papr"
 JUDGE, BAD_LINE = OWN / "judge-recording", TOOLS / "bad-line"
-SHARED_TABLE = Path(os.environ.get("PAPR_SHARED_TABLE", TOP / "crates/papr_shared/out/libpapr_shared.a"))
 THREADS = DATA / "qemu-papr" / "threads"
 HEADERS = ("qemu/error-report.h", "qemu/thread.h", "qemu/atomic.h", "qemu/timer.h", "cpu.h", "hw/ppc/spapr.h")
 CALL, WALK, MASKS, MARK, PART = range(1, 6)
@@ -286,7 +283,7 @@ class Judged(RecordingTest):
 @needs_program
 @needs_library
 @needs("cc")
-@unittest.skipUnless(SHARED_TABLE.is_file(), f"the shared table is not built: {SHARED_TABLE} is missing (make library)")
+@needs_shared_table
 class Threads(ToolTest):
     """Recordings of four threads that call and walk at once."""
 
@@ -300,10 +297,10 @@ class Threads(ToolTest):
         self.program, self.recorded, self.parts = (self.folder / name for name in ("threads", "recorded", "parts"))
         self.recorded.mkdir()
         self.parts.mkdir()
-        folders = (f"-I{folder}" for folder in (self.folder, THREADS, OWN, TOP / "include"))
-        sources = (THREADS / "threads.c", OWN / "papr-table.c", OWN / "papr-record.c")
-        words = ("-O1", "-Wall", "-Wextra", "-Werror", *folders, *sources, "-o", self.program, LIBRARY, SHARED_TABLE)
-        self.assert_ran(run("cc", *words, "-lpthread"))
+        flags = [f"-I{folder}" for folder in (self.folder, THREADS, OWN, TOP / "include")]
+        sources = [THREADS / "threads.c", OWN / "papr-table.c", OWN / "papr-record.c", LIBRARY, SHARED_TABLE]
+        words = ("-O1", "-Wall", "-Wextra", "-Werror", *flags, "-o")
+        self.assert_ran(run("cc", *words, self.program, *sources, "-lpthread"))
 
     def record(self, lock: int, plant: int, turns: int) -> Ran:
         """What the program says of its recording, which the tool has judged."""

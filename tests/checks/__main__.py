@@ -26,6 +26,7 @@ from checks import (
     sizes,
     standard,
     tree,
+    widths,
     words,
 )
 from checks.running import Check, Failed, Skipped
@@ -48,6 +49,7 @@ CHECKS: dict[str, Check] = {
     "rows": rows,
     "tree": tree,
     "words": words,
+    "widths": widths,
     "phrases": phrases,
     "links": links,
 }

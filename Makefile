@@ -43,9 +43,11 @@ exampledir = $(docdir)/examples
 bashdir = $(share)/bash-completion/completions
 zshdir = $(share)/zsh/site-functions
 fishdir = $(share)/fish/vendor_completions.d
-# The folder of libraries, which some systems have a name of their own for, and the prefix that pkg-config gives.
+# The folder of libraries, which some systems have a name of their own for, and the prefix that pkg-config gives. A prefix
+# may have blanks; one by pcfiledir takes no quotes, since pkg-config puts them there itself.
 lib ?= lib
 pc_prefix ?= $(PREFIX)
+pc_quote ?= "
 libdir = $(DESTDIR)$(PREFIX)/$(lib)
 includedir = $(DESTDIR)$(PREFIX)/include
 dist = out/dist
@@ -107,8 +109,8 @@ includedir=$${prefix}/include
 Name: $(1)
 Description: $(2)
 Version: $(VERSION)
-Libs: -L"$${libdir}" -l$(1)
-Cflags: -I"$${includedir}"
+Libs: -L$(pc_quote)$${libdir}$(pc_quote) -l$(1)
+Cflags: -I$(pc_quote)$${includedir}$(pc_quote)
 endef
 comma = ,
 pc_file = $(call pc_text,papr,the hypervisor side of the hashed page table of a paravirtual Power guest$(comma) proved)

@@ -49,9 +49,11 @@ exampledir = $(docdir)/examples
 bashdir = $(share)/bash-completion/completions
 zshdir = $(share)/zsh/site-functions
 fishdir = $(share)/fish/vendor_completions.d
-# The folder of libraries, which some systems have a name of their own for, and the prefix that pkg-config gives.
+# The folder of libraries, which some systems have a name of their own for, and the prefix that pkg-config gives. A prefix
+# may have blanks; one by pcfiledir takes no quotes, since pkg-config puts them there itself.
 lib ?= lib
 pc_prefix ?= $(PREFIX)
+pc_quote ?= "
 libdir = $(DESTDIR)$(PREFIX)/$(lib)
 includedir = $(DESTDIR)$(PREFIX)/include
 dist = out/dist
@@ -117,9 +119,9 @@ includedir=$${prefix}/include
 Name: $(1)
 Description: $(2)
 Version: $(VERSION)
-Libs: -L"$${libdir}" $(3)
+Libs: -L$(pc_quote)$${libdir}$(pc_quote) $(3)
 Libs.private: $(4)
-Cflags: -I"$${includedir}"
+Cflags: -I$(pc_quote)$${includedir}$(pc_quote)
 endef
 comma = ,
 pc_papr = $(call pc_text,papr,the hypervisor side of the hashed page table of a paravirtual Power guest$(comma) proved,-lpapr)

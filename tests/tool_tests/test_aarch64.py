@@ -81,7 +81,7 @@ class Program(ToolTest):
     def test_it_writes_the_bytes_of_all_examples(self) -> None:
         ran = run(EXAMPLES / "check", "--serial", self.papr)
         self.assert_ran(ran, out=None)
-        self.assertRegex(ran.out.splitlines()[-1], r"\A[0-9]{3} passed, 0 failed\Z")
+        self.assertRegex(ran.out.splitlines()[-1], r"\A[1-9][0-9]+ passed, 0 failed\Z")
 
     @needs_program
     @for_each(*WORDS)
@@ -106,12 +106,16 @@ class Program(ToolTest):
         self.assert_ran(run(self.papr, "run", given=given), wanted.out, status=wanted.status)
 
     def test_replies_of_more_bytes_than_there_was_room_for(self) -> None:
-        """A dump writes each entry that was entered, which a short line did."""
-        entered = "".join(f"0 H_ENTER 0 {index} 1 18\n" for index in range(0, 1 << 14, 8))
-        given = f"order 18\nram 0x0 0x2000000000 0x40000000\nbegin\n{entered}" + "dump\n" * 16
+        """A short line whose access tries two groups of empty entries with long indices."""
+        accesses = 30_000
+        given = "order 22\nbegin\n0 slbmte 0x8000000 0x4000000\n" + "0 load 0 priv\n" * accesses
         ran = run(self.papr, "run", given=given)
         self.assert_ran(ran, out=None)
-        self.assertEqual(ran.out.count("\n"), 2048 + 16 + 16 * 2048)
+        lines = ran.out.splitlines()
+        self.assertEqual(len(lines), accesses + 1)
+        tried = [*range(0x20000, 0x20008), *range(0x1FFF8, 0x20000)]
+        receipts = " ".join(f"{entry:#x}.0.0.nomatch" for entry in tried)
+        self.assertEqual(lines[-1], f"{accesses + 3} 0 load nopage walk | {receipts}")
         self.assertGreater(len(ran.out), 24 * len(given) + (1 << 16))
 
     def test_words_that_are_no_command_need_no_input(self) -> None:

@@ -58,7 +58,7 @@ int main()
     load.ea = 0x5678;
     load.vsid = 1;
     load.shift = 12;
-    papr_walk walk = papr_walk(table.data(), table.size(), 18, &load, nullptr, 0);
+    struct papr_walk walk = papr_walk(table.data(), table.size(), 18, &load, nullptr, 0);
     std::printf("%d %d %#llx\\n", papr_version() == PAPR_VERSION, static_cast<int>(reply.rc),
                 static_cast<unsigned long long>(walk.logical));
     const std::string trace = "begin\\n0 H_READ 0 0\\n";

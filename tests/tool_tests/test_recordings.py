@@ -1,15 +1,21 @@
 """Tests of the tool that makes traces with replies of recordings.
 
-A recording is written here word by word, as the head of papr-record.h describes it.
+A recording is written here word by word, as the head of papr-record.h describes it; or by QEMU's files for papr, which
+four threads use without a QEMU.
 """
 
+import shutil
 import struct
 from pathlib import Path
 from typing import Sequence
 
-from .support import EXAMPLES, TOOLS, Ran, ToolTest, for_each, needs_program, run
+from .support import DATA, EXAMPLES, LIBRARY, SHARED_TABLE, TOOLS, TOP, Ran, ToolTest, for_each, needs
+from .support import needs_library, needs_program, needs_shared_table, run
 
-JUDGE = TOOLS / "qemu-papr" / "judge-recording"
+OWN = TOOLS / "qemu-papr"
+JUDGE, BAD_LINE = OWN / "judge-recording", TOOLS / "bad-line"
+THREADS = DATA / "qemu-papr" / "threads"
+HEADERS = ("qemu/error-report.h", "qemu/thread.h", "qemu/atomic.h", "qemu/timer.h", "cpu.h", "hw/ppc/spapr.h")
 CALL, WALK, MASKS, MARK, PART = range(1, 6)
 H_REMOVE, H_ENTER, H_BULK_REMOVE, PREPARE, COMMIT = 0x04, 0x08, 0x124, 0x36C, 0x370
 ANSWERS = "entered taken removed protected was read notfound nomatch denied at worn masked".split()
@@ -272,6 +278,49 @@ class Judged(RecordingTest):
         ran = self.spoil(*change)
         self.assertEqual(ran.status, 1, ran.err)
         self.assertIn(": bad section 1\npart 2", ran.out)
+
+
+@needs_program
+@needs_library
+@needs("cc")
+@needs_shared_table
+class Threads(ToolTest):
+    """Recordings of four threads that call and walk at once."""
+
+    def setUp(self) -> None:
+        """Compiles the program, with empty files in the place of QEMU's headers."""
+        super().setUp()
+        for name in HEADERS:
+            (self.folder / name).parent.mkdir(parents=True, exist_ok=True)
+            (self.folder / name).touch()
+        shutil.copy(OWN / "papr-hooks.h", self.folder / "hw" / "ppc")
+        self.program, self.recorded, self.parts = (self.folder / name for name in ("threads", "recorded", "parts"))
+        self.recorded.mkdir()
+        self.parts.mkdir()
+        flags = [f"-I{folder}" for folder in (self.folder, THREADS, OWN, TOP / "include")]
+        sources = [THREADS / "threads.c", OWN / "papr-table.c", OWN / "papr-record.c", LIBRARY, SHARED_TABLE]
+        words = ("-O1", "-Wall", "-Wextra", "-Werror", *flags, "-o")
+        self.assert_ran(run("cc", *words, self.program, *sources, "-lpthread"))
+
+    def record(self, lock: int, plant: int, turns: int) -> Ran:
+        """What the program says of its recording, which the tool has judged."""
+        self.assert_ran(run(self.program, self.recorded, str(lock), str(plant), str(turns)), err=None)
+        return run(JUDGE, self.recorded, "--parts", self.parts)
+
+    @for_each(0, 1)
+    def test_what_the_threads_did_is_a_good_run_with_lock(self, lock: int) -> None:
+        ran = self.record(lock, 0, 1000)
+        self.assert_ran(ran, out=None)
+        self.assertEqual([line.rpartition(": ")[2] for line in ran.out.splitlines()], ["good", "good"])
+
+    @for_each((1, r"H_REMOVE 0 0x\w+ 0x\w+$"), (2, r"H_REMOVE 0 0x\w+ 0x\w+ \| "), (3, r"(load|store|fetch) at "))
+    def test_an_error_that_is_planted_is_found_in_its_line(self, told: tuple[int, str]) -> None:
+        """A receipt that is dropped, words of another processor, and a walk that is repeated when it is stale."""
+        ran = self.record(0, told[0], 2600)
+        self.assert_ran(ran, out=None, status=1)
+        found = run(BAD_LINE, self.parts / "part-1.trace", self.parts / "part-1.replies")
+        self.assert_ran(found, out=None, status=1)
+        self.assertRegex(found.out.splitlines()[-1], told[1])
 
 
 class Words(RecordingTest):

@@ -169,7 +169,7 @@ static void plant_exchange(unsigned actor, uint64_t *words, const uint64_t *answ
     if (from < 0) {
         memcpy(kept, answer, sizeof kept);
         from = actor;
-    } else if (from != actor && memcmp(kept, answer, sizeof kept) && papr_options.plant != PAPR_NO_PLANT) {
+    } else if ((unsigned)from != actor && memcmp(kept, answer, sizeof kept) && papr_options.plant != PAPR_NO_PLANT) {
         memcpy(words, kept, sizeof kept);
         papr_options.plant = PAPR_NO_PLANT;
         info_report("papr: processor %u has the words of processor %d", actor, from);

@@ -1,4 +1,4 @@
-"""What goes into the calls and comes out of them: named tuples, so that rows go into a database or a data frame."""
+"""What goes into the calls and comes out of them: named tuples, as rows of a database are."""
 
 from typing import NamedTuple
 

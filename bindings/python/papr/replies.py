@@ -237,9 +237,9 @@ class Replies:
         return (receipt for reply in self for receipt in reply.receipts)
 
     def rows(self) -> Iterator[ReplyRow]:
-        """The replies as rows of a database or of a data frame."""
+        """The replies as rows of a database."""
         return (reply.row for reply in self)
 
     def receipt_rows(self) -> Iterator[ReceiptRow]:
-        """The receipts as rows of a database or of a data frame."""
+        """The receipts as rows of a database."""
         return (receipt.row for receipt in self.receipts())

@@ -276,7 +276,7 @@ def entries_by_tool(opened: Opened) -> None:
     given = sorted({tuple(it.split()[4:6]) for it in text.splitlines() if " H_ENTER " in it})[::97]
     names = {12: "4 KB", 16: "64 KB", 24: "16 MB", 34: "16 GB"}
     for dword0, dword1 in given:
-        for name, value in (("dword0", dword0), ("dword1", dword1)):
+        for name, value in (("dword0", dword0), ("dword1", dword1), ("layout", "old"), ("index", "")):
             opened.put(name, value)
         words = opened.texts("#fields td")
         shift = grants.actual_shift(int(dword0, 16), int(dword1, 16))

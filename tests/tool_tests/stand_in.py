@@ -1,5 +1,6 @@
 """A checkout with few crates, and a stand-in for the toolchain, which proves nothing."""
 
+import contextlib
 import os
 import shutil
 import signal
@@ -185,8 +186,10 @@ class Begun:
         """The process of tools/build that the wrapper began."""
         named = str(self.checkout.top / "tools" / "build").encode()
         for folder in Path("/proc").glob("[0-9]*"):
-            if os.getsid(int(folder.name)) == self.ran.pid and named in (folder / "cmdline").read_bytes():
-                return int(folder.name)
+            # Any other process may end meanwhile.
+            with contextlib.suppress(ProcessLookupError, FileNotFoundError):
+                if os.getsid(int(folder.name)) == self.ran.pid and named in (folder / "cmdline").read_bytes():
+                    return int(folder.name)
         raise AssertionError("no build runs")
 
     def end(self, number: signal.Signals, process: Optional[int] = None) -> Ran:

@@ -124,11 +124,19 @@ struct stop {
     struct papr_receipt receipts[RECEIPTS];
 };
 
+/* A moment's rest for a processor that spins, where the compiler has one. */
+static void rest(void)
+{
+#if defined(__x86_64__)
+    __builtin_ia32_pause();
+#endif
+}
+
 /* Lets the other thread go on that is at the entry: it may have lost its processor. */
 static void give_way(uint64_t tries)
 {
     if (tries <= SPINS)
-        __builtin_ia32_pause();
+        rest();
     else if (tries <= YIELDS)
         sched_yield();
     else

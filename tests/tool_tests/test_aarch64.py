@@ -1,7 +1,9 @@
 """Tests of what is built for aarch64, which qemu-aarch64 runs: it answers as the program and the libraries here do."""
 
+import os
 import re
 import shutil
+import subprocess
 import sys
 import tempfile
 from pathlib import Path
@@ -119,8 +121,15 @@ class Program(ToolTest):
         self.assertGreater(len(ran.out), 24 * len(given) + (1 << 16))
 
     def test_words_that_are_no_command_need_no_input(self) -> None:
-        ran = self.shell("sleep 600 | timeout 60 \"$0\" frob & wait $!; status=$?; kill %1; exit $status")
-        self.assertEqual((ran.status, ran.out), (1, "papr: usage\n"))
+        """Standard input is a pipe that stays open, and has nothing in it."""
+        unread, kept_open = os.pipe()
+        try:
+            command = [str(self.papr), "frob"]
+            ended = subprocess.run(command, stdin=unread, capture_output=True, text=True, timeout=60, check=False)
+        finally:
+            os.close(unread)
+            os.close(kept_open)
+        self.assertEqual((ended.returncode, ended.stdout), (1, "papr: usage\n"))
 
     def test_what_cannot_be_read_or_written(self) -> None:
         trace = EXAMPLES / "first.trace"

@@ -11,7 +11,7 @@ from pathlib import Path
 from .support import DATA, TOOLS, ToolTest, for_each, needs, run
 
 OWN = TOOLS / "qemu-papr"
-APPLY = OWN / "apply"
+PUT_IN = OWN / "put-in"
 STAND_INS = DATA / "qemu-papr"
 PUT = ("hw/ppc/spapr.c", "hw/ppc/spapr_hcall.c", "hw/ppc/spapr_softmmu.c", "target/ppc/mmu-hash64.c")
 HOOKS = "papr-hooks.h"
@@ -45,7 +45,7 @@ class Applied(TreeTest):
     def setUp(self) -> None:
         """Runs the script."""
         super().setUp()
-        self.assert_ran(run(APPLY, self.tree), out=None)
+        self.assert_ran(run(PUT_IN, self.tree), out=None)
 
     def calls(self) -> Counter[str]:
         """How often each of our functions is called."""
@@ -121,8 +121,8 @@ class Applied(TreeTest):
 
     def test_a_second_time_is_refused(self) -> None:
         before = self.files()
-        message = f"apply: {self.tree}/hw/ppc/spapr_hcall.c has papr already"
-        self.assert_refused(run(APPLY, self.tree), message)
+        message = f"put-in: {self.tree}/hw/ppc/spapr_hcall.c has papr already"
+        self.assert_refused(run(PUT_IN, self.tree), message)
         self.assertEqual(self.files(), before)
 
 
@@ -134,18 +134,18 @@ class Refusals(TreeTest):
         path.write_text(self.text("hw/ppc/spapr.c").replace("htab_fd = -1", "htab_fd = 0"), encoding="utf-8")
         before = self.files()
         place = "static void spapr_instance_init("
-        message = f"apply: spapr.c: nothing of the form spapr->htab_fd = -1; after {place}"
-        self.assert_refused(run(APPLY, self.tree), message)
+        message = f"put-in: spapr.c: nothing of the form spapr->htab_fd = -1; after {place}"
+        self.assert_refused(run(PUT_IN, self.tree), message)
         self.assertEqual(self.files(), before)
 
     def test_a_folder_that_is_not_qemus(self) -> None:
         folder = self.folder / "nothing"
         missing = f"{folder}/hw/ppc/spapr_hcall.c"
-        message = f"apply: [Errno 2] No such file or directory: '{missing}'"
-        self.assert_refused(run(APPLY, folder), message)
+        message = f"put-in: [Errno 2] No such file or directory: '{missing}'"
+        self.assert_refused(run(PUT_IN, folder), message)
 
     def test_the_script_has_help(self) -> None:
-        ran = run(APPLY, "--help")
+        ran = run(PUT_IN, "--help")
         self.assert_ran(ran, out=None)
-        begin = "Put papr into a source tree of QEMU 7.2.\n\n    tools/qemu-papr/apply SOURCES\n"
+        begin = "Put papr into a source tree of QEMU 7.2.\n\n    tools/qemu-papr/put-in SOURCES\n"
         self.assert_text(ran.out[: len(begin)], begin)

@@ -13,5 +13,7 @@ no_bits key = ap (λ n. n % 4) (zero-div (2 ^ (62 - 2 * key)))
 pub none_refused : (key : ℕ) (want : Want) → forbidden no_masks key want ≡ None
 unfolding row_says key_rows
 none_refused key Load = ap (λ n. named_if Amr (row_says (λ (row : Row). row.loads) n)) (no_bits key)
-none_refused key Store = ap (λ n. named_if Amr (row_says (λ (row : Row). row.stores) n)) (no_bits key)
-none_refused key Fetch = ap (λ n. named_if Iamr (row_says (λ (row : Row). row.fetches) n)) (no_bits key)
+none_refused key Store =
+    ap (λ n. named_if Amr (row_says (λ (row : Row). row.stores) n)) (no_bits key)
+none_refused key Fetch =
+    ap (λ n. named_if Iamr (row_says (λ (row : Row). row.fetches) n)) (no_bits key)

@@ -4,7 +4,9 @@ use Rattle.bus_window.specs.Windows.{bus_window, window_of_parts, entry_at}
 
 -- ---- which there can be
 -- The largest number, and the last page below 2 ^ 60.
-top_window : window_of_parts 0xFFFFFFFF 0xFFFFFFFFFFFF000 1 ≡ Some (bus_window 0xFFFFFFFF 0xFFFFFFFFFFFF000 1)
+top_window :
+    window_of_parts 0xFFFFFFFF 0xFFFFFFFFFFFF000 1
+    ≡ Some (bus_window 0xFFFFFFFF 0xFFFFFFFFFFFF000 1)
 top_window = refl
 
 -- A number of 33 bits.

@@ -21,7 +21,11 @@ at_end (c ∷ cs) zero past = absurd (omega (arith, past))
 at_end (c ∷ cs) (suc i) past = at_end cs i (omega (arith, past))
 
 -- What all calls have, that one has.
-pub at_has : (P : Call → Type 0) (cs : List Call) (i entry : ℕ) (op : Op) → AllByRecursion P cs → call_at cs i ≡ Some (entry, op) → P (call op entry)
+pub at_has :
+    (P : Call → Type 0) (cs : List Call) (i entry : ℕ) (op : Op)
+    → AllByRecursion P cs
+    → call_at cs i ≡ Some (entry, op)
+    → P (call op entry)
 at_has P [] i entry op all at = cc
 at_has P (c ∷ cs) zero entry op all at =
     let same : (c.entry, c.op) ≡ (entry, op) = cc in
@@ -29,7 +33,13 @@ at_has P (c ∷ cs) zero entry op all at =
 at_has P (c ∷ cs) (suc i) entry op all at = at_has P cs i entry op all.1 at
 
 -- ---- one more receipt
-pub begun_next : (goes : Answer → Bool) (cs : List Call) (rs : List Receipt) (entry : ℕ) (op : Op) (r : Receipt) → IsBegunTrial goes cs rs → call_at cs (length rs) ≡ Some (entry, op) → IsReceiptOf entry op r → goes r.answer ≡ true → IsBegunTrial goes cs (rs ++ r ∷ [])
+pub begun_next :
+    (goes : Answer → Bool) (cs : List Call) (rs : List Receipt) (entry : ℕ) (op : Op) (r : Receipt)
+    → IsBegunTrial goes cs rs
+    → call_at cs (length rs) ≡ Some (entry, op)
+    → IsReceiptOf entry op r
+    → goes r.answer ≡ true
+    → IsBegunTrial goes cs (rs ++ r ∷ [])
 begun_next goes [] [] entry op r begun at of on = cc
 begun_next goes [] (q ∷ qs) entry op r begun at of on = absurd begun
 begun_next goes (c ∷ cs) [] entry op r begun at of on =
@@ -39,7 +49,13 @@ begun_next goes (c ∷ cs) (q ∷ qs) entry op r begun at of on =
     (begun.0, (begun.1.0, begun_next goes cs qs entry op r begun.1.1 at of on))
 
 -- A receipt after which the trial doesn't go on is its last.
-pub begun_ends : (goes : Answer → Bool) (cs : List Call) (rs : List Receipt) (entry : ℕ) (op : Op) (r : Receipt) → IsBegunTrial goes cs rs → call_at cs (length rs) ≡ Some (entry, op) → IsReceiptOf entry op r → goes r.answer ≡ false → IsTrial goes cs (rs ++ r ∷ [])
+pub begun_ends :
+    (goes : Answer → Bool) (cs : List Call) (rs : List Receipt) (entry : ℕ) (op : Op) (r : Receipt)
+    → IsBegunTrial goes cs rs
+    → call_at cs (length rs) ≡ Some (entry, op)
+    → IsReceiptOf entry op r
+    → goes r.answer ≡ false
+    → IsTrial goes cs (rs ++ r ∷ [])
 begun_ends goes [] [] entry op r begun at of off = cc
 begun_ends goes [] (q ∷ qs) entry op r begun at of off = absurd begun
 begun_ends goes (c ∷ cs) [] entry op r begun at of off =
@@ -50,7 +66,11 @@ begun_ends goes (c ∷ cs) (q ∷ qs) entry op r begun at of off =
 
 -- ---- the end
 -- After the last call it is whole.
-pub begun_whole : (goes : Answer → Bool) (cs : List Call) (rs : List Receipt) → IsBegunTrial goes cs rs → call_at cs (length rs) ≡ None → IsTrial goes cs rs
+pub begun_whole :
+    (goes : Answer → Bool) (cs : List Call) (rs : List Receipt)
+    → IsBegunTrial goes cs rs
+    → call_at cs (length rs) ≡ None
+    → IsTrial goes cs rs
 begun_whole goes [] [] begun none = tt
 begun_whole goes [] (q ∷ qs) begun none = absurd begun
 begun_whole goes (c ∷ cs) [] begun none = cc
@@ -58,13 +78,19 @@ begun_whole goes (c ∷ cs) (q ∷ qs) begun none =
     (begun.0, rw begun.1.0 (begun_whole goes cs qs begun.1.1 none))
 
 -- There are at most as many receipts as calls.
-pub begun_short : (goes : Answer → Bool) (cs : List Call) (rs : List Receipt) → IsBegunTrial goes cs rs → length rs ≤ length cs
+pub begun_short :
+    (goes : Answer → Bool) (cs : List Call) (rs : List Receipt)
+    → IsBegunTrial goes cs rs
+    → length rs ≤ length cs
 begun_short goes cs [] begun = omega arith
 begun_short goes [] (r ∷ rs) begun = absurd begun
 begun_short goes (c ∷ cs) (r ∷ rs) begun = omega (arith, begun_short goes cs rs begun.1.1)
 
 -- None of the receipts ended it.
-pub begun_on : (goes : Answer → Bool) (cs : List Call) (rs later : List Receipt) → IsBegunTrial goes cs rs → ending_of goes (rs ++ later) ≡ ending_of goes later
+pub begun_on :
+    (goes : Answer → Bool) (cs : List Call) (rs later : List Receipt)
+    → IsBegunTrial goes cs rs
+    → ending_of goes (rs ++ later) ≡ ending_of goes later
 begun_on goes cs [] later begun = refl
 begun_on goes [] (r ∷ rs) later begun = absurd begun
 begun_on goes (c ∷ cs) (r ∷ rs) later begun = rw begun.1.0 (begun_on goes cs rs later begun.1.1)

@@ -14,9 +14,13 @@ use Rattle.dma_window.specs.Laws.{Lands}
 -- The outcome by what it is made of.
 abbrev ending_by : Bool → Bool → Option (ℕ × Kind) → ℕ → DeviceOutcome
 ending_by permitted ram place logical =
-    if permitted then (if ram then landing_at place logical else outcomes.Ungranted logical) else outcomes.Denied
+    if permitted then (if ram then landing_at place logical else outcomes.Ungranted logical) else
+    outcomes.Denied
 
-landed : (permitted ram : Bool) (place : Option (ℕ × Kind)) (logical address : ℕ) → ending_by permitted ram place logical ≡ outcomes.At address → (permitted ≡ true) × ((ram ≡ true) × ((kind : Kind) × (place ≡ Some (address, kind))))
+landed :
+    (permitted ram : Bool) (place : Option (ℕ × Kind)) (logical address : ℕ)
+    → ending_by permitted ram place logical ≡ outcomes.At address
+    → (permitted ≡ true) × ((ram ≡ true) × ((kind : Kind) × (place ≡ Some (address, kind))))
 landed true true (Some x) logical address e =
     let same : x.0 ≡ address = cc in
     (refl, (refl, (x.1, ap (λ (a : ℕ). Some (a, x.1)) same)))
@@ -24,12 +28,16 @@ landed true true None logical address e = cc
 landed true false place logical address e = cc
 landed false ram place logical address e = cc
 
-pub lands_where : (grants : List Grant) (ioba tce address : ℕ) (write : Bool) → (outcome_by grants ioba write tce ≡ outcomes.At address) ↔ Lands grants ioba write tce address
+pub lands_where :
+    (grants : List Grant) (ioba tce address : ℕ) (write : Bool)
+    → (outcome_by grants ioba write tce ≡ outcomes.At address) ↔ Lands grants ioba write tce address
 lands_where grants ioba tce address write = (to, back) where
   to : outcome_by grants ioba write tce ≡ outcomes.At address → Lands grants ioba write tce address
   to e =
-      let parts = landed (permits tce write) (is_ram grants (address_of tce)) (machine_range grants (logical_of ioba tce) 1) (logical_of ioba tce) address e in
+      let parts = landed (permits tce write) (is_ram grants (address_of tce))
+      (machine_range grants (logical_of ioba tce) 1) (logical_of ioba tce) address e in
       record { permitted = parts.0; ram = parts.1.0; landing = parts.1.1 }
 
-  back : Lands grants ioba write tce address → outcome_by grants ioba write tce ≡ outcomes.At address
+  back :
+      Lands grants ioba write tce address → outcome_by grants ioba write tce ≡ outcomes.At address
   back l = rw (l.permitted, l.ram, l.landing.1) refl

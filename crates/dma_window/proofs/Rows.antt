@@ -30,7 +30,8 @@ coherent = refl
 top_bits_dropped : second_word 0xF000000000003FF3 ≡ 0x3010
 top_bits_dropped = refl
 
-read_back : tce_of (entered_state (first_word 0xF000000000003FF3) (second_word 0xF000000000003FF3)) ≡ 0x3003
+read_back :
+    tce_of (entered_state (first_word 0xF000000000003FF3) (second_word 0xF000000000003FF3)) ≡ 0x3003
 read_back = refl
 
 nothing_kept : tce_of (empty_state 7) ≡ 0
@@ -38,7 +39,10 @@ nothing_kept = refl
 
 -- ---- a device
 grants : List Grant
-grants = record { kind = Ram; logical = 0; machine = 0x2000000000; length = 0x10000 } ∷ record { kind = Io; logical = 0x10000; machine = 0x3000000000; length = 0x1000 } ∷ []
+grants =
+    record { kind = Ram; logical = 0; machine = 0x2000000000; length = 0x10000 }
+    ∷ record { kind = Io; logical = 0x10000; machine = 0x3000000000; length = 0x1000 }
+    ∷ []
 
 allowed : outcome_by grants 0x10ABC false 0x3001 ≡ At 0x2000003ABC
 unfolding grants is_ram machine_range
@@ -56,7 +60,9 @@ not_of_io = refl
 window : BusWindow
 window = bus_window 0x80000001 0x10000 2
 
-two_steps : (put_tce_plan grants window 0x11000 0x3003).calls ≡ call (Remove no_test) 1 ∷ call (Enter 0x19 0x3010) 1 ∷ []
+two_steps :
+    (put_tce_plan grants window 0x11000 0x3003).calls
+    ≡ call (Remove no_test) 1 ∷ call (Enter 0x19 0x3010) 1 ∷ []
 unfolding grants window put_tce_plan is_ram machine_range
 two_steps = refl
 
@@ -69,7 +75,9 @@ states : List State
 states = empty_state 4 ∷ record (entered_state 0x09 0x4010) { stamp = 7 } ∷ []
 
 abbrev answers_on : List State → List Answer
-answers_on s = map (λ (r : Receipt). r.answer) (plan_run (put_tce_plan grants window 0x11000 0x3003) s).0.receipts
+answers_on s =
+    map (λ (r : Receipt). r.answer)
+    (plan_run (put_tce_plan grants window 0x11000 0x3003) s).0.receipts
 
 removed_first : answers_on states ≡ Removed ∷ Entered ∷ []
 unfolding states grants window put_tce_plan plan_run trial_run is_ram machine_range

@@ -16,15 +16,29 @@ use Rattle.dma_window.specs.Laws.{IsTceCall}
 abbrev AreTceCalls : List Grant → ℕ → Plan → Type 0
 AreTceCalls grants tce plan = AllByRecursion (λ (c : Call). IsTceCall grants tce c.op) plan.calls
 
-put_calls : (grants : List Grant) (tce entry : ℕ) (permitted ram : Bool) → is_ram grants (address_of tce) ≡ ram → AreTceCalls grants tce (if permitted then (if ram then replace_plan entry (Enter (first_word tce) (second_word tce)) else plan_of_code rc.Parameter) else clear_plan entry)
+put_calls :
+    (grants : List Grant) (tce entry : ℕ) (permitted ram : Bool)
+    → is_ram grants (address_of tce) ≡ ram
+    → AreTceCalls grants tce
+    (if permitted then
+    (if ram then replace_plan entry (Enter (first_word tce) (second_word tce)) else
+    plan_of_code rc.Parameter) else clear_plan entry)
 put_calls grants tce entry true true page = (inl refl, (inr (refl, page), tt))
 put_calls grants tce entry true false page = tt
 put_calls grants tce entry false ram page = (inl refl, tt)
 
-at_calls : (grants : List Grant) (tce : ℕ) (entry : Option ℕ) → AreTceCalls grants tce (option_map_or (put_plan_at grants tce) entry (plan_of_code rc.Parameter))
+at_calls :
+    (grants : List Grant) (tce : ℕ) (entry : Option ℕ)
+    → AreTceCalls grants tce
+    (option_map_or (put_plan_at grants tce) entry (plan_of_code rc.Parameter))
 at_calls grants tce None = tt
-at_calls grants tce (Some entry) = put_calls grants tce entry (permits tce false || permits tce true) (is_ram grants (address_of tce)) refl
+at_calls grants tce (Some entry) =
+    put_calls grants tce entry (permits tce false || permits tce true)
+    (is_ram grants (address_of tce)) refl
 
-pub tce_calls : (grants : List Grant) (window : BusWindow) (ioba tce : ℕ) → AllByRecursion (λ (c : Call). IsTceCall grants tce c.op) (put_tce_plan grants window ioba tce).calls
+pub tce_calls :
+    (grants : List Grant) (window : BusWindow) (ioba tce : ℕ)
+    → AllByRecursion (λ (c : Call). IsTceCall grants tce c.op)
+    (put_tce_plan grants window ioba tce).calls
 unfolding put_tce_plan
 tce_calls grants window ioba tce = at_calls grants tce (entry_at window ioba)

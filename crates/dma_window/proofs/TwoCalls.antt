@@ -15,7 +15,20 @@ at_end : (goes : Bool) (none : List Receipt) → none ≡ [] → MatchBool goes 
 at_end true none e = tt
 at_end false none e = e
 
-pub is_replaced : (entry : ℕ) (op : Op) (r x : Receipt) (rs : List Receipt) (code : Rc) (words : List ℕ) → IsReceiptOf entry (Remove no_test) r → is_worn r.answer ≡ false → IsReceiptOf entry op x → rs ≡ r ∷ x ∷ [] → code ≡ code_of x.answer → words ≡ [] → IsReplyOf (replace_plan entry op) (record { rc = code; words = words; receipts = rs })
+pub is_replaced :
+    (entry : ℕ) (op : Op) (r x : Receipt) (rs : List Receipt) (code : Rc) (words : List ℕ)
+    → IsReceiptOf entry (Remove no_test) r
+    → is_worn r.answer ≡ false
+    → IsReceiptOf entry op x
+    → rs ≡ r ∷ x ∷ []
+    → code ≡ code_of x.answer
+    → words ≡ []
+    → IsReplyOf (replace_plan entry op) (record { rc = code; words = words; receipts = rs })
 is_replaced entry op r x rs code words removal fresh entering made is none =
-    subst (λ l. IsReplyOf (replace_plan entry op) (record { rc = code; words = words; receipts = l })) (sym made)
-    (record { trial = (removal, rw fresh (entering, at_end (not (is_worn x.answer)) [] refl)); told = λ i. (is i, none i) })
+    subst
+    (λ l. IsReplyOf (replace_plan entry op) (record { rc = code; words = words; receipts = l }))
+    (sym made)
+    (record {
+      trial = (removal, rw fresh (entering, at_end (not (is_worn x.answer)) [] refl));
+      told = λ i. (is i, none i);
+    })

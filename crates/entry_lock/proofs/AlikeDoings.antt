@@ -14,13 +14,21 @@ use Rattle.entry_lock.specs.AccessSteps.{AreAlike}
 
 pub noted_self : (k : Control) → is_noted k k ≡ true
 unfolding is_noted
-noted_self k = λ i. (bool_self k.locked i && bool_self k.shut i && bool_self k.valid i) && (bool_self k.referenced i && bool_self k.changed i && eq-eqb k.stamp k.stamp refl i)
+noted_self k =
+    λ i.
+    (bool_self k.locked i && bool_self k.shut i && bool_self k.valid i) &&
+    (bool_self k.referenced i && bool_self k.changed i && eq-eqb k.stamp k.stamp refl i)
 
 module _ (a d : Doing) (al : AreAlike a d) where
   pub alike_state : noted_state d ≡ noted_state a
   unfolding noted_state
-  alike_state = same_words d.noted (unwrap_or (known_words d) (0, 0)).0 (unwrap_or (known_words d) (0, 0)).1 (unwrap_or (known_words a) (0, 0)).0 (unwrap_or (known_words a) (0, 0)).1 al.words
-      ∙ ap (λ (k : Control). state_of k (unwrap_or (known_words a) (0, 0)).0 (unwrap_or (known_words a) (0, 0)).1) al.noted
+  alike_state =
+      same_words d.noted (unwrap_or (known_words d) (0, 0)).0 (unwrap_or (known_words d) (0, 0)).1
+      (unwrap_or (known_words a) (0, 0)).0 (unwrap_or (known_words a) (0, 0)).1 al.words
+      ∙ ap
+      (λ (k : Control).
+      state_of k (unwrap_or (known_words a) (0, 0)).0 (unwrap_or (known_words a) (0, 0)).1)
+      al.noted
 
   pub alike_next : next_state d ≡ next_state a
   unfolding next_state
@@ -36,19 +44,33 @@ module _ (a d : Doing) (al : AreAlike a d) where
 
   pub alike_still : (k : Control) → is_still k d ≡ is_still k a
   unfolding is_still
-  alike_still k = λ i. (not (is_some (al.first i)) && not (is_some (al.second i))) && k.valid && not k.shut && (k.stamp == (al.noted i).stamp)
+  alike_still k =
+      λ i.
+      (not (is_some (al.first i)) && not (is_some (al.second i))) && k.valid && not k.shut &&
+      (k.stamp == (al.noted i).stamp)
 
   -- By another word that is valid only where the noted word is.
-  later_state : (k : Control) → (k.valid ≡ true → d.noted.valid ≡ true) → noted_state (with_noted d k) ≡ noted_state (with_noted a k)
+  later_state :
+      (k : Control)
+      → (k.valid ≡ true → d.noted.valid ≡ true)
+      → noted_state (with_noted d k) ≡ noted_state (with_noted a k)
   unfolding noted_state
-  later_state k valid = same_words k (unwrap_or (known_words d) (0, 0)).0 (unwrap_or (known_words d) (0, 0)).1 (unwrap_or (known_words a) (0, 0)).0 (unwrap_or (known_words a) (0, 0)).1 (λ v. al.words (valid v))
+  later_state k valid =
+      same_words k (unwrap_or (known_words d) (0, 0)).0 (unwrap_or (known_words d) (0, 0)).1
+      (unwrap_or (known_words a) (0, 0)).0 (unwrap_or (known_words a) (0, 0)).1
+      (λ v. al.words (valid v))
 
-  pub later_receipt : (k : Control) → (k.valid ≡ true → d.noted.valid ≡ true) → receipt (with_noted d k) ≡ receipt (with_noted a k)
+  pub later_receipt :
+      (k : Control)
+      → (k.valid ≡ true → d.noted.valid ≡ true)
+      → receipt (with_noted d k) ≡ receipt (with_noted a k)
   unfolding receipt
   later_receipt k valid = λ i. receipt_of (al.entry i) (later_state k valid i) (al.op i)
 
 -- By another control word with the same valid, stamp, R and C nothing is different.
-module _ (d : Doing) (k : Control) (valid : k.valid ≡ d.noted.valid) (stamp : k.stamp ≡ d.noted.stamp) (referenced : k.referenced ≡ d.noted.referenced) (changed : k.changed ≡ d.noted.changed) where
+module _ (d : Doing) (k : Control) (valid : k.valid ≡ d.noted.valid)
+    (stamp : k.stamp ≡ d.noted.stamp) (referenced : k.referenced ≡ d.noted.referenced)
+    (changed : k.changed ≡ d.noted.changed) where
   again_state : noted_state (with_noted d k) ≡ noted_state d
   unfolding noted_state
   again_state = λ i. record {

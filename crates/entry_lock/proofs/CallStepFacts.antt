@@ -21,7 +21,8 @@ use Rattle.entry_lock.specs.StepViews.{view_with_step, view_in_phase, view_with_
 use Rattle.entry_lock.proofs.Bits.{control_is}
 
 -- ---- steps one after the other
-after_append : (taken xs ys : List Step) → after_steps taken (xs ++ ys) ≡ after_steps (after_steps taken xs) ys
+after_append :
+    (taken xs ys : List Step) → after_steps taken (xs ++ ys) ≡ after_steps (after_steps taken xs) ys
 after_append taken [] ys = refl
 after_append taken (x ∷ xs) ys = after_append (x ∷ taken) xs ys
 
@@ -54,15 +55,19 @@ unfolding receipt next_state
 after_is d = refl
 
 -- The receipt r is that of the operation d by the word that was found.
-module _ (d : Doing) (k : Control) (other : is_access d.op ≡ false) (valid : k.valid ≡ d.noted.valid) (stamp : k.stamp ≡ d.noted.stamp) (r : Receipt) (is : r ≡ receipt (with_noted d k)) where
+module _ (d : Doing) (k : Control) (other : is_access d.op ≡ false)
+    (valid : k.valid ≡ d.noted.valid) (stamp : k.stamp ≡ d.noted.stamp) (r : Receipt)
+    (is : r ≡ receipt (with_noted d k)) where
   pub found_valid : r.before.valid ≡ d.noted.valid
   found_valid = ap (λ (z : Receipt). z.before.valid) is ∙ valid_before (with_noted d k) ∙ valid
 
   pub found_leaves : changes d ≡ false → leaves_state r ≡ true
-  found_leaves h = ap leaves_state is ∙ leaves_if (with_noted d k) (changes_alike d k other valid stamp ∙ h)
+  found_leaves h =
+      ap leaves_state is ∙ leaves_if (with_noted d k) (changes_alike d k other valid stamp ∙ h)
 
   pub found_changes : changes d ≡ true → leaves_state r ≡ false
-  found_changes h = ap leaves_state is ∙ changes_if (with_noted d k) (changes_alike d k other valid stamp ∙ h)
+  found_changes h =
+      ap leaves_state is ∙ changes_if (with_noted d k) (changes_alike d k other valid stamp ∙ h)
 
 -- ---- accesses that were busy
 other_words : (a b : ℕ) (F G : Type 0) → a ≢ b → G → MatchBool (a == b) F G
@@ -87,19 +92,45 @@ busy_second e op noted last b u v w x access low decides two look loads end =
     busy
 
 -- ---- results
-pub if_err : {A E : Type 0} (r : Result A E) (P Q : E → Type 0) → ((b : E) → P b → Q b) → IfErr r P → IfErr r Q
+pub if_err :
+    {A E : Type 0} (r : Result A E) (P Q : E → Type 0)
+    → ((b : E) → P b → Q b)
+    → IfErr r P
+    → IfErr r Q
 if_err (Ok a) P Q f h = tt
 if_err (Err e) P Q f h = f e h
 
 -- ---- the steps that change an entry
-pub changed_stored : (v v1 v2 v3 v4 : View) (d : Doing) (r : Receipt) → v1 ≡ view_in_phase (view_with_step v Shut) (HeldShut d) → v2 ≡ view_with_store false (view_with_step v1 (StoreData false)) → v3 ≡ view_with_store true (view_with_step v2 (StoreData true))
-    → v4 ≡ view_with_receipt (view_with_step v3 Settle) r → (after_of r).valid ≡ true → v4 ≡ record (view_with_receipt v r) { taken = after_steps v.taken (changing_steps r) }
+pub changed_stored :
+    (v v1 v2 v3 v4 : View) (d : Doing) (r : Receipt)
+    → v1 ≡ view_in_phase (view_with_step v Shut) (HeldShut d)
+    → v2 ≡ view_with_store false (view_with_step v1 (StoreData false))
+    → v3 ≡ view_with_store true (view_with_step v2 (StoreData true))
+    → v4 ≡ view_with_receipt (view_with_step v3 Settle) r
+    → (after_of r).valid ≡ true
+    → v4 ≡ record (view_with_receipt v r) { taken = after_steps v.taken (changing_steps r) }
 changed_stored v v1 v2 v3 v4 d r a b c e valid =
-    e ∙ ap (λ (z : View). view_with_receipt (view_with_step z Settle) r) (c ∙ ap (λ (z : View). view_with_store true (view_with_step z (StoreData true))) (b ∙ ap (λ (z : View). view_with_store false (view_with_step z (StoreData false))) a))
-    ∙ ap (λ (q : Bool). record (view_with_receipt v r) { taken = after_steps v.taken (Shut ∷ stores_if q ++ Settle ∷ []) }) (sym valid)
+    e
+    ∙ ap (λ (z : View). view_with_receipt (view_with_step z Settle) r)
+    (c
+    ∙ ap (λ (z : View). view_with_store true (view_with_step z (StoreData true)))
+    (b ∙ ap (λ (z : View). view_with_store false (view_with_step z (StoreData false))) a))
+    ∙ ap
+    (λ (q : Bool).
+    record (view_with_receipt v r) {
+      taken = after_steps v.taken (Shut ∷ stores_if q ++ Settle ∷ []);
+    }) (sym valid)
 
-pub changed_bare : (v v1 v4 : View) (d : Doing) (r : Receipt) → v1 ≡ view_in_phase (view_with_step v Shut) (HeldShut d)
-    → v4 ≡ view_with_receipt (view_with_step v1 Settle) r → (after_of r).valid ≡ false → v4 ≡ record (view_with_receipt v r) { taken = after_steps v.taken (changing_steps r) }
+pub changed_bare :
+    (v v1 v4 : View) (d : Doing) (r : Receipt)
+    → v1 ≡ view_in_phase (view_with_step v Shut) (HeldShut d)
+    → v4 ≡ view_with_receipt (view_with_step v1 Settle) r
+    → (after_of r).valid ≡ false
+    → v4 ≡ record (view_with_receipt v r) { taken = after_steps v.taken (changing_steps r) }
 changed_bare v v1 v4 d r a e valid =
     e ∙ ap (λ (z : View). view_with_receipt (view_with_step z Settle) r) a
-    ∙ ap (λ (q : Bool). record (view_with_receipt v r) { taken = after_steps v.taken (Shut ∷ stores_if q ++ Settle ∷ []) }) (sym valid)
+    ∙ ap
+    (λ (q : Bool).
+    record (view_with_receipt v r) {
+      taken = after_steps v.taken (Shut ∷ stores_if q ++ Settle ∷ []);
+    }) (sym valid)

@@ -13,7 +13,12 @@ use Rattle.lock_core.specs.Steps.{with_noted}
 use Rattle.lock_core.proofs.Steps.{receipt_before}
 use Rattle.entry_lock.specs.LineSteps.{doing_by_line}
 
-current_by : (line : Line) (op : Op) (k : Control) → k.valid ≡ true → k.stamp ≡ line.stamp → without_bits line.dword1 ≡ line.dword1 → IsCurrent line (noted_state (doing_by_line line op k))
+current_by :
+    (line : Line) (op : Op) (k : Control)
+    → k.valid ≡ true
+    → k.stamp ≡ line.stamp
+    → without_bits line.dword1 ≡ line.dword1
+    → IsCurrent line (noted_state (doing_by_line line op k))
 unfolding noted_state
 current_by line op k valid stamp clear = record {
   valid = valid;
@@ -23,15 +28,37 @@ current_by line op k valid stamp clear = record {
 }
 
 -- The receipt of an access by a line has the line's doublewords before.
-pub current_receipt : (line : Line) (op : Op) (d : Doing) (r : Receipt) → d ≡ doing_by_line line op d.noted → d.noted.valid ≡ true → d.noted.stamp ≡ line.stamp → without_bits line.dword1 ≡ line.dword1 → r ≡ receipt d → IsCurrent line r.before
+pub current_receipt :
+    (line : Line) (op : Op) (d : Doing) (r : Receipt)
+    → d ≡ doing_by_line line op d.noted
+    → d.noted.valid ≡ true
+    → d.noted.stamp ≡ line.stamp
+    → without_bits line.dword1 ≡ line.dword1
+    → r ≡ receipt d
+    → IsCurrent line r.before
 current_receipt line op d r begun_at valid stamp clear is =
-    subst (IsCurrent line) (sym (ap (λ (z : Receipt). z.before) is ∙ receipt_before d ∙ ap noted_state begun_at)) (current_by line op d.noted valid stamp clear)
+    subst (IsCurrent line)
+    (sym (ap (λ (z : Receipt). z.before) is ∙ receipt_before d ∙ ap noted_state begun_at))
+    (current_by line op d.noted valid stamp clear)
 
 -- A word that is still at the noted stamp is valid there.
-pub still_word : (d : Doing) (k : Control) → is_still k d ≡ true → (k.valid ≡ true) × (k.stamp ≡ d.noted.stamp)
+pub still_word :
+    (d : Doing) (k : Control) → is_still k d ≡ true → (k.valid ≡ true) × (k.stamp ≡ d.noted.stamp)
 unfolding is_still
-still_word d k h = let p = and_parts _ _ h in let q = and_parts _ _ p.0 in let r = and_parts _ _ q.0 in (r.1, eqb-true k.stamp d.noted.stamp p.1)
+still_word d k h =
+    let p = and_parts _ _ h in
+    let q = and_parts _ _ p.0 in
+    let r = and_parts _ _ q.0 in
+    (r.1, eqb-true k.stamp d.noted.stamp p.1)
 
-pub later_receipt_current : (line : Line) (op : Op) (d : Doing) (k : Control) (r : Receipt) → d ≡ doing_by_line line op d.noted → d.noted.stamp ≡ line.stamp → without_bits line.dword1 ≡ line.dword1 → is_still k d ≡ true → r ≡ receipt (with_noted d k) → IsCurrent line r.before
+pub later_receipt_current :
+    (line : Line) (op : Op) (d : Doing) (k : Control) (r : Receipt)
+    → d ≡ doing_by_line line op d.noted
+    → d.noted.stamp ≡ line.stamp
+    → without_bits line.dword1 ≡ line.dword1
+    → is_still k d ≡ true
+    → r ≡ receipt (with_noted d k)
+    → IsCurrent line r.before
 later_receipt_current line op d k r begun_at stamp clear still is = let s = still_word d k still in
-    current_receipt line op (with_noted d k) r (ap (λ (z : Doing). with_noted z k) begun_at) s.0 (s.1 ∙ stamp) clear is
+    current_receipt line op (with_noted d k) r (ap (λ (z : Doing). with_noted z k) begun_at) s.0
+    (s.1 ∙ stamp) clear is

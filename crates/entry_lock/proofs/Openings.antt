@@ -28,16 +28,26 @@ pub length_words : (states : List State) → length (entry_words states) ≡ 3 *
 length_words [] = refl
 length_words (s ∷ rest) = let h = length_words rest in omega arith
 
-control_there : (states : List State) (e i : ℕ) (s : State) → i ≡ 3 * e → slice_get states e ≡ Some s → get_or (entry_words states) i 0 ≡ word_of (settled_word s)
+control_there :
+    (states : List State) (e i : ℕ) (s : State)
+    → i ≡ 3 * e
+    → slice_get states e ≡ Some s
+    → get_or (entry_words states) i 0 ≡ word_of (settled_word s)
 control_there [] e i s d h = absurd (none_some s h)
-control_there (t ∷ rest) zero zero s d h = ap (λ (z : State). word_of (settled_word z)) (some_same t s h)
+control_there (t ∷ rest) zero zero s d h =
+    ap (λ (z : State). word_of (settled_word z)) (some_same t s h)
 control_there (t ∷ rest) zero (suc i) s d h = absurd (omega arith)
 control_there (t ∷ rest) (suc e) zero s d h = absurd (omega arith)
 control_there (t ∷ rest) (suc e) (suc zero) s d h = absurd (omega arith)
 control_there (t ∷ rest) (suc e) (suc (suc zero)) s d h = absurd (omega arith)
-control_there (t ∷ rest) (suc e) (suc (suc (suc i))) s d h = control_there rest e i s (omega arith) h
+control_there (t ∷ rest) (suc e) (suc (suc (suc i))) s d h =
+    control_there rest e i s (omega arith) h
 
-first_there : (states : List State) (e i : ℕ) (s : State) → i ≡ 3 * e + 1 → slice_get states e ≡ Some s → get_or (entry_words states) i 0 ≡ s.dword0
+first_there :
+    (states : List State) (e i : ℕ) (s : State)
+    → i ≡ 3 * e + 1
+    → slice_get states e ≡ Some s
+    → get_or (entry_words states) i 0 ≡ s.dword0
 first_there [] e i s d h = absurd (none_some s h)
 first_there (t ∷ rest) zero zero s d h = absurd (omega arith)
 first_there (t ∷ rest) zero (suc zero) s d h = ap (λ (z : State). z.dword0) (some_same t s h)
@@ -47,7 +57,11 @@ first_there (t ∷ rest) (suc e) (suc zero) s d h = absurd (omega arith)
 first_there (t ∷ rest) (suc e) (suc (suc zero)) s d h = absurd (omega arith)
 first_there (t ∷ rest) (suc e) (suc (suc (suc i))) s d h = first_there rest e i s (omega arith) h
 
-second_there : (states : List State) (e i : ℕ) (s : State) → i ≡ 3 * e + 2 → slice_get states e ≡ Some s → get_or (entry_words states) i 0 ≡ s.dword1
+second_there :
+    (states : List State) (e i : ℕ) (s : State)
+    → i ≡ 3 * e + 2
+    → slice_get states e ≡ Some s
+    → get_or (entry_words states) i 0 ≡ s.dword1
 second_there [] e i s d h = absurd (none_some s h)
 second_there (t ∷ rest) zero zero s d h = absurd (omega arith)
 second_there (t ∷ rest) zero (suc zero) s d h = absurd (omega arith)
@@ -70,37 +84,63 @@ other_one : (k n : ℕ) → n ≢ k → one k n ≡ 0
 other_one k n h = ap (λ b. (let m : ℕ = if b then 1 else 0 in m)) (ne_eqb n k h)
 
 one_at_most : (k n : ℕ) → one k n ≤ 1
-one_at_most k n = ⊎_elim {C = one k n ≤ 1} (λ (e : (n == k) ≡ true). rw e (omega arith)) (λ (e : (n == k) ≡ false). rw e (omega arith)) (bool_is (n == k))
+one_at_most k n =
+    ⊎_elim {C = one k n ≤ 1} (λ (e : (n == k) ≡ true). rw e (omega arith))
+    (λ (e : (n == k) ≡ false). rw e (omega arith)) (bool_is (n == k))
 
 by_eq : {F : Type 0} (k a : ℕ) → (k ≡ a → F) → (k ≢ a → F) → F
 by_eq {F} k a p q = dite {C = F} (ℕ_discrete k a) p q
 
 no_times : (k a n : ℕ) → k < a → occurrences k (numbers_from a n) ≡ 0
 no_times k a zero h = refl
-no_times k a (suc n) h = let c = times_cons k a (numbers_from (suc a) n) in let z : one k a ≡ 0 = other_one k a (λ e. omega arith) in let t = no_times k (suc a) n (omega arith) in omega arith
+no_times k a (suc n) h = let c = times_cons k a (numbers_from (suc a) n) in let z :
+    one k a ≡ 0 =
+    other_one k a (λ e. omega arith) in let t =
+    no_times k (suc a) n (omega arith) in omega arith
 
 few_times : (k a n : ℕ) → occurrences k (numbers_from a n) ≤ 1
 few_times k a zero = omega arith
 few_times k a (suc n) = let c = times_cons k a (numbers_from (suc a) n) in
-    by_eq k a (λ e. let t = no_times k (suc a) n (omega arith) in let o = one_at_most k a in omega arith) (λ ne. let z : one k a ≡ 0 = other_one k a (λ e. ne (sym e)) in let t = few_times k (suc a) n in omega arith)
+    by_eq k a
+    (λ e. let t = no_times k (suc a) n (omega arith) in let o = one_at_most k a in omega arith)
+    (λ ne.
+    let z : one k a ≡ 0 = other_one k a (λ e. ne (sym e)) in
+    let t = few_times k (suc a) n in
+    omega arith)
 
 in_range : (k a n : ℕ) → 1 ≤ occurrences k (numbers_from a n) → k < a + n
 in_range k a zero h = absurd (omega arith)
 in_range k a (suc n) h = let c = times_cons k a (numbers_from (suc a) n) in
-    by_eq k a (λ e. omega arith) (λ ne. let z : one k a ≡ 0 = other_one k a (λ e. ne (sym e)) in let t = in_range k (suc a) n (omega arith) in omega arith)
+    by_eq k a (λ e. omega arith)
+    (λ ne.
+    let z : one k a ≡ 0 = other_one k a (λ e. ne (sym e)) in
+    let t = in_range k (suc a) n (omega arith) in
+    omega arith)
 
 first_number : (n : ℕ) → 0 < n → (m : ℕ) → m ≡ 0 → IsHead (numbers_from 0 n) m
 first_number zero h m e = absurd (omega arith)
 first_number (suc n) h m e = sym e
 
-actor_there : (n i : ℕ) → i < n → (a : Actor) × (slice_get (set (replicate n nobody) 0 (newcomer [])) i ≡ Some a)
-actor_there n i h = there (set (replicate n nobody) 0 (newcomer [])) i (let l = length-set (replicate n nobody) 0 (newcomer []) in let r = length-replicate n nobody in omega arith)
+actor_there :
+    (n i : ℕ)
+    → i < n
+    → (a : Actor) × (slice_get (set (replicate n nobody) 0 (newcomer [])) i ≡ Some a)
+actor_there n i h =
+    there (set (replicate n nobody) 0 (newcomer [])) i
+    (let l = length-set (replicate n nobody) 0 (newcomer []) in
+    let r = length-replicate n nobody in
+    omega arith)
 
-acts_first : (m : Machine) (n : ℕ) (a : Actor) → 0 < n → slice_get m.actors 0 ≡ Some a → ActsAs m (numbers_from 0 n) a
+acts_first :
+    (m : Machine) (n : ℕ) (a : Actor)
+    → 0 < n
+    → slice_get m.actors 0 ≡ Some a
+    → ActsAs m (numbers_from 0 n) a
 acts_first m zero a h is = absurd (omega arith)
 acts_first m (suc n) a h is = is
 
-first_actor : (n : ℕ) → 0 < n → slice_get (set (replicate n nobody) 0 (newcomer [])) 0 ≡ Some (newcomer [])
+first_actor :
+    (n : ℕ) → 0 < n → slice_get (set (replicate n nobody) 0 (newcomer [])) 0 ≡ Some (newcomer [])
 first_actor zero h = absurd (omega arith)
 first_actor (suc n) h = refl
 
@@ -108,7 +148,10 @@ only_view : (v u : View) (j : ℕ) → get_elem? (v ∷ []) j ≡ some u → v �
 only_view v u zero h = some-injective v u h
 only_view v u (suc j) h = absurd (some-ne-none u (sym h))
 
-front_there : (states : List State) (e : ℕ) (s : State) → slice_get states e ≡ Some s → front_at (opening_fronts states) e ≡ pair_of s
+front_there :
+    (states : List State) (e : ℕ) (s : State)
+    → slice_get states e ≡ Some s
+    → front_at (opening_fronts states) e ≡ pair_of s
 front_there [] e s h = absurd (none_some s h)
 front_there (t ∷ rest) zero s h = ap pair_of (some_same t s h)
 front_there (t ∷ rest) (suc e) s h = front_there rest e s h
@@ -117,7 +160,11 @@ fronts_length : (states : List State) → length (opening_fronts states) ≡ len
 fronts_length [] = refl
 fronts_length (s ∷ rest) = ap suc (fronts_length rest)
 
-machine_opens : (key : Opening) → All IsFair (states_of key) → 0 < key.passes → Shows key (machine_after key []) (0 ∷ entry_words (states_of key)) (first_view key ∷ [])
+machine_opens :
+    (key : Opening)
+    → All IsFair (states_of key)
+    → 0 < key.passes
+    → Shows key (machine_after key []) (0 ∷ entry_words (states_of key)) (first_view key ∷ [])
 unfolding run opening_machine
 machine_opens key fair some_pass =
     let states = states_of key in
@@ -127,24 +174,67 @@ machine_opens key fair some_pass =
       fair = fair;
       wide = (let l = length_words states in omega arith);
       words = λ e x h. (let o = at_mapped unheld_entry states e x h in record {
-        control = after_first 0 (entry_words states) (3 * e) (3 * e + 1) refl ∙ control_there states e (3 * e) o.0 refl o.1 ∙ ap (λ (z : Entry). word_of z.control) o.2;
-        first = after_first 0 (entry_words states) (3 * e + 1) (3 * e + 2) (omega arith) ∙ first_there states e (3 * e + 1) o.0 refl o.1 ∙ ap (λ (z : Entry). z.dword0) o.2;
-        second = after_first 0 (entry_words states) (3 * e + 2) (3 * e + 3) (omega arith) ∙ second_there states e (3 * e + 2) o.0 refl o.1 ∙ ap (λ (z : Entry). z.dword1) o.2;
+        control =
+            after_first 0 (entry_words states) (3 * e) (3 * e + 1) refl
+            ∙ control_there states e (3 * e) o.0 refl o.1
+            ∙ ap (λ (z : Entry). word_of z.control) o.2;
+        first =
+            after_first 0 (entry_words states) (3 * e + 1) (3 * e + 2) (omega arith)
+            ∙ first_there states e (3 * e + 1) o.0 refl o.1
+            ∙ ap (λ (z : Entry). z.dword0) o.2;
+        second =
+            after_first 0 (entry_words states) (3 * e + 2) (3 * e + 3) (omega arith)
+            ∙ second_there states e (3 * e + 2) o.0 refl o.1
+            ∙ ap (λ (z : Entry). z.dword1) o.2;
       });
-      views = λ j u is. subst (λ (z : View). ActsAs m z.numbers z.actor) (only_view v u j is) (acts_first m key.passes (newcomer []) some_pass (first_actor key.passes some_pass));
-      stored = λ j u d x is shut. (let q = ap (λ (z : View). z.actor.phase) (only_view v u j is) in absurd cc);
-      fronts = λ j e u x is h. (let o = at_mapped unheld_entry states e x h in let q = front_there states e o.0 o.1 in
-          let f = ap (λ (z : View). front_at z.fronts e) (only_view v u j is) in let w = ap (λ (z : Entry). pair_of z.published) o.2 in inl (omega arith));
-      alone = λ j u d x is all looked. (let q = ap (λ (z : View). z.actor.phase) (only_view v u j is) in absurd cc);
-      whole = λ j u is has. (ap (λ (z : View). z.passes) (sym (only_view v u j is)), ap (λ (z : View). length z.fronts) (sym (only_view v u j is)) ∙ fronts_length states, ap (λ (z : View). z.opening) (sym (only_view v u j is)));
-      range = λ j k u is has. actor_there key.passes k (let r = in_range k 0 key.passes (subst (λ (z : View). 1 ≤ occurrences k z.numbers) (sym (only_view v u j is)) has) in omega arith);
-      owned = λ n a is live. (⊎_elim {C = (j : ℕ) × (u : View) × (get_elem? (v ∷ []) j ≡ some u) × IsHead u.numbers n} (λ (p : (n ≡ 0) × (newcomer [] ≡ a)). (0, v, refl, first_number key.passes some_pass n p.0))
-          (λ (p : (n ≢ 0) × (slice_get (replicate key.passes nobody) n ≡ Some a)). absurd (false≢true (ap (λ (z : Actor). z.live) (at_copies key.passes n nobody a p.1) ∙ live))) (at_set (replicate key.passes nobody) 0 n (newcomer []) a is));
+      views =
+          λ j u is.
+          subst (λ (z : View). ActsAs m z.numbers z.actor) (only_view v u j is)
+          (acts_first m key.passes (newcomer []) some_pass (first_actor key.passes some_pass));
+      stored =
+          λ j u d x is shut.
+          (let q = ap (λ (z : View). z.actor.phase) (only_view v u j is) in absurd cc);
+      fronts =
+          λ j e u x is h.
+          (let o = at_mapped unheld_entry states e x h in let q = front_there states e o.0 o.1 in
+          let f = ap (λ (z : View). front_at z.fronts e) (only_view v u j is) in
+          let w = ap (λ (z : Entry). pair_of z.published) o.2 in
+          inl (omega arith));
+      alone =
+          λ j u d x is all looked.
+          (let q = ap (λ (z : View). z.actor.phase) (only_view v u j is) in absurd cc);
+      whole =
+          λ j u is has. (
+            ap (λ (z : View). z.passes) (sym (only_view v u j is)),
+            ap (λ (z : View). length z.fronts) (sym (only_view v u j is)) ∙ fronts_length states,
+            ap (λ (z : View). z.opening) (sym (only_view v u j is)),
+          );
+      range =
+          λ j k u is has.
+          actor_there key.passes k
+          (let r = in_range k 0 key.passes
+          (subst (λ (z : View). 1 ≤ occurrences k z.numbers) (sym (only_view v u j is))
+          has) in
+          omega arith);
+      owned =
+          λ n a is live.
+          (⊎_elim {C = (j : ℕ) × (u : View) × (get_elem? (v ∷ []) j ≡ some u) × IsHead u.numbers n}
+          (λ (p : (n ≡ 0) × (newcomer [] ≡ a)).
+          (0, v, refl, first_number key.passes some_pass n p.0))
+          (λ (p : (n ≢ 0) × (slice_get (replicate key.passes nobody) n ≡ Some a)).
+          absurd
+          (false≢true
+          (ap (λ (z : Actor). z.live) (at_copies key.passes n nobody a p.1) ∙ live)))
+          (at_set (replicate key.passes nobody) 0 n (newcomer []) a is));
       apart = λ k. (let t = few_times k 0 key.passes in omega arith);
       shares = (let l = length_numbers 0 key.passes in omega arith);
     }
 
-pub opens : (key : Opening) → All IsFair (states_of key) → 0 < key.passes → ShowsSteps key [] (0 ∷ entry_words (states_of key)) (first_view key ∷ [])
+pub opens :
+    (key : Opening)
+    → All IsFair (states_of key)
+    → 0 < key.passes
+    → ShowsSteps key [] (0 ∷ entry_words (states_of key)) (first_view key ∷ [])
 opens key fair some_pass = record {
   shows = machine_opens key fair some_pass;
   allowed = tt;

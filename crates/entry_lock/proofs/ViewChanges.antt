@@ -16,8 +16,23 @@ use Rattle.entry_lock.specs.PassChanges.{MadeReceipt, TellsLastStep}
 use Rattle.entry_lock.proofs.Bits.{control_is}
 
 -- A step that is counted and makes a receipt.
-pub made_counted : (v w : View) (step : Step) (r : Receipt) (e l f : ℕ) → w ≡ view_with_count (view_with_receipt (view_with_step v step) r) e l f → IsAhead v.fronts r → MadeReceipt v w r
-made_counted v w step r e l f is ahead = subst (λ z. MadeReceipt v z r) (sym is) (record { receipts = refl; lines = refl; fronts = refl; ahead = ahead; numbers = refl; passes = refl; opening = refl; count = omega arith })
+pub made_counted :
+    (v w : View) (step : Step) (r : Receipt) (e l f : ℕ)
+    → w ≡ view_with_count (view_with_receipt (view_with_step v step) r) e l f
+    → IsAhead v.fronts r
+    → MadeReceipt v w r
+made_counted v w step r e l f is ahead =
+    subst (λ z. MadeReceipt v z r) (sym is)
+    (record {
+      receipts = refl;
+      lines = refl;
+      fronts = refl;
+      ahead = ahead;
+      numbers = refl;
+      passes = refl;
+      opening = refl;
+      count = omega arith;
+    })
 
 -- The shut bit of a number is that of its control word.
 pub shut_bit_is : (word : ℕ) (k : Control) → Means word k → shut_bit word ≡ k.shut
@@ -28,15 +43,30 @@ pub receipt_is_of : (d : Doing) → IsReceiptOf d.entry d.op (receipt d)
 unfolding receipt
 receipt_is_of d = record { entry = refl; op = refl }
 
-pub receipt_by : (d : Doing) (e : ℕ) (op : Op) (r : Receipt) → r ≡ receipt d → d.entry ≡ e → d.op ≡ op → IsReceiptOf e op r
-receipt_by d e op r is entry same = let o = receipt_is_of d in record { entry = ap (λ (z : Receipt). z.entry) is ∙ o.entry ∙ entry; op = ap (λ (z : Receipt). z.op) is ∙ o.op ∙ same }
+pub receipt_by :
+    (d : Doing) (e : ℕ) (op : Op) (r : Receipt)
+    → r ≡ receipt d
+    → d.entry ≡ e
+    → d.op ≡ op
+    → IsReceiptOf e op r
+receipt_by d e op r is entry same =
+    let o = receipt_is_of d in
+    record {
+      entry = ap (λ (z : Receipt). z.entry) is ∙ o.entry ∙ entry;
+      op = ap (λ (z : Receipt). z.op) is ∙ o.op ∙ same;
+    }
 
 -- A deciding step that finds another word than the one noted, and makes nothing.
-pub last_missed : (v w : View) (step : Step) (e looked found : ℕ) → w ≡ view_with_count (view_in_phase (view_with_step v step) Idle) e looked found → TellsLastStep v w e (record { entry = e; looked = looked; found = found })
-last_missed v w step e looked found is = subst (λ z. TellsLastStep v z e (record { entry = e; looked = looked; found = found })) (sym is) (record {
-  entry = refl;
-  count = omega arith;
-  last = refl;
-  looked = refl;
-  found = refl;
-})
+pub last_missed :
+    (v w : View) (step : Step) (e looked found : ℕ)
+    → w ≡ view_with_count (view_in_phase (view_with_step v step) Idle) e looked found
+    → TellsLastStep v w e (record { entry = e; looked = looked; found = found })
+last_missed v w step e looked found is =
+    subst (λ z. TellsLastStep v z e (record { entry = e; looked = looked; found = found })) (sym is)
+    (record {
+      entry = refl;
+      count = omega arith;
+      last = refl;
+      looked = refl;
+      found = refl;
+    })

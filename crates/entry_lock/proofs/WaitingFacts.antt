@@ -26,9 +26,27 @@ receipts_gone v w line l = record {
   numbers = l.numbers;
   receipts = l.receipts ∙ sym (append-nil v.actor.receipts);
   lines = l.lines ∙ sym (append-nil v.actor.lines);
-  fronts = subst (AreBelow v.fronts) (sym l.fronts) (record { size = raised_size v.fronts line.entry ((line.stamp + 1) * 4); low = λ e. raised_above v.fronts line.entry ((line.stamp + 1) * 4) e });
+  fronts =
+      subst (AreBelow v.fronts) (sym l.fronts)
+      (record {
+        size = raised_size v.fronts line.entry ((line.stamp + 1) * 4);
+        low = λ e. raised_above v.fronts line.entry ((line.stamp + 1) * 4) e;
+      });
 }
 
 -- From a view with the same receipts, lines and fronts.
-pub receipts_from : (u v w : View) (rs : List Receipt) → v.actor.receipts ≡ u.actor.receipts → v.actor.lines ≡ u.actor.lines → v.fronts ≡ u.fronts → v.numbers ≡ u.numbers → MadeReceipts v w rs → MadeReceipts u w rs
-receipts_from u v w rs receipts lines fronts numbers g = record { numbers = g.numbers ∙ numbers; receipts = g.receipts ∙ ap (λ l. l ++ rs) receipts; lines = g.lines ∙ ap (λ l. l ++ flat_map shown_sightings rs) lines; fronts = subst (λ f. KeepsFronts f rs w.fronts) fronts g.fronts }
+pub receipts_from :
+    (u v w : View) (rs : List Receipt)
+    → v.actor.receipts ≡ u.actor.receipts
+    → v.actor.lines ≡ u.actor.lines
+    → v.fronts ≡ u.fronts
+    → v.numbers ≡ u.numbers
+    → MadeReceipts v w rs
+    → MadeReceipts u w rs
+receipts_from u v w rs receipts lines fronts numbers g =
+    record {
+      numbers = g.numbers ∙ numbers;
+      receipts = g.receipts ∙ ap (λ l. l ++ rs) receipts;
+      lines = g.lines ∙ ap (λ l. l ++ flat_map shown_sightings rs) lines;
+      fronts = subst (λ f. KeepsFronts f rs w.fronts) fronts g.fronts;
+    }

@@ -9,9 +9,20 @@ use Rattle.entry_model.specs.Receipt.{receipt_of}
 
 pub exact : (r : Receipt) → r ≡ receipt_of r.entry r.before r.op
 exact r =
-    let f : Cosingl (reply_of r.before r.op).0 → Receipt = λ z. record { entry = r.entry; before = r.before; op = r.op; answer = z.0; lawful = z.1 } in
+    let f : Cosingl (reply_of r.before r.op).0 → Receipt = λ z. record {
+      entry = r.entry;
+      before = r.before;
+      op = r.op;
+      answer = z.0;
+      lawful = z.1;
+    } in
     sym (ap f (contract' r.lawful))
 
 -- a receipt with these parts is that receipt
-pub same : (r : Receipt) (e : ℕ) (s : State) (op : Op) → r.entry ≡ e → r.before ≡ s → r.op ≡ op → r ≡ receipt_of e s op
+pub same :
+    (r : Receipt) (e : ℕ) (s : State) (op : Op)
+    → r.entry ≡ e
+    → r.before ≡ s
+    → r.op ≡ op
+    → r ≡ receipt_of e s op
 same r e s op a b c = exact r ∙ (λ k. receipt_of (a k) (b k) (c k))

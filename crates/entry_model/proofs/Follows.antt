@@ -15,7 +15,15 @@ abbrev pub Follows : State → State → Type 0
 Follows s t = OnlyRaisesBits s t ⊎ (s.stamp < t.stamp)
 
 pub no_further : (s : State) → OnlyRaisesBits s s
-no_further s = record { valid = refl; dword0 = refl; dword1 = refl; stamp = refl; referenced = λ e. e; changed = λ e. e }
+no_further s =
+    record {
+      valid = refl;
+      dword0 = refl;
+      dword1 = refl;
+      stamp = refl;
+      referenced = λ e. e;
+      changed = λ e. e;
+    }
 
 pub stays : (s : State) → Follows s s
 stays s = inl (no_further s)
@@ -42,7 +50,11 @@ follows_on s t u (inr a) (inr b) = inr (omega arith)
 abbrev pub with_bits : State → Bool → Bool → State
 with_bits s r c = record s { referenced = r; changed = c }
 
-by_bits : (s : State) (r c r' c' : Bool) → (r ≡ true → r' ≡ true) → (c ≡ true → c' ≡ true) → (with_bits s r' c' ≡ with_bits s r c) ⊎ (bits (with_bits s r c) < bits (with_bits s r' c'))
+by_bits :
+    (s : State) (r c r' c' : Bool)
+    → (r ≡ true → r' ≡ true)
+    → (c ≡ true → c' ≡ true)
+    → (with_bits s r' c' ≡ with_bits s r c) ⊎ (bits (with_bits s r c) < bits (with_bits s r' c'))
 by_bits s true true true true f g = inl refl
 by_bits s true true true false f g = let e : false ≡ true = g refl in cc
 by_bits s true true false c' f g = let e : false ≡ true = f refl in cc
@@ -58,41 +70,81 @@ by_bits s false false false true f g = inr (omega arith)
 by_bits s false false false false f g = inl refl
 
 pub with_its_bits : (s t : State) → OnlyRaisesBits s t → t ≡ with_bits s t.referenced t.changed
-with_its_bits s t h = λ i. record { valid = h.valid i; dword0 = h.dword0 i; dword1 = h.dword1 i; referenced = t.referenced; changed = t.changed; stamp = h.stamp i }
+with_its_bits s t h =
+    λ i.
+    record {
+      valid = h.valid i;
+      dword0 = h.dword0 i;
+      dword1 = h.dword1 i;
+      referenced = t.referenced;
+      changed = t.changed;
+      stamp = h.stamp i;
+    }
 
 pub same_or_more : (s t : State) → OnlyRaisesBits s t → (t ≡ s) ⊎ (bits s < bits t)
-same_or_more s t h = at (by_bits s s.referenced s.changed t.referenced t.changed h.referenced h.changed) where
-  at : (with_bits s t.referenced t.changed ≡ s) ⊎ (bits s < bits (with_bits s t.referenced t.changed)) → (t ≡ s) ⊎ (bits s < bits t)
-  at (inl same) = inl (with_its_bits s t h ∙ same)
-  at (inr more) = inr more
+same_or_more s t h =
+    at (by_bits s s.referenced s.changed t.referenced t.changed h.referenced h.changed) where
+      at :
+          (with_bits s t.referenced t.changed ≡ s)
+          ⊎ (bits s < bits (with_bits s t.referenced t.changed))
+          → (t ≡ s) ⊎ (bits s < bits t)
+      at (inl same) = inl (with_its_bits s t h ∙ same)
+      at (inr more) = inr more
 
 -- ---- replies
 -- A reply that is one of two.
-pub either_follows : (b : Bool) (s : State) (p q : Answer × State) → Follows s p.1 → Follows s q.1 → Follows s (if◌then◌else◌ {A = Answer × State} b p q).1
+pub either_follows :
+    (b : Bool) (s : State) (p q : Answer × State)
+    → Follows s p.1
+    → Follows s q.1
+    → Follows s (if◌then◌else◌ {A = Answer × State} b p q).1
 either_follows true s p q h k = h
 either_follows false s p q h k = k
 
-changed_follows : (s : State) (answer : Answer) (next : State) → Follows s (change_to s answer next).1
+changed_follows :
+    (s : State) (answer : Answer) (next : State) → Follows s (change_to s answer next).1
 changed_follows s answer next =
-    either_follows (s.stamp == 0xFFFFFFFF) s (Worn, s) (answer, record next { stamp = s.stamp + 1 }) (stays s) (inr (omega arith))
+    either_follows (s.stamp == 0xFFFFFFFF) s (Worn, s) (answer, record next { stamp = s.stamp + 1 })
+    (stays s) (inr (omega arith))
 
-where_follows : (found : Bool) (s : State) (answer : Answer) (next : State) → Follows s (change_where found s answer next).1
-where_follows found s answer next = either_follows found s (change_to s answer next) (NotFound, s) (changed_follows s answer next) (stays s)
+where_follows :
+    (found : Bool) (s : State) (answer : Answer) (next : State)
+    → Follows s (change_where found s answer next).1
+where_follows found s answer next =
+    either_follows found s (change_to s answer next) (NotFound, s) (changed_follows s answer next)
+    (stays s)
 
 or_stays : (b w : Bool) → b ≡ true → (b || w) ≡ true
 or_stays true w e = refl
 or_stays false w e = cc
 
 pub touched_further : (s : State) (want : Want) → OnlyRaisesBits s (touched_state s want)
-touched_further s want = record { valid = refl; dword0 = refl; dword1 = refl; stamp = refl; referenced = λ e. refl; changed = or_stays s.changed (is_store want) }
+touched_further s want =
+    record {
+      valid = refl;
+      dword0 = refl;
+      dword1 = refl;
+      stamp = refl;
+      referenced = λ e. refl;
+      changed = or_stays s.changed (is_store want);
+    }
 
 pub reply_follows : (s : State) (o : Op) → Follows s (reply_of s o).1
 reply_follows s (Enter dword0 dword1) =
-    either_follows s.valid s (Taken, s) (change_to s Entered (entered_state dword0 dword1)) (stays s) (changed_follows s Entered (entered_state dword0 dword1))
+    either_follows s.valid s (Taken, s) (change_to s Entered (entered_state dword0 dword1))
+    (stays s) (changed_follows s Entered (entered_state dword0 dword1))
 reply_follows s (Remove test) = where_follows (is_found s test) s Removed (empty_state 0)
-reply_follows s (Protect test flags) = where_follows (is_found s test) s Protected (record s { dword1 = protected_word s.dword1 flags })
+reply_follows s (Protect test flags) =
+    where_follows (is_found s test) s Protected
+    (record s { dword1 = protected_word s.dword1 flags })
 reply_follows s Read = stays s
 reply_follows s ClearRef = where_follows s.valid s Was (record s { referenced = false })
 reply_follows s ClearMod = where_follows s.valid s Was (record s { changed = false })
 reply_follows s (Access tag base key no_execute want masks) =
-    either_follows (is_match s tag base) s (answer_of_match s (access_mode key no_execute want masks)) (NoMatch, s) (either_follows (is_allowed s (access_mode key no_execute want masks)) s (answer_of_allowed s (access_mode key no_execute want masks)) (Denied, s) (either_follows (masks_refuse s (access_mode key no_execute want masks)) s (Masked, s) (At, touched_state s want) (stays s) (inl (touched_further s want))) (stays s)) (stays s)
+    either_follows (is_match s tag base) s
+    (answer_of_match s (access_mode key no_execute want masks)) (NoMatch, s)
+    (either_follows (is_allowed s (access_mode key no_execute want masks)) s
+    (answer_of_allowed s (access_mode key no_execute want masks)) (Denied, s)
+    (either_follows (masks_refuse s (access_mode key no_execute want masks)) s (Masked, s)
+    (At, touched_state s want) (stays s) (inl (touched_further s want))) (stays s))
+    (stays s)

@@ -9,20 +9,34 @@ use Rattle.entry_model.proofs.Regroup.{regrouped_self, regrouped_filter, legal_r
 
 -- ---- chains
 -- One more receipt at the end.
-pub legal_more : (a m b : State) (xs : List Receipt) (r : Receipt) → IsLegal a xs m → r.before ≡ m → after_of r ≡ b → IsLegal a (xs ++ r ∷ []) b
+pub legal_more :
+    (a m b : State) (xs : List Receipt) (r : Receipt)
+    → IsLegal a xs m
+    → r.before ≡ m
+    → after_of r ≡ b
+    → IsLegal a (xs ++ r ∷ []) b
 legal_more a m b [] r legal before after = (before ∙ legal, sym after)
-legal_more a m b (x ∷ xs) r legal before after = (legal.0, legal_more (after_of x) m b xs r legal.1 before after)
+legal_more a m b (x ∷ xs) r legal before after =
+    (legal.0, legal_more (after_of x) m b xs r legal.1 before after)
 
 -- Receipts that were made one after the other are a legal history, however they are listed.
-pub logged_history : (e : ℕ) (a b : State) (log rs : List Receipt) → IsLegal a (filter (λ r. eqb r.entry e) log) b → Regrouped log rs → IsLegal a (history e rs) b
-logged_history e a b log rs legal same = legal_regrouped a b (filter (λ r. eqb r.entry e) log) (filter (λ r. eqb r.entry e) rs) (regrouped_filter (λ r. eqb r.entry e) same) legal
+pub logged_history :
+    (e : ℕ) (a b : State) (log rs : List Receipt)
+    → IsLegal a (filter (λ r. eqb r.entry e) log) b
+    → Regrouped log rs
+    → IsLegal a (history e rs) b
+logged_history e a b log rs legal same =
+    legal_regrouped a b (filter (λ r. eqb r.entry e) log) (filter (λ r. eqb r.entry e) rs)
+    (regrouped_filter (λ r. eqb r.entry e) same) legal
 
 -- ---- lists regrouped, put one behind the other
-pub regrouped_before : (xs : List Receipt) {ys zs : List Receipt} → Regrouped ys zs → Regrouped (xs ++ ys) (xs ++ zs)
+pub regrouped_before :
+    (xs : List Receipt) {ys zs : List Receipt} → Regrouped ys zs → Regrouped (xs ++ ys) (xs ++ zs)
 regrouped_before [] h = h
 regrouped_before (x ∷ xs) h = kept x (regrouped_before xs h)
 
-pub regrouped_behind : {xs ys : List Receipt} (zs : List Receipt) → Regrouped xs ys → Regrouped (xs ++ zs) (ys ++ zs)
+pub regrouped_behind :
+    {xs ys : List Receipt} (zs : List Receipt) → Regrouped xs ys → Regrouped (xs ++ zs) (ys ++ zs)
 regrouped_behind zs nothing = regrouped_self zs
 regrouped_behind zs (kept r h) = kept r (regrouped_behind zs h)
 regrouped_behind zs (swapped r s xs) = swapped r s (xs ++ zs)
@@ -39,9 +53,14 @@ regrouped_along {xs} e h = subst (λ l. Regrouped xs l) e h
 pub regrouped_swap : (xs ys : List Receipt) → Regrouped (xs ++ ys) (ys ++ xs)
 regrouped_swap [] ys = regrouped_along (sym (append-nil ys)) (regrouped_self ys)
 regrouped_swap (x ∷ xs) ys =
-    twice (kept x (regrouped_swap xs ys)) (twice (regrouped_behind xs (regrouped_last x ys)) (regrouped_along (append_assoc ys (x ∷ []) xs) (regrouped_self ((ys ++ x ∷ []) ++ xs))))
+    twice (kept x (regrouped_swap xs ys))
+    (twice (regrouped_behind xs (regrouped_last x ys))
+    (regrouped_along (append_assoc ys (x ∷ []) xs)
+    (regrouped_self ((ys ++ x ∷ []) ++ xs))))
 
 -- The second list goes before the first.
 pub regrouped_first : (xs ys zs : List Receipt) → Regrouped (xs ++ (ys ++ zs)) (ys ++ (xs ++ zs))
 regrouped_first xs ys zs =
-    regrouped_along (append_assoc ys xs zs) (twice (regrouped_along (sym (append_assoc xs ys zs)) (regrouped_self (xs ++ (ys ++ zs)))) (regrouped_behind zs (regrouped_swap xs ys)))
+    regrouped_along (append_assoc ys xs zs)
+    (twice (regrouped_along (sym (append_assoc xs ys zs)) (regrouped_self (xs ++ (ys ++ zs))))
+    (regrouped_behind zs (regrouped_swap xs ys)))

@@ -25,13 +25,20 @@ NoneWorn rs = AllByRecursion (λ (r : Receipt). is_worn r.answer ≡ false) rs
 pub record IsTame (W : ℕ → ℕ → Type 0) (plan : Plan) : Type 0 where
   pub enters : AllByRecursion (λ (c : Call). EntersOnly W c.op) plan.calls
   pub few : calls_cost plan.calls ≤ 32
-  pub code : (rs : List Receipt) → IsTrial plan.goes_on plan.calls rs → NoneWorn rs → (plan.told rs).0 ≢ Hardware
+  pub code :
+      (rs : List Receipt)
+      → IsTrial plan.goes_on plan.calls rs
+      → NoneWorn rs
+      → (plan.told rs).0 ≢ Hardware
 
 pub answered_tame : (W : ℕ → ℕ → Type 0) (rc : Rc) → rc ≢ Hardware → IsTame W (plan_of_code rc)
 answered_tame W rc other = record { enters = tt; few = omega arith; code = λ rs trial fine. other }
 
 -- ---- one operation on several entries
-pub each_call : (Q : Op → Type 0) (op : Op) (entries : List ℕ) → Q op → AllByRecursion (λ (c : Call). Q c.op) (map (call op) entries)
+pub each_call :
+    (Q : Op → Type 0) (op : Op) (entries : List ℕ)
+    → Q op
+    → AllByRecursion (λ (c : Call). Q c.op) (map (call op) entries)
 each_call Q op [] h = tt
 each_call Q op (e ∷ es) h = (h, each_call Q op es h)
 
@@ -39,20 +46,34 @@ cost_low : (op : Op) → cost op ≤ 2
 cost_low (Remove test) = omega arith
 cost_low other = omega arith
 
-pub entries_cost : (op : Op) (first n : ℕ) → calls_cost (map (call op) (range_with_len first n)) ≤ n * 2
+pub entries_cost :
+    (op : Op) (first n : ℕ) → calls_cost (map (call op) (range_with_len first n)) ≤ n * 2
 entries_cost op first zero = omega arith
 entries_cost op first (suc n) = omega (arith, cost_low op, entries_cost op (first + 1) n)
 
 -- ---- the receipts of a trial
-ops_step : (Q : Op → Type 0) (goes : Bool) (op other : Op) (rs : List Receipt) (P : Type 0) → other ≡ op → Q op → MatchBool goes P (rs ≡ []) → (P → AllByRecursion (λ (r : Receipt). Q r.op) rs) → Q other × AllByRecursion (λ (r : Receipt). Q r.op) rs
+ops_step :
+    (Q : Op → Type 0) (goes : Bool) (op other : Op) (rs : List Receipt) (P : Type 0)
+    → other ≡ op
+    → Q op
+    → MatchBool goes P (rs ≡ [])
+    → (P → AllByRecursion (λ (r : Receipt). Q r.op) rs)
+    → Q other × AllByRecursion (λ (r : Receipt). Q r.op) rs
 ops_step Q true op other rs P same q h rest = (subst Q (sym same) q, rest h)
-ops_step Q false op other rs P same q h rest = (subst Q (sym same) q, subst (AllByRecursion (λ (r : Receipt). Q r.op)) (sym h) tt)
+ops_step Q false op other rs P same q h rest =
+    (subst Q (sym same) q, subst (AllByRecursion (λ (r : Receipt). Q r.op)) (sym h) tt)
 
-pub trial_ops : (Q : Op → Type 0) (goes : Answer → Bool) (cs : List Call) (rs : List Receipt) → AllByRecursion (λ (c : Call). Q c.op) cs → IsTrial goes cs rs → AllByRecursion (λ (r : Receipt). Q r.op) rs
+pub trial_ops :
+    (Q : Op → Type 0) (goes : Answer → Bool) (cs : List Call) (rs : List Receipt)
+    → AllByRecursion (λ (c : Call). Q c.op) cs
+    → IsTrial goes cs rs
+    → AllByRecursion (λ (r : Receipt). Q r.op) rs
 trial_ops Q goes [] [] q h = tt
 trial_ops Q goes [] (r ∷ rs) q h = absurd h
 trial_ops Q goes (c ∷ cs) [] q h = absurd h
-trial_ops Q goes (c ∷ cs) (r ∷ rs) q h = ops_step Q (goes r.answer) c.op r.op rs (IsTrial goes cs rs) h.0.op q.0 h.1 (λ k. trial_ops Q goes cs rs q.1 k)
+trial_ops Q goes (c ∷ cs) (r ∷ rs) q h =
+    ops_step Q (goes r.answer) c.op r.op rs (IsTrial goes cs rs) h.0.op q.0 h.1
+    (λ k. trial_ops Q goes cs rs q.1 k)
 
 -- ---- the reply of a tame plan
 pub record IsTameReply (W : ℕ → ℕ → Type 0) (reply : HReply) : Type 0 where
@@ -60,9 +81,18 @@ pub record IsTameReply (W : ℕ → ℕ → Type 0) (reply : HReply) : Type 0 wh
   pub few : weight reply.receipts ≤ 32
   pub code : NoneWorn reply.receipts → reply.rc ≢ Hardware
 
-pub tame_reply : (W : ℕ → ℕ → Type 0) (plan : Plan) (reply : HReply) → IsTame W plan → IsReplyOf plan reply → IsTameReply W reply
+pub tame_reply :
+    (W : ℕ → ℕ → Type 0) (plan : Plan) (reply : HReply)
+    → IsTame W plan
+    → IsReplyOf plan reply
+    → IsTameReply W reply
 tame_reply W plan reply tame is = record {
   enters = trial_ops (EntersOnly W) plan.goes_on plan.calls reply.receipts tame.enters is.trial;
-  few = let least : calls_cost plan.calls ≤ 32 = tame.few in omega (arith, trial_weight plan.goes_on plan.calls reply.receipts is.trial);
-  code = λ fine. subst (λ (x : Rc × List ℕ). x.0 ≢ Hardware) (sym is.told) (tame.code reply.receipts is.trial fine);
+  few = let least :
+      calls_cost plan.calls ≤ 32 =
+      tame.few in omega (arith, trial_weight plan.goes_on plan.calls reply.receipts is.trial);
+  code =
+      λ fine.
+      subst (λ (x : Rc × List ℕ). x.0 ≢ Hardware) (sym is.told)
+      (tame.code reply.receipts is.trial fine);
 }

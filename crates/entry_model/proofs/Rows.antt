@@ -16,7 +16,15 @@ use Rattle.authority_mask.specs.Authority.{no_masks, with_mask, row_says, key_ro
 
 -- A valid entry: bolted, its page at 0x3000, M and N set, protection bits 2.
 entry : Bool → Bool → ℕ → State
-entry referenced changed stamp = record { valid = true; dword0 = 0x1011; dword1 = 0x3016; referenced = referenced; changed = changed; stamp = stamp }
+entry referenced changed stamp =
+    record {
+      valid = true;
+      dword0 = 0x1011;
+      dword1 = 0x3016;
+      referenced = referenced;
+      changed = changed;
+      stamp = stamp;
+    }
 
 -- ---- each operation
 enters : reply_of (empty_state 6) (Enter 0x1011 0x3196) ≡ (Entered, entry true true 7)
@@ -30,19 +38,37 @@ is_taken_already = refl
 is_worn : reply_of (empty_state 0xFFFFFFFF) (Enter 0x1011 0x3196) ≡ (Worn, empty_state 0xFFFFFFFF)
 is_worn = refl
 
-removes : reply_of (entry true true 4) (Remove (record { avpn = Some 0x1000; andcond = Some 0x68 })) ≡ (Removed, empty_state 5)
+removes :
+    reply_of (entry true true 4) (Remove (record { avpn = Some 0x1000; andcond = Some 0x68 }))
+    ≡ (Removed, empty_state 5)
 unfolding entry
 removes = refl
 
-fails_the_avpn : reply_of (entry true true 4) (Remove (record { avpn = Some 0x1080; andcond = None })) ≡ (NotFound, entry true true 4)
+fails_the_avpn :
+    reply_of (entry true true 4) (Remove (record { avpn = Some 0x1080; andcond = None }))
+    ≡ (NotFound, entry true true 4)
 unfolding entry
 fails_the_avpn = refl
 
-fails_the_andcond : reply_of (entry true true 4) (Remove (record { avpn = Some 0x1000; andcond = Some 0x10 })) ≡ (NotFound, entry true true 4)
+fails_the_andcond :
+    reply_of (entry true true 4) (Remove (record { avpn = Some 0x1000; andcond = Some 0x10 }))
+    ≡ (NotFound, entry true true 4)
 unfolding entry
 fails_the_andcond = refl
 
-protects : reply_of (entry true true 4) (Protect (record { avpn = None; andcond = None }) 0x3B05) ≡ (Protected, record { valid = true; dword0 = 0x1011; dword1 = 0xB000000000003A15; referenced = true; changed = true; stamp = 5 })
+protects :
+    reply_of (entry true true 4) (Protect (record { avpn = None; andcond = None }) 0x3B05)
+    ≡ (
+      Protected,
+      record {
+        valid = true;
+        dword0 = 0x1011;
+        dword1 = 0xB000000000003A15;
+        referenced = true;
+        changed = true;
+        stamp = 5;
+      },
+    )
 unfolding entry
 protects = refl
 
@@ -65,73 +91,121 @@ unfolding entry
 has_words = refl
 
 -- ---- accesses
-loads : reply_of (entry false false 4) (Access 0x1001 12 false false Load no_masks) ≡ (At, entry true false 4)
+loads :
+    reply_of (entry false false 4) (Access 0x1001 12 false false Load no_masks)
+    ≡ (At, entry true false 4)
 unfolding entry has_base permission rows row_says key_rows
 loads = refl
 
-stores : reply_of (entry false false 4) (Access 0x1001 12 true false Store no_masks) ≡ (At, entry true true 4)
+stores :
+    reply_of (entry false false 4) (Access 0x1001 12 true false Store no_masks)
+    ≡ (At, entry true true 4)
 unfolding entry has_base permission rows row_says key_rows
 stores = refl
 
-keeps_c : reply_of (entry false true 4) (Access 0x1001 12 true false Load no_masks) ≡ (At, entry true true 4)
+keeps_c :
+    reply_of (entry false true 4) (Access 0x1001 12 true false Load no_masks)
+    ≡ (At, entry true true 4)
 unfolding entry has_base permission rows row_says key_rows
 keeps_c = refl
 
-fetches_nothing : reply_of (entry false false 4) (Access 0x1001 12 false false Fetch no_masks) ≡ (Denied, entry false false 4)
+fetches_nothing :
+    reply_of (entry false false 4) (Access 0x1001 12 false false Fetch no_masks)
+    ≡ (Denied, entry false false 4)
 unfolding entry has_base permission rows row_says key_rows
 fetches_nothing = refl
 
-has_another_tag : reply_of (entry false false 4) (Access 0x1081 12 false false Load no_masks) ≡ (NoMatch, entry false false 4)
+has_another_tag :
+    reply_of (entry false false 4) (Access 0x1081 12 false false Load no_masks)
+    ≡ (NoMatch, entry false false 4)
 unfolding entry has_base permission rows row_says key_rows
 has_another_tag = refl
 
-is_primary : reply_of (entry false false 4) (Access 0x1003 12 false false Load no_masks) ≡ (NoMatch, entry false false 4)
+is_primary :
+    reply_of (entry false false 4) (Access 0x1003 12 false false Load no_masks)
+    ≡ (NoMatch, entry false false 4)
 unfolding entry has_base permission rows row_says key_rows
 is_primary = refl
 
-has_another_size : reply_of (entry false false 4) (Access 0x1001 16 false false Load no_masks) ≡ (NoMatch, entry false false 4)
+has_another_size :
+    reply_of (entry false false 4) (Access 0x1001 16 false false Load no_masks)
+    ≡ (NoMatch, entry false false 4)
 unfolding entry has_base permission rows row_says key_rows
 has_another_size = refl
 
-is_empty : reply_of (empty_state 4) (Access 0 12 false false Load no_masks) ≡ (NoMatch, empty_state 4)
+is_empty :
+    reply_of (empty_state 4) (Access 0 12 false false Load no_masks) ≡ (NoMatch, empty_state 4)
 unfolding has_base
 is_empty = refl
 
 -- A page of 64 KB that key 1 can read.
 large : Bool → State
-large referenced = record { valid = true; dword0 = 0x1005; dword1 = 0x51011; referenced = referenced; changed = false; stamp = 4 }
+large referenced =
+    record {
+      valid = true;
+      dword0 = 0x1005;
+      dword1 = 0x51011;
+      referenced = referenced;
+      changed = false;
+      stamp = 4;
+    }
 
-loads_from_64_kb : reply_of (large false) (Access 0x1001 16 true false Load no_masks) ≡ (At, large true)
+loads_from_64_kb :
+    reply_of (large false) (Access 0x1001 16 true false Load no_masks) ≡ (At, large true)
 unfolding large has_base permission rows row_says key_rows
 loads_from_64_kb = refl
 
-stores_nothing : reply_of (large false) (Access 0x1001 16 true false Store no_masks) ≡ (Denied, large false)
+stores_nothing :
+    reply_of (large false) (Access 0x1001 16 true false Store no_masks) ≡ (Denied, large false)
 unfolding large has_base permission rows row_says key_rows
 stores_nothing = refl
 
 -- ---- masks: an entry with key 1, which has the second two bits of each
 with_key : Bool → Bool → State
-with_key referenced changed = record { valid = true; dword0 = 0x1001; dword1 = 0x3212; referenced = referenced; changed = changed; stamp = 1 }
+with_key referenced changed =
+    record {
+      valid = true;
+      dword0 = 0x1001;
+      dword1 = 0x3212;
+      referenced = referenced;
+      changed = changed;
+      stamp = 1;
+    }
 
-no_stores : reply_of (with_key true false) (Access 0x1001 12 false false Store (with_mask no_masks Amr 0x2000000000000000)) ≡ (Masked, with_key true false)
+no_stores :
+    reply_of (with_key true false)
+    (Access 0x1001 12 false false Store (with_mask no_masks Amr 0x2000000000000000))
+    ≡ (Masked, with_key true false)
 unfolding with_key has_base permission rows row_says key_rows
 no_stores = refl
 
-loads_still : reply_of (with_key false false) (Access 0x1001 12 false false Load (with_mask no_masks Amr 0x2000000000000000)) ≡ (At, with_key true false)
+loads_still :
+    reply_of (with_key false false)
+    (Access 0x1001 12 false false Load (with_mask no_masks Amr 0x2000000000000000))
+    ≡ (At, with_key true false)
 unfolding with_key has_base permission rows row_says key_rows
 loads_still = refl
 
-no_fetches : reply_of (with_key true false) (Access 0x1001 12 false false Fetch (with_mask no_masks Iamr 0x1000000000000000)) ≡ (Masked, with_key true false)
+no_fetches :
+    reply_of (with_key true false)
+    (Access 0x1001 12 false false Fetch (with_mask no_masks Iamr 0x1000000000000000))
+    ≡ (Masked, with_key true false)
 unfolding with_key has_base permission rows row_says key_rows
 no_fetches = refl
 
 -- The entry's own protection refuses first.
-denied_first : reply_of (large false) (Access 0x1001 16 true false Store (with_mask no_masks Amr 0xFFFFFFFFFFFFFFFF)) ≡ (Denied, large false)
+denied_first :
+    reply_of (large false)
+    (Access 0x1001 16 true false Store (with_mask no_masks Amr 0xFFFFFFFFFFFFFFFF))
+    ≡ (Denied, large false)
 unfolding large has_base permission rows row_says key_rows
 denied_first = refl
 
 -- And an entry of another page has no say.
-of_another_page : reply_of (with_key false false) (Access 0x1081 12 false false Store (with_mask no_masks Amr 0xFFFFFFFFFFFFFFFF)) ≡ (NoMatch, with_key false false)
+of_another_page :
+    reply_of (with_key false false)
+    (Access 0x1081 12 false false Store (with_mask no_masks Amr 0xFFFFFFFFFFFFFFFF))
+    ≡ (NoMatch, with_key false false)
 unfolding with_key has_base permission rows row_says key_rows
 of_another_page = refl
 
@@ -144,7 +218,8 @@ place_of_a_look : place (receipt_of 0x20 (entry true true 4) Read) ≡ 36
 unfolding entry place pair_of state_eq
 place_of_a_look = refl
 
-place_of_a_store : place (receipt_of 0x20 (entry true false 4) (Access 0x1001 12 false false Store no_masks)) ≡ 35
+place_of_a_store :
+    place (receipt_of 0x20 (entry true false 4) (Access 0x1001 12 false false Store no_masks)) ≡ 35
 unfolding entry place pair_of state_eq has_base permission rows row_says key_rows
 place_of_a_store = refl
 
@@ -174,14 +249,19 @@ answers rs = map (λ (r : Receipt). r.answer) rs
 enter_both : List Call
 enter_both = call (Enter 0x1011 0x3096) 0 ∷ call (Enter 0x1011 0x3096) 1 ∷ []
 
-goes_past_the_taken : answers (trial_run is_taken (entry true true 4 ∷ empty_state 6 ∷ []) enter_both).0 ≡ Taken ∷ Entered ∷ []
+goes_past_the_taken :
+    answers (trial_run is_taken (entry true true 4 ∷ empty_state 6 ∷ []) enter_both).0
+    ≡ Taken ∷ Entered ∷ []
 unfolding entry trial_run answers enter_both
 goes_past_the_taken = refl
 
-leaves_the_taken : (trial_run is_taken (entry true true 4 ∷ empty_state 6 ∷ []) enter_both).1 ≡ entry true true 4 ∷ entry false true 7 ∷ []
+leaves_the_taken :
+    (trial_run is_taken (entry true true 4 ∷ empty_state 6 ∷ []) enter_both).1
+    ≡ entry true true 4 ∷ entry false true 7 ∷ []
 unfolding entry trial_run enter_both
 leaves_the_taken = refl
 
-ends_at_the_entered : answers (trial_run is_taken (empty_state 6 ∷ empty_state 6 ∷ []) enter_both).0 ≡ Entered ∷ []
+ends_at_the_entered :
+    answers (trial_run is_taken (empty_state 6 ∷ empty_state 6 ∷ []) enter_both).0 ≡ Entered ∷ []
 unfolding trial_run answers enter_both
 ends_at_the_entered = refl

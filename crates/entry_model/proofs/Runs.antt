@@ -7,7 +7,8 @@ use Rattle.entry_model.specs.Receipt.{after_of}
 use Rattle.entry_model.specs.Run.{IsRun}
 
 -- Two runs, one behind the other, are one.
-pub run_more : (a b c : List State) (xs ys : List Receipt) → IsRun a xs b → IsRun b ys c → IsRun a (xs ++ ys) c
+pub run_more :
+    (a b c : List State) (xs ys : List Receipt) → IsRun a xs b → IsRun b ys c → IsRun a (xs ++ ys) c
 run_more a b c [] ys ab bc = subst (λ s. IsRun s ys c) ab bc
 run_more a b c (x ∷ xs) ys ab bc = (ab.0, ab.1, run_more ab.0 b c xs ys ab.2 bc)
 

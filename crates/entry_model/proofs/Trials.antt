@@ -12,22 +12,36 @@ use Rattle.entry_model.specs.Trial.{Call, IsTrial, receipt_at, trial_run}
 use Rattle.entry_model.proofs.Exact.{same}
 
 -- the first receipt is the one that the states give
-first_is : (a mid : List State) (c : Call) (r : Receipt) → IsReceiptOf c.entry c.op r → IsStep a r mid → r ≡ receipt_at a c
-first_is a mid c r of step = same r c.entry (state_at a c.entry) c.op of.entry (step.before ∙ ap (state_at a) of.entry) of.op
+first_is :
+    (a mid : List State) (c : Call) (r : Receipt)
+    → IsReceiptOf c.entry c.op r
+    → IsStep a r mid
+    → r ≡ receipt_at a c
+first_is a mid c r of step =
+    same r c.entry (state_at a c.entry) c.op of.entry (step.before ∙ ap (state_at a) of.entry) of.op
 
 -- what the calls answer once the first receipt is r
 chosen : (Answer → Bool) → List State → List Call → Receipt → List Receipt × List State
 unfolding trial_run
 chosen goes a cs r =
-    if goes r.answer then (r ∷ (trial_run goes (states_after a r) cs).0, (trial_run goes (states_after a r) cs).1) else (r ∷ [], states_after a r)
+    if goes r.answer then
+    (r ∷ (trial_run goes (states_after a r) cs).0, (trial_run goes (states_after a r) cs).1)
+    else (r ∷ [], states_after a r)
 
-one_step : (goes : Answer → Bool) (a b : List State) (cs : List Call) (r : Receipt) (rs : List Receipt) → MatchBool (goes r.answer) (IsTrial goes cs rs) (rs ≡ []) → IsRun (states_after a r) rs b → (IsTrial goes cs rs → (rs, b) ≡ trial_run goes (states_after a r) cs) → (r ∷ rs, b) ≡ chosen goes a cs r
+one_step :
+    (goes : Answer → Bool) (a b : List State) (cs : List Call) (r : Receipt) (rs : List Receipt)
+    → MatchBool (goes r.answer) (IsTrial goes cs rs) (rs ≡ [])
+    → IsRun (states_after a r) rs b
+    → (IsTrial goes cs rs → (rs, b) ≡ trial_run goes (states_after a r) cs)
+    → (r ∷ rs, b) ≡ chosen goes a cs r
 unfolding chosen
 one_step goes a b cs r rs s run rest = at (cases_Bool (goes r.answer)) where
   at : (goes r.answer ≡ true) ⊎ (goes r.answer ≡ false) → (r ∷ rs, b) ≡ chosen goes a cs r
   at (inl on) =
       let more : (rs, b) ≡ trial_run goes (states_after a r) cs = rest (rw on at s) in
-      let whole : (r ∷ rs, b) ≡ (r ∷ (trial_run goes (states_after a r) cs).0, (trial_run goes (states_after a r) cs).1) = ap (λ (z : List Receipt × List State). (r ∷ z.0, z.1)) more in
+      let whole : (r ∷ rs, b) ≡
+      (r ∷ (trial_run goes (states_after a r) cs).0, (trial_run goes (states_after a r) cs).1) =
+      ap (λ (z : List Receipt × List State). (r ∷ z.0, z.1)) more in
       rw on whole
   at (inr off) =
       let none : rs ≡ [] = rw off at s in
@@ -35,14 +49,19 @@ one_step goes a b cs r rs s run rest = at (cases_Bool (goes r.answer)) where
       rw (off, none, stays) refl
 
 -- receipts made in turn on a list of states are those that the states give
-pub trial_is : (goes : Answer → Bool) (a b : List State) (cs : List Call) (rs : List Receipt) → IsTrial goes cs rs → IsRun a rs b → (rs, b) ≡ trial_run goes a cs
+pub trial_is :
+    (goes : Answer → Bool) (a b : List State) (cs : List Call) (rs : List Receipt)
+    → IsTrial goes cs rs
+    → IsRun a rs b
+    → (rs, b) ≡ trial_run goes a cs
 unfolding trial_run chosen
 trial_is goes a b [] [] s run = ap (λ (z : List State). ([], z)) run
 trial_is goes a b [] (r ∷ rs) s run = absurd s
 trial_is goes a b (c ∷ cs) [] s run = absurd s
 trial_is goes a b (c ∷ cs) (r ∷ rs) s run =
     let on : IsRun (states_after a r) rs b = subst (λ m. IsRun m rs b) run.1.after run.2 in
-    one_step goes a b cs r rs s.1 on (λ s'. trial_is goes (states_after a r) b cs rs s' on) ∙ ap (chosen goes a cs) (first_is a run.0 c r s.0 run.1)
+    one_step goes a b cs r rs s.1 on (λ s'. trial_is goes (states_after a r) b cs rs s' on)
+    ∙ ap (chosen goes a cs) (first_is a run.0 c r s.0 run.1)
 
 -- ---- the calls on a list of states are made in turn
 abbrev pub Within : ℕ → List Call → Type 0
@@ -51,10 +70,18 @@ Within n cs = AllByRecursion (λ c. c.entry < n) cs
 abbrev pub Meets : (Answer → Bool) → List State → List Call → List Receipt × List State → Type 0
 Meets goes a cs x = IsTrial goes cs x.0 × IsRun a x.0 x.1
 
-within_after : (a : List State) (r : Receipt) (cs : List Call) → Within (length a) cs → Within (length (states_after a r)) cs
+within_after :
+    (a : List State) (r : Receipt) (cs : List Call)
+    → Within (length a) cs
+    → Within (length (states_after a r)) cs
 within_after a r cs h = subst (λ n. Within n cs) (sym (length-set a r.entry (after_of r))) h
 
-meets_step : (goes : Answer → Bool) (a : List State) (c : Call) (cs : List Call) → c.entry < length a → Meets goes (states_after a (receipt_at a c)) cs (trial_run goes (states_after a (receipt_at a c)) cs) → Meets goes a (c ∷ cs) (chosen goes a cs (receipt_at a c))
+meets_step :
+    (goes : Answer → Bool) (a : List State) (c : Call) (cs : List Call)
+    → c.entry < length a
+    → Meets goes (states_after a (receipt_at a c)) cs
+    (trial_run goes (states_after a (receipt_at a c)) cs)
+    → Meets goes a (c ∷ cs) (chosen goes a cs (receipt_at a c))
 unfolding chosen
 meets_step goes a c cs within rest = at (cases_Bool (goes r.answer)) where
   r : Receipt
@@ -72,7 +99,13 @@ meets_step goes a c cs within rest = at (cases_Bool (goes r.answer)) where
       rw on ((of, rw on rest.0), (states_after a r, step, rest.1))
   at (inr off) = rw off ((of, rw off refl), (states_after a r, step, refl))
 
-pub trial_meets : (goes : Answer → Bool) (a : List State) (cs : List Call) → Within (length a) cs → Meets goes a cs (trial_run goes a cs)
+pub trial_meets :
+    (goes : Answer → Bool) (a : List State) (cs : List Call)
+    → Within (length a) cs
+    → Meets goes a cs (trial_run goes a cs)
 unfolding trial_run chosen
 trial_meets goes a [] h = (tt, refl)
-trial_meets goes a (c ∷ cs) h = meets_step goes a c cs h.0 (trial_meets goes (states_after a (receipt_at a c)) cs (within_after a (receipt_at a c) cs h.1))
+trial_meets goes a (c ∷ cs) h =
+    meets_step goes a c cs h.0
+    (trial_meets goes (states_after a (receipt_at a c)) cs
+    (within_after a (receipt_at a c) cs h.1))

@@ -6,7 +6,8 @@ use Rattle.frame_grants.specs.declared.grant.Kind.TheVariants.{Ram}
 use Rattle.frame_grants.specs.Grants.{GrantedMemory, no_grants, refusals, add_refusal, with_grant, machine_range}
 
 ram : ℕ → ℕ → ℕ → Grant
-ram logical machine length = record { logical = logical; machine = machine; length = length; kind = Ram }
+ram logical machine length =
+    record { logical = logical; machine = machine; length = length; kind = Ram }
 
 -- Two grants side by side.
 two : List Grant
@@ -58,11 +59,15 @@ to_the_top : add_refusal pool (ram 0xffffffffffff000 0x2000000000 0x1000) ≡ No
 unfolding add_refusal refusals pool ram
 to_the_top = refl
 
-overlap_first : add_refusal (with_grant pool (ram 0 0x2000000000 0x1000)) (ram 0 0x1000000000 0x1000) ≡ Some Overlap
+overlap_first :
+    add_refusal (with_grant pool (ram 0 0x2000000000 0x1000)) (ram 0 0x1000000000 0x1000)
+    ≡ Some Overlap
 unfolding add_refusal refusals with_grant pool ram
 overlap_first = refl
 
-machine_overlap : add_refusal (with_grant pool (ram 0 0x2000000000 0x2000)) (ram 0x2000 0x2000001000 0x1000) ≡ Some Overlap
+machine_overlap :
+    add_refusal (with_grant pool (ram 0 0x2000000000 0x2000)) (ram 0x2000 0x2000001000 0x1000)
+    ≡ Some Overlap
 unfolding add_refusal refusals with_grant pool ram
 machine_overlap = refl
 
@@ -75,6 +80,13 @@ unfolding add_refusal refusals pool ram
 past_pool = refl
 
 -- ---- the order of the list
-in_order : (with_grant (with_grant (with_grant pool (ram 0x5000 0x2000005000 0x1000)) (ram 0x9000 0x2000009000 0x1000)) (ram 0x7000 0x2000007000 0x1000)).grants ≡ ram 0x5000 0x2000005000 0x1000 ∷ ram 0x7000 0x2000007000 0x1000 ∷ ram 0x9000 0x2000009000 0x1000 ∷ []
+in_order :
+    (with_grant
+    (with_grant (with_grant pool (ram 0x5000 0x2000005000 0x1000))
+    (ram 0x9000 0x2000009000 0x1000)) (ram 0x7000 0x2000007000 0x1000)).grants
+    ≡ ram 0x5000 0x2000005000 0x1000
+    ∷ ram 0x7000 0x2000007000 0x1000
+    ∷ ram 0x9000 0x2000009000 0x1000
+    ∷ []
 unfolding with_grant pool ram
 in_order = refl

@@ -14,24 +14,48 @@ use Rattle.h_enter.specs.Checks.{h_enter_plan, words_plan}
 use Rattle.entry_model.proofs.TrialSteps.{calls_from}
 use Rattle.h_enter.proofs.Search.{groups_of_eight}
 
-pub trials_within : (n : ℕ) (op : Op) (first count : ℕ) → first + count ≤ n → Within n (calls_from op first count)
+pub trials_within :
+    (n : ℕ) (op : Op) (first count : ℕ) → first + count ≤ n → Within n (calls_from op first count)
 trials_within n op first zero h = tt
-trials_within n op first (suc count) h = (omega arith, trials_within n op (first + 1) count (omega arith))
+trials_within n op first (suc count) h =
+    (omega arith, trials_within n op (first + 1) count (omega arith))
 
-candidates_within : (order : ℕ) (op : Op) (flags ptex : ℕ) → 18 ≤ order → ptex < 2 ^ (order - 4) → Within (2 ^ (order - 4)) (map (call op) (candidates flags ptex))
+candidates_within :
+    (order : ℕ) (op : Op) (flags ptex : ℕ)
+    → 18 ≤ order
+    → ptex < 2 ^ (order - 4)
+    → Within (2 ^ (order - 4)) (map (call op) (candidates flags ptex))
 unfolding candidates
-candidates_within order op flags ptex low inside = at (cases_Bool (has_flag flags 0x8000000000)) where
-  at : (has_flag flags 0x8000000000 ≡ true) ⊎ (has_flag flags 0x8000000000 ≡ false) → Within (2 ^ (order - 4)) (map (call op) (candidates flags ptex))
-  at (inl exact) = rw exact (trials_within _ op ptex 1 (omega arith))
-  at (inr group) = let whole = groups_of_eight order low in rw group (trials_within _ op (ptex / 8 * 8) 8 (omega arith))
+candidates_within order op flags ptex low inside =
+    at (cases_Bool (has_flag flags 0x8000000000)) where
+      at :
+          (has_flag flags 0x8000000000 ≡ true) ⊎ (has_flag flags 0x8000000000 ≡ false)
+          → Within (2 ^ (order - 4)) (map (call op) (candidates flags ptex))
+      at (inl exact) = rw exact (trials_within _ op ptex 1 (omega arith))
+      at (inr group) =
+          let whole = groups_of_eight order low in
+          rw group (trials_within _ op (ptex / 8 * 8) 8 (omega arith))
 
-words_within : (order flags ptex : ℕ) (words : Option (ℕ × ℕ)) → 18 ≤ order → ptex < 2 ^ (order - 4) → Within (2 ^ (order - 4)) (words_plan flags ptex words).calls
+words_within :
+    (order flags ptex : ℕ) (words : Option (ℕ × ℕ))
+    → 18 ≤ order
+    → ptex < 2 ^ (order - 4)
+    → Within (2 ^ (order - 4)) (words_plan flags ptex words).calls
 words_within order flags ptex None low inside = tt
-words_within order flags ptex (Some w) low inside = candidates_within order (Enter w.0 w.1) flags ptex low inside
+words_within order flags ptex (Some w) low inside =
+    candidates_within order (Enter w.0 w.1) flags ptex low inside
 
-pub h_enter_within : (order : ℕ) (grants : List Grant) (flags ptex pteh ptel : ℕ) → 18 ≤ order → Within (2 ^ (order - 4)) (h_enter_plan order grants flags ptex pteh ptel).calls
+pub h_enter_within :
+    (order : ℕ) (grants : List Grant) (flags ptex pteh ptel : ℕ)
+    → 18 ≤ order
+    → Within (2 ^ (order - 4)) (h_enter_plan order grants flags ptex pteh ptel).calls
 unfolding h_enter_plan
-h_enter_within order grants flags ptex pteh ptel low = at (cases_Bool (nat_lt ptex (2 ^ (order - 4)))) where
-  at : (nat_lt ptex (2 ^ (order - 4)) ≡ true) ⊎ (nat_lt ptex (2 ^ (order - 4)) ≡ false) → Within (2 ^ (order - 4)) (h_enter_plan order grants flags ptex pteh ptel).calls
-  at (inl inside) = rw inside (words_within order flags ptex (entered_words grants pteh ptel) low (ltb-true _ _ inside))
-  at (inr outside) = rw outside tt
+h_enter_within order grants flags ptex pteh ptel low =
+    at (cases_Bool (nat_lt ptex (2 ^ (order - 4)))) where
+      at :
+          (nat_lt ptex (2 ^ (order - 4)) ≡ true) ⊎ (nat_lt ptex (2 ^ (order - 4)) ≡ false)
+          → Within (2 ^ (order - 4)) (h_enter_plan order grants flags ptex pteh ptel).calls
+      at (inl inside) =
+          rw inside
+          (words_within order flags ptex (entered_words grants pteh ptel) low (ltb-true _ _ inside))
+      at (inr outside) = rw outside tt

@@ -9,16 +9,21 @@ use Rattle.h_enter.specs.Enter.{enter_told, told_by_ending}
 
 -- A table is whole groups of eight entries.
 pub groups_of_eight : (k : ℕ) → 18 ≤ k → 2 ^ (k - 4) ≡ 2 ^ (k - 7) * 8
-groups_of_eight k low = let e : k - 4 ≡ (k - 7) + 3 = omega arith in ap (λ n. 2 ^ n) e ∙ pow-add 2 (k - 7) 3
+groups_of_eight k low = let e :
+    k - 4 ≡ (k - 7) + 3 = omega arith in ap (λ n. 2 ^ n) e ∙ pow-add 2 (k - 7) 3
 
 -- And at most 2 ^ 18 entries.
-pub whole_groups : (k : ℕ) → 18 ≤ k → k ≤ 22 → (2 ^ (k - 4) ≡ 2 ^ (k - 7) * 8) × (2 ^ (k - 4) ≤ 2 ^ 18)
+pub whole_groups :
+    (k : ℕ) → 18 ≤ k → k ≤ 22 → (2 ^ (k - 4) ≡ 2 ^ (k - 7) * 8) × (2 ^ (k - 4) ≤ 2 ^ 18)
 whole_groups k low high = (groups_of_eight k low, pow_mono {i = k - 4} {j = 18} (omega arith))
 
 -- The code and the words are those of the receipt that ended the search.
 pub told_is : (rs : List Receipt) → told_by_ending (ending_of is_taken rs) ≡ enter_told rs
 told_is [] = refl
 told_is (r ∷ rs) = at (told_is rs) (cases_Bool (is_taken r.answer)) where
-  at : told_by_ending (ending_of is_taken rs) ≡ enter_told rs → (is_taken r.answer ≡ true) ⊎ (is_taken r.answer ≡ false) → told_by_ending (ending_of is_taken (r ∷ rs)) ≡ enter_told (r ∷ rs)
+  at :
+      told_by_ending (ending_of is_taken rs) ≡ enter_told rs
+      → (is_taken r.answer ≡ true) ⊎ (is_taken r.answer ≡ false)
+      → told_by_ending (ending_of is_taken (r ∷ rs)) ≡ enter_told (r ∷ rs)
   at rest (inl taken) = rw taken rest
   at rest (inr free) = rw free refl

@@ -17,46 +17,75 @@ use Rattle.h_update.proofs.BulkSteps.{asked_in_table}
 use Rattle.entry_model.specs.declared.operation.Op.TheVariants as ops
 
 -- ---- one entry
-single_within : (order ptex : ℕ) (op : Op) (words : Receipt → List ℕ) → Within (2 ^ (order - 4)) (single_plan order ptex op words).calls
+single_within :
+    (order ptex : ℕ) (op : Op) (words : Receipt → List ℕ)
+    → Within (2 ^ (order - 4)) (single_plan order ptex op words).calls
 single_within order ptex op words = at (cases_Bool (nat_lt ptex (2 ^ (order - 4)))) where
-  at : (nat_lt ptex (2 ^ (order - 4)) ≡ true) ⊎ (nat_lt ptex (2 ^ (order - 4)) ≡ false) → Within (2 ^ (order - 4)) (single_plan order ptex op words).calls
+  at :
+      (nat_lt ptex (2 ^ (order - 4)) ≡ true) ⊎ (nat_lt ptex (2 ^ (order - 4)) ≡ false)
+      → Within (2 ^ (order - 4)) (single_plan order ptex op words).calls
   at (inl inside) = rw inside (ltb-true _ _ inside, tt)
   at (inr outside) = rw outside tt
 
-pub h_remove_within : (order flags ptex avpn : ℕ) → 18 ≤ order → Within (2 ^ (order - 4)) (h_remove_plan order flags ptex avpn).calls
+pub h_remove_within :
+    (order flags ptex avpn : ℕ)
+    → 18 ≤ order
+    → Within (2 ^ (order - 4)) (h_remove_plan order flags ptex avpn).calls
 unfolding h_remove_plan
-h_remove_within order flags ptex avpn low = single_within order ptex (ops.Remove (remove_test flags avpn)) both_words
+h_remove_within order flags ptex avpn low =
+    single_within order ptex (ops.Remove (remove_test flags avpn)) both_words
 
-pub h_protect_within : (order flags ptex avpn : ℕ) → 18 ≤ order → Within (2 ^ (order - 4)) (h_protect_plan order flags ptex avpn).calls
+pub h_protect_within :
+    (order flags ptex avpn : ℕ)
+    → 18 ≤ order
+    → Within (2 ^ (order - 4)) (h_protect_plan order flags ptex avpn).calls
 unfolding h_protect_plan
-h_protect_within order flags ptex avpn low = single_within order ptex (ops.Protect (protect_test flags avpn) flags) (λ r. [])
+h_protect_within order flags ptex avpn low =
+    single_within order ptex (ops.Protect (protect_test flags avpn) flags) (λ r. [])
 
-pub h_clear_ref_within : (order ptex : ℕ) → 18 ≤ order → Within (2 ^ (order - 4)) (h_clear_ref_plan order ptex).calls
+pub h_clear_ref_within :
+    (order ptex : ℕ) → 18 ≤ order → Within (2 ^ (order - 4)) (h_clear_ref_plan order ptex).calls
 unfolding h_clear_ref_plan
 h_clear_ref_within order ptex low = single_within order ptex ops.ClearRef second_word
 
-pub h_clear_mod_within : (order ptex : ℕ) → 18 ≤ order → Within (2 ^ (order - 4)) (h_clear_mod_plan order ptex).calls
+pub h_clear_mod_within :
+    (order ptex : ℕ) → 18 ≤ order → Within (2 ^ (order - 4)) (h_clear_mod_plan order ptex).calls
 unfolding h_clear_mod_plan
 h_clear_mod_within order ptex low = single_within order ptex ops.ClearMod second_word
 
 -- ---- H_READ
-reads_within : (order flags ptex : ℕ) → 18 ≤ order → ptex < 2 ^ (order - 4) → Within (2 ^ (order - 4)) (map (call ops.Read) (read_entries flags ptex))
+reads_within :
+    (order flags ptex : ℕ)
+    → 18 ≤ order
+    → ptex < 2 ^ (order - 4)
+    → Within (2 ^ (order - 4)) (map (call ops.Read) (read_entries flags ptex))
 reads_within order flags ptex low inside = at (cases_Bool (has_flag flags 0x2000000000)) where
-  at : (has_flag flags 0x2000000000 ≡ true) ⊎ (has_flag flags 0x2000000000 ≡ false) → Within (2 ^ (order - 4)) (map (call ops.Read) (read_entries flags ptex))
+  at :
+      (has_flag flags 0x2000000000 ≡ true) ⊎ (has_flag flags 0x2000000000 ≡ false)
+      → Within (2 ^ (order - 4)) (map (call ops.Read) (read_entries flags ptex))
   at (inl four) =
       let last = fours_in_table order ptex low inside in
       rw four (omega arith, (omega arith, (omega arith, (omega arith, tt))))
   at (inr one) = rw one (inside, tt)
 
-pub h_read_within : (order flags ptex : ℕ) → 18 ≤ order → Within (2 ^ (order - 4)) (h_read_plan order flags ptex).calls
+pub h_read_within :
+    (order flags ptex : ℕ)
+    → 18 ≤ order
+    → Within (2 ^ (order - 4)) (h_read_plan order flags ptex).calls
 unfolding h_read_plan
 h_read_within order flags ptex low = at (cases_Bool (nat_lt ptex (2 ^ (order - 4)))) where
-  at : (nat_lt ptex (2 ^ (order - 4)) ≡ true) ⊎ (nat_lt ptex (2 ^ (order - 4)) ≡ false) → Within (2 ^ (order - 4)) (h_read_plan order flags ptex).calls
+  at :
+      (nat_lt ptex (2 ^ (order - 4)) ≡ true) ⊎ (nat_lt ptex (2 ^ (order - 4)) ≡ false)
+      → Within (2 ^ (order - 4)) (h_read_plan order flags ptex).calls
   at (inl inside) = rw inside (reads_within order flags ptex low (ltb-true _ _ inside))
   at (inr outside) = rw outside tt
 
 -- ---- H_BULK_REMOVE
-before_within : (n : ℕ) (asks : Asked) (rest : List Call) → ((entry : ℕ) (test : Test) → asks ≡ Remove entry test → entry < n) → Within n rest → Within n (calls_before asks rest)
+before_within :
+    (n : ℕ) (asks : Asked) (rest : List Call)
+    → ((entry : ℕ) (test : Test) → asks ≡ Remove entry test → entry < n)
+    → Within n rest
+    → Within n (calls_before asks rest)
 before_within n End rest inside h = tt
 before_within n (Remove entry test) rest inside h = (inside entry test refl, h)
 before_within n Refused rest inside h = tt
@@ -64,8 +93,13 @@ before_within n Refused rest inside h = tt
 bulk_within : (order : ℕ) (ps : List Pair) → Within (2 ^ (order - 4)) (bulk_calls order ps)
 unfolding bulk_calls
 bulk_within order [] = tt
-bulk_within order (p ∷ ps) = before_within (2 ^ (order - 4)) (asked_by order p) (bulk_calls order ps) (asked_in_table order p) (bulk_within order ps)
+bulk_within order (p ∷ ps) =
+    before_within (2 ^ (order - 4)) (asked_by order p) (bulk_calls order ps)
+    (asked_in_table order p) (bulk_within order ps)
 
-pub h_bulk_remove_within : (order : ℕ) (pairs : List ℕ) → 18 ≤ order → Within (2 ^ (order - 4)) (h_bulk_remove_plan order pairs).calls
+pub h_bulk_remove_within :
+    (order : ℕ) (pairs : List ℕ)
+    → 18 ≤ order
+    → Within (2 ^ (order - 4)) (h_bulk_remove_plan order pairs).calls
 unfolding h_bulk_remove_plan
 h_bulk_remove_within order pairs low = bulk_within order (pairs_of pairs)

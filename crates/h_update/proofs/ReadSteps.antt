@@ -9,7 +9,8 @@ whole_fours order low =
     ap (λ n. 2 ^ n) e ∙ pow-add 2 (order - 6) 2
 
 -- The four entries that an entry of the table lies among are in it.
-pub fours_in_table : (order ptex : ℕ) → 18 ≤ order → ptex < 2 ^ (order - 4) → ptex / 4 * 4 + 3 < 2 ^ (order - 4)
+pub fours_in_table :
+    (order ptex : ℕ) → 18 ≤ order → ptex < 2 ^ (order - 4) → ptex / 4 * 4 + 3 < 2 ^ (order - 4)
 fours_in_table order ptex low h = let whole = whole_fours order low in omega arith
 
 -- A table has at most 2 ^ 18 entries.

@@ -30,7 +30,10 @@ pub record Alike (x y : Receipt) : Type 0 where
   pub op : step_op x.op ≡ step_op y.op
 
 -- ---- R and C of a mark
-pub digit_bits : (a b c d : Bool) → (if a then 2 else 0) + (if b then 1 else 0) ≡ (if c then 2 else 0) + (if d then 1 else 0) → (a ≡ c) × (b ≡ d)
+pub digit_bits :
+    (a b c d : Bool)
+    → (if a then 2 else 0) + (if b then 1 else 0) ≡ (if c then 2 else 0) + (if d then 1 else 0)
+    → (a ≡ c) × (b ≡ d)
 digit_bits true true true true h = (refl, refl)
 digit_bits true false true false h = (refl, refl)
 digit_bits false true false true h = (refl, refl)
@@ -48,8 +51,13 @@ digit_bits false false true true h = absurd (omega (arith, h))
 digit_bits false false true false h = absurd (omega (arith, h))
 digit_bits false false false true h = absurd (omega (arith, h))
 
-same_bits : (x y : Receipt) → mark_of x ≡ mark_of y → (x.before.referenced ≡ y.before.referenced) × (x.before.changed ≡ y.before.changed)
-same_bits x y h = digit_bits x.before.referenced x.before.changed y.before.referenced y.before.changed (ap (λ m. m.bits) h)
+same_bits :
+    (x y : Receipt)
+    → mark_of x ≡ mark_of y
+    → (x.before.referenced ≡ y.before.referenced) × (x.before.changed ≡ y.before.changed)
+same_bits x y h =
+    digit_bits x.before.referenced x.before.changed y.before.referenced y.before.changed
+    (ap (λ m. m.bits) h)
 
 -- ---- the state after, by the state before and the answer
 abbrev next_by : Op → State → State
@@ -62,34 +70,76 @@ next_by ops.ClearMod s = record s { changed = false }
 next_by (ops.Access tag base key no_execute want masks) s = touched_state s want
 
 abbrev after_by : Op → Answer → State → State
-after_by op answer s = if raises_stamp answer then record (next_by op s) { stamp = s.stamp + 1 } else if is_at answer then next_by op s else s
+after_by op answer s =
+    if raises_stamp answer then record (next_by op s) { stamp = s.stamp + 1 } else if is_at answer
+    then next_by op s else s
 
-pub either_P : (b : Bool) (p q : Answer × State) (P : Answer × State → Type 0) → P p → P q → P (if◌then◌else◌ {A = Answer × State} b p q)
+pub either_P :
+    (b : Bool) (p q : Answer × State) (P : Answer × State → Type 0)
+    → P p
+    → P q
+    → P (if◌then◌else◌ {A = Answer × State} b p q)
 either_P true p q P h k = h
 either_P false p q P h k = k
 
 abbrev IsAfter : Op → State → Answer × State → Type 0
 IsAfter op s x = x.1 ≡ after_by op x.0 s
 
-pub changed_after : (s : State) (answer : Answer) (next : State) (P : Answer × State → Type 0) → P (answers.Worn, s) → P (answer, record next { stamp = s.stamp + 1 }) → P (change_to s answer next)
-changed_after s answer next P h k = either_P (s.stamp == 0xFFFFFFFF) (answers.Worn, s) (answer, record next { stamp = s.stamp + 1 }) P h k
+pub changed_after :
+    (s : State) (answer : Answer) (next : State) (P : Answer × State → Type 0)
+    → P (answers.Worn, s)
+    → P (answer, record next { stamp = s.stamp + 1 })
+    → P (change_to s answer next)
+changed_after s answer next P h k =
+    either_P (s.stamp == 0xFFFFFFFF) (answers.Worn, s) (answer, record next { stamp = s.stamp + 1 })
+    P h k
 
-pub where_after : (found : Bool) (s : State) (answer : Answer) (next : State) (P : Answer × State → Type 0) → P (answers.NotFound, s) → P (answers.Worn, s) → P (answer, record next { stamp = s.stamp + 1 }) → P (change_where found s answer next)
-where_after found s answer next P g h k = either_P found (change_to s answer next) (answers.NotFound, s) P (changed_after s answer next P h k) g
+pub where_after :
+    (found : Bool) (s : State) (answer : Answer) (next : State) (P : Answer × State → Type 0)
+    → P (answers.NotFound, s)
+    → P (answers.Worn, s)
+    → P (answer, record next { stamp = s.stamp + 1 })
+    → P (change_where found s answer next)
+where_after found s answer next P g h k =
+    either_P found (change_to s answer next) (answers.NotFound, s) P
+    (changed_after s answer next P h k) g
 
 after_is : (s : State) (op : Op) → IsAfter (step_op op) s (reply_of s op)
-after_is s (ops.Enter a b) = either_P s.valid (answers.Taken, s) (change_to s answers.Entered (entered_state a b)) (IsAfter (ops.Enter a b) s) refl (changed_after s answers.Entered (entered_state a b) (IsAfter (ops.Enter a b) s) refl refl)
-after_is s (ops.Remove test) = where_after (is_found s test) s answers.Removed (empty_state 0) (IsAfter (ops.Remove test) s) refl refl refl
-after_is s (ops.Protect test flags) = where_after (is_found s test) s answers.Protected (record s { dword1 = protected_word s.dword1 flags }) (IsAfter (ops.Protect test flags) s) refl refl refl
+after_is s (ops.Enter a b) =
+    either_P s.valid (answers.Taken, s) (change_to s answers.Entered (entered_state a b))
+    (IsAfter (ops.Enter a b) s) refl
+    (changed_after s answers.Entered (entered_state a b) (IsAfter (ops.Enter a b) s) refl refl)
+after_is s (ops.Remove test) =
+    where_after (is_found s test) s answers.Removed (empty_state 0) (IsAfter (ops.Remove test) s)
+    refl refl refl
+after_is s (ops.Protect test flags) =
+    where_after (is_found s test) s answers.Protected
+    (record s { dword1 = protected_word s.dword1 flags }) (IsAfter (ops.Protect test flags) s)
+    refl refl refl
 after_is s ops.Read = refl
-after_is s ops.ClearRef = where_after s.valid s answers.Was (record s { referenced = false }) (IsAfter ops.ClearRef s) refl refl refl
-after_is s ops.ClearMod = where_after s.valid s answers.Was (record s { changed = false }) (IsAfter ops.ClearMod s) refl refl refl
+after_is s ops.ClearRef =
+    where_after s.valid s answers.Was (record s { referenced = false }) (IsAfter ops.ClearRef s)
+    refl refl refl
+after_is s ops.ClearMod =
+    where_after s.valid s answers.Was (record s { changed = false }) (IsAfter ops.ClearMod s) refl
+    refl refl
 after_is s (ops.Access t b k n w masks) =
-    either_P (is_match s t b) (answer_of_match s (access_mode k n w masks)) (answers.NoMatch, s) (IsAfter (ops.Access 0 0 false false w no_masks) s) (either_P (is_allowed s (access_mode k n w masks)) (answer_of_allowed s (access_mode k n w masks)) (answers.Denied, s) (IsAfter (ops.Access 0 0 false false w no_masks) s) (either_P (masks_refuse s (access_mode k n w masks)) (answers.Masked, s) (answers.At, touched_state s w) (IsAfter (ops.Access 0 0 false false w no_masks) s) refl refl) refl) refl
+    either_P (is_match s t b) (answer_of_match s (access_mode k n w masks)) (answers.NoMatch, s)
+    (IsAfter (ops.Access 0 0 false false w no_masks) s)
+    (either_P (is_allowed s (access_mode k n w masks))
+    (answer_of_allowed s (access_mode k n w masks)) (answers.Denied, s)
+    (IsAfter (ops.Access 0 0 false false w no_masks) s)
+    (either_P (masks_refuse s (access_mode k n w masks)) (answers.Masked, s)
+    (answers.At, touched_state s w)
+    (IsAfter (ops.Access 0 0 false false w no_masks) s) refl refl) refl) refl
 
 alike_after : (x y : Receipt) → Alike x y → x.before ≡ y.before → after_of x ≡ after_of y
 alike_after x y h e =
-    after_is x.before x.op ∙ ap (λ a. after_by (step_op x.op) a x.before) (sym x.lawful) ∙ (λ i. after_by (h.op i) (h.mark i).answer (e i)) ∙ ap (λ a. after_by (step_op y.op) a y.before) y.lawful ∙ sym (after_is y.before y.op)
+    after_is x.before x.op
+    ∙ ap (λ a. after_by (step_op x.op) a x.before) (sym x.lawful)
+    ∙ (λ i. after_by (h.op i) (h.mark i).answer (e i))
+    ∙ ap (λ a. after_by (step_op y.op) a y.before) y.lawful
+    ∙ sym (after_is y.before y.op)
 
 -- ---- whether a receipt changed something shows
 never_last : (a b : Bool) → (a && (b && false)) ≡ false
@@ -102,47 +152,98 @@ unfolding state_eq
 above_stamp s t e = at (cases_Bool (t.stamp == s.stamp)) where
   at : (t.stamp == s.stamp ≡ true) ⊎ (t.stamp == s.stamp ≡ false) → state_eq t s ≡ false
   at (inl h) = let same : t.stamp ≡ s.stamp = eqb-true t.stamp s.stamp h in absurd (omega arith)
-  at (inr h) = rw h (never_last (bool_eq t.valid s.valid && (t.dword0 == s.dword0) && (t.dword1 == s.dword1)) (bool_eq t.referenced s.referenced && bool_eq t.changed s.changed))
+  at (inr h) =
+      rw h
+      (never_last (bool_eq t.valid s.valid && (t.dword0 == s.dword0) && (t.dword1 == s.dword1))
+      (bool_eq t.referenced s.referenced && bool_eq t.changed s.changed))
 
-touched_eq : (s : State) (w : Want) → state_eq (touched_state s w) s ≡ (bool_eq true s.referenced && bool_eq (s.changed || is_store w) s.changed)
+touched_eq :
+    (s : State) (w : Want)
+    → state_eq (touched_state s w) s
+    ≡ (bool_eq true s.referenced && bool_eq (s.changed || is_store w) s.changed)
 unfolding state_eq
-touched_eq s w = rw (bool_same_self s.valid, eq-eqb s.dword0 s.dword0 refl, eq-eqb s.dword1 s.dword1 refl, eq-eqb s.stamp s.stamp refl) (with_true (bool_eq true s.referenced) (bool_eq (s.changed || is_store w) s.changed)) where
-  bool_same_self : (b : Bool) → bool_eq b b ≡ true
-  bool_same_self true = refl
-  bool_same_self false = refl
+touched_eq s w =
+    rw (
+      bool_same_self s.valid,
+      eq-eqb s.dword0 s.dword0 refl,
+      eq-eqb s.dword1 s.dword1 refl,
+      eq-eqb s.stamp s.stamp refl,
+    )
+    (with_true (bool_eq true s.referenced) (bool_eq (s.changed || is_store w) s.changed)) where
+      bool_same_self : (b : Bool) → bool_eq b b ≡ true
+      bool_same_self true = refl
+      bool_same_self false = refl
 
-  with_true : (a b : Bool) → (a && b && true) ≡ (a && b)
-  with_true true true = refl
-  with_true true false = refl
-  with_true false b = refl
+      with_true : (a b : Bool) → (a && b && true) ≡ (a && b)
+      with_true true true = refl
+      with_true true false = refl
+      with_true false b = refl
 
 abbrev IsUnchanged : Op → State → Answer × State → Type 0
 IsUnchanged op s x = state_eq x.1 s ≡ is_unchanged (is_store_access op) x.0 s.referenced s.changed
 
 unchanged_is : (s : State) (op : Op) → IsUnchanged (step_op op) s (reply_of s op)
-unchanged_is s (ops.Enter a b) = either_P s.valid (answers.Taken, s) (change_to s answers.Entered (entered_state a b)) (IsUnchanged (ops.Enter a b) s) (state_self s) (changed_after s answers.Entered (entered_state a b) (IsUnchanged (ops.Enter a b) s) (state_self s) (above_stamp s (record (entered_state a b) { stamp = s.stamp + 1 }) refl))
-unchanged_is s (ops.Remove test) = where_after (is_found s test) s answers.Removed (empty_state 0) (IsUnchanged (ops.Remove test) s) (state_self s) (state_self s) (above_stamp s (record (empty_state 0) { stamp = s.stamp + 1 }) refl)
-unchanged_is s (ops.Protect test flags) = where_after (is_found s test) s answers.Protected (record s { dword1 = protected_word s.dword1 flags }) (IsUnchanged (ops.Protect test flags) s) (state_self s) (state_self s) (above_stamp s (record s { dword1 = protected_word s.dword1 flags; stamp = s.stamp + 1 }) refl)
+unchanged_is s (ops.Enter a b) =
+    either_P s.valid (answers.Taken, s) (change_to s answers.Entered (entered_state a b))
+    (IsUnchanged (ops.Enter a b) s) (state_self s)
+    (changed_after s answers.Entered (entered_state a b) (IsUnchanged (ops.Enter a b) s)
+    (state_self s)
+    (above_stamp s (record (entered_state a b) { stamp = s.stamp + 1 }) refl))
+unchanged_is s (ops.Remove test) =
+    where_after (is_found s test) s answers.Removed (empty_state 0)
+    (IsUnchanged (ops.Remove test) s) (state_self s) (state_self s)
+    (above_stamp s (record (empty_state 0) { stamp = s.stamp + 1 }) refl)
+unchanged_is s (ops.Protect test flags) =
+    where_after (is_found s test) s answers.Protected
+    (record s { dword1 = protected_word s.dword1 flags })
+    (IsUnchanged (ops.Protect test flags) s) (state_self s) (state_self s)
+    (above_stamp s (record s { dword1 = protected_word s.dword1 flags; stamp = s.stamp + 1 })
+    refl)
 unchanged_is s ops.Read = state_self s
-unchanged_is s ops.ClearRef = where_after s.valid s answers.Was (record s { referenced = false }) (IsUnchanged ops.ClearRef s) (state_self s) (state_self s) (above_stamp s (record s { referenced = false; stamp = s.stamp + 1 }) refl)
-unchanged_is s ops.ClearMod = where_after s.valid s answers.Was (record s { changed = false }) (IsUnchanged ops.ClearMod s) (state_self s) (state_self s) (above_stamp s (record s { changed = false; stamp = s.stamp + 1 }) refl)
+unchanged_is s ops.ClearRef =
+    where_after s.valid s answers.Was (record s { referenced = false }) (IsUnchanged ops.ClearRef s)
+    (state_self s) (state_self s)
+    (above_stamp s (record s { referenced = false; stamp = s.stamp + 1 }) refl)
+unchanged_is s ops.ClearMod =
+    where_after s.valid s answers.Was (record s { changed = false }) (IsUnchanged ops.ClearMod s)
+    (state_self s) (state_self s)
+    (above_stamp s (record s { changed = false; stamp = s.stamp + 1 }) refl)
 unchanged_is s (ops.Access t b k n w masks) =
-    either_P (is_match s t b) (answer_of_match s (access_mode k n w masks)) (answers.NoMatch, s) (IsUnchanged (ops.Access 0 0 false false w no_masks) s) (either_P (is_allowed s (access_mode k n w masks)) (answer_of_allowed s (access_mode k n w masks)) (answers.Denied, s) (IsUnchanged (ops.Access 0 0 false false w no_masks) s) (either_P (masks_refuse s (access_mode k n w masks)) (answers.Masked, s) (answers.At, touched_state s w) (IsUnchanged (ops.Access 0 0 false false w no_masks) s) (state_self s) (touched_eq s w)) (state_self s)) (state_self s)
+    either_P (is_match s t b) (answer_of_match s (access_mode k n w masks)) (answers.NoMatch, s)
+    (IsUnchanged (ops.Access 0 0 false false w no_masks) s)
+    (either_P (is_allowed s (access_mode k n w masks))
+    (answer_of_allowed s (access_mode k n w masks)) (answers.Denied, s)
+    (IsUnchanged (ops.Access 0 0 false false w no_masks) s)
+    (either_P (masks_refuse s (access_mode k n w masks)) (answers.Masked, s)
+    (answers.At, touched_state s w)
+    (IsUnchanged (ops.Access 0 0 false false w no_masks) s) (state_self s)
+    (touched_eq s w)) (state_self s)) (state_self s)
 
-pub flag_of : (r : Receipt) → state_eq (after_of r) r.before ≡ is_unchanged (is_store_access (step_op r.op)) r.answer r.before.referenced r.before.changed
-flag_of r = unchanged_is r.before r.op ∙ ap (λ a. is_unchanged (is_store_access (step_op r.op)) a r.before.referenced r.before.changed) (sym r.lawful)
+pub flag_of :
+    (r : Receipt)
+    → state_eq (after_of r) r.before
+    ≡ is_unchanged (is_store_access (step_op r.op)) r.answer r.before.referenced r.before.changed
+flag_of r =
+    unchanged_is r.before r.op
+    ∙ ap (λ a. is_unchanged (is_store_access (step_op r.op)) a r.before.referenced r.before.changed)
+    (sym r.lawful)
 
-alike_flag : (x y : Receipt) → Alike x y → state_eq (after_of x) x.before ≡ state_eq (after_of y) y.before
+alike_flag :
+    (x y : Receipt) → Alike x y → state_eq (after_of x) x.before ≡ state_eq (after_of y) y.before
 alike_flag x y h =
     let b = same_bits x y h.mark in
-    flag_of x ∙ (λ i. is_unchanged (is_store_access (h.op i)) (h.mark i).answer (b.0 i) (b.1 i)) ∙ sym (flag_of y)
+    flag_of x
+    ∙ (λ i. is_unchanged (is_store_access (h.op i)) (h.mark i).answer (b.0 i) (b.1 i))
+    ∙ sym (flag_of y)
 
 -- receipts with the same marks have one place
 pub alike_place : (x y : Receipt) → Alike x y → place x ≡ place y
 unfolding place pair_of
 alike_place x y h =
     let b = same_bits x y h.mark in
-    λ i. ((h.mark i).stamp * 4 + ((if b.0 i then 1 else 0) + (if b.1 i then 1 else 0))) * 2 + (if alike_flag x y h i then 0 else 1)
+    λ i.
+    ((h.mark i).stamp * 4 + ((if b.0 i then 1 else 0) + (if b.1 i then 1 else 0))) * 2
+    + (if alike_flag x y h i then 0 else 1)
 
 -- ---- pairs of receipts
 pub record Pair : Type 0 where
@@ -175,33 +276,65 @@ cond_map f false x y = refl
 
 put_firsts : (z : Pair) (ws : List Pair) → firsts (put_pair z ws) ≡ put_in z.first (firsts ws)
 put_firsts z [] = refl
-put_firsts z (w ∷ ws) = cond_map firsts (precedes z.first w.first) (z ∷ w ∷ ws) (w ∷ put_pair z ws) ∙ ap (λ l. cond (precedes z.first w.first) (z.first ∷ w.first ∷ firsts ws) (w.first ∷ l)) (put_firsts z ws)
+put_firsts z (w ∷ ws) =
+    cond_map firsts (precedes z.first w.first) (z ∷ w ∷ ws) (w ∷ put_pair z ws)
+    ∙ ap (λ l. cond (precedes z.first w.first) (z.first ∷ w.first ∷ firsts ws) (w.first ∷ l))
+    (put_firsts z ws)
 
-same_precedes : (z w : Pair) → Alike z.first z.second → Alike w.first w.second → precedes z.first w.first ≡ precedes z.second w.second
-same_precedes z w h k = λ i. nat_le (alike_place z.first z.second h i) (alike_place w.first w.second k i)
+same_precedes :
+    (z w : Pair)
+    → Alike z.first z.second
+    → Alike w.first w.second
+    → precedes z.first w.first ≡ precedes z.second w.second
+same_precedes z w h k =
+    λ i. nat_le (alike_place z.first z.second h i) (alike_place w.first w.second k i)
 
-put_seconds : (z : Pair) (ws : List Pair) → Alike z.first z.second → AllAlike ws → seconds (put_pair z ws) ≡ put_in z.second (seconds ws)
+put_seconds :
+    (z : Pair) (ws : List Pair)
+    → Alike z.first z.second
+    → AllAlike ws
+    → seconds (put_pair z ws) ≡ put_in z.second (seconds ws)
 put_seconds z [] h k = refl
 put_seconds z (w ∷ ws) h k =
-    cond_map seconds (precedes z.first w.first) (z ∷ w ∷ ws) (w ∷ put_pair z ws) ∙ ap (λ l. cond (precedes z.first w.first) (z.second ∷ w.second ∷ seconds ws) (w.second ∷ l)) (put_seconds z ws h k.1)
-    ∙ ap (λ b. cond b (z.second ∷ w.second ∷ seconds ws) (w.second ∷ put_in z.second (seconds ws))) (same_precedes z w h k.0)
+    cond_map seconds (precedes z.first w.first) (z ∷ w ∷ ws) (w ∷ put_pair z ws)
+    ∙ ap (λ l. cond (precedes z.first w.first) (z.second ∷ w.second ∷ seconds ws) (w.second ∷ l))
+    (put_seconds z ws h k.1)
+    ∙ ap (λ b. cond b (z.second ∷ w.second ∷ seconds ws) (w.second ∷ put_in z.second (seconds ws)))
+    (same_precedes z w h k.0)
 
-each_put : (P : Pair → Type 0) (z : Pair) (ws : List Pair) → P z → AllByRecursion P ws → AllByRecursion P (put_pair z ws)
+each_put :
+    (P : Pair → Type 0) (z : Pair) (ws : List Pair)
+    → P z
+    → AllByRecursion P ws
+    → AllByRecursion P (put_pair z ws)
 each_put P z [] h k = (h, tt)
-each_put P z (w ∷ ws) h k = cond_both (precedes z.first w.first) (z ∷ w ∷ ws) (w ∷ put_pair z ws) (AllByRecursion P) (λ e. (h, k)) (λ e. (k.0, each_put P z ws h k.1))
+each_put P z (w ∷ ws) h k =
+    cond_both (precedes z.first w.first) (z ∷ w ∷ ws) (w ∷ put_pair z ws) (AllByRecursion P)
+    (λ e. (h, k)) (λ e. (k.0, each_put P z ws h k.1))
 
-each_unput : (P : Pair → Type 0) (z : Pair) (ws : List Pair) → AllByRecursion P (put_pair z ws) → P z × AllByRecursion P ws
+each_unput :
+    (P : Pair → Type 0) (z : Pair) (ws : List Pair)
+    → AllByRecursion P (put_pair z ws)
+    → P z × AllByRecursion P ws
 each_unput P z [] h = (h.0, tt)
-each_unput P z (w ∷ ws) h = at (cases_Bool (precedes z.first w.first)) (λ k. each_unput P z ws k) where
-  at : (precedes z.first w.first ≡ true) ⊎ (precedes z.first w.first ≡ false) → (AllByRecursion P (put_pair z ws) → P z × AllByRecursion P ws) → P z × AllByRecursion P (w ∷ ws)
-  at (inl e) rest = let k = rw e at h in (k.0, k.1)
-  at (inr e) rest = let k = rw e at h in let m = rest k.1 in (m.0, (k.0, m.1))
+each_unput P z (w ∷ ws) h =
+    at (cases_Bool (precedes z.first w.first)) (λ k. each_unput P z ws k) where
+      at :
+          (precedes z.first w.first ≡ true) ⊎ (precedes z.first w.first ≡ false)
+          → (AllByRecursion P (put_pair z ws) → P z × AllByRecursion P ws)
+          → P z × AllByRecursion P (w ∷ ws)
+      at (inl e) rest = let k = rw e at h in (k.0, k.1)
+      at (inr e) rest = let k = rw e at h in let m = rest k.1 in (m.0, (k.0, m.1))
 
 sorted_alike : (zs : List Pair) → AllAlike zs → AllAlike (pairs_by_place zs)
 sorted_alike [] h = tt
-sorted_alike (z ∷ zs) h = each_put (λ z. Alike z.first z.second) z (pairs_by_place zs) h.0 (sorted_alike zs h.1)
+sorted_alike (z ∷ zs) h =
+    each_put (λ z. Alike z.first z.second) z (pairs_by_place zs) h.0 (sorted_alike zs h.1)
 
-unsorted : (P : Pair → Type 0) (zs : List Pair) → AllByRecursion P (pairs_by_place zs) → AllByRecursion P zs
+unsorted :
+    (P : Pair → Type 0) (zs : List Pair)
+    → AllByRecursion P (pairs_by_place zs)
+    → AllByRecursion P zs
 unsorted P [] h = tt
 unsorted P (z ∷ zs) h = let k = each_unput P z (pairs_by_place zs) h in (k.0, unsorted P zs k.1)
 
@@ -209,51 +342,105 @@ sorted_firsts : (zs : List Pair) → firsts (pairs_by_place zs) ≡ by_place (fi
 sorted_firsts [] = refl
 sorted_firsts (z ∷ zs) = put_firsts z (pairs_by_place zs) ∙ ap (put_in z.first) (sorted_firsts zs)
 
-sorted_seconds : (zs : List Pair) → AllAlike zs → seconds (pairs_by_place zs) ≡ by_place (seconds zs)
+sorted_seconds :
+    (zs : List Pair) → AllAlike zs → seconds (pairs_by_place zs) ≡ by_place (seconds zs)
 sorted_seconds [] h = refl
-sorted_seconds (z ∷ zs) h = put_seconds z (pairs_by_place zs) h.0 (sorted_alike zs h.1) ∙ ap (put_in z.second) (sorted_seconds zs h.1)
+sorted_seconds (z ∷ zs) h =
+    put_seconds z (pairs_by_place zs) h.0 (sorted_alike zs h.1)
+    ∙ ap (put_in z.second) (sorted_seconds zs h.1)
 
 -- along two legal histories from one state
-same_along : (a b c : State) (zs : List Pair) → AllAlike zs → IsLegal a (firsts zs) b → IsLegal a (seconds zs) c → AllBefore zs
+same_along :
+    (a b c : State) (zs : List Pair)
+    → AllAlike zs
+    → IsLegal a (firsts zs) b
+    → IsLegal a (seconds zs) c
+    → AllBefore zs
 same_along a b c [] h k l = tt
 same_along a b c (z ∷ zs) h k l =
-    let here : z.first.before ≡ z.second.before = k.0 ∙ sym l.0 in
-    (here, same_along (after_of z.first) b c zs h.1 k.1 (subst (λ s. IsLegal s (seconds zs) c) (sym (alike_after z.first z.second h.0 here)) l.1))
+    let here : z.first.before ≡ z.second.before = k.0 ∙ sym l.0 in (
+      here,
+      same_along (after_of z.first) b c zs h.1 k.1
+          (subst (λ s. IsLegal s (seconds zs) c) (sym (alike_after z.first z.second h.0 here)) l.1),
+    )
 
 -- ---- of one entry
 abbrev of_entry : ℕ → List Pair → List Pair
 of_entry e zs = filter (λ z. eqb z.first.entry e) zs
 
-entry_firsts : (e : ℕ) (zs : List Pair) → firsts (of_entry e zs) ≡ filter (λ r. eqb r.entry e) (firsts zs)
+entry_firsts :
+    (e : ℕ) (zs : List Pair) → firsts (of_entry e zs) ≡ filter (λ r. eqb r.entry e) (firsts zs)
 entry_firsts e [] = refl
-entry_firsts e (z ∷ zs) = cond_map firsts (eqb z.first.entry e) (z ∷ of_entry e zs) (of_entry e zs) ∙ ap (λ l. cond (eqb z.first.entry e) (z.first ∷ l) l) (entry_firsts e zs)
+entry_firsts e (z ∷ zs) =
+    cond_map firsts (eqb z.first.entry e) (z ∷ of_entry e zs) (of_entry e zs)
+    ∙ ap (λ l. cond (eqb z.first.entry e) (z.first ∷ l) l) (entry_firsts e zs)
 
-entry_seconds : (e : ℕ) (zs : List Pair) → AllAlike zs → seconds (of_entry e zs) ≡ filter (λ r. eqb r.entry e) (seconds zs)
+entry_seconds :
+    (e : ℕ) (zs : List Pair)
+    → AllAlike zs
+    → seconds (of_entry e zs) ≡ filter (λ r. eqb r.entry e) (seconds zs)
 entry_seconds e [] h = refl
-entry_seconds e (z ∷ zs) h = cond_map seconds (eqb z.first.entry e) (z ∷ of_entry e zs) (of_entry e zs) ∙ (λ i. cond (eqb ((h.0.mark i).entry) e) (z.second ∷ entry_seconds e zs h.1 i) (entry_seconds e zs h.1 i))
+entry_seconds e (z ∷ zs) h =
+    cond_map seconds (eqb z.first.entry e) (z ∷ of_entry e zs) (of_entry e zs)
+    ∙
+    (λ i.
+    cond (eqb ((h.0.mark i).entry) e) (z.second ∷ entry_seconds e zs h.1 i)
+    (entry_seconds e zs h.1 i))
 
-each_entry : (P : Pair → Type 0) (e : ℕ) (zs : List Pair) → AllByRecursion P zs → AllByRecursion P (of_entry e zs)
+each_entry :
+    (P : Pair → Type 0) (e : ℕ) (zs : List Pair)
+    → AllByRecursion P zs
+    → AllByRecursion P (of_entry e zs)
 each_entry P e [] h = tt
-each_entry P e (z ∷ zs) h = cond_both (eqb z.first.entry e) (z ∷ of_entry e zs) (of_entry e zs) (AllByRecursion P) (λ q. (h.0, each_entry P e zs h.1)) (λ q. each_entry P e zs h.1)
+each_entry P e (z ∷ zs) h =
+    cond_both (eqb z.first.entry e) (z ∷ of_entry e zs) (of_entry e zs) (AllByRecursion P)
+    (λ q. (h.0, each_entry P e zs h.1)) (λ q. each_entry P e zs h.1)
 
-tail_entry : (P : Pair → Type 0) (e : ℕ) (z : Pair) (zs : List Pair) → AllByRecursion P (of_entry e (z ∷ zs)) → AllByRecursion P (of_entry e zs)
+tail_entry :
+    (P : Pair → Type 0) (e : ℕ) (z : Pair) (zs : List Pair)
+    → AllByRecursion P (of_entry e (z ∷ zs))
+    → AllByRecursion P (of_entry e zs)
 tail_entry P e z zs h = at (cases_Bool (eqb z.first.entry e)) where
-  at : (eqb z.first.entry e ≡ true) ⊎ (eqb z.first.entry e ≡ false) → AllByRecursion P (of_entry e zs)
+  at :
+      (eqb z.first.entry e ≡ true) ⊎ (eqb z.first.entry e ≡ false)
+      → AllByRecursion P (of_entry e zs)
   at (inl q) = let k = rw q at h in k.1
   at (inr q) = let k = rw q at h in k
 
-head_entry : (P : Pair → Type 0) (z : Pair) (zs : List Pair) → AllByRecursion P (of_entry z.first.entry (z ∷ zs)) → P z
+head_entry :
+    (P : Pair → Type 0) (z : Pair) (zs : List Pair)
+    → AllByRecursion P (of_entry z.first.entry (z ∷ zs))
+    → P z
 head_entry P z zs h = let k = rw (eq-eqb z.first.entry z.first.entry refl) at h in k.0
 
-of_entries : (P : Pair → Type 0) (n : ℕ) (zs : List Pair) → AllByRecursion (λ r. r.entry < n) (firsts zs) → ((e : ℕ) → e < n → AllByRecursion P (of_entry e zs)) → AllByRecursion P zs
+of_entries :
+    (P : Pair → Type 0) (n : ℕ) (zs : List Pair)
+    → AllByRecursion (λ r. r.entry < n) (firsts zs)
+    → ((e : ℕ) → e < n → AllByRecursion P (of_entry e zs))
+    → AllByRecursion P zs
 of_entries P n [] low h = tt
-of_entries P n (z ∷ zs) low h = (head_entry P z zs (h z.first.entry low.0), of_entries P n zs low.1 (λ e k. tail_entry P e z zs (h e k)))
+of_entries P n (z ∷ zs) low h = (
+  head_entry P z zs (h z.first.entry low.0),
+  of_entries P n zs low.1 (λ e k. tail_entry P e z zs (h e k)),
+)
 
 -- legal histories of receipts with the same marks have the same states
-pub same_states : (n : ℕ) (a b c : ℕ → State) (zs : List Pair) → AllAlike zs → AllByRecursion (λ r. r.entry < n) (firsts zs) → ((e : ℕ) → e < n → IsLegal (a e) (history e (firsts zs)) (b e)) → ((e : ℕ) → e < n → IsLegal (a e) (history e (seconds zs)) (c e)) → AllBefore zs
-same_states n a b c zs h low k l = of_entries (λ z. z.first.before ≡ z.second.before) n zs low (λ e within.
+pub same_states :
+    (n : ℕ) (a b c : ℕ → State) (zs : List Pair)
+    → AllAlike zs
+    → AllByRecursion (λ r. r.entry < n) (firsts zs)
+    → ((e : ℕ) → e < n → IsLegal (a e) (history e (firsts zs)) (b e))
+    → ((e : ℕ) → e < n → IsLegal (a e) (history e (seconds zs)) (c e))
+    → AllBefore zs
+same_states n a b c zs h low k l =
+    of_entries (λ z. z.first.before ≡ z.second.before) n zs low (λ e within.
     let es = of_entry e zs in
     let alike : AllAlike es = each_entry (λ z. Alike z.first z.second) e zs h in
-    let one : IsLegal (a e) (firsts (pairs_by_place es)) (b e) = subst (λ rs. IsLegal (a e) rs (b e)) (sym (sorted_firsts es ∙ ap by_place (entry_firsts e zs))) (k e within) in
-    let two : IsLegal (a e) (seconds (pairs_by_place es)) (c e) = subst (λ rs. IsLegal (a e) rs (c e)) (sym (sorted_seconds es alike ∙ ap by_place (entry_seconds e zs h))) (l e within) in
-    unsorted (λ z. z.first.before ≡ z.second.before) es (same_along (a e) (b e) (c e) (pairs_by_place es) (sorted_alike es alike) one two))
+    let one : IsLegal (a e) (firsts (pairs_by_place es)) (b e) = subst
+    (λ rs. IsLegal (a e) rs (b e)) (sym (sorted_firsts es ∙ ap by_place (entry_firsts e zs)))
+    (k e within) in
+    let two : IsLegal (a e) (seconds (pairs_by_place es)) (c e) = subst
+    (λ rs. IsLegal (a e) rs (c e))
+    (sym (sorted_seconds es alike ∙ ap by_place (entry_seconds e zs h))) (l e within) in
+    unsorted (λ z. z.first.before ≡ z.second.before) es
+    (same_along (a e) (b e) (c e) (pairs_by_place es) (sorted_alike es alike) one two))

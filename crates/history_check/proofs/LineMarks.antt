@@ -54,7 +54,9 @@ mask_front masks.Amr = plain_front _ refl refl
 mask_front masks.Iamr = plain_front _ refl refl
 
 name_front : (act : Act) → IsFront (name_of act)
-name_front (acts.Call number args spelt) = cond_both spelt (hcall_name (hcall_of number)) (codes "hcall") IsFront (λ e. call_front (hcall_of number)) (λ e. plain_front _ refl refl)
+name_front (acts.Call number args spelt) =
+    cond_both spelt (hcall_name (hcall_of number)) (codes "hcall") IsFront
+    (λ e. call_front (hcall_of number)) (λ e. plain_front _ refl refl)
 name_front (acts.Access want ea user) = want_front want
 name_front (acts.SlbMte rb rs) = plain_front _ refl refl
 name_front acts.SlbClear = plain_front _ refl refl
@@ -64,12 +66,18 @@ name_front (acts.SetMask name value) = mask_front name
 name_front acts.Dump = plain_front _ refl refl
 
 decimal_front : (n : ℕ) → IsFront (decimal n)
-decimal_front n = plain_front (decimal n) (lacks_decimal 10 n (inl (omega arith))) (lacks_decimal 124 n (inr (omega arith)))
+decimal_front n =
+    plain_front (decimal n) (lacks_decimal 10 n (inl (omega arith)))
+    (lacks_decimal 124 n (inr (omega arith)))
 
 head_front : (number cpu : ℕ) (name : List ℕ) → IsFront name → IsFront (head_text number cpu name)
 unfolding head_text
 head_front number cpu name f =
-    both_front _ name (both_front _ (codes " ") (both_front _ (decimal cpu) (both_front (decimal number) (codes " ") (decimal_front number) (plain_front _ refl refl)) (decimal_front cpu)) (plain_front _ refl refl)) f
+    both_front _ name
+    (both_front _ (codes " ")
+    (both_front _ (decimal cpu)
+    (both_front (decimal number) (codes " ") (decimal_front number)
+    (plain_front _ refl refl)) (decimal_front cpu)) (plain_front _ refl refl)) f
 
 -- ---- a line
 -- The text is one line, with the receipts behind a front.
@@ -78,27 +86,45 @@ pub record IsLine (l : TraceLine) (r : Reply) : Type 0 where
   pub is_front : IsFront front
   pub text : reply_text l r ≡ (front ++ receipts_text (receipts_in r)) ++ 10 ∷ []
 
-hcall_ends : (h a b c : List ℕ) → h ++ (((a ++ b) ++ c) ++ 10 ∷ []) ≡ ((h ++ (a ++ b)) ++ c) ++ 10 ∷ []
-hcall_ends h a b c = sym (append_assoc h ((a ++ b) ++ c) (10 ∷ [])) ∙ ap (λ z. z ++ 10 ∷ []) (sym (append_assoc h (a ++ b) c))
+hcall_ends :
+    (h a b c : List ℕ) → h ++ (((a ++ b) ++ c) ++ 10 ∷ []) ≡ ((h ++ (a ++ b)) ++ c) ++ 10 ∷ []
+hcall_ends h a b c =
+    sym (append_assoc h ((a ++ b) ++ c) (10 ∷ []))
+    ∙ ap (λ z. z ++ 10 ∷ []) (sym (append_assoc h (a ++ b) c))
 
 device_ends : (h a c : List ℕ) → h ++ ((a ++ c) ++ 10 ∷ []) ≡ ((h ++ a) ++ c) ++ 10 ∷ []
-device_ends h a c = sym (append_assoc h (a ++ c) (10 ∷ [])) ∙ ap (λ z. z ++ 10 ∷ []) (sym (append_assoc h a c))
+device_ends h a c =
+    sym (append_assoc h (a ++ c) (10 ∷ [])) ∙ ap (λ z. z ++ 10 ∷ []) (sym (append_assoc h a c))
 
 -- A reply without receipts whose word says how it ended.
-worded_line : (l : TraceLine) (r : Reply) (word : List ℕ) → IsFront word → reply_text l r ≡ head_text l.number l.cpu (name_of l.act) ++ (word ++ 10 ∷ []) → receipts_text (receipts_in r) ≡ [] → IsLine l r
+worded_line :
+    (l : TraceLine) (r : Reply) (word : List ℕ)
+    → IsFront word
+    → reply_text l r ≡ head_text l.number l.cpu (name_of l.act) ++ (word ++ 10 ∷ [])
+    → receipts_text (receipts_in r) ≡ []
+    → IsLine l r
 worded_line l r word is_word text none =
     let head = head_text l.number l.cpu (name_of l.act) in
     record {
       front = head ++ word;
-      is_front = both_front head word (head_front l.number l.cpu (name_of l.act) (name_front l.act)) is_word;
-      text = text ∙ sym (append_assoc head word (10 ∷ [])) ∙ ap (λ z. z ++ 10 ∷ []) (sym (append-nil (head ++ word)) ∙ ap (λ z. (head ++ word) ++ z) (sym none));
+      is_front =
+          both_front head word (head_front l.number l.cpu (name_of l.act) (name_front l.act))
+          is_word;
+      text =
+          text
+          ∙ sym (append_assoc head word (10 ∷ []))
+          ∙ ap (λ z. z ++ 10 ∷ [])
+          (sym (append-nil (head ++ word)) ∙ ap (λ z. (head ++ word) ++ z) (sym none));
     }
 
 segment_line : (l : TraceLine) (accepted : Bool) → IsLine l (replies.Segment accepted)
-segment_line l true = worded_line l (replies.Segment true) (codes " ok") (plain_front _ refl refl) refl refl
-segment_line l false = worded_line l (replies.Segment false) (codes " refused") (plain_front _ refl refl) refl refl
+segment_line l true =
+    worded_line l (replies.Segment true) (codes " ok") (plain_front _ refl refl) refl refl
+segment_line l false =
+    worded_line l (replies.Segment false) (codes " refused") (plain_front _ refl refl) refl refl
 
-no_dump_reply : (act : Act) (shown : Shown) → is_quiet act ≡ false → IsOfKind act (replies.Dump shown) → ⊥
+no_dump_reply :
+    (act : Act) (shown : Shown) → is_quiet act ≡ false → IsOfKind act (replies.Dump shown) → ⊥
 unfolding is_quiet
 no_dump_reply acts.Dump shown plain kind = cc
 no_dump_reply (acts.Call number args spelt) shown plain kind = kind
@@ -114,15 +140,23 @@ line_of l (replies.Hcall h) plain kind =
     let words = code_text (rc_code h.rc) ++ flat_map word_text h.words in
     record {
       front = head ++ words;
-      is_front = both_front head words (head_front l.number l.cpu (name_of l.act) (name_front l.act)) (both_front (code_text (rc_code h.rc)) (flat_map word_text h.words) (code_front (rc_code h.rc)) (words_front h.words));
-      text = hcall_ends head (code_text (rc_code h.rc)) (flat_map word_text h.words) (receipts_text h.receipts);
+      is_front =
+          both_front head words (head_front l.number l.cpu (name_of l.act) (name_front l.act))
+          (both_front (code_text (rc_code h.rc)) (flat_map word_text h.words)
+          (code_front (rc_code h.rc)) (words_front h.words));
+      text =
+          hcall_ends head (code_text (rc_code h.rc)) (flat_map word_text h.words)
+          (receipts_text h.receipts);
     }
 line_of l (replies.Access r) plain kind =
     let head = head_text l.number l.cpu (name_of l.act) in
     let words = outcome_text r.outcome ++ way_text r.by in
     record {
       front = head ++ words;
-      is_front = both_front head words (head_front l.number l.cpu (name_of l.act) (name_front l.act)) (both_front (outcome_text r.outcome) (way_text r.by) (outcome_front r.outcome) (way_front r.by));
+      is_front =
+          both_front head words (head_front l.number l.cpu (name_of l.act) (name_front l.act))
+          (both_front (outcome_text r.outcome) (way_text r.by) (outcome_front r.outcome)
+          (way_front r.by));
       text = hcall_ends head (outcome_text r.outcome) (way_text r.by) (receipts_text r.receipts);
     }
 line_of l (replies.Device r) plain kind =
@@ -130,9 +164,12 @@ line_of l (replies.Device r) plain kind =
     let words = device_outcome_text r.outcome in
     record {
       front = head ++ words;
-      is_front = both_front head words (head_front l.number l.cpu (name_of l.act) (name_front l.act)) (device_front r.outcome);
+      is_front =
+          both_front head words (head_front l.number l.cpu (name_of l.act) (name_front l.act))
+          (device_front r.outcome);
       text = device_ends head words (receipts_text r.receipts);
     }
 line_of l (replies.Segment accepted) plain kind = segment_line l accepted
-line_of l replies.MaskSet plain kind = worded_line l replies.MaskSet (codes " ok") (plain_front _ refl refl) refl refl
+line_of l replies.MaskSet plain kind =
+    worded_line l replies.MaskSet (codes " ok") (plain_front _ refl refl) refl refl
 line_of l (replies.Dump shown) plain kind = absurd (no_dump_reply l.act shown plain kind)

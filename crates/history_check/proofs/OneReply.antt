@@ -37,32 +37,99 @@ same_before (x ∷ xs) (y ∷ ys) e =
     let rest : before_each xs ≡ before_each ys = cc in
     (here, same_before xs ys rest)
 
-pub one_reply : (context : StoreContext) (p : Processor) (l : TraceLine) (r q : Reply) (given x y : List ℕ) → is_quiet l.act ≡ false → IsReplyTo context p l.act r → IsReplyTo context p l.act q → before_each (receipts_in r) ≡ before_each (receipts_in q) → AllByRecursion IsMark (marks_in r) → AllByRecursion IsMark (marks_in q) → given ≡ reply_text l r ++ x → given ≡ reply_text l q ++ y → (r ≡ q) × (x ≡ y)
+pub one_reply :
+    (context : StoreContext) (p : Processor) (l : TraceLine) (r q : Reply) (given x y : List ℕ)
+    → is_quiet l.act ≡ false
+    → IsReplyTo context p l.act r
+    → IsReplyTo context p l.act q
+    → before_each (receipts_in r) ≡ before_each (receipts_in q)
+    → AllByRecursion IsMark (marks_in r)
+    → AllByRecursion IsMark (marks_in q)
+    → given ≡ reply_text l r ++ x
+    → given ≡ reply_text l q ++ y
+    → (r ≡ q) × (x ≡ y)
 one_reply context p l r q given x y n h k before s t e f =
-    let shown = line_shows l r q x y n h.kind k.kind (short (receipts_in r) s) (short (receipts_in q) t) (sym e ∙ f) in
-    (line_same context p l.act r q n h.call h.access k.call k.access shown.0 (same_before (receipts_in r) (receipts_in q) before), shown.1)
+    let shown = line_shows l r q x y n h.kind k.kind (short (receipts_in r) s)
+    (short (receipts_in q) t) (sym e ∙ f) in (
+      line_same context p l.act r q n h.call h.access k.call k.access shown.0
+          (same_before (receipts_in r) (receipts_in q) before),
+      shown.1,
+    )
 
 -- ---- where the one reply doesn't stand, none does
 -- the cached line that was gone hasn't left its stamp
-pub left_not : (context : StoreContext) (closing : List State) (p : Processor) (l : TraceLine) (found : List State) (given : List ℕ) (r : Reply) (n : ℕ) (g : Option Line) → is_quiet l.act ≡ false → IsReplyTo context p l.act r × FitsText l found given r n → g ≡ gone_line_of p l.act r → (IfSome g (λ line. line.stamp < (state_at closing line.entry).stamp) → ⊥) → (q : Reply) (rest : List ℕ) → StandsOn context closing p l found q → given ≡ reply_text l q ++ rest → ⊥
+pub left_not :
+    (context : StoreContext) (closing : List State) (p : Processor) (l : TraceLine)
+    (found : List State) (given : List ℕ) (r : Reply) (n : ℕ) (g : Option Line)
+    → is_quiet l.act ≡ false
+    → IsReplyTo context p l.act r × FitsText l found given r n
+    → g ≡ gone_line_of p l.act r
+    → (IfSome g (λ line. line.stamp < (state_at closing line.entry).stamp) → ⊥)
+    → (q : Reply) (rest : List ℕ)
+    → StandsOn context closing p l found q
+    → given ≡ reply_text l q ++ rest
+    → ⊥
 left_not context closing p l found given r n g quiet told is off q rest h same =
-    let one = one_reply context p l r q given (drop n given) rest quiet told.0 h.reply (told.1.before ∙ sym h.before) told.1.marks h.marks told.1.text same in
-    off (subst (λ z. IfSome z (λ line. line.stamp < (state_at closing line.entry).stamp)) (ap (gone_line_of p l.act) (sym one.0) ∙ sym is) h.gone)
+    let one = one_reply context p l r q given (drop n given) rest quiet told.0 h.reply
+    (told.1.before ∙ sym h.before) told.1.marks h.marks told.1.text same in
+    off
+    (subst (λ z. IfSome z (λ line. line.stamp < (state_at closing line.entry).stamp))
+    (ap (gone_line_of p l.act) (sym one.0) ∙ sym is) h.gone)
 
 -- an event comes before its entry's front
-pub kept_not : (context : StoreContext) (closing : List State) (p : Processor) (l : TraceLine) (found : List State) (given : List ℕ) (r : Reply) (n : ℕ) (g : Option Line) (rs : List Receipt) (f : ℕ → ℕ) → is_quiet l.act ≡ false → IsReplyTo context p l.act r × FitsText l found given r n → g ≡ gone_line_of p l.act r → rs ≡ receipts_in r → LeadsNowhere f (gone_events g ++ map (λ (x : Receipt). made x) rs) → (q : Reply) (rest : List ℕ) (later : List Event) → StandsOn context closing p l found q → given ≡ reply_text l q ++ rest → ((e : ℕ) → InOrder e (f e) (events_in p (record { line = l; reply = q }) ++ later)) → ⊥
-kept_not context closing p l found given r n g rs f quiet told is all none q rest later h same order =
-    let one = one_reply context p l r q given (drop n given) rest quiet told.0 h.reply (told.1.before ∙ sym h.before) told.1.marks h.marks told.1.text same in
-    let events : gone_events g ++ map (λ (x : Receipt). made x) rs ≡ events_in p (record { line = l; reply = q }) = (λ i. gone_events (is i) ++ map (λ (x : Receipt). made x) (all i)) ∙ ap (λ z. events_in p (record { line = l; reply = z })) one.0 in
+pub kept_not :
+    (context : StoreContext) (closing : List State) (p : Processor) (l : TraceLine)
+    (found : List State) (given : List ℕ) (r : Reply) (n : ℕ) (g : Option Line)
+    (rs : List Receipt) (f : ℕ → ℕ)
+    → is_quiet l.act ≡ false
+    → IsReplyTo context p l.act r × FitsText l found given r n
+    → g ≡ gone_line_of p l.act r
+    → rs ≡ receipts_in r
+    → LeadsNowhere f (gone_events g ++ map (λ (x : Receipt). made x) rs)
+    → (q : Reply) (rest : List ℕ) (later : List Event)
+    → StandsOn context closing p l found q
+    → given ≡ reply_text l q ++ rest
+    → ((e : ℕ) → InOrder e (f e) (events_in p (record { line = l; reply = q }) ++ later))
+    → ⊥
+kept_not context closing p l found given r n g rs f quiet told is all none q rest later h same order
+    =
+    let one = one_reply context p l r q given (drop n given) rest quiet told.0 h.reply
+    (told.1.before ∙ sym h.before) told.1.marks h.marks told.1.text same in
+    let events : gone_events g ++ map (λ (x : Receipt). made x) rs ≡ events_in p
+    (record { line = l; reply = q }) =
+    (λ i. gone_events (is i) ++ map (λ (x : Receipt). made x) (all i)) ∙ ap
+    (λ z. events_in p (record { line = l; reply = z })) one.0 in
     none later (λ e. subst (λ z. InOrder e (f e) (z ++ later)) (sym events) (order e))
 
 -- ---- where it does
-pub line_told : (context : StoreContext) (closing : List State) (p q : Processor) (l : TraceLine) (found : List State) (given : List ℕ) (r : Reply) (n : ℕ) (g : Option Line) (rs : List Receipt) (f h : ℕ → ℕ) → IsReplyTo context p l.act r × FitsText l found given r n → g ≡ gone_line_of p l.act r → IfSome g (λ line. line.stamp < (state_at closing line.entry).stamp) → rs ≡ receipts_in r → LeadsTo f (gone_events g ++ map (λ (x : Receipt). made x) rs) h → q ≡ processor_after p l.act r → (k : HasReply context closing p l found given n) × (q ≡ processor_after p l.act k.reply) × LeadsTo f (events_in p (record { line = l; reply = k.reply })) h
+pub line_told :
+    (context : StoreContext) (closing : List State) (p q : Processor) (l : TraceLine)
+    (found : List State) (given : List ℕ) (r : Reply) (n : ℕ) (g : Option Line)
+    (rs : List Receipt) (f h : ℕ → ℕ)
+    → IsReplyTo context p l.act r × FitsText l found given r n
+    → g ≡ gone_line_of p l.act r
+    → IfSome g (λ line. line.stamp < (state_at closing line.entry).stamp)
+    → rs ≡ receipts_in r
+    → LeadsTo f (gone_events g ++ map (λ (x : Receipt). made x) rs) h
+    → q ≡ processor_after p l.act r
+    → (k : HasReply context closing p l found given n)
+    × (q ≡ processor_after p l.act k.reply)
+    × LeadsTo f (events_in p (record { line = l; reply = k.reply })) h
 line_told context closing p q l found given r n g rs f h told is left all leads after =
-    let events : gone_events g ++ map (λ (x : Receipt). made x) rs ≡ events_in p (record { line = l; reply = r }) = λ i. gone_events (is i) ++ map (λ (x : Receipt). made x) (all i) in (
+    let events : gone_events g ++ map (λ (x : Receipt). made x) rs ≡ events_in p
+    (record { line = l; reply = r }) = λ i. gone_events (is i) ++ map (λ (x : Receipt). made x)
+    (all i) in (
       record {
         reply = r;
-        stands = record { reply = told.0; before = told.1.before; marks = told.1.marks; gone = subst (λ z. IfSome z (λ line. line.stamp < (state_at closing line.entry).stamp)) is left };
+        stands =
+            record {
+              reply = told.0;
+              before = told.1.before;
+              marks = told.1.marks;
+              gone =
+                  subst (λ z. IfSome z (λ line. line.stamp < (state_at closing line.entry).stamp))
+                  is left;
+            };
         within = told.1.within;
         text = told.1.text;
       },

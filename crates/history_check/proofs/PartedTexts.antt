@@ -22,24 +22,39 @@ use Rattle.history_check.specs.PartedText.{first_told, behind_told, behind_lines
 use Rattle.history_check.proofs.LineMarks.{line_of}
 
 -- ---- up to the first end of a line
-pub first_at : (a b : List ℕ) → lacks 10 a ≡ true → (first_told (a ++ 10 ∷ b) ≡ a ++ 10 ∷ []) × (behind_told (a ++ 10 ∷ b) ≡ b)
+pub first_at :
+    (a b : List ℕ)
+    → lacks 10 a ≡ true
+    → (first_told (a ++ 10 ∷ b) ≡ a ++ 10 ∷ []) × (behind_told (a ++ 10 ∷ b) ≡ b)
 first_at [] b h = (refl, refl)
 first_at (c ∷ a) b h = at (cases_Bool (c == 10)) (first_at a b) where
-  at : (c == 10 ≡ true) ⊎ (c == 10 ≡ false) → (lacks 10 a ≡ true → (first_told (a ++ 10 ∷ b) ≡ a ++ 10 ∷ []) × (behind_told (a ++ 10 ∷ b) ≡ b)) → (first_told (c ∷ a ++ 10 ∷ b) ≡ c ∷ a ++ 10 ∷ []) × (behind_told (c ∷ a ++ 10 ∷ b) ≡ b)
+  at :
+      (c == 10 ≡ true) ⊎ (c == 10 ≡ false)
+      →
+      (lacks 10 a ≡ true
+      → (first_told (a ++ 10 ∷ b) ≡ a ++ 10 ∷ []) × (behind_told (a ++ 10 ∷ b) ≡ b))
+      → (first_told (c ∷ a ++ 10 ∷ b) ≡ c ∷ a ++ 10 ∷ []) × (behind_told (c ∷ a ++ 10 ∷ b) ≡ b)
   at (inl q) rest = absurd (let k = rw q at h in false≢true k)
   at (inr q) rest = let k = rest (rw q at h) in (rw q (ap (λ z. c ∷ z) k.0), rw q k.1)
 
-pub first_none : (text : List ℕ) → lacks 10 text ≡ true → (first_told text ≡ text) × (behind_told text ≡ [])
+pub first_none :
+    (text : List ℕ) → lacks 10 text ≡ true → (first_told text ≡ text) × (behind_told text ≡ [])
 first_none [] h = (refl, refl)
 first_none (c ∷ text) h = at (cases_Bool (c == 10)) (first_none text) where
-  at : (c == 10 ≡ true) ⊎ (c == 10 ≡ false) → (lacks 10 text ≡ true → (first_told text ≡ text) × (behind_told text ≡ [])) → (first_told (c ∷ text) ≡ c ∷ text) × (behind_told (c ∷ text) ≡ [])
+  at :
+      (c == 10 ≡ true) ⊎ (c == 10 ≡ false)
+      → (lacks 10 text ≡ true → (first_told text ≡ text) × (behind_told text ≡ []))
+      → (first_told (c ∷ text) ≡ c ∷ text) × (behind_told (c ∷ text) ≡ [])
   at (inl q) rest = absurd (let k = rw q at h in false≢true k)
   at (inr q) rest = let k = rest (rw q at h) in (rw q (ap (λ z. c ∷ z) k.0), rw q k.1)
 
 pub told_parts : (text : List ℕ) → text ≡ first_told text ++ behind_told text
 told_parts [] = refl
 told_parts (c ∷ text) = at (cases_Bool (c == 10)) (told_parts text) where
-  at : (c == 10 ≡ true) ⊎ (c == 10 ≡ false) → text ≡ first_told text ++ behind_told text → c ∷ text ≡ first_told (c ∷ text) ++ behind_told (c ∷ text)
+  at :
+      (c == 10 ≡ true) ⊎ (c == 10 ≡ false)
+      → text ≡ first_told text ++ behind_told text
+      → c ∷ text ≡ first_told (c ∷ text) ++ behind_told (c ∷ text)
   at (inl q) rest = rw q refl
   at (inr q) rest = rw q (ap (λ z. c ∷ z) rest)
 
@@ -53,15 +68,35 @@ record HasEnd (text : List ℕ) : Type 0 where
 end_of : (text : List ℕ) → (lacks 10 text ≡ true) ⊎ HasEnd text
 end_of [] = inl refl
 end_of (c ∷ text) = at (cases_Bool (c == 10)) (end_of text) where
-  at : (c == 10 ≡ true) ⊎ (c == 10 ≡ false) → (lacks 10 text ≡ true) ⊎ HasEnd text → (lacks 10 (c ∷ text) ≡ true) ⊎ HasEnd (c ∷ text)
-  at (inl q) rest = inr (record { before = []; after = text; none = refl; cut = ap (λ z. z ∷ text) (eqb-true c 10 q) })
+  at :
+      (c == 10 ≡ true) ⊎ (c == 10 ≡ false)
+      → (lacks 10 text ≡ true) ⊎ HasEnd text
+      → (lacks 10 (c ∷ text) ≡ true) ⊎ HasEnd (c ∷ text)
+  at (inl q) rest =
+      inr
+      (record {
+        before = [];
+        after = text;
+        none = refl;
+        cut = ap (λ z. z ∷ text) (eqb-true c 10 q);
+      })
   at (inr q) (inl h) = inl (rw q h)
-  at (inr q) (inr e) = inr (record { before = c ∷ e.before; after = e.after; none = rw q e.none; cut = ap (λ z. c ∷ z) e.cut })
+  at (inr q) (inr e) =
+      inr
+      (record {
+        before = c ∷ e.before;
+        after = e.after;
+        none = rw q e.none;
+        cut = ap (λ z. c ∷ z) e.cut;
+      })
 
 -- ---- behind so many lines
-pub one_behind : (n : ℕ) (text : List ℕ) → behind_lines (n + 1) text ≡ behind_told (behind_lines n text)
+pub one_behind :
+    (n : ℕ) (text : List ℕ) → behind_lines (n + 1) text ≡ behind_told (behind_lines n text)
 one_behind zero text = refl
-one_behind (suc n) text = ap (λ k. behind_lines k text) (let e : suc n + 1 ≡ suc (n + 1) = omega arith in e) ∙ one_behind n (behind_told text)
+one_behind (suc n) text =
+    ap (λ k. behind_lines k text) (let e : suc n + 1 ≡ suc (n + 1) = omega arith in e)
+    ∙ one_behind n (behind_told text)
 
 dropped : (a b : List ℕ) → drop (length (a ++ b) - length b) (a ++ b) ≡ b
 dropped [] b = ap (λ n. drop n b) (let e : length b - length b ≡ 0 = omega arith in e)
@@ -78,29 +113,59 @@ front_of : (n : ℕ) (text : List ℕ) → IsFrontOf n text
 front_of zero text = record { front = []; all = refl }
 front_of (suc n) text =
     let rest = front_of n (behind_told text) in
-    record { front = first_told text ++ rest.front; all = told_parts text ∙ ap (λ z. first_told text ++ z) rest.all ∙ sym (append_assoc (first_told text) rest.front (behind_lines n (behind_told text))) }
+    record {
+      front = first_told text ++ rest.front;
+      all =
+          told_parts text
+          ∙ ap (λ z. first_told text ++ z) rest.all
+          ∙ sym (append_assoc (first_told text) rest.front (behind_lines n (behind_told text)));
+    }
 
-pub behind_drops : (n : ℕ) (text : List ℕ) → (length (behind_lines n text) ≤ length text) × (drop (length text - length (behind_lines n text)) text ≡ behind_lines n text)
+pub behind_drops :
+    (n : ℕ) (text : List ℕ)
+    → (length (behind_lines n text) ≤ length text)
+    × (drop (length text - length (behind_lines n text)) text ≡ behind_lines n text)
 behind_drops n text =
     let f = front_of n text in
-    let size : length text ≡ length f.front + length (behind_lines n text) = ap length f.all ∙ length-append f.front (behind_lines n text) in
-    (omega arith, ap (λ (z : List ℕ). drop (length z - length (behind_lines n text)) z) f.all ∙ dropped f.front (behind_lines n text))
+    let size : length text ≡ length f.front + length (behind_lines n text) = ap length f.all ∙
+    length-append f.front (behind_lines n text) in (
+      omega arith,
+      ap (λ (z : List ℕ). drop (length z - length (behind_lines n text)) z) f.all
+          ∙ dropped f.front (behind_lines n text),
+    )
 
 -- The text is cut behind its first line's end.
-pub cut_here : (told others text : List ℕ) → lacks 10 told ≡ true → text ≡ told ++ 10 ∷ others → (take (length told + 1) text ≡ first_told text) × (drop (length told + 1) text ≡ behind_told text)
+pub cut_here :
+    (told others text : List ℕ)
+    → lacks 10 told ≡ true
+    → text ≡ told ++ 10 ∷ others
+    → (take (length told + 1) text ≡ first_told text)
+    × (drop (length told + 1) text ≡ behind_told text)
 cut_here told others text none is =
     let k = first_at told others none in
     let size : length told + 1 ≡ length (told ++ 10 ∷ []) = sym (length-append told (10 ∷ [])) in
-    let whole : text ≡ (told ++ 10 ∷ []) ++ others = is ∙ sym (append_assoc told (10 ∷ []) others) in (
-      (λ i. take (size i) (whole i)) ∙ take-append_seam (told ++ 10 ∷ []) others ∙ sym (ap first_told is ∙ k.0),
-      (λ i. drop (size i) (whole i)) ∙ drop-append_seam (told ++ 10 ∷ []) others ∙ sym (ap behind_told is ∙ k.1),
+    let whole : text ≡ (told ++ 10 ∷ []) ++ others = is ∙ sym (append_assoc told (10 ∷ []) others)
+    in (
+      (λ i. take (size i) (whole i))
+          ∙ take-append_seam (told ++ 10 ∷ []) others
+          ∙ sym (ap first_told is ∙ k.0),
+      (λ i. drop (size i) (whole i))
+          ∙ drop-append_seam (told ++ 10 ∷ []) others
+          ∙ sym (ap behind_told is ∙ k.1),
     )
 
 -- ---- marked lines
-pub marked_is : (f : Act → Bool) (ls : List TraceLine) → marked_lines (map (λ (l : TraceLine). f l.act) ls) ls ≡ filter (λ (l : TraceLine). f l.act) ls
+pub marked_is :
+    (f : Act → Bool) (ls : List TraceLine)
+    → marked_lines (map (λ (l : TraceLine). f l.act) ls) ls ≡ filter (λ (l : TraceLine). f l.act) ls
 marked_is f [] = refl
 marked_is f (l ∷ ls) = at (cases_Bool (f l.act)) (marked_is f ls) where
-  at : (f l.act ≡ true) ⊎ (f l.act ≡ false) → marked_lines (map (λ (l : TraceLine). f l.act) ls) ls ≡ filter (λ (l : TraceLine). f l.act) ls → marked_lines (map (λ (l : TraceLine). f l.act) (l ∷ ls)) (l ∷ ls) ≡ filter (λ (l : TraceLine). f l.act) (l ∷ ls)
+  at :
+      (f l.act ≡ true) ⊎ (f l.act ≡ false)
+      → marked_lines (map (λ (l : TraceLine). f l.act) ls) ls
+      ≡ filter (λ (l : TraceLine). f l.act) ls
+      → marked_lines (map (λ (l : TraceLine). f l.act) (l ∷ ls)) (l ∷ ls)
+      ≡ filter (λ (l : TraceLine). f l.act) (l ∷ ls)
   at (inl q) rest = rw q (ap (λ z. l ∷ z) rest)
   at (inr q) rest = rw q rest
 
@@ -108,12 +173,15 @@ marked_is f (l ∷ ls) = at (cases_Bool (f l.act)) (marked_is f ls) where
 -- Where the test passes a line, its reply is the next line of text.
 abbrev pub Tell : (Act → Bool) → List RepliedLine → List ℕ → Type 0
 Tell f [] text = Unit {0}
-Tell f (t ∷ ts) text = (f t.line.act ≡ true → first_told text ≡ reply_text t.line t.reply) × Tell f ts (behind_told text)
+Tell f (t ∷ ts) text =
+    (f t.line.act ≡ true → first_told text ≡ reply_text t.line t.reply)
+    × Tell f ts (behind_told text)
 
 -- The replies to all lines are lines of text.
 abbrev pub AllTell : List RepliedLine → List ℕ → Type 0
 AllTell [] text = Unit {0}
-AllTell (t ∷ ts) text = (first_told text ≡ reply_text t.line t.reply) × AllTell ts (behind_told text)
+AllTell (t ∷ ts) text =
+    (first_told text ≡ reply_text t.line t.reply) × AllTell ts (behind_told text)
 
 -- The reply is of the kind of its line, which isn't quiet.
 pub record IsPlainReply (t : RepliedLine) : Type 0 where
@@ -132,26 +200,51 @@ record IsToldBy (t : RepliedLine) : Type 0 where
 told_by : (t : RepliedLine) → IsPlainReply t → IsToldBy t
 told_by t h =
     let is = line_of t.line t.reply h.plain h.kind in
-    record { words = is.front ++ receipts_text (receipts_in t.reply); none = lacks_append 10 is.front (receipts_text (receipts_in t.reply)) is.is_front.no_end (receipts_lack (receipts_in t.reply)); text = is.text }
+    record {
+      words = is.front ++ receipts_text (receipts_in t.reply);
+      none =
+          lacks_append 10 is.front (receipts_text (receipts_in t.reply)) is.is_front.no_end
+          (receipts_lack (receipts_in t.reply));
+      text = is.text;
+    }
 
-one_told : (t : RepliedLine) (rest : List ℕ) → IsPlainReply t → (first_told (reply_text t.line t.reply ++ rest) ≡ reply_text t.line t.reply) × (behind_told (reply_text t.line t.reply ++ rest) ≡ rest)
+one_told :
+    (t : RepliedLine) (rest : List ℕ)
+    → IsPlainReply t
+    → (first_told (reply_text t.line t.reply ++ rest) ≡ reply_text t.line t.reply)
+    × (behind_told (reply_text t.line t.reply ++ rest) ≡ rest)
 one_told t rest h =
     let is = told_by t h in
-    let whole : reply_text t.line t.reply ++ rest ≡ is.words ++ 10 ∷ rest = ap (λ z. z ++ rest) is.text ∙ append_assoc is.words (10 ∷ []) rest in
+    let whole : reply_text t.line t.reply ++ rest ≡ is.words ++ 10 ∷ rest = ap (λ z. z ++ rest)
+    is.text ∙ append_assoc is.words (10 ∷ []) rest in
     let k = first_at is.words rest is.none in
     (ap first_told whole ∙ k.0 ∙ sym is.text, ap behind_told whole ∙ k.1)
 
-pub text_tells : (ts : List RepliedLine) (text rest : List ℕ) → ArePlainReplies ts → text ≡ lines_text ts ++ rest → AllTell ts text
+pub text_tells :
+    (ts : List RepliedLine) (text rest : List ℕ)
+    → ArePlainReplies ts
+    → text ≡ lines_text ts ++ rest
+    → AllTell ts text
 text_tells [] text rest h e = tt
 text_tells (t ∷ ts) text rest h e =
-    let here : text ≡ reply_text t.line t.reply ++ (lines_text ts ++ rest) = e ∙ append_assoc (reply_text t.line t.reply) (lines_text ts) rest in
-    let k = one_told t (lines_text ts ++ rest) h.0 in
-    (ap first_told here ∙ k.0, text_tells ts (behind_told text) rest h.1 (ap behind_told here ∙ k.1))
+    let here : text ≡ reply_text t.line t.reply ++ (lines_text ts ++ rest) = e ∙ append_assoc
+    (reply_text t.line t.reply) (lines_text ts) rest in
+    let k = one_told t (lines_text ts ++ rest) h.0 in (
+      ap first_told here ∙ k.0,
+      text_tells ts (behind_told text) rest h.1 (ap behind_told here ∙ k.1),
+    )
 
-pub tells_text : (ts : List RepliedLine) (text : List ℕ) → AllTell ts text → text ≡ lines_text ts ++ behind_lines (length ts) text
+pub tells_text :
+    (ts : List RepliedLine) (text : List ℕ)
+    → AllTell ts text
+    → text ≡ lines_text ts ++ behind_lines (length ts) text
 tells_text [] text h = refl
 tells_text (t ∷ ts) text h =
-    told_parts text ∙ (λ i. h.0 i ++ tells_text ts (behind_told text) h.1 i) ∙ sym (append_assoc (reply_text t.line t.reply) (lines_text ts) (behind_lines (length ts) (behind_told text)))
+    told_parts text
+    ∙ (λ i. h.0 i ++ tells_text ts (behind_told text) h.1 i)
+    ∙ sym
+    (append_assoc (reply_text t.line t.reply) (lines_text ts)
+    (behind_lines (length ts) (behind_told text)))
 
 -- the part of those that pass a test
 abbrev passed : (Act → Bool) → List RepliedLine → List RepliedLine
@@ -160,12 +253,19 @@ passed f ts = filter (λ (t : RepliedLine). f t.line.act) ts
 abbrev pub lines_in : List RepliedLine → List TraceLine
 lines_in ts = map (λ (t : RepliedLine). t.line) ts
 
-pub tells_part : (f : Act → Bool) (ts : List RepliedLine) (text : List ℕ) → AllTell ts text → part_text f (lines_in ts) text ≡ lines_text (filter (λ (t : RepliedLine). f t.line.act) ts)
+pub tells_part :
+    (f : Act → Bool) (ts : List RepliedLine) (text : List ℕ)
+    → AllTell ts text
+    → part_text f (lines_in ts) text ≡ lines_text (filter (λ (t : RepliedLine). f t.line.act) ts)
 tells_part f [] text h = refl
-tells_part f (t ∷ ts) text h = at (cases_Bool (f t.line.act)) (tells_part f ts (behind_told text) h.1) where
-  at : (f t.line.act ≡ true) ⊎ (f t.line.act ≡ false) → part_text f (lines_in ts) (behind_told text) ≡ lines_text (passed f ts) → part_text f (lines_in (t ∷ ts)) text ≡ lines_text (passed f (t ∷ ts))
-  at (inl q) rest = rw q (λ i. h.0 i ++ rest i)
-  at (inr q) rest = rw q rest
+tells_part f (t ∷ ts) text h =
+    at (cases_Bool (f t.line.act)) (tells_part f ts (behind_told text) h.1) where
+      at :
+          (f t.line.act ≡ true) ⊎ (f t.line.act ≡ false)
+          → part_text f (lines_in ts) (behind_told text) ≡ lines_text (passed f ts)
+          → part_text f (lines_in (t ∷ ts)) text ≡ lines_text (passed f (t ∷ ts))
+      at (inl q) rest = rw q (λ i. h.0 i ++ rest i)
+      at (inr q) rest = rw q rest
 
 none_told : (ms : List Bool) → marked_text ms [] ≡ []
 none_told [] = refl
@@ -173,7 +273,11 @@ none_told (true ∷ ms) = none_told ms
 none_told (false ∷ ms) = none_told ms
 
 -- A part that begins with a reply is of a text that begins with it.
-head_tells : (t : RepliedLine) (ms : List Bool) (text rest : List ℕ) → IsPlainReply t → first_told text ++ marked_text ms (behind_told text) ≡ reply_text t.line t.reply ++ rest → (first_told text ≡ reply_text t.line t.reply) × (marked_text ms (behind_told text) ≡ rest)
+head_tells :
+    (t : RepliedLine) (ms : List Bool) (text rest : List ℕ)
+    → IsPlainReply t
+    → first_told text ++ marked_text ms (behind_told text) ≡ reply_text t.line t.reply ++ rest
+    → (first_told text ≡ reply_text t.line t.reply) × (marked_text ms (behind_told text) ≡ rest)
 head_tells t ms text rest h e = at (end_of text) where
   is : IsToldBy t
   is = told_by t h
@@ -181,42 +285,87 @@ head_tells t ms text rest h e = at (end_of text) where
   whole : reply_text t.line t.reply ++ rest ≡ is.words ++ 10 ∷ rest
   whole = ap (λ z. z ++ rest) is.text ∙ append_assoc is.words (10 ∷ []) rest
 
-  at : (lacks 10 text ≡ true) ⊎ HasEnd text → (first_told text ≡ reply_text t.line t.reply) × (marked_text ms (behind_told text) ≡ rest)
+  at :
+      (lacks 10 text ≡ true) ⊎ HasEnd text
+      → (first_told text ≡ reply_text t.line t.reply) × (marked_text ms (behind_told text) ≡ rest)
   at (inl none) =
       let k = first_none text none in
-      let all : text ≡ is.words ++ 10 ∷ rest = sym (append-nil text) ∙ (λ i. sym k.0 i ++ sym (ap (marked_text ms) k.1 ∙ none_told ms) i) ∙ e ∙ whole in
-      absurd (let no : false ≡ true = lacks_back 10 is.words (10 ∷ rest) (subst (λ z. lacks 10 z ≡ true) all none) in false≢true no)
+      let all : text ≡ is.words ++ 10 ∷ rest = sym (append-nil text) ∙
+      (λ i. sym k.0 i ++ sym (ap (marked_text ms) k.1 ∙ none_told ms) i) ∙ e ∙ whole in
+      absurd
+      (let no : false ≡ true = lacks_back 10 is.words (10 ∷ rest)
+      (subst (λ z. lacks 10 z ≡ true) all none) in
+      false≢true no)
   at (inr end) =
       let k = first_at end.before end.after end.none in
       let first : first_told text ≡ end.before ++ 10 ∷ [] = ap first_told end.cut ∙ k.0 in
-      let c = cut_at 10 end.before is.words (marked_text ms (behind_told text)) rest end.none is.none (sym (append_assoc end.before (10 ∷ []) (marked_text ms (behind_told text))) ∙ ap (λ z. z ++ marked_text ms (behind_told text)) (sym first) ∙ e ∙ whole) in
+      let c = cut_at 10 end.before is.words (marked_text ms (behind_told text)) rest end.none
+      is.none
+      (sym (append_assoc end.before (10 ∷ []) (marked_text ms (behind_told text)))
+      ∙ ap (λ z. z ++ marked_text ms (behind_told text)) (sym first)
+      ∙ e
+      ∙ whole) in
       (first ∙ ap (λ z. z ++ 10 ∷ []) c.0 ∙ sym is.text, c.1)
 
-pub part_tells : (f : Act → Bool) (ts : List RepliedLine) (text rest : List ℕ) → ArePlainReplies ts → part_text f (lines_in ts) text ≡ lines_text (filter (λ (t : RepliedLine). f t.line.act) ts) ++ rest → Tell f ts text
+pub part_tells :
+    (f : Act → Bool) (ts : List RepliedLine) (text rest : List ℕ)
+    → ArePlainReplies ts
+    → part_text f (lines_in ts) text
+    ≡ lines_text (filter (λ (t : RepliedLine). f t.line.act) ts) ++ rest
+    → Tell f ts text
 part_tells f [] text rest h e = tt
-part_tells f (t ∷ ts) text rest h e = at (cases_Bool (f t.line.act)) (λ z. part_tells f ts (behind_told text) rest h.1 z) where
-  at : (f t.line.act ≡ true) ⊎ (f t.line.act ≡ false) → (part_text f (lines_in ts) (behind_told text) ≡ lines_text (passed f ts) ++ rest → Tell f ts (behind_told text)) → Tell f (t ∷ ts) text
-  at (inl q) go =
-      let mine = rw q at e in
-      let k = head_tells t (map (λ (l : TraceLine). f l.act) (lines_in ts)) text (lines_text (passed f ts) ++ rest) h.0 (mine ∙ append_assoc (reply_text t.line t.reply) (lines_text (passed f ts)) rest) in
-      ((λ on. k.0), go k.1)
-  at (inr q) go = ((λ on. absurd (let no : false ≡ true = sym q ∙ on in false≢true no)), go (rw q at e))
+part_tells f (t ∷ ts) text rest h e =
+    at (cases_Bool (f t.line.act)) (λ z. part_tells f ts (behind_told text) rest h.1 z) where
+      at :
+          (f t.line.act ≡ true) ⊎ (f t.line.act ≡ false)
+          →
+          (part_text f (lines_in ts) (behind_told text) ≡ lines_text (passed f ts) ++ rest
+          → Tell f ts (behind_told text))
+          → Tell f (t ∷ ts) text
+      at (inl q) go =
+          let mine = rw q at e in
+          let k = head_tells t (map (λ (l : TraceLine). f l.act) (lines_in ts)) text
+          (lines_text (passed f ts) ++ rest) h.0
+          (mine ∙ append_assoc (reply_text t.line t.reply) (lines_text (passed f ts)) rest) in
+          ((λ on. k.0), go k.1)
+      at (inr q) go =
+          ((λ on. absurd (let no : false ≡ true = sym q ∙ on in false≢true no)), go (rw q at e))
 
 -- ---- each line is on a store
-window_tells : (ws : List BusWindow) (t : RepliedLine) (ts : List RepliedLine) (text : List ℕ) → is_on ws None t.line.act ≡ false → AllByRecursion (λ (w : BusWindow). Tell (is_on_window w) (t ∷ ts) text) ws → first_told text ≡ reply_text t.line t.reply
+window_tells :
+    (ws : List BusWindow) (t : RepliedLine) (ts : List RepliedLine) (text : List ℕ)
+    → is_on ws None t.line.act ≡ false
+    → AllByRecursion (λ (w : BusWindow). Tell (is_on_window w) (t ∷ ts) text) ws
+    → first_told text ≡ reply_text t.line t.reply
 window_tells [] t ts text off h = cc
-window_tells (w ∷ ws) t ts text off h = at (cases_Bool (is_on_window w t.line.act)) (λ z. window_tells ws t ts text z h.1) where
-  at : (is_on_window w t.line.act ≡ true) ⊎ (is_on_window w t.line.act ≡ false) → (is_on ws None t.line.act ≡ false → first_told text ≡ reply_text t.line t.reply) → first_told text ≡ reply_text t.line t.reply
-  at (inl q) rest = h.0.0 q
-  at (inr q) rest = rest (rw q at off)
+window_tells (w ∷ ws) t ts text off h =
+    at (cases_Bool (is_on_window w t.line.act)) (λ z. window_tells ws t ts text z h.1) where
+      at :
+          (is_on_window w t.line.act ≡ true) ⊎ (is_on_window w t.line.act ≡ false)
+          → (is_on ws None t.line.act ≡ false → first_told text ≡ reply_text t.line t.reply)
+          → first_told text ≡ reply_text t.line t.reply
+      at (inl q) rest = h.0.0 q
+      at (inr q) rest = rest (rw q at off)
 
-tails_tell : (ws : List BusWindow) (t : RepliedLine) (ts : List RepliedLine) (text : List ℕ) → AllByRecursion (λ (w : BusWindow). Tell (is_on_window w) (t ∷ ts) text) ws → AllByRecursion (λ (w : BusWindow). Tell (is_on_window w) ts (behind_told text)) ws
+tails_tell :
+    (ws : List BusWindow) (t : RepliedLine) (ts : List RepliedLine) (text : List ℕ)
+    → AllByRecursion (λ (w : BusWindow). Tell (is_on_window w) (t ∷ ts) text) ws
+    → AllByRecursion (λ (w : BusWindow). Tell (is_on_window w) ts (behind_told text)) ws
 tails_tell [] t ts text h = tt
 tails_tell (w ∷ ws) t ts text h = (h.0.1, tails_tell ws t ts text h.1)
 
-pub all_tell : (ws : List BusWindow) (ts : List RepliedLine) (text : List ℕ) → Tell (is_on ws None) ts text → AllByRecursion (λ (w : BusWindow). Tell (is_on_window w) ts text) ws → AllTell ts text
+pub all_tell :
+    (ws : List BusWindow) (ts : List RepliedLine) (text : List ℕ)
+    → Tell (is_on ws None) ts text
+    → AllByRecursion (λ (w : BusWindow). Tell (is_on_window w) ts text) ws
+    → AllTell ts text
 all_tell ws [] text h k = tt
-all_tell ws (t ∷ ts) text h k = (at (cases_Bool (is_on ws None t.line.act)), all_tell ws ts (behind_told text) h.1 (tails_tell ws t ts text k)) where
-  at : (is_on ws None t.line.act ≡ true) ⊎ (is_on ws None t.line.act ≡ false) → first_told text ≡ reply_text t.line t.reply
+all_tell ws (t ∷ ts) text h k = (
+  at (cases_Bool (is_on ws None t.line.act)),
+  all_tell ws ts (behind_told text) h.1 (tails_tell ws t ts text k),
+) where
+  at :
+      (is_on ws None t.line.act ≡ true) ⊎ (is_on ws None t.line.act ≡ false)
+      → first_told text ≡ reply_text t.line t.reply
   at (inl on) = h.0 on
   at (inr off) = window_tells ws t ts text off k

@@ -17,44 +17,86 @@ use Rattle.history_check.proofs.GoodStores.{Parts, AllGood, next_stores, each_of
 abbrev pub with_rest : Parts → List QuietPart → Parts
 with_rest x zs = (x.0, x.1 ++ zs)
 
-front_rest : (t : RepliedLine) (x : Parts) (zs : List QuietPart) → cut_before t (with_rest x zs) ≡ with_rest (cut_before t x) zs
+front_rest :
+    (t : RepliedLine) (x : Parts) (zs : List QuietPart)
+    → cut_before t (with_rest x zs) ≡ with_rest (cut_before t x) zs
 front_rest t x zs = at (cases_Bool (is_quiet t.line.act)) where
-  at : (is_quiet t.line.act ≡ true) ⊎ (is_quiet t.line.act ≡ false) → cut_before t (with_rest x zs) ≡ with_rest (cut_before t x) zs
+  at :
+      (is_quiet t.line.act ≡ true) ⊎ (is_quiet t.line.act ≡ false)
+      → cut_before t (with_rest x zs) ≡ with_rest (cut_before t x) zs
   at (inl q) = rw q refl
   at (inr q) = rw q refl
 
 -- the cut behind a quiet line
-pub cut_at : (xs : List RepliedLine) (q : RepliedLine) (ys : List RepliedLine) → is_quiet q.line.act ≡ true → cut (xs ++ q ∷ ys) ≡ with_rest (cut xs) ((q, (cut ys).0) ∷ (cut ys).1)
+pub cut_at :
+    (xs : List RepliedLine) (q : RepliedLine) (ys : List RepliedLine)
+    → is_quiet q.line.act ≡ true
+    → cut (xs ++ q ∷ ys) ≡ with_rest (cut xs) ((q, (cut ys).0) ∷ (cut ys).1)
 cut_at [] q ys h = rw h refl
-cut_at (x ∷ xs) q ys h = ap (cut_before x) (cut_at xs q ys h) ∙ front_rest x (cut xs) ((q, (cut ys).0) ∷ (cut ys).1)
+cut_at (x ∷ xs) q ys h =
+    ap (cut_before x) (cut_at xs q ys h) ∙ front_rest x (cut xs) ((q, (cut ys).0) ∷ (cut ys).1)
 
 pub empty_good : (s : AllStores) → AreGoodOn s []
-empty_good s = record { table = store_empty (opening_of s.table); windows = each_of_all (λ v. IsGoodPart (window_part s [] v)) s.windows (λ v. store_empty (window_opening s.table.grants (length s.table.processors) v)) }
+empty_good s =
+    record {
+      table = store_empty (opening_of s.table);
+      windows =
+          each_of_all (λ v. IsGoodPart (window_part s [] v)) s.windows
+          (λ v. store_empty (window_opening s.table.grants (length s.table.processors) v));
+    }
 
-parts_front : (s : AllStores) (ts : List RepliedLine) (qs : List QuietPart) (q : RepliedLine) (us : List RepliedLine) (zs : List QuietPart) → AllGood s ts (qs ++ (q, us) ∷ zs) → AllGood s ts (qs ++ (q, []) ∷ [])
+parts_front :
+    (s : AllStores) (ts : List RepliedLine) (qs : List QuietPart) (q : RepliedLine)
+    (us : List RepliedLine) (zs : List QuietPart)
+    → AllGood s ts (qs ++ (q, us) ∷ zs)
+    → AllGood s ts (qs ++ (q, []) ∷ [])
 parts_front s ts [] q us zs h = (h.0, h.1, empty_good (next_stores s ts q.line.act))
-parts_front s ts (p ∷ qs) q us zs h = (h.0, h.1, parts_front (next_stores s ts p.0.line.act) p.1 qs q us zs h.2)
+parts_front s ts (p ∷ qs) q us zs h =
+    (h.0, h.1, parts_front (next_stores s ts p.0.line.act) p.1 qs q us zs h.2)
 
-pub lines_append : (ls ms : List TraceLine) (rs qs : List Reply) → AreReplies ls rs → lines_with_replies (ls ++ ms) (rs ++ qs) ≡ lines_with_replies ls rs ++ lines_with_replies ms qs
+pub lines_append :
+    (ls ms : List TraceLine) (rs qs : List Reply)
+    → AreReplies ls rs
+    → lines_with_replies (ls ++ ms) (rs ++ qs)
+    ≡ lines_with_replies ls rs ++ lines_with_replies ms qs
 lines_append [] ms [] qs h = refl
 lines_append [] ms (r ∷ rs) qs h = absurd h
 lines_append (l ∷ ls) ms [] qs h = absurd h
-lines_append (l ∷ ls) ms (r ∷ rs) qs h = ap (λ ts. record { line = l; reply = r } ∷ ts) (lines_append ls ms rs qs h.1)
+lines_append (l ∷ ls) ms (r ∷ rs) qs h =
+    ap (λ ts. record { line = l; reply = r } ∷ ts) (lines_append ls ms rs qs h.1)
 
-replies_front : (ls : List TraceLine) (l : TraceLine) (ms : List TraceLine) (rs : List Reply) (r : Reply) (qs : List Reply) → AreReplies ls rs → AreReplies (ls ++ l ∷ ms) (rs ++ r ∷ qs) → AreReplies (ls ++ l ∷ []) (rs ++ r ∷ [])
+replies_front :
+    (ls : List TraceLine) (l : TraceLine) (ms : List TraceLine) (rs : List Reply) (r : Reply)
+    (qs : List Reply)
+    → AreReplies ls rs
+    → AreReplies (ls ++ l ∷ ms) (rs ++ r ∷ qs)
+    → AreReplies (ls ++ l ∷ []) (rs ++ r ∷ [])
 replies_front [] l ms [] r qs h k = (k.0, tt)
 replies_front [] l ms (x ∷ rs) r qs h k = absurd h
 replies_front (x ∷ ls) l ms [] r qs h k = absurd h
 replies_front (x ∷ ls) l ms (y ∷ rs) r qs h k = (k.0, replies_front ls l ms rs r qs h.1 k.1)
 
-pub good_front : (t : AcceptedTrace) (ls : List TraceLine) (l : TraceLine) (ms : List TraceLine) (rs : List Reply) (r : Reply) (qs : List Reply) → is_quiet l.act ≡ true → AreReplies ls rs → IsGoodRun (with_lines t (ls ++ l ∷ ms)) (rs ++ r ∷ qs) → IsGoodRun (with_lines t (ls ++ l ∷ [])) (rs ++ r ∷ [])
+pub good_front :
+    (t : AcceptedTrace) (ls : List TraceLine) (l : TraceLine) (ms : List TraceLine)
+    (rs : List Reply) (r : Reply) (qs : List Reply)
+    → is_quiet l.act ≡ true
+    → AreReplies ls rs
+    → IsGoodRun (with_lines t (ls ++ l ∷ ms)) (rs ++ r ∷ qs)
+    → IsGoodRun (with_lines t (ls ++ l ∷ [])) (rs ++ r ∷ [])
 good_front t ls l ms rs r qs quiet same g =
     let q : RepliedLine = record { line = l; reply = r } in
     let x = cut (lines_with_replies ls rs) in
     let y = cut (lines_with_replies ms qs) in
-    let whole : cut (lines_with_replies (ls ++ l ∷ ms) (rs ++ r ∷ qs)) ≡ with_rest x ((q, y.0) ∷ y.1) = ap cut (lines_append ls (l ∷ ms) rs (r ∷ qs) same) ∙ cut_at (lines_with_replies ls rs) q (lines_with_replies ms qs) quiet in
-    let front : cut (lines_with_replies (ls ++ l ∷ []) (rs ++ r ∷ [])) ≡ with_rest x ((q, []) ∷ []) = ap cut (lines_append ls (l ∷ []) rs (r ∷ []) same) ∙ cut_at (lines_with_replies ls rs) q [] quiet in
+    let whole : cut (lines_with_replies (ls ++ l ∷ ms) (rs ++ r ∷ qs)) ≡ with_rest x
+    ((q, y.0) ∷ y.1) = ap cut (lines_append ls (l ∷ ms) rs (r ∷ qs) same) ∙ cut_at
+    (lines_with_replies ls rs) q (lines_with_replies ms qs) quiet in
+    let front : cut (lines_with_replies (ls ++ l ∷ []) (rs ++ r ∷ [])) ≡ with_rest x ((q, []) ∷ [])
+    = ap cut (lines_append ls (l ∷ []) rs (r ∷ []) same) ∙ cut_at (lines_with_replies ls rs) q
+    [] quiet in
     let o = opening_all t.config in
-    let all : AllGood o x.0 (x.1 ++ (q, y.0) ∷ y.1) = subst (λ (c : Parts). AllGood o c.0 c.1) whole (parts_good (with_lines t (ls ++ l ∷ ms)) (rs ++ r ∷ qs) g) in
+    let all : AllGood o x.0 (x.1 ++ (q, y.0) ∷ y.1) = subst (λ (c : Parts). AllGood o c.0 c.1) whole
+    (parts_good (with_lines t (ls ++ l ∷ ms)) (rs ++ r ∷ qs) g) in
     let some : AllGood o x.0 (x.1 ++ (q, []) ∷ []) = parts_front o x.0 x.1 q y.0 y.1 all in
-    good_parts (with_lines t (ls ++ l ∷ [])) (rs ++ r ∷ []) (replies_front ls l ms rs r qs same g.kinds) (subst (λ (c : Parts). AllGood o c.0 c.1) (sym front) some)
+    good_parts (with_lines t (ls ++ l ∷ [])) (rs ++ r ∷ [])
+    (replies_front ls l ms rs r qs same g.kinds)
+    (subst (λ (c : Parts). AllGood o c.0 c.1) (sym front) some)

@@ -28,23 +28,32 @@ use Rattle.history_check.proofs.MarkedSteps.{AreOf, steps_more, mark_count, line
 
 -- ---- what was read
 -- What is left of replies to the lines, behind those whose marks were read.
-pub record AreLeft (context : StoreContext) (more : List TraceLine) (rest : List ℕ) (read : List (List Mark)) (rs : List Reply) (end : List ℕ) : Type 0 where
+pub record AreLeft (context : StoreContext) (more : List TraceLine) (rest : List ℕ)
+    (read : List (List Mark)) (rs : List Reply) (end : List ℕ) :
+    Type 0 where
   pub front : List Reply
   pub back : List Reply
   pub all : rs ≡ front ++ back
   pub same : map marks_in front ≡ read
   pub show : ShowMarks context more rest back end
 
-pub record AreReadTo (context : StoreContext) (size : ℕ) (ls : List TraceLine) (text : List ℕ) (i : ℕ) (rest : List ℕ) (read : List LineStep) (sizes : List ℕ) : Type 0 where
+pub record AreReadTo (context : StoreContext) (size : ℕ) (ls : List TraceLine) (text : List ℕ)
+    (i : ℕ) (rest : List ℕ) (read : List LineStep) (sizes : List ℕ) :
+    Type 0 where
   pub marks : List (List Mark)
   pub each : length marks ≡ i
   pub steps : read ≡ lines_steps 0 0 (take i ls) marks
   pub counts : sizes ≡ map length marks
   pub in_table : AllByRecursion (AreOf size) marks
   pub few : length read ≤ 16 * i
-  pub left : (rs : List Reply) (end : List ℕ) → ShowMarks context ls text rs end → AreLeft context (drop i ls) rest marks rs end
+  pub left :
+      (rs : List Reply) (end : List ℕ)
+      → ShowMarks context ls text rs end
+      → AreLeft context (drop i ls) rest marks rs end
 
-pub none_read : (context : StoreContext) (size : ℕ) (ls : List TraceLine) (text : List ℕ) → AreReadTo context size ls text 0 text [] []
+pub none_read :
+    (context : StoreContext) (size : ℕ) (ls : List TraceLine) (text : List ℕ)
+    → AreReadTo context size ls text 0 text [] []
 none_read context size ls text = record {
   marks = [];
   each = refl;
@@ -57,7 +66,9 @@ none_read context size ls text = record {
 
 -- ---- the next line
 -- The next line's reply: the text begins with its line, which has its marks.
-pub record IsNext (context : StoreContext) (l : TraceLine) (more : List TraceLine) (rest : List ℕ) (back : List Reply) (end : List ℕ) : Type 0 where
+pub record IsNext (context : StoreContext) (l : TraceLine) (more : List TraceLine) (rest : List ℕ)
+    (back : List Reply) (end : List ℕ) :
+    Type 0 where
   pub reply : Reply
   pub others : List Reply
   pub line : List ℕ
@@ -72,7 +83,12 @@ few_marks : (n m : ℕ) → (n ≤ 16) ⊎ (n ≤ m) → m ≤ 16 → n ≤ 16
 few_marks n m (inl h) k = h
 few_marks n m (inr h) k = omega (arith, h, k)
 
-next_of : (context : StoreContext) (l : TraceLine) (more : List TraceLine) (rest : List ℕ) (back : List Reply) (end : List ℕ) → is_quiet l.act ≡ false → ShowMarks context (l ∷ more) rest back end → IsNext context l more rest back end
+next_of :
+    (context : StoreContext) (l : TraceLine) (more : List TraceLine) (rest : List ℕ)
+    (back : List Reply) (end : List ℕ)
+    → is_quiet l.act ≡ false
+    → ShowMarks context (l ∷ more) rest back end
+    → IsNext context l more rest back end
 next_of context l more rest [] end plain h = absurd h.kinds
 next_of context l more rest (r ∷ rs) end plain h =
     let is : IsLine l r = line_of l r plain h.kinds.0 in
@@ -84,42 +100,96 @@ next_of context l more rest (r ∷ rs) end plain h =
       line = line;
       behind = behind;
       all = refl;
-      no_end = lacks_append 10 is.front (receipts_text (receipts_in r)) is.is_front.no_end (receipts_lack (receipts_in r));
-      cut = h.text ∙ append_assoc (reply_text l r) (lines_text (lines_with_replies more rs)) end ∙ ap (λ z. z ++ behind) is.text ∙ append_assoc line (10 ∷ []) behind;
-      marks = λ short. line_has_marks is.front (receipts_in r) is.is_front.no_bar (omega (arith, few_marks _ _ h.marks.0.few short, length-map (receipts_in r) mark_of)) h.marks.0.marks;
+      no_end =
+          lacks_append 10 is.front (receipts_text (receipts_in r)) is.is_front.no_end
+          (receipts_lack (receipts_in r));
+      cut =
+          h.text
+          ∙ append_assoc (reply_text l r) (lines_text (lines_with_replies more rs)) end
+          ∙ ap (λ z. z ++ behind) is.text
+          ∙ append_assoc line (10 ∷ []) behind;
+      marks =
+          λ short.
+          line_has_marks is.front (receipts_in r) is.is_front.no_bar
+          (omega (arith, few_marks _ _ h.marks.0.few short, length-map (receipts_in r) mark_of))
+          h.marks.0.marks;
       show = record { kinds = h.kinds.1; marks = h.marks.1; text = refl };
     }
 
 abbrev Next : StoreContext → List TraceLine → ℕ → TraceLine → List ℕ → List Reply → List ℕ → Type 0
 Next context ls i l rest back end = IsNext context l (drop (i + 1) ls) rest back end
 
-next_at : (context : StoreContext) (ls : List TraceLine) (i : ℕ) (l : TraceLine) (rest : List ℕ) (back : List Reply) (end : List ℕ) → i < length ls → get_or ls i l ≡ l → is_quiet l.act ≡ false → ShowMarks context (drop i ls) rest back end → Next context ls i l rest back end
+next_at :
+    (context : StoreContext) (ls : List TraceLine) (i : ℕ) (l : TraceLine) (rest : List ℕ)
+    (back : List Reply) (end : List ℕ)
+    → i < length ls
+    → get_or ls i l ≡ l
+    → is_quiet l.act ≡ false
+    → ShowMarks context (drop i ls) rest back end
+    → Next context ls i l rest back end
 next_at context ls i l rest back end within is plain h =
-    let here : drop i ls ≡ l ∷ drop (i + 1) ls = drop_more ls i l within ∙ ap (λ m. m ∷ drop (i + 1) ls) is in
-    next_of context l (drop (i + 1) ls) rest back end plain (subst (λ ms. ShowMarks context ms rest back end) here h)
+    let here : drop i ls ≡ l ∷ drop (i + 1) ls = drop_more ls i l within ∙ ap
+    (λ m. m ∷ drop (i + 1) ls) is in
+    next_of context l (drop (i + 1) ls) rest back end plain
+    (subst (λ ms. ShowMarks context ms rest back end) here h)
 
 -- ---- one line more
-module _ (context : StoreContext) (size : ℕ) (ls : List TraceLine) (text : List ℕ) (i : ℕ) (l : TraceLine) (rest : List ℕ) (read : List LineStep) (sizes : List ℕ) (h : AreReadTo context size ls text i rest read sizes) (within : i < length ls) (is : get_or ls i l ≡ l) (plain : is_quiet l.act ≡ false) where
-  next : (rs : List Reply) (end : List ℕ) (s : ShowMarks context ls text rs end) → Next context ls i l rest (h.left rs end s).back end
-  next rs end s = next_at context ls i l rest (h.left rs end s).back end within is plain (h.left rs end s).show
+module _ (context : StoreContext) (size : ℕ) (ls : List TraceLine) (text : List ℕ) (i : ℕ)
+    (l : TraceLine) (rest : List ℕ) (read : List LineStep) (sizes : List ℕ)
+    (h : AreReadTo context size ls text i rest read sizes) (within : i < length ls)
+    (is : get_or ls i l ≡ l) (plain : is_quiet l.act ≡ false) where
+  next :
+      (rs : List Reply) (end : List ℕ) (s : ShowMarks context ls text rs end)
+      → Next context ls i l rest (h.left rs end s).back end
+  next rs end s =
+      next_at context ls i l rest (h.left rs end s).back end within is plain (h.left rs end s).show
 
-  pub read_more : (ms : List Mark) (told others : List ℕ) (read' : List LineStep) (sizes' : List ℕ) → length (named_ops context l.act) ≤ 16 → lacks 10 told ≡ true → rest ≡ told ++ 10 ∷ others → HasMarks told ms → AreOf size ms → length ms ≤ 16 → read' ≡ read ++ mark_steps i (length read) l.act ms → sizes' ≡ sizes ++ length ms ∷ [] → AreReadTo context size ls text (i + 1) others read' sizes'
+  pub read_more :
+      (ms : List Mark) (told others : List ℕ) (read' : List LineStep) (sizes' : List ℕ)
+      → length (named_ops context l.act) ≤ 16
+      → lacks 10 told ≡ true
+      → rest ≡ told ++ 10 ∷ others
+      → HasMarks told ms
+      → AreOf size ms
+      → length ms ≤ 16
+      → read' ≡ read ++ mark_steps i (length read) l.act ms
+      → sizes' ≡ sizes ++ length ms ∷ []
+      → AreReadTo context size ls text (i + 1) others read' sizes'
   read_more ms told others read' sizes' short no_end cut has entries sixteen put counted = record {
     marks = h.marks ++ ms ∷ [];
     each = length-append h.marks (ms ∷ []) ∙ ap (λ n. n + 1) h.each;
-    steps = put ∙ (λ j. h.steps j ++ mark_steps (lines_before j) (steps_before j) l.act ms) ∙ sym (steps_more 0 0 (take i ls) l h.marks ms (omega (arith, h.each, taken))) ∙ ap (λ z. lines_steps 0 0 z (h.marks ++ ms ∷ [])) (sym lines);
-    counts = counted ∙ ap (λ z. z ++ length ms ∷ []) h.counts ∙ sym (map-append length h.marks (ms ∷ []));
+    steps =
+        put
+        ∙ (λ j. h.steps j ++ mark_steps (lines_before j) (steps_before j) l.act ms)
+        ∙ sym (steps_more 0 0 (take i ls) l h.marks ms (omega (arith, h.each, taken)))
+        ∙ ap (λ z. lines_steps 0 0 z (h.marks ++ ms ∷ [])) (sym lines);
+    counts =
+        counted
+        ∙ ap (λ z. z ++ length ms ∷ []) h.counts
+        ∙ sym (map-append length h.marks (ms ∷ []));
     in_table = each_append (AreOf size) h.marks (ms ∷ []) h.in_table (entries, tt);
-    few = omega (arith, sixteen, h.few, ap length put, length-append read (mark_steps i (length read) l.act ms), mark_count i (length read) l.act ms);
+    few =
+        omega (
+          arith,
+          sixteen,
+          h.few,
+          ap length put,
+          length-append read (mark_steps i (length read) l.act ms),
+          mark_count i (length read) l.act ms,
+        );
     left = λ rs end s.
         let a = h.left rs end s in
         let n = next rs end s in
         let c = cut_at 10 told n.line others n.behind no_end n.no_end (sym cut ∙ n.cut) in
-        let one : marks_in n.reply ≡ ms = marks_once told (marks_in n.reply) ms (subst (λ z. HasMarks z (marks_in n.reply)) (sym c.0) (n.marks short)) has in
+        let one : marks_in n.reply ≡ ms = marks_once told (marks_in n.reply) ms
+        (subst (λ z. HasMarks z (marks_in n.reply)) (sym c.0) (n.marks short)) has in
         record {
           front = a.front ++ n.reply ∷ [];
           back = n.others;
-          all = a.all ∙ ap (λ z. a.front ++ z) n.all ∙ sym (append_assoc a.front (n.reply ∷ []) n.others);
+          all =
+              a.all
+              ∙ ap (λ z. a.front ++ z) n.all
+              ∙ sym (append_assoc a.front (n.reply ∷ []) n.others);
           same = map-append marks_in a.front (n.reply ∷ []) ∙ (λ j. a.same j ++ one j ∷ []);
           show = subst (λ z. ShowMarks context (drop (i + 1) ls) z n.others end) (sym c.1) n.show;
         };
@@ -136,75 +206,146 @@ module _ (context : StoreContext) (size : ℕ) (ls : List TraceLine) (text : Lis
     steps_before : length read ≡ 0 + length (lines_steps 0 0 (take i ls) h.marks)
     steps_before = omega (arith, ap length h.steps)
 
-  entries_of : (rs : List Reply) (end : List ℕ) (s : ShowMarks context ls text rs end) → MarkEntries size rs → AreOf size (marks_in (next rs end s).reply)
+  entries_of :
+      (rs : List Reply) (end : List ℕ) (s : ShowMarks context ls text rs end)
+      → MarkEntries size rs
+      → AreOf size (marks_in (next rs end s).reply)
   entries_of rs end s e =
       let a = h.left rs end s in
       let n = next rs end s in
-      let whole : MarkEntries size (a.front ++ n.reply ∷ n.others) = subst (MarkEntries size) (a.all ∙ ap (λ z. a.front ++ z) n.all) e in
-      (each_back (λ r. AllByRecursion (λ (m : Mark). m.entry < size) (marks_in r)) a.front (n.reply ∷ n.others) whole).0
+      let whole : MarkEntries size (a.front ++ n.reply ∷ n.others) = subst (MarkEntries size)
+      (a.all ∙ ap (λ z. a.front ++ z) n.all) e in
+      (each_back (λ r. AllByRecursion (λ (m : Mark). m.entry < size) (marks_in r)) a.front
+      (n.reply ∷ n.others) whole).0
 
   -- No line's end follows.
   pub no_line : lacks 10 rest ≡ true → NoMarks context size ls text
   no_line none rs end s e =
       let n = next rs end s in
-      lacks_head 10 n.behind (lacks_back 10 n.line (10 ∷ n.behind) (subst (λ z. lacks 10 z ≡ true) n.cut none))
+      lacks_head 10 n.behind
+      (lacks_back 10 n.line (10 ∷ n.behind) (subst (λ z. lacks 10 z ≡ true) n.cut none))
 
   -- The next line has no marks.
-  pub no_marks_there : (told others : List ℕ) → length (named_ops context l.act) ≤ 16 → lacks 10 told ≡ true → rest ≡ told ++ 10 ∷ others → ((ms : List Mark) → HasMarks told ms → ⊥) → NoMarks context size ls text
+  pub no_marks_there :
+      (told others : List ℕ)
+      → length (named_ops context l.act) ≤ 16
+      → lacks 10 told ≡ true
+      → rest ≡ told ++ 10 ∷ others
+      → ((ms : List Mark) → HasMarks told ms → ⊥)
+      → NoMarks context size ls text
   no_marks_there told others short no_end cut none rs end s e =
       let n = next rs end s in
       let c = cut_at 10 told n.line others n.behind no_end n.no_end (sym cut ∙ n.cut) in
       none (marks_in n.reply) (subst (λ z. HasMarks z (marks_in n.reply)) (sym c.0) (n.marks short))
 
   -- One of its marks is of no entry of the table.
-  pub not_in_table : (ms : List Mark) (told others : List ℕ) → length (named_ops context l.act) ≤ 16 → lacks 10 told ≡ true → rest ≡ told ++ 10 ∷ others → HasMarks told ms → (AreOf size ms → ⊥) → NoMarks context size ls text
+  pub not_in_table :
+      (ms : List Mark) (told others : List ℕ)
+      → length (named_ops context l.act) ≤ 16
+      → lacks 10 told ≡ true
+      → rest ≡ told ++ 10 ∷ others
+      → HasMarks told ms
+      → (AreOf size ms → ⊥)
+      → NoMarks context size ls text
   not_in_table ms told others short no_end cut has none rs end s e =
       let n = next rs end s in
       let c = cut_at 10 told n.line others n.behind no_end n.no_end (sym cut ∙ n.cut) in
-      let one : marks_in n.reply ≡ ms = marks_once told (marks_in n.reply) ms (subst (λ z. HasMarks z (marks_in n.reply)) (sym c.0) (n.marks short)) has in
+      let one : marks_in n.reply ≡ ms = marks_once told (marks_in n.reply) ms
+      (subst (λ z. HasMarks z (marks_in n.reply)) (sym c.0) (n.marks short)) has in
       none (subst (AreOf size) one (entries_of rs end s e))
 
 -- ---- as the loop has them
-pub plain_at : (ls : List TraceLine) (i : ℕ) (d : TraceLine) → i < length ls → ArePlain ls → is_quiet (get_or ls i d).act ≡ false
+pub plain_at :
+    (ls : List TraceLine) (i : ℕ) (d : TraceLine)
+    → i < length ls
+    → ArePlain ls
+    → is_quiet (get_or ls i d).act ≡ false
 plain_at [] i d within h = absurd (omega arith)
 plain_at (l ∷ ls) zero d within h = h.0
 plain_at (l ∷ ls) (suc i) d within h = plain_at ls i d (omega arith) h.1
 
-module _ (context : StoreContext) (size : ℕ) (ls : List TraceLine) (text : List ℕ) (i : ℕ) (rest : List ℕ) (read : List LineStep) (sizes : List ℕ) (h : AreReadTo context size ls text i rest read sizes) (within : i < length ls) (plain : ArePlain ls) where
+module _ (context : StoreContext) (size : ℕ) (ls : List TraceLine) (text : List ℕ) (i : ℕ)
+    (rest : List ℕ) (read : List LineStep) (sizes : List ℕ)
+    (h : AreReadTo context size ls text i rest read sizes) (within : i < length ls)
+    (plain : ArePlain ls) where
   abbrev line_here : TraceLine
   line_here = get_or ls i past_lines
 
   same_here : get_or ls i line_here ≡ line_here
   same_here = get_or_default ls i line_here past_lines within
 
-  pub line_read : (ms : List Mark) (told others : List ℕ) (read' : List LineStep) (sizes' : List ℕ) → length (named_ops context (get_or ls i past_lines).act) ≤ 16 → lacks 10 told ≡ true → rest ≡ told ++ 10 ∷ others → HasMarks told ms → AreOf size ms → length ms ≤ 16 → read' ≡ read ++ mark_steps i (length read) (get_or ls i past_lines).act ms → sizes' ≡ sizes ++ length ms ∷ [] → AreReadTo context size ls text (i + 1) others read' sizes'
-  line_read = read_more context size ls text i line_here rest read sizes h within same_here (plain_at ls i past_lines within plain)
+  pub line_read :
+      (ms : List Mark) (told others : List ℕ) (read' : List LineStep) (sizes' : List ℕ)
+      → length (named_ops context (get_or ls i past_lines).act) ≤ 16
+      → lacks 10 told ≡ true
+      → rest ≡ told ++ 10 ∷ others
+      → HasMarks told ms
+      → AreOf size ms
+      → length ms ≤ 16
+      → read' ≡ read ++ mark_steps i (length read) (get_or ls i past_lines).act ms
+      → sizes' ≡ sizes ++ length ms ∷ []
+      → AreReadTo context size ls text (i + 1) others read' sizes'
+  line_read =
+      read_more context size ls text i line_here rest read sizes h within same_here
+      (plain_at ls i past_lines within plain)
 
   pub no_line_here : lacks 10 rest ≡ true → NoMarks context size ls text
-  no_line_here = no_line context size ls text i line_here rest read sizes h within same_here (plain_at ls i past_lines within plain)
+  no_line_here =
+      no_line context size ls text i line_here rest read sizes h within same_here
+      (plain_at ls i past_lines within plain)
 
-  pub no_marks_here : (told others : List ℕ) → length (named_ops context (get_or ls i past_lines).act) ≤ 16 → lacks 10 told ≡ true → rest ≡ told ++ 10 ∷ others → ((ms : List Mark) → HasMarks told ms → ⊥) → NoMarks context size ls text
-  no_marks_here = no_marks_there context size ls text i line_here rest read sizes h within same_here (plain_at ls i past_lines within plain)
+  pub no_marks_here :
+      (told others : List ℕ)
+      → length (named_ops context (get_or ls i past_lines).act) ≤ 16
+      → lacks 10 told ≡ true
+      → rest ≡ told ++ 10 ∷ others
+      → ((ms : List Mark) → HasMarks told ms → ⊥)
+      → NoMarks context size ls text
+  no_marks_here =
+      no_marks_there context size ls text i line_here rest read sizes h within same_here
+      (plain_at ls i past_lines within plain)
 
-  pub not_in_table_here : (ms : List Mark) (told others : List ℕ) → length (named_ops context (get_or ls i past_lines).act) ≤ 16 → lacks 10 told ≡ true → rest ≡ told ++ 10 ∷ others → HasMarks told ms → (AreOf size ms → ⊥) → NoMarks context size ls text
-  not_in_table_here = not_in_table context size ls text i line_here rest read sizes h within same_here (plain_at ls i past_lines within plain)
+  pub not_in_table_here :
+      (ms : List Mark) (told others : List ℕ)
+      → length (named_ops context (get_or ls i past_lines).act) ≤ 16
+      → lacks 10 told ≡ true
+      → rest ≡ told ++ 10 ∷ others
+      → HasMarks told ms
+      → (AreOf size ms → ⊥)
+      → NoMarks context size ls text
+  not_in_table_here =
+      not_in_table context size ls text i line_here rest read sizes h within same_here
+      (plain_at ls i past_lines within plain)
 
 -- ---- all lines
-no_more : (context : StoreContext) (rest : List ℕ) (back : List Reply) (end : List ℕ) → ShowMarks context [] rest back end → back ≡ []
+no_more :
+    (context : StoreContext) (rest : List ℕ) (back : List Reply) (end : List ℕ)
+    → ShowMarks context [] rest back end
+    → back ≡ []
 no_more context rest [] end h = refl
 no_more context rest (r ∷ rs) end h = absurd h.kinds
 
-pub all_read : (context : StoreContext) (size : ℕ) (ls : List TraceLine) (text : List ℕ) (i : ℕ) (rest : List ℕ) (read : List LineStep) (sizes : List ℕ) → AreReadTo context size ls text i rest read sizes → i ≡ length ls → ReadMarks context size ls text read sizes
+pub all_read :
+    (context : StoreContext) (size : ℕ) (ls : List TraceLine) (text : List ℕ) (i : ℕ)
+    (rest : List ℕ) (read : List LineStep) (sizes : List ℕ)
+    → AreReadTo context size ls text i rest read sizes
+    → i ≡ length ls
+    → ReadMarks context size ls text read sizes
 all_read context size ls text i rest read sizes h end = record {
   marks = h.marks;
   each = h.each ∙ end;
   numbers = ap (map (numbered_by ls)) steps ∙ lines_numbered ls [] 0 ls h.marks refl;
-  within = subst (AllByRecursion (IsStepOf size (length ls) (length read))) (sym steps) (lines_within size (length ls) (length read) 0 0 ls h.marks (omega arith) (omega (arith, ap length steps)) h.in_table);
+  within =
+      subst (AllByRecursion (IsStepOf size (length ls) (length read))) (sym steps)
+      (lines_within size (length ls) (length read) 0 0 ls h.marks (omega arith)
+      (omega (arith, ap length steps)) h.in_table);
   counts = h.counts;
   in_table = section_within size ls h.marks h.in_table;
   only = λ rs last s.
       let a = h.left rs last s in
-      let none : a.back ≡ [] = no_more context rest a.back last (subst (λ ms. ShowMarks context ms rest a.back last) (drop_all i ls (omega (arith, end))) a.show) in
+      let none : a.back ≡ [] = no_more context rest a.back last
+      (subst (λ ms. ShowMarks context ms rest a.back last) (drop_all i ls (omega (arith, end)))
+      a.show) in
       ap (map marks_in) (a.all ∙ ap (λ z. a.front ++ z) none ∙ append-nil a.front) ∙ a.same;
 } where
   steps : read ≡ lines_steps 0 0 ls h.marks

@@ -40,19 +40,41 @@ use Rattle.history_check.specs.Replay.{before_each, next_state, ReplayState, aft
 -- ---- trials
 -- No call goes on behind an answer that used a translation.
 abbrev pub StopsAtDecided : (Answer → Bool) → List Call → Type 0
-StopsAtDecided goes cs = AllByRecursion (λ (c : Call). (s : State) → goes (reply_of s c.op).0 ≡ true → is_decided (reply_of s c.op).0 ≡ false) cs
+StopsAtDecided goes cs =
+    AllByRecursion
+    (λ (c : Call).
+    (s : State) → goes (reply_of s c.op).0 ≡ true → is_decided (reply_of s c.op).0 ≡ false) cs
 
-end_trial : (goes : Answer → Bool) (x y : Receipt) (cs : List Call) (xs ys : List Receipt) (P : Type 0) → x ≡ y → MatchBool (goes x.answer) (IsTrial goes cs xs) (xs ≡ []) → MatchBool (goes y.answer) (IsTrial goes cs ys) (ys ≡ []) → (goes x.answer ≡ true → IsTrial goes cs xs → IsTrial goes cs ys → P) → (xs ≡ [] → ys ≡ [] → P) → P
+end_trial :
+    (goes : Answer → Bool) (x y : Receipt) (cs : List Call) (xs ys : List Receipt) (P : Type 0)
+    → x ≡ y
+    → MatchBool (goes x.answer) (IsTrial goes cs xs) (xs ≡ [])
+    → MatchBool (goes y.answer) (IsTrial goes cs ys) (ys ≡ [])
+    → (goes x.answer ≡ true → IsTrial goes cs xs → IsTrial goes cs ys → P)
+    → (xs ≡ [] → ys ≡ [] → P)
+    → P
 end_trial goes x y cs xs ys P e h k on off = at (cases_Bool (goes x.answer)) where
   at : (goes x.answer ≡ true) ⊎ (goes x.answer ≡ false) → P
-  at (inl q) = let q' : goes y.answer ≡ true = sym (ap (λ (r : Receipt). goes r.answer) e) ∙ q in on q (rw q at h) (rw q' at k)
-  at (inr q) = let q' : goes y.answer ≡ false = sym (ap (λ (r : Receipt). goes r.answer) e) ∙ q in off (rw q at h) (rw q' at k)
+  at (inl q) = let q' :
+      goes y.answer ≡ true =
+      sym (ap (λ (r : Receipt). goes r.answer) e) ∙ q in on q (rw q at h) (rw q' at k)
+  at (inr q) = let q' :
+      goes y.answer ≡ false =
+      sym (ap (λ (r : Receipt). goes r.answer) e) ∙ q in off (rw q at h) (rw q' at k)
 
 neither : (a b : Bool) → a ≡ false → b ≡ false → (a || b) ≡ false
 neither a b h k = rw (h, k) refl
 
 -- xs was made on the states before of ys; then it is ys.
-pub replayed_trial : (goes : Answer → Bool) (cs : List Call) (a b : ReplayState) (xs ys : List Receipt) → StopsAtDecided goes cs → a.decided ≡ false → a.states ≡ before_each ys → IsReplayed a b xs → IsTrial goes cs xs → IsTrial goes cs ys → xs ≡ ys
+pub replayed_trial :
+    (goes : Answer → Bool) (cs : List Call) (a b : ReplayState) (xs ys : List Receipt)
+    → StopsAtDecided goes cs
+    → a.decided ≡ false
+    → a.states ≡ before_each ys
+    → IsReplayed a b xs
+    → IsTrial goes cs xs
+    → IsTrial goes cs ys
+    → xs ≡ ys
 replayed_trial goes [] a b [] [] stops fresh given g h k = refl
 replayed_trial goes [] a b [] (y ∷ ys) stops fresh given g h k = absurd k
 replayed_trial goes [] a b (x ∷ xs) ys stops fresh given g h k = absurd h
@@ -60,10 +82,18 @@ replayed_trial goes (c ∷ cs) a b [] ys stops fresh given g h k = absurd h
 replayed_trial goes (c ∷ cs) a b (x ∷ xs) [] stops fresh given g h k = absurd k
 replayed_trial goes (c ∷ cs) a b (x ∷ xs) (y ∷ ys) stops fresh given g h k =
     let before : x.before ≡ y.before = g.0 fresh ∙ ap (λ l. next_state l x.op) given in
-    let head : x ≡ y = same x y.entry y.before y.op (h.0.entry ∙ sym k.0.entry) before (h.0.op ∙ sym k.0.op) ∙ sym (exact y) in
-    let told : x.answer ≡ (reply_of x.before c.op).0 = x.lawful ∙ ap (λ o. (reply_of x.before o).0) h.0.op in
-    let next : (after_receipt a x).states ≡ before_each ys = ap (λ (l : List State). drop 1 l) given in
-    let tail : xs ≡ ys = end_trial goes x y cs xs ys (xs ≡ ys) head h.1 k.1 (λ q h' k'. replayed_trial goes cs (after_receipt a x) b xs ys stops.1 (neither a.decided (is_decided x.answer) fresh (ap is_decided told ∙ stops.0 x.before (ap goes (sym told) ∙ q))) next g.2 h' k') (λ e f. e ∙ sym f) in
+    let head : x ≡ y = same x y.entry y.before y.op (h.0.entry ∙ sym k.0.entry) before
+    (h.0.op ∙ sym k.0.op) ∙ sym (exact y) in
+    let told : x.answer ≡ (reply_of x.before c.op).0 = x.lawful ∙ ap (λ o. (reply_of x.before o).0)
+    h.0.op in
+    let next : (after_receipt a x).states ≡ before_each ys = ap (λ (l : List State). drop 1 l) given
+    in
+    let tail : xs ≡ ys = end_trial goes x y cs xs ys (xs ≡ ys) head h.1 k.1
+    (λ q h' k'.
+    replayed_trial goes cs (after_receipt a x) b xs ys stops.1
+    (neither a.decided (is_decided x.answer) fresh
+    (ap is_decided told ∙ stops.0 x.before (ap goes (sym told) ∙ q))) next g.2 h' k')
+    (λ e f. e ∙ sym f) in
     λ i. head i ∷ tail i
 
 -- what was made on as many states as were given was made on these
@@ -71,40 +101,83 @@ none_given : (ss : List State) → length ss ≡ 0 → [] ≡ ss
 none_given [] e = refl
 none_given (s ∷ ss) e = absurd (omega (arith, e))
 
-pub replayed_before : (goes : Answer → Bool) (cs : List Call) (a b : ReplayState) (rs : List Receipt) (ss : List State) → StopsAtDecided goes cs → a.decided ≡ false → a.states ≡ ss → IsReplayed a b rs → IsTrial goes cs rs → length rs ≡ length ss → before_each rs ≡ ss
+pub replayed_before :
+    (goes : Answer → Bool) (cs : List Call) (a b : ReplayState) (rs : List Receipt)
+    (ss : List State)
+    → StopsAtDecided goes cs
+    → a.decided ≡ false
+    → a.states ≡ ss
+    → IsReplayed a b rs
+    → IsTrial goes cs rs
+    → length rs ≡ length ss
+    → before_each rs ≡ ss
 replayed_before goes [] a b [] ss stops fresh given g h size = none_given ss (sym size)
 replayed_before goes [] a b (r ∷ rs) ss stops fresh given g h size = absurd h
 replayed_before goes (c ∷ cs) a b [] ss stops fresh given g h size = absurd h
-replayed_before goes (c ∷ cs) a b (r ∷ rs) [] stops fresh given g h size = absurd (omega (arith, size))
+replayed_before goes (c ∷ cs) a b (r ∷ rs) [] stops fresh given g h size =
+    absurd (omega (arith, size))
 replayed_before goes (c ∷ cs) a b (r ∷ rs) (s ∷ ss) stops fresh given g h size =
     let before : r.before ≡ s = g.0 fresh ∙ ap (λ l. next_state l r.op) given in
-    let told : r.answer ≡ (reply_of r.before c.op).0 = r.lawful ∙ ap (λ o. (reply_of r.before o).0) h.0.op in
+    let told : r.answer ≡ (reply_of r.before c.op).0 = r.lawful ∙ ap (λ o. (reply_of r.before o).0)
+    h.0.op in
     let next : (after_receipt a r).states ≡ ss = ap (λ (l : List State). drop 1 l) given in
-    let rest : before_each rs ≡ ss = at (cases_Bool (goes r.answer)) (λ q. replayed_before goes cs (after_receipt a r) b rs ss stops.1 (neither a.decided (is_decided r.answer) fresh (ap is_decided told ∙ stops.0 r.before (ap goes (sym told) ∙ q))) next g.2 (rw q at h.1) (omega (arith, size))) in
+    let rest : before_each rs ≡ ss = at (cases_Bool (goes r.answer))
+    (λ q.
+    replayed_before goes cs (after_receipt a r) b rs ss stops.1
+    (neither a.decided (is_decided r.answer) fresh
+    (ap is_decided told ∙ stops.0 r.before (ap goes (sym told) ∙ q))) next g.2
+    (rw q at h.1) (omega (arith, size))) in
     λ i. before i ∷ rest i where
-      at : (goes r.answer ≡ true) ⊎ (goes r.answer ≡ false) → (goes r.answer ≡ true → before_each rs ≡ ss) → before_each rs ≡ ss
+      at :
+          (goes r.answer ≡ true) ⊎ (goes r.answer ≡ false)
+          → (goes r.answer ≡ true → before_each rs ≡ ss)
+          → before_each rs ≡ ss
       at (inl q) go = go q
-      at (inr q) go = let none : rs ≡ [] = rw q at h.1 in ap before_each none ∙ none_given ss (omega (arith, size, ap length none))
+      at (inr q) go = let none :
+          rs ≡ [] =
+          rw q at h.1 in ap before_each none
+          ∙ none_given ss (omega (arith, size, ap length none))
 
 -- ---- hypervisor calls
-either_P : (b : Bool) (p q : Answer × State) (P : Answer × State → Type 0) → P p → P q → P (if◌then◌else◌ {A = Answer × State} b p q)
+either_P :
+    (b : Bool) (p q : Answer × State) (P : Answer × State → Type 0)
+    → P p
+    → P q
+    → P (if◌then◌else◌ {A = Answer × State} b p q)
 either_P true p q P h k = h
 either_P false p q P h k = k
 
 abbrev Undecided : Answer × State → Type 0
 Undecided x = is_decided x.0 ≡ false
 
-where_undecided : (found : Bool) (s : State) (answer : Answer) (next : State) → is_decided answer ≡ false → Undecided (change_where found s answer next)
-where_undecided found s answer next h = either_P found (change_to s answer next) (answers.NotFound, s) Undecided (either_P (s.stamp == 0xFFFFFFFF) (answers.Worn, s) (answer, record next { stamp = s.stamp + 1 }) Undecided refl h) refl
+where_undecided :
+    (found : Bool) (s : State) (answer : Answer) (next : State)
+    → is_decided answer ≡ false
+    → Undecided (change_where found s answer next)
+where_undecided found s answer next h =
+    either_P found (change_to s answer next) (answers.NotFound, s) Undecided
+    (either_P (s.stamp == 0xFFFFFFFF) (answers.Worn, s)
+    (answer, record next { stamp = s.stamp + 1 }) Undecided refl h) refl
 
 -- Only accesses use a translation.
-others_undecided : (s : State) (op : Op) → is_access op ≡ false → is_decided (reply_of s op).0 ≡ false
-others_undecided s (ops.Enter a b) h = either_P s.valid (answers.Taken, s) (change_to s answers.Entered (entered_state a b)) Undecided refl (either_P (s.stamp == 0xFFFFFFFF) (answers.Worn, s) (answers.Entered, record (entered_state a b) { stamp = s.stamp + 1 }) Undecided refl refl)
-others_undecided s (ops.Remove test) h = where_undecided (is_found s test) s answers.Removed (empty_state 0) refl
-others_undecided s (ops.Protect test flags) h = where_undecided (is_found s test) s answers.Protected (record s { dword1 = protected_word s.dword1 flags }) refl
+others_undecided :
+    (s : State) (op : Op) → is_access op ≡ false → is_decided (reply_of s op).0 ≡ false
+others_undecided s (ops.Enter a b) h =
+    either_P s.valid (answers.Taken, s) (change_to s answers.Entered (entered_state a b)) Undecided
+    refl
+    (either_P (s.stamp == 0xFFFFFFFF) (answers.Worn, s)
+    (answers.Entered, record (entered_state a b) { stamp = s.stamp + 1 }) Undecided refl
+    refl)
+others_undecided s (ops.Remove test) h =
+    where_undecided (is_found s test) s answers.Removed (empty_state 0) refl
+others_undecided s (ops.Protect test flags) h =
+    where_undecided (is_found s test) s answers.Protected
+    (record s { dword1 = protected_word s.dword1 flags }) refl
 others_undecided s ops.Read h = refl
-others_undecided s ops.ClearRef h = where_undecided s.valid s answers.Was (record s { referenced = false }) refl
-others_undecided s ops.ClearMod h = where_undecided s.valid s answers.Was (record s { changed = false }) refl
+others_undecided s ops.ClearRef h =
+    where_undecided s.valid s answers.Was (record s { referenced = false }) refl
+others_undecided s ops.ClearMod h =
+    where_undecided s.valid s answers.Was (record s { changed = false }) refl
 others_undecided s (ops.Access t b k n w masks) h = cc
 
 -- The calls are no accesses.
@@ -113,7 +186,8 @@ NoAccess cs = AllByRecursion (λ (c : Call). is_access c.op ≡ false) cs
 
 no_access_stops : (goes : Answer → Bool) (cs : List Call) → NoAccess cs → StopsAtDecided goes cs
 no_access_stops goes [] h = tt
-no_access_stops goes (c ∷ cs) h = ((λ s e. others_undecided s c.op h.0), no_access_stops goes cs h.1)
+no_access_stops goes (c ∷ cs) h =
+    ((λ s e. others_undecided s c.op h.0), no_access_stops goes cs h.1)
 
 each_call : (op : Op) (es : List ℕ) → is_access op ≡ false → NoAccess (map (call op) es)
 each_call op [] h = tt
@@ -122,33 +196,54 @@ each_call op (e ∷ es) h = (h, each_call op es h)
 abbrev PlainPlan : Plan → Type 0
 PlainPlan p = NoAccess p.calls
 
-single_plain : (order ptex : ℕ) (op : Op) (words : Receipt → List ℕ) → is_access op ≡ false → PlainPlan (single_plan order ptex op words)
-single_plain order ptex op words h = cond_both (nat_lt ptex (2 ^ (order - 4))) _ (plan_of_code rc.Parameter) PlainPlan (λ _. (h, tt)) (λ _. tt)
+single_plain :
+    (order ptex : ℕ) (op : Op) (words : Receipt → List ℕ)
+    → is_access op ≡ false
+    → PlainPlan (single_plan order ptex op words)
+single_plain order ptex op words h =
+    cond_both (nat_lt ptex (2 ^ (order - 4))) _ (plan_of_code rc.Parameter) PlainPlan (λ _. (h, tt))
+    (λ _. tt)
 
 words_plain : (flags ptex : ℕ) (w : Option (ℕ × ℕ)) → PlainPlan (words_plan flags ptex w)
 words_plain flags ptex None = tt
 words_plain flags ptex (Some w) = each_call (ops.Enter w.0 w.1) (candidates flags ptex) refl
 
-enter_plain : (order : ℕ) (grants : List Grant) (flags ptex pteh ptel : ℕ) → PlainPlan (h_enter_plan order grants flags ptex pteh ptel)
+enter_plain :
+    (order : ℕ) (grants : List Grant) (flags ptex pteh ptel : ℕ)
+    → PlainPlan (h_enter_plan order grants flags ptex pteh ptel)
 unfolding h_enter_plan
-enter_plain order grants flags ptex pteh ptel = cond_both (nat_lt ptex (2 ^ (order - 4))) (words_plan flags ptex (entered_words grants pteh ptel)) (plan_of_code rc.Parameter) PlainPlan (λ _. words_plain flags ptex (entered_words grants pteh ptel)) (λ _. tt)
+enter_plain order grants flags ptex pteh ptel =
+    cond_both (nat_lt ptex (2 ^ (order - 4)))
+    (words_plan flags ptex (entered_words grants pteh ptel)) (plan_of_code rc.Parameter)
+    PlainPlan (λ _. words_plain flags ptex (entered_words grants pteh ptel)) (λ _. tt)
 
 read_plain : (order flags ptex : ℕ) → PlainPlan (h_read_plan order flags ptex)
 unfolding h_read_plan
-read_plain order flags ptex = cond_both (nat_lt ptex (2 ^ (order - 4))) _ (plan_of_code rc.Parameter) PlainPlan (λ _. each_call ops.Read (read_entries flags ptex) refl) (λ _. tt)
+read_plain order flags ptex =
+    cond_both (nat_lt ptex (2 ^ (order - 4))) _ (plan_of_code rc.Parameter) PlainPlan
+    (λ _. each_call ops.Read (read_entries flags ptex) refl) (λ _. tt)
 
-put_at_plain : (grants : List Grant) (tce : ℕ) (entry : Option ℕ) → PlainPlan (option_map_or (put_plan_at grants tce) entry (plan_of_code rc.Parameter))
+put_at_plain :
+    (grants : List Grant) (tce : ℕ) (entry : Option ℕ)
+    → PlainPlan (option_map_or (put_plan_at grants tce) entry (plan_of_code rc.Parameter))
 put_at_plain grants tce None = tt
 put_at_plain grants tce (Some entry) =
     let op = ops.Enter (first_word tce) (second_word tce) in
-    cond_both (permits tce false || permits tce true) _ (clear_plan entry) PlainPlan (λ _. cond_both (is_ram grants (address_of tce)) (replace_plan entry op) (plan_of_code rc.Parameter) PlainPlan (λ _. (refl, (refl, tt))) (λ _. tt)) (λ _. (refl, tt))
+    cond_both (permits tce false || permits tce true) _ (clear_plan entry) PlainPlan
+    (λ _.
+    cond_both (is_ram grants (address_of tce)) (replace_plan entry op)
+    (plan_of_code rc.Parameter) PlainPlan (λ _. (refl, (refl, tt))) (λ _. tt))
+    (λ _. (refl, tt))
 
-put_plain : (grants : List Grant) (window : Option BusWindow) (ioba tce : ℕ) → PlainPlan (put_plan grants window ioba tce)
+put_plain :
+    (grants : List Grant) (window : Option BusWindow) (ioba tce : ℕ)
+    → PlainPlan (put_plan grants window ioba tce)
 unfolding put_tce_plan
 put_plain grants None ioba tce = tt
 put_plain grants (Some w) ioba tce = put_at_plain grants tce (entry_at w ioba)
 
-get_at_plain : (entry : Option ℕ) → PlainPlan (option_map_or get_plan_at entry (plan_of_code rc.Parameter))
+get_at_plain :
+    (entry : Option ℕ) → PlainPlan (option_map_or get_plan_at entry (plan_of_code rc.Parameter))
 get_at_plain None = tt
 get_at_plain (Some entry) = (refl, tt)
 
@@ -157,62 +252,129 @@ unfolding get_tce_plan
 get_plain None ioba = tt
 get_plain (Some w) ioba = get_at_plain (entry_at w ioba)
 
-hcall_plain : (set : StoreContext) (hcall : Hcall) (args : List ℕ) → PlainPlan (hcall_plan set hcall args)
+hcall_plain :
+    (set : StoreContext) (hcall : Hcall) (args : List ℕ) → PlainPlan (hcall_plan set hcall args)
 unfolding hcall_plan h_remove_plan h_protect_plan h_clear_ref_plan h_clear_mod_plan
-hcall_plain set calls.Enter args = enter_plain set.order set.grants (slice_index args 0) (slice_index args 1) (slice_index args 2) (slice_index args 3)
+hcall_plain set calls.Enter args =
+    enter_plain set.order set.grants (slice_index args 0) (slice_index args 1) (slice_index args 2)
+    (slice_index args 3)
 hcall_plain set calls.Remove args = single_plain set.order (slice_index args 1) _ _ refl
 hcall_plain set calls.Protect args = single_plain set.order (slice_index args 1) _ _ refl
 hcall_plain set calls.Read args = read_plain set.order (slice_index args 0) (slice_index args 1)
 hcall_plain set calls.ClearRef args = single_plain set.order (slice_index args 1) _ _ refl
 hcall_plain set calls.ClearMod args = single_plain set.order (slice_index args 1) _ _ refl
-hcall_plain set calls.BulkRemove args = h_bulk_remove_each (λ op. is_access op ≡ false) set.order args (λ test. refl)
-hcall_plain set calls.PutTce args = put_plain set.grants set.window (slice_index args 1) (slice_index args 2)
+hcall_plain set calls.BulkRemove args =
+    h_bulk_remove_each (λ op. is_access op ≡ false) set.order args (λ test. refl)
+hcall_plain set calls.PutTce args =
+    put_plain set.grants set.window (slice_index args 1) (slice_index args 2)
 hcall_plain set calls.GetTce args = get_plain set.window (slice_index args 1)
 hcall_plain set other args = tt
 
 -- A call that was made on the states before of a reply to it has that reply.
-pub call_replayed : (set : StoreContext) (hcall : Hcall) (args : List ℕ) (a b : ReplayState) (h k : HReply) → a.decided ≡ false → a.states ≡ before_each k.receipts → IsReplayed a b h.receipts → IsReplyOf (hcall_plan set hcall args) h → IsReplyOf (hcall_plan set hcall args) k → h ≡ k
+pub call_replayed :
+    (set : StoreContext) (hcall : Hcall) (args : List ℕ) (a b : ReplayState) (h k : HReply)
+    → a.decided ≡ false
+    → a.states ≡ before_each k.receipts
+    → IsReplayed a b h.receipts
+    → IsReplyOf (hcall_plan set hcall args) h
+    → IsReplyOf (hcall_plan set hcall args) k
+    → h ≡ k
 call_replayed set hcall args a b h k fresh given g x y =
     let plan = hcall_plan set hcall args in
-    let e : h.receipts ≡ k.receipts = replayed_trial plan.goes_on plan.calls a b h.receipts k.receipts (no_access_stops plan.goes_on plan.calls (hcall_plain set hcall args)) fresh given g x.trial y.trial in
+    let e : h.receipts ≡ k.receipts = replayed_trial plan.goes_on plan.calls a b h.receipts
+    k.receipts (no_access_stops plan.goes_on plan.calls (hcall_plain set hcall args)) fresh
+    given g x.trial y.trial in
     let t : (h.rc, h.words) ≡ (k.rc, k.words) = x.told ∙ ap plan.told e ∙ sym y.told in
     λ i. record { rc = (t i).0; words = (t i).1; receipts = e i }
 
-pub call_before : (set : StoreContext) (hcall : Hcall) (args : List ℕ) (a b : ReplayState) (h : HReply) (ss : List State) → a.decided ≡ false → a.states ≡ ss → IsReplayed a b h.receipts → IsReplyOf (hcall_plan set hcall args) h → length h.receipts ≡ length ss → before_each h.receipts ≡ ss
+pub call_before :
+    (set : StoreContext) (hcall : Hcall) (args : List ℕ) (a b : ReplayState) (h : HReply)
+    (ss : List State)
+    → a.decided ≡ false
+    → a.states ≡ ss
+    → IsReplayed a b h.receipts
+    → IsReplyOf (hcall_plan set hcall args) h
+    → length h.receipts ≡ length ss
+    → before_each h.receipts ≡ ss
 call_before set hcall args a b h ss fresh given g x size =
     let plan = hcall_plan set hcall args in
-    replayed_before plan.goes_on plan.calls a b h.receipts ss (no_access_stops plan.goes_on plan.calls (hcall_plain set hcall args)) fresh given g x.trial size
+    replayed_before plan.goes_on plan.calls a b h.receipts ss
+    (no_access_stops plan.goes_on plan.calls (hcall_plain set hcall args)) fresh given g x.trial
+    size
 
 -- ---- accesses of devices
 read_stops : (entry : ℕ) → StopsAtDecided (λ answer. true) (call ops.Read entry ∷ [])
 read_stops entry = ((λ s e. refl), tt)
 
-no_receipt : (d : DeviceReply) (ss : List State) → d ≡ no_window_reply → length d.receipts ≡ length ss → before_each d.receipts ≡ ss
+no_receipt :
+    (d : DeviceReply) (ss : List State)
+    → d ≡ no_window_reply
+    → length d.receipts ≡ length ss
+    → before_each d.receipts ≡ ss
 no_receipt d ss e size =
     let none : d.receipts ≡ [] = ap (λ (x : DeviceReply). x.receipts) e in
     ap before_each none ∙ none_given ss (sym size ∙ ap length none)
 
-reply_before : (grants : List Grant) (entry : Option ℕ) (ioba : ℕ) (write : Bool) (a b : ReplayState) (d : DeviceReply) (ss : List State) → a.decided ≡ false → a.states ≡ ss → IsReplayed a b d.receipts → IsDeviceReplyBy grants ioba write d entry → length d.receipts ≡ length ss → before_each d.receipts ≡ ss
+reply_before :
+    (grants : List Grant) (entry : Option ℕ) (ioba : ℕ) (write : Bool) (a b : ReplayState)
+    (d : DeviceReply) (ss : List State)
+    → a.decided ≡ false
+    → a.states ≡ ss
+    → IsReplayed a b d.receipts
+    → IsDeviceReplyBy grants ioba write d entry
+    → length d.receipts ≡ length ss
+    → before_each d.receipts ≡ ss
 reply_before grants None ioba write a b d ss fresh given g x size = no_receipt d ss x size
-reply_before grants (Some entry) ioba write a b d ss fresh given g x size = replayed_before (λ answer. true) (call ops.Read entry ∷ []) a b d.receipts ss (read_stops entry) fresh given g x.trial size
+reply_before grants (Some entry) ioba write a b d ss fresh given g x size =
+    replayed_before (λ answer. true) (call ops.Read entry ∷ []) a b d.receipts ss (read_stops entry)
+    fresh given g x.trial size
 
 the_device : (d e : DeviceReply) → replies.Device d ≡ replies.Device e → d ≡ e
 the_device d e h = cc
 
-pub device_before : (grants : List Grant) (window : Option BusWindow) (ioba : ℕ) (write : Bool) (a b : ReplayState) (d : DeviceReply) (ss : List State) → a.decided ≡ false → a.states ≡ ss → IsReplayed a b d.receipts → IsDeviceLine grants window write ioba (replies.Device d) → length d.receipts ≡ length ss → before_each d.receipts ≡ ss
-device_before grants None ioba write a b d ss fresh given g x size = no_receipt d ss (the_device d no_window_reply x) size
-device_before grants (Some w) ioba write a b d ss fresh given g x size = reply_before grants (entry_at w ioba) ioba write a b d ss fresh given g x size
+pub device_before :
+    (grants : List Grant) (window : Option BusWindow) (ioba : ℕ) (write : Bool) (a b : ReplayState)
+    (d : DeviceReply) (ss : List State)
+    → a.decided ≡ false
+    → a.states ≡ ss
+    → IsReplayed a b d.receipts
+    → IsDeviceLine grants window write ioba (replies.Device d)
+    → length d.receipts ≡ length ss
+    → before_each d.receipts ≡ ss
+device_before grants None ioba write a b d ss fresh given g x size =
+    no_receipt d ss (the_device d no_window_reply x) size
+device_before grants (Some w) ioba write a b d ss fresh given g x size =
+    reply_before grants (entry_at w ioba) ioba write a b d ss fresh given g x size
 
-reply_replayed : (grants : List Grant) (entry : Option ℕ) (ioba : ℕ) (write : Bool) (a b : ReplayState) (d k : DeviceReply) → a.decided ≡ false → a.states ≡ before_each k.receipts → IsReplayed a b d.receipts → IsDeviceReplyBy grants ioba write d entry → IsDeviceReplyBy grants ioba write k entry → d ≡ k
+reply_replayed :
+    (grants : List Grant) (entry : Option ℕ) (ioba : ℕ) (write : Bool) (a b : ReplayState)
+    (d k : DeviceReply)
+    → a.decided ≡ false
+    → a.states ≡ before_each k.receipts
+    → IsReplayed a b d.receipts
+    → IsDeviceReplyBy grants ioba write d entry
+    → IsDeviceReplyBy grants ioba write k entry
+    → d ≡ k
 reply_replayed grants None ioba write a b d k fresh given g x y = x ∙ sym y
 reply_replayed grants (Some entry) ioba write a b d k fresh given g x y =
-    let e : d.receipts ≡ k.receipts = replayed_trial (λ answer. true) (call ops.Read entry ∷ []) a b d.receipts k.receipts (read_stops entry) fresh given g x.trial y.trial in
-    let o : d.outcome ≡ k.outcome = x.outcome ∙ ap (outcome_of grants ioba write) e ∙ sym y.outcome in
+    let e : d.receipts ≡ k.receipts = replayed_trial (λ answer. true) (call ops.Read entry ∷ []) a b
+    d.receipts k.receipts (read_stops entry) fresh given g x.trial y.trial in
+    let o : d.outcome ≡ k.outcome = x.outcome ∙ ap (outcome_of grants ioba write) e ∙ sym y.outcome
+    in
     λ i. record { outcome = o i; receipts = e i }
 
-pub device_replayed : (grants : List Grant) (window : Option BusWindow) (ioba : ℕ) (write : Bool) (a b : ReplayState) (d k : DeviceReply) → a.decided ≡ false → a.states ≡ before_each k.receipts → IsReplayed a b d.receipts → IsDeviceLine grants window write ioba (replies.Device d) → IsDeviceLine grants window write ioba (replies.Device k) → d ≡ k
+pub device_replayed :
+    (grants : List Grant) (window : Option BusWindow) (ioba : ℕ) (write : Bool) (a b : ReplayState)
+    (d k : DeviceReply)
+    → a.decided ≡ false
+    → a.states ≡ before_each k.receipts
+    → IsReplayed a b d.receipts
+    → IsDeviceLine grants window write ioba (replies.Device d)
+    → IsDeviceLine grants window write ioba (replies.Device k)
+    → d ≡ k
 device_replayed grants None ioba write a b d k fresh given g x y = the_device d k (x ∙ sym y)
-device_replayed grants (Some w) ioba write a b d k fresh given g x y = reply_replayed grants (entry_at w ioba) ioba write a b d k fresh given g x y
+device_replayed grants (Some w) ioba write a b d k fresh given g x y =
+    reply_replayed grants (entry_at w ioba) ioba write a b d k fresh given g x y
 
 -- ---- walks
 no_match_undecided : (a : Answer) → is_no_match a ≡ true → is_decided a ≡ false

@@ -18,17 +18,42 @@ use Rattle.history_check.proofs.Serialized.{Ascending, sorted_run, run_legal, ru
 use Rattle.history_check.specs.FoundSection.{closing_of, IsLegalTo}
 
 -- ---- a section
-pub section_fixes : (s : Section) (closing : List State) (ms : List Receipt) → length closing ≡ length (states_of s.before) → IsLegalTo s closing → Regrouped (made_in s) ms → Ascending ms → (before_each ms ≡ found_states (states_of s.before) (map step_of ms)) × (closing ≡ ending_states (states_of s.before) (map step_of ms))
-section_fixes s closing ms size g same up = run_fixes (states_of s.before) closing ms (sorted_run (states_of s.before) closing (made_in s) ms same up size g.in_table g.legal)
+pub section_fixes :
+    (s : Section) (closing : List State) (ms : List Receipt)
+    → length closing ≡ length (states_of s.before)
+    → IsLegalTo s closing
+    → Regrouped (made_in s) ms
+    → Ascending ms
+    → (before_each ms ≡ found_states (states_of s.before) (map step_of ms))
+    × (closing ≡ ending_states (states_of s.before) (map step_of ms))
+section_fixes s closing ms size g same up =
+    run_fixes (states_of s.before) closing ms
+    (sorted_run (states_of s.before) closing (made_in s) ms same up size g.in_table g.legal)
 
-pub fixed_section : (s : Section) (ms : List Receipt) → Regrouped ms (made_in s) → AllByRecursion (λ (r : Receipt). r.entry < length (states_of s.before)) ms → before_each ms ≡ found_states (states_of s.before) (map step_of ms) → IsLegalTo s (closing_of s) × (closing_of s ≡ ending_states (states_of s.before) (map step_of ms))
+pub fixed_section :
+    (s : Section) (ms : List Receipt)
+    → Regrouped ms (made_in s)
+    → AllByRecursion (λ (r : Receipt). r.entry < length (states_of s.before)) ms
+    → before_each ms ≡ found_states (states_of s.before) (map step_of ms)
+    → IsLegalTo s (closing_of s)
+    × (closing_of s ≡ ending_states (states_of s.before) (map step_of ms))
 fixed_section s ms same within found =
     let a = states_of s.before in
     let b = ending_states a (map step_of ms) in
     let run : IsRun a ms b = fixed_run a ms within found in
-    let legal : (e : ℕ) → IsLegal (state_at a e) (history e (made_in s)) (state_at b e) = run_legal a b ms (made_in s) same run in
-    let close : closing_of s ≡ b = closing_is a b (made_in s) (run-length a b ms run) (λ e k. legal e) in
-    (record { in_table = each_regrouped (λ (r : Receipt). r.entry < length a) same within; legal = λ e k. subst (λ z. IsLegal (state_at a e) (history e (made_in s)) (state_at z e)) (sym close) (legal e) }, close)
+    let legal : (e : ℕ) → IsLegal (state_at a e) (history e (made_in s)) (state_at b e) = run_legal
+    a b ms (made_in s) same run in
+    let close : closing_of s ≡ b = closing_is a b (made_in s) (run-length a b ms run)
+    (λ e k. legal e) in (
+      record {
+        in_table = each_regrouped (λ (r : Receipt). r.entry < length a) same within;
+        legal =
+            λ e k.
+            subst (λ z. IsLegal (state_at a e) (history e (made_in s)) (state_at z e)) (sym close)
+            (legal e);
+      },
+      close,
+    )
 
 -- ---- places by marks
 digit_first : (r c : Bool) → nat_le 2 ((if r then 2 else 0) + (if c then 1 else 0)) ≡ r
@@ -52,4 +77,12 @@ place_is r =
     let s = r.before in
     let one = digit_first s.referenced s.changed in
     let two = digit_second s.referenced s.changed in
-    λ i. (s.stamp * 4 + ((if sym one i then 1 else 0) + (if sym two i then 1 else 0))) * 2 + (if (flag_of r ∙ (λ j. is_unchanged (is_store_access (step_op r.op)) r.answer (sym one j) (sym two j))) i then 0 else 1)
+    λ i.
+    (s.stamp * 4 + ((if sym one i then 1 else 0) + (if sym two i then 1 else 0))) * 2
+    +
+    (if
+    (flag_of r
+    ∙
+    (λ j.
+    is_unchanged (is_store_access (step_op r.op)) r.answer (sym one j) (sym two j)))
+    i then 0 else 1)

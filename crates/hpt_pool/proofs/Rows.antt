@@ -50,11 +50,15 @@ unfolding lowest_place multiples small
 much_too_large = refl
 
 -- ---- the list
-in_between : taken_with (first_leaf ∷ upper_half ∷ []) second_leaf ≡ first_leaf ∷ second_leaf ∷ upper_half ∷ []
+in_between :
+    taken_with (first_leaf ∷ upper_half ∷ []) second_leaf
+    ≡ first_leaf ∷ second_leaf ∷ upper_half ∷ []
 unfolding taken_with first_leaf second_leaf upper_half
 in_between = refl
 
-given_back : taken_without (first_leaf ∷ second_leaf ∷ upper_half ∷ []) 0x1000040000 ≡ first_leaf ∷ upper_half ∷ []
+given_back :
+    taken_without (first_leaf ∷ second_leaf ∷ upper_half ∷ []) 0x1000040000
+    ≡ first_leaf ∷ upper_half ∷ []
 unfolding taken_without first_leaf second_leaf upper_half
 given_back = refl
 
@@ -68,12 +72,16 @@ right_taken : blocks_below 1 0x1000000000 (Open 18 ∷ Open 18 ∷ Taken ∷ [])
 unfolding blocks_below second_leaf
 right_taken = refl
 
-both_taken : blocks_below 1 0x1000000000 (Taken ∷ Open 18 ∷ Open 18 ∷ []) ≡ block_at 0x1000000000 19 ∷ []
+both_taken :
+    blocks_below 1 0x1000000000 (Taken ∷ Open 18 ∷ Open 18 ∷ []) ≡ block_at 0x1000000000 19 ∷ []
 unfolding blocks_below
 both_taken = refl
 
 -- Of four leaves the upper two are one block: the right half stands behind the left one.
-upper_taken : blocks_below 2 0x1000000000 (Open 19 ∷ Open 19 ∷ Open 18 ∷ Open 18 ∷ Taken ∷ Open 18 ∷ Open 18 ∷ []) ≡ upper_half ∷ []
+upper_taken :
+    blocks_below 2 0x1000000000
+    (Open 19 ∷ Open 19 ∷ Open 18 ∷ Open 18 ∷ Taken ∷ Open 18 ∷ Open 18 ∷ [])
+    ≡ upper_half ∷ []
 unfolding blocks_below upper_half
 upper_taken = refl
 

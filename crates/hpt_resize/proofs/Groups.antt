@@ -19,15 +19,24 @@ use Rattle.hpt_resize.specs.Rehash.{carried_page, target_of, target_at}
 use Rattle.hpte_fields.specs.TableSize.{entry_count}
 
 -- ---- what a value that is there says of its parts
-and_then_some : {T U : Type 0} (f : T → Option U) (o : Option T) (y : U) → option_and_then f o ≡ Some y → (x : T) × (o ≡ Some x) × (f x ≡ Some y)
+and_then_some :
+    {T U : Type 0} (f : T → Option U) (o : Option T) (y : U)
+    → option_and_then f o ≡ Some y
+    → (x : T) × (o ≡ Some x) × (f x ≡ Some y)
 and_then_some f None y e = cc
 and_then_some f (Some x) y e = (x, refl, e)
 
-map_some : {T U : Type 0} (f : T → U) (o : Option T) (y : U) → option_map f o ≡ Some y → (x : T) × (o ≡ Some x) × (f x ≡ y)
+map_some :
+    {T U : Type 0} (f : T → U) (o : Option T) (y : U)
+    → option_map f o ≡ Some y
+    → (x : T) × (o ≡ Some x) × (f x ≡ y)
 map_some f None y e = cc
 map_some f (Some x) y e = (x, refl, cc)
 
-if_some : {T : Type 0} (b : Bool) (o : Option T) (y : T) → (if b then o else None) ≡ Some y → (b ≡ true) × (o ≡ Some y)
+if_some :
+    {T : Type 0} (b : Bool) (o : Option T) (y : T)
+    → (if b then o else None) ≡ Some y
+    → (b ≡ true) × (o ≡ Some y)
 if_some true o y e = (refl, e)
 if_some false o y e = cc
 
@@ -41,38 +50,78 @@ pub record IsCarried (from to : ℕ) (state : State) (index target : ℕ) : Type
   pub here : group_of page from (is_secondary state.dword0) ≡ index / 8
   pub there : group_of page to (is_secondary state.dword0) * 8 + index % 8 ≡ target
 
-pub carried_is : (from to : ℕ) (state : State) (index target : ℕ) → target_of from to state index ≡ Some target → IsCarried from to state index target
+pub carried_is :
+    (from to : ℕ) (state : State) (index target : ℕ)
+    → target_of from to state index ≡ Some target
+    → IsCarried from to state index target
 unfolding target_of carried_page
 carried_is from to state index target e =
-    let made = map_some (λ (page : VirtualPage). group_of page to (is_secondary state.dword0) * 8 + index % 8) (carried_page from state index) target e in
-    let flags = if_some (state.valid && is_bolted state.dword0) (page_at from index state.dword0 state.dword1) made.0 made.1 in
+    let made = map_some
+    (λ (page : VirtualPage). group_of page to (is_secondary state.dword0) * 8 + index % 8)
+    (carried_page from state index) target e in
+    let flags = if_some (state.valid && is_bolted state.dword0)
+    (page_at from index state.dword0 state.dword1) made.0 made.1 in
     let both = and_parts state.valid (is_bolted state.dword0) flags.0 in
-    record { page = made.0; carried = made.1; found = flags.1; valid = both.0; bolted = both.1; here = page_at-group from index state.dword0 state.dword1 made.0 flags.1; there = made.2 }
+    record {
+      page = made.0;
+      carried = made.1;
+      found = flags.1;
+      valid = both.0;
+      bolted = both.1;
+      here = page_at-group from index state.dword0 state.dword1 made.0 flags.1;
+      there = made.2;
+    }
 
 -- An entry with a page that is carried has a target.
-pub page_goes : (from to : ℕ) (state : State) (index : ℕ) (page : VirtualPage) → carried_page from state index ≡ Some page → target_of from to state index ≡ Some (group_of page to (is_secondary state.dword0) * 8 + index % 8)
+pub page_goes :
+    (from to : ℕ) (state : State) (index : ℕ) (page : VirtualPage)
+    → carried_page from state index ≡ Some page
+    → target_of from to state index
+    ≡ Some (group_of page to (is_secondary state.dword0) * 8 + index % 8)
 unfolding target_of
-page_goes from to state index page e = ap (option_map (λ (page : VirtualPage). group_of page to (is_secondary state.dword0) * 8 + index % 8)) e
+page_goes from to state index page e =
+    ap
+    (option_map
+    (λ (page : VirtualPage). group_of page to (is_secondary state.dword0) * 8 + index % 8))
+    e
 
 -- An entry of a group of a table stands in that table.
-pub slot_in_table : (order group index : ℕ) → 18 ≤ order → group < group_count order → group * 8 + index % 8 < 2 ^ (order - 4)
+pub slot_in_table :
+    (order group index : ℕ)
+    → 18 ≤ order
+    → group < group_count order
+    → group * 8 + index % 8 < 2 ^ (order - 4)
 slot_in_table order group index large below =
-    let split : 2 ^ (order - 4) ≡ 2 ^ (order - 7) * 2 ^ 3 = ap (λ n. 2 ^ n) (let e : order - 4 ≡ order - 7 + 3 = omega arith in e) ∙ pow-add 2 (order - 7) 3 in
+    let split : 2 ^ (order - 4) ≡ 2 ^ (order - 7) * 2 ^ 3 = ap (λ n. 2 ^ n)
+    (let e : order - 4 ≡ order - 7 + 3 = omega arith in e) ∙ pow-add 2 (order - 7) 3 in
     omega arith
 
-pub target_in_table : (from to : ℕ) (state : State) (index target : ℕ) → 18 ≤ to → target_of from to state index ≡ Some target → target < entry_count to
+pub target_in_table :
+    (from to : ℕ) (state : State) (index target : ℕ)
+    → 18 ≤ to
+    → target_of from to state index ≡ Some target
+    → target < entry_count to
 target_in_table from to state index target large e =
     let is = carried_is from to state index target e in
-    subst (λ n. n < entry_count to) is.there (slot_in_table to (group_of is.page to (is_secondary state.dword0)) index large (group_of-lt is.page to (is_secondary state.dword0)))
+    subst (λ n. n < entry_count to) is.there
+    (slot_in_table to (group_of is.page to (is_secondary state.dword0)) index large
+    (group_of-lt is.page to (is_secondary state.dword0)))
 
 -- There it is an entry of the same page.
-pub target_page : (from to : ℕ) (state : State) (index target : ℕ) → 18 ≤ from → 18 ≤ to → (e : target_of from to state index ≡ Some target) → page_at to target state.dword0 state.dword1 ≡ Some (carried_is from to state index target e).page
+pub target_page :
+    (from to : ℕ) (state : State) (index target : ℕ)
+    → 18 ≤ from
+    → 18 ≤ to
+    → (e : target_of from to state index ≡ Some target)
+    → page_at to target state.dword0 state.dword1
+    ≡ Some (carried_is from to state index target e).page
 target_page from to state index target large large' e =
     let is = carried_is from to state index target e in
     let group : ℕ = group_of is.page to (is_secondary state.dword0) in
     let there : group * 8 + index % 8 ≡ target = is.there in
     let stands : group ≡ target / 8 = omega arith in
-    page_at-moved from to index target state.dword0 state.dword1 is.page large large' is.found stands
+    page_at-moved from to index target state.dword0 state.dword1 is.page large large' is.found
+    stands
 
 -- ---- groups of one page in two tables
 complement_below : (d q k r : ℕ) → r < k → ((q * k + k + d * k) - 1 - (q * k + r)) % k ≡ k - 1 - r
@@ -84,39 +133,80 @@ three_times : (q d k : ℕ) → (q + 1 + d) * k ≡ q * k + k + d * k
 three_times q d k = grind arith
 
 -- The complement of a number, cut to fewer bits, is the complement of the cut number.
-complement_low : (low high h : ℕ) → low ≤ high → h < 2 ^ high → (2 ^ high - 1 - h) % 2 ^ low ≡ 2 ^ low - 1 - h % 2 ^ low
+complement_low :
+    (low high h : ℕ)
+    → low ≤ high
+    → h < 2 ^ high
+    → (2 ^ high - 1 - h) % 2 ^ low ≡ 2 ^ low - 1 - h % 2 ^ low
 complement_low low high h below small =
-    let split : 2 ^ high ≡ 2 ^ (high - low) * 2 ^ low = ap (λ n. 2 ^ n) (let e : high ≡ high - low + low = omega arith in e) ∙ pow-add 2 (high - low) low in
+    let split : 2 ^ high ≡ 2 ^ (high - low) * 2 ^ low = ap (λ n. 2 ^ n)
+    (let e : high ≡ high - low + low = omega arith in e) ∙ pow-add 2 (high - low) low in
     let whole : h ≡ h / 2 ^ low * 2 ^ low + h % 2 ^ low = sym (div-add-mod' h (2 ^ low)) in
-    let within : h / 2 ^ low < 2 ^ (high - low) = (div-lt_iff_lt-mul {k = 2 ^ low} {x = h} {y = 2 ^ (high - low)} (pow_pos low)).1 (omega arith) in
-    of_parts (2 ^ (high - low) - 1 - h / 2 ^ low) (h / 2 ^ low) (2 ^ low) (h % 2 ^ low) (2 ^ high) (mod-lt h (pow_pos low)) whole
-    (split ∙ ap (λ n. n * 2 ^ low) (let e : 2 ^ (high - low) ≡ h / 2 ^ low + 1 + (2 ^ (high - low) - 1 - h / 2 ^ low) = omega arith in e)) where
-      of_parts : (d q k r n : ℕ) → r < k → h ≡ q * k + r → n ≡ (q + 1 + d) * k → (n - 1 - h) % k ≡ k - 1 - r
+    let within : h / 2 ^ low < 2 ^ (high - low) =
+    (div-lt_iff_lt-mul {k = 2 ^ low} {x = h} {y = 2 ^ (high - low)} (pow_pos low)).1
+    (omega arith) in
+    of_parts (2 ^ (high - low) - 1 - h / 2 ^ low) (h / 2 ^ low) (2 ^ low) (h % 2 ^ low) (2 ^ high)
+    (mod-lt h (pow_pos low)) whole
+    (split
+    ∙ ap (λ n. n * 2 ^ low)
+    (let e : 2 ^ (high - low) ≡ h / 2 ^ low + 1 + (2 ^ (high - low) - 1 - h / 2 ^ low) = omega
+    arith in
+    e)) where
+      of_parts :
+          (d q k r n : ℕ)
+          → r < k
+          → h ≡ q * k + r
+          → n ≡ (q + 1 + d) * k
+          → (n - 1 - h) % k ≡ k - 1 - r
       of_parts d q k r n low_r whole all =
-          ap (λ m. (m - 1 - h) % k) (all ∙ three_times q d k) ∙ ap (λ m. ((q * k + k + d * k) - 1 - m) % k) whole ∙ complement_below d q k r low_r
+          ap (λ m. (m - 1 - h) % k) (all ∙ three_times q d k)
+          ∙ ap (λ m. ((q * k + k + d * k) - 1 - m) % k) whole
+          ∙ complement_below d q k r low_r
 
-pub larger_group : (page : VirtualPage) (from to : ℕ) (secondary : Bool) → 18 ≤ from → from ≤ to → group_of page to secondary % group_count from ≡ group_of page from secondary
+pub larger_group :
+    (page : VirtualPage) (from to : ℕ) (secondary : Bool)
+    → 18 ≤ from
+    → from ≤ to
+    → group_of page to secondary % group_count from ≡ group_of page from secondary
 unfolding group_of
 larger_group page from to false large below =
     let e : to - 7 ≡ (to - from) + (from - 7) = omega arith in
-    ap (λ n. hash_of page % 2 ^ n % 2 ^ (from - 7)) e ∙ mod-mod-pow (hash_of page) (to - from) (from - 7)
+    ap (λ n. hash_of page % 2 ^ n % 2 ^ (from - 7)) e
+    ∙ mod-mod-pow (hash_of page) (to - from) (from - 7)
 larger_group page from to true large below =
     let e : to - 7 ≡ (to - from) + (from - 7) = omega arith in
-    let low : hash_of page % 2 ^ (to - 7) < 2 ^ (to - 7) = mod-lt (hash_of page) (pow_pos (to - 7)) in
+    let low : hash_of page % 2 ^ (to - 7) < 2 ^ (to - 7) = mod-lt (hash_of page) (pow_pos (to - 7))
+    in
     complement_low (from - 7) (to - 7) (hash_of page % 2 ^ (to - 7)) (omega arith) low
-    ∙ ap (λ n. 2 ^ (from - 7) - 1 - n) (ap (λ n. hash_of page % 2 ^ n % 2 ^ (from - 7)) e ∙ mod-mod-pow (hash_of page) (to - from) (from - 7))
+    ∙ ap (λ n. 2 ^ (from - 7) - 1 - n)
+    (ap (λ n. hash_of page % 2 ^ n % 2 ^ (from - 7)) e
+    ∙ mod-mod-pow (hash_of page) (to - from) (from - 7))
 
 -- Two entries of one target are one.
-pub one_source : (from to : ℕ) (states : List State) (i j target : ℕ) → 18 ≤ from → from ≤ to → target_at from to states i ≡ Some target → target_at from to states j ≡ Some target → i ≡ j
+pub one_source :
+    (from to : ℕ) (states : List State) (i j target : ℕ)
+    → 18 ≤ from
+    → from ≤ to
+    → target_at from to states i ≡ Some target
+    → target_at from to states j ≡ Some target
+    → i ≡ j
 one_source from to states i j target large below first second =
     let one = carried_is from to (state_at states i) i target first in
     let two = carried_is from to (state_at states j) j target second in
     let one_group = group_of one.page to (is_secondary (state_at states i).dword0) in
     let two_group = group_of two.page to (is_secondary (state_at states j).dword0) in
     joined one_group two_group one.there two.there
-    ((larger_group one.page from to (is_secondary (state_at states i).dword0) large below) ∙ one.here)
-    ((larger_group two.page from to (is_secondary (state_at states j).dword0) large below) ∙ two.here) where
-      joined : (g h : ℕ) → g * 8 + i % 8 ≡ target → h * 8 + j % 8 ≡ target → g % group_count from ≡ i / 8 → h % group_count from ≡ j / 8 → i ≡ j
+    ((larger_group one.page from to (is_secondary (state_at states i).dword0) large below)
+    ∙ one.here)
+    ((larger_group two.page from to (is_secondary (state_at states j).dword0) large below)
+    ∙ two.here) where
+      joined :
+          (g h : ℕ)
+          → g * 8 + i % 8 ≡ target
+          → h * 8 + j % 8 ≡ target
+          → g % group_count from ≡ i / 8
+          → h % group_count from ≡ j / 8
+          → i ≡ j
       joined g h there there' here here' =
           let same : g ≡ h = omega arith in
           let groups : i / 8 ≡ j / 8 = sym here ∙ ap (λ n. n % group_count from) same ∙ here' in

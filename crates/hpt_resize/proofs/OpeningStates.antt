@@ -13,22 +13,34 @@ use Rattle.hpt_resize.specs.TableMemory.{empty_states, with_entries}
 abbrev pub with_entry : List State → ImageEntry → List State
 with_entry states e = set states e.index (entered_state e.dword0 e.dword1)
 
-pub entries-length : (states : List State) (es : List ImageEntry) → length (with_entries states es) ≡ length states
+pub entries-length :
+    (states : List State) (es : List ImageEntry) → length (with_entries states es) ≡ length states
 entries-length states [] = refl
-entries-length states (e ∷ es) = entries-length (with_entry states e) es ∙ length-set states e.index (entered_state e.dword0 e.dword1)
+entries-length states (e ∷ es) =
+    entries-length (with_entry states e) es
+    ∙ length-set states e.index (entered_state e.dword0 e.dword1)
 
-pub opening-length : (order : ℕ) (es : List ImageEntry) → length (with_entries (empty_states order) es) ≡ entry_count order
+pub opening-length :
+    (order : ℕ) (es : List ImageEntry)
+    → length (with_entries (empty_states order) es) ≡ entry_count order
 unfolding empty_states
-opening-length order es = entries-length (empty_states order) es ∙ length-replicate (entry_count order) (empty_state 0)
+opening-length order es =
+    entries-length (empty_states order) es ∙ length-replicate (entry_count order) (empty_state 0)
 
 -- One more entry behind the others.
-pub entries-more : (states : List State) (es : List ImageEntry) (e : ImageEntry) → with_entries states (es ++ e ∷ []) ≡ with_entry (with_entries states es) e
+pub entries-more :
+    (states : List State) (es : List ImageEntry) (e : ImageEntry)
+    → with_entries states (es ++ e ∷ []) ≡ with_entry (with_entries states es) e
 entries-more states [] e = refl
 entries-more states (first ∷ es) e = entries-more (with_entry states first) es e
 
 -- A place that is none of theirs stays.
-pub entries-other : (states : List State) (es : List ImageEntry) (index : ℕ) → AllByRecursion (λ (e : ImageEntry). index ≢ e.index) es → state_at (with_entries states es) index ≡ state_at states index
+pub entries-other :
+    (states : List State) (es : List ImageEntry) (index : ℕ)
+    → AllByRecursion (λ (e : ImageEntry). index ≢ e.index) es
+    → state_at (with_entries states es) index ≡ state_at states index
 entries-other states [] index apart = refl
 entries-other states (e ∷ es) index apart =
     entries-other (with_entry states e) es index apart.1
-    ∙ get_or-set_other states e.index index (entered_state e.dword0 e.dword1) (empty_state 0) apart.0
+    ∙ get_or-set_other states e.index index (entered_state e.dword0 e.dword1) (empty_state 0)
+    apart.0

@@ -5,9 +5,17 @@ use Rattle.entry_model.specs.State.{State, empty_state}
 use Rattle.hpte_fields.specs.TableSize.{entry_count}
 use Rattle.hpt_resize.specs.Pending.{IsPreparing}
 
-pub more_prepared : (order count capacity room : ℕ) (states new : List State) → IsPreparing order states capacity → length states + count ≤ entry_count order → room ≡ capacity → new ≡ states ++ replicate count (empty_state 0) → IsPreparing order new room
+pub more_prepared :
+    (order count capacity room : ℕ) (states new : List State)
+    → IsPreparing order states capacity
+    → length states + count ≤ entry_count order
+    → room ≡ capacity
+    → new ≡ states ++ replicate count (empty_state 0)
+    → IsPreparing order new room
 more_prepared order count capacity room states new before fits kept is =
-    let long : length new ≡ length states + count = ap length is ∙ length-append states (replicate count (empty_state 0)) ∙ ap (λ n. length states + n) (length-replicate count (empty_state 0)) in
+    let long : length new ≡ length states + count = ap length is ∙ length-append states
+    (replicate count (empty_state 0)) ∙ ap (λ n. length states + n)
+    (length-replicate count (empty_state 0)) in
     record {
       low = before.low;
       high = before.high;

@@ -11,7 +11,15 @@ use Rattle.hpt_resize.specs.Pending.{PendingTable}
 use Rattle.hpt_resize.specs.Resize.{prepare_outcome, outcome_of_prepare, commit_refusal}
 
 entry : ℕ → ℕ → State
-entry dword0 dword1 = record { valid = true; dword0 = dword0; dword1 = dword1; referenced = false; changed = false; stamp = 3 }
+entry dword0 dword1 =
+    record {
+      valid = true;
+      dword0 = dword0;
+      dword1 = dword1;
+      referenced = false;
+      changed = false;
+      stamp = 3;
+    }
 
 -- ---- where an entry goes
 -- The page of VSID 0x801 and index 5 has the hash 0x804: group 4 of 0x800, and 0x804 of 0x1000.
@@ -46,11 +54,17 @@ pool more = record { base = 0x1000000000; order = 20; taken = block_at 0x1000000
 pending : ℕ → ℕ → ℕ → Option PendingTable
 pending order place ready = Some (record { order = order; place = place; ready = ready })
 
-a_first_part : outcome_of_prepare 20 0 19 None (pool []) ≡ prepare_outcome LongBusy (pending 19 0x1000080000 16384) (pool (block_at 0x1000080000 19 ∷ []))
+a_first_part :
+    outcome_of_prepare 20 0 19 None (pool [])
+    ≡ prepare_outcome LongBusy (pending 19 0x1000080000 16384)
+    (pool (block_at 0x1000080000 19 ∷ []))
 unfolding outcome_of_prepare lowest_place multiples taken_with pool pending
 a_first_part = refl
 
-the_rest : outcome_of_prepare 20 0 19 (pending 19 0x1000080000 16384) (pool (block_at 0x1000080000 19 ∷ [])) ≡ prepare_outcome Success (pending 19 0x1000080000 32768) (pool (block_at 0x1000080000 19 ∷ []))
+the_rest :
+    outcome_of_prepare 20 0 19 (pending 19 0x1000080000 16384)
+    (pool (block_at 0x1000080000 19 ∷ []))
+    ≡ prepare_outcome Success (pending 19 0x1000080000 32768) (pool (block_at 0x1000080000 19 ∷ []))
 unfolding outcome_of_prepare pool pending
 the_rest = refl
 
@@ -59,11 +73,16 @@ unfolding outcome_of_prepare lowest_place multiples pool
 no_block = refl
 
 -- The drop stays where the pool has no block.
-no_block_after_the_drop : outcome_of_prepare 20 0 20 (pending 19 0x1000080000 16384) (pool (block_at 0x1000080000 19 ∷ [])) ≡ prepare_outcome NoMem None (pool [])
+no_block_after_the_drop :
+    outcome_of_prepare 20 0 20 (pending 19 0x1000080000 16384)
+    (pool (block_at 0x1000080000 19 ∷ []))
+    ≡ prepare_outcome NoMem None (pool [])
 unfolding outcome_of_prepare lowest_place multiples taken_without pool pending
 no_block_after_the_drop = refl
 
-given_up : outcome_of_prepare 20 0 0 (pending 19 0x1000080000 16384) (pool (block_at 0x1000080000 19 ∷ [])) ≡ prepare_outcome Success None (pool [])
+given_up :
+    outcome_of_prepare 20 0 0 (pending 19 0x1000080000 16384) (pool (block_at 0x1000080000 19 ∷ []))
+    ≡ prepare_outcome Success None (pool [])
 unfolding outcome_of_prepare taken_without pool pending
 given_up = refl
 
@@ -71,7 +90,9 @@ too_small : outcome_of_prepare 20 0 17 None (pool []) ≡ prepare_outcome Parame
 unfolding outcome_of_prepare pool
 too_small = refl
 
-above_the_limit : outcome_of_prepare 20 0 21 (pending 19 0x1000080000 5) (pool []) ≡ prepare_outcome Resource (pending 19 0x1000080000 5) (pool [])
+above_the_limit :
+    outcome_of_prepare 20 0 21 (pending 19 0x1000080000 5) (pool [])
+    ≡ prepare_outcome Resource (pending 19 0x1000080000 5) (pool [])
 unfolding outcome_of_prepare pool pending
 above_the_limit = refl
 

@@ -15,7 +15,16 @@ use Rattle.hpt_walk.specs.Access.{actual_size}
 use Rattle.hpt_walk.specs.Laws.{IsEntryState, LiesInActualPage}
 use Rattle.hpt_walk.proofs.Telling.{tells_page}
 
-pub other_page : (order entry : ℕ) (page other : VirtualPage) (mode : AccessMode) (secondary : Bool) (s : State) → 18 ≤ order → IsPage page → IsPage other → other ≢ page → IsPageOf order entry s.dword0 s.dword1 page → group_of other order secondary ≡ entry / 8 → IsEntryState s → (reply_of s (access_op other mode secondary)).0 ≡ NoMatch
+pub other_page :
+    (order entry : ℕ) (page other : VirtualPage) (mode : AccessMode) (secondary : Bool) (s : State)
+    → 18 ≤ order
+    → IsPage page
+    → IsPage other
+    → other ≢ page
+    → IsPageOf order entry s.dword0 s.dword1 page
+    → group_of other order secondary ≡ entry / 8
+    → IsEntryState s
+    → (reply_of s (access_op other mode secondary)).0 ≡ NoMatch
 other_page order entry page other mode secondary s low is is' apart of group state =
     (tells_page order entry other mode secondary s low is' group state).no_match.1
     (λ of'. apart (one_page order entry s.dword0 s.dword1 other page low is' is of' of))

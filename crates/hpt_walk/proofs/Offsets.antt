@@ -13,10 +13,16 @@ shifted actual small =
     let one : 1 * 2 ^ actual ≡ 2 ^ actual = omega arith in
     rw one (mod-eq_of_lt (omega (arith, small_power actual small)))
 
-pub masked : (ea actual : ℕ) → actual ≤ 34 → bit_and ea (1 * 2 ^ actual % 18446744073709551616 - 1) ≡ ea % 2 ^ actual
+pub masked :
+    (ea actual : ℕ)
+    → actual ≤ 34
+    → bit_and ea (1 * 2 ^ actual % 18446744073709551616 - 1) ≡ ea % 2 ^ actual
 masked ea actual small = rw (shifted actual small) (and_mask ea actual)
 
-pub masked_small : (ea actual : ℕ) → actual ≤ 34 → bit_and ea (1 * 2 ^ actual % 18446744073709551616 - 1) < 17179869184
+pub masked_small :
+    (ea actual : ℕ)
+    → actual ≤ 34
+    → bit_and ea (1 * 2 ^ actual % 18446744073709551616 - 1) < 17179869184
 masked_small ea actual small =
     let below : ea % 2 ^ actual < 2 ^ actual = mod-lt ea (one-le-pow actual 2 (omega arith)) in
     rw (masked ea actual small) (omega (arith, below, small_power actual small))

@@ -30,23 +30,53 @@ abbrev calls : List Call
 calls = walk_calls 18 page (access_mode false false Load no_masks)
 
 -- ---- the walk order
-entries : map (λ (c : Call). c.entry) calls ≡ 0x20 ∷ 0x21 ∷ 0x22 ∷ 0x23 ∷ 0x24 ∷ 0x25 ∷ 0x26 ∷ 0x27 ∷ 0x3FD8 ∷ 0x3FD9 ∷ 0x3FDA ∷ 0x3FDB ∷ 0x3FDC ∷ 0x3FDD ∷ 0x3FDE ∷ 0x3FDF ∷ []
+entries :
+    map (λ (c : Call). c.entry) calls
+    ≡ 0x20
+    ∷ 0x21
+    ∷ 0x22
+    ∷ 0x23
+    ∷ 0x24
+    ∷ 0x25
+    ∷ 0x26
+    ∷ 0x27
+    ∷ 0x3FD8
+    ∷ 0x3FD9
+    ∷ 0x3FDA
+    ∷ 0x3FDB
+    ∷ 0x3FDC
+    ∷ 0x3FDD
+    ∷ 0x3FDE
+    ∷ 0x3FDF
+    ∷ []
 unfolding walk_calls group_of
 entries = refl
 
 -- With the segment's number at 2 ^ 12 and V; in the secondary group with H.
-first_op : access_op page (access_mode false false Load no_masks) false ≡ ops.Access 0x1001 12 false false Load no_masks
+first_op :
+    access_op page (access_mode false false Load no_masks) false
+    ≡ ops.Access 0x1001 12 false false Load no_masks
 unfolding tag_of
 first_op = refl
 
-second_op : access_op page (access_mode true true Store no_masks) true ≡ ops.Access 0x1003 12 true true Store no_masks
+second_op :
+    access_op page (access_mode true true Store no_masks) true
+    ≡ ops.Access 0x1003 12 true true Store no_masks
 unfolding tag_of
 second_op = refl
 
 -- ---- where an access ends
 -- An entry of the page that maps frame 0x3000, readable and writable.
 abbrev mapped : State
-mapped = record { valid = true; dword0 = 0x1001; dword1 = 0x3012; referenced = false; changed = false; stamp = 1 }
+mapped =
+    record {
+      valid = true;
+      dword0 = 0x1001;
+      dword1 = 0x3012;
+      referenced = false;
+      changed = false;
+      stamp = 1;
+    }
 
 -- One that is read-only.
 abbrev read_only : State
@@ -89,11 +119,17 @@ unfolding outcome_of machine_range tag_of has_base permission rows row_says key_
 at_base_page = refl
 
 -- An access of 64 KB pages doesn't match a base page of 4 KB, whatever its actual page.
-of_another_base_size : (receipt_of 0x20 in_64_kb (access_op (virtual_page false 1 16 0) (access_mode false false Load no_masks) false)).answer ≡ NoMatch
+of_another_base_size :
+    (receipt_of 0x20 in_64_kb
+    (access_op (virtual_page false 1 16 0) (access_mode false false Load no_masks)
+    false)).answer
+    ≡ NoMatch
 unfolding tag_of has_base
 of_another_base_size = refl
 
-at_granted : outcome_of grants 0x5678 (load 0x20 (empty_state 0) ∷ load 0x21 mapped ∷ []) ≡ outcomes.At 0x2000003678
+at_granted :
+    outcome_of grants 0x5678 (load 0x20 (empty_state 0) ∷ load 0x21 mapped ∷ [])
+    ≡ outcomes.At 0x2000003678
 unfolding outcome_of machine_range tag_of has_base permission rows row_says key_rows
 at_granted = refl
 
@@ -101,7 +137,9 @@ denied : outcome_of grants 0x5678 (store 0x20 read_only ∷ []) ≡ outcomes.Den
 unfolding outcome_of tag_of has_base permission rows row_says key_rows
 denied = refl
 
-nothing : outcome_of grants 0x5678 (load 0x20 (empty_state 0) ∷ load 0x21 (empty_state 3) ∷ []) ≡ outcomes.NoPage
+nothing :
+    outcome_of grants 0x5678 (load 0x20 (empty_state 0) ∷ load 0x21 (empty_state 3) ∷ [])
+    ≡ outcomes.NoPage
 unfolding outcome_of
 nothing = refl
 
@@ -111,11 +149,16 @@ not_granted = refl
 
 -- ---- translations
 -- Entry 1 is one of page 0 of segment 0. Entry 0 is one of no page, since its words encode 16 GB, and entry 2 is empty.
-listed : translations 18 (record mapped { dword0 = 0x5 } ∷ record mapped { dword0 = 0x1 } ∷ empty_state 0 ∷ []) ≡ record { page = virtual_page false 0 12 0; entry = 1 } ∷ []
+listed :
+    translations 18
+    (record mapped { dword0 = 0x5 } ∷ record mapped { dword0 = 0x1 } ∷ empty_state 0 ∷ [])
+    ≡ record { page = virtual_page false 0 12 0; entry = 1 } ∷ []
 unfolding translations page_at group_of tag_of
 listed = refl
 
 -- An entry that maps 64 KB for base page 0 is one of that page alone.
-one_base_page : translations 18 (record mapped { dword0 = 0x5; dword1 = 0x17012 } ∷ []) ≡ record { page = virtual_page false 0 12 0; entry = 0 } ∷ []
+one_base_page :
+    translations 18 (record mapped { dword0 = 0x5; dword1 = 0x17012 } ∷ [])
+    ≡ record { page = virtual_page false 0 12 0; entry = 0 } ∷ []
 unfolding translations page_at group_of tag_of
 one_base_page = refl

@@ -27,10 +27,12 @@ compared-parts d =
     ∙ or_shifted (d / 2 ^ 7 % 2 ^ 57) 7 (d % 2 ^ 2) low
 
 secondary-set : (d : ℕ) → d / 2 % 2 ≡ 1 → is_secondary d ≡ true
-secondary-set d e = let masked : bit_and d 2 ≡ 2 = and_high d 1 1 ∙ ap (λ n. n * 2 ^ 1) e in rw masked refl
+secondary-set d e = let masked :
+    bit_and d 2 ≡ 2 = and_high d 1 1 ∙ ap (λ n. n * 2 ^ 1) e in rw masked refl
 
 secondary-clear : (d : ℕ) → d / 2 % 2 ≡ 0 → is_secondary d ≡ false
-secondary-clear d e = let masked : bit_and d 2 ≡ 0 = and_high d 1 1 ∙ ap (λ n. n * 2 ^ 1) e in rw masked refl
+secondary-clear d e = let masked :
+    bit_and d 2 ≡ 0 = and_high d 1 1 ∙ ap (λ n. n * 2 ^ 1) e in rw masked refl
 
 valid-set : (d : ℕ) → d % 2 ≡ 1 → is_valid d ≡ true
 valid-set d e = let masked : bit_and d 1 ≡ 1 = and_mask d 1 ∙ e in rw masked refl
@@ -40,9 +42,14 @@ valid-clear d e = let masked : bit_and d 1 ≡ 0 = and_mask d 1 ∙ e in rw mask
 
 -- ---- a page's tag
 -- It has nothing in its low seven bits.
-tag_of-high : (p : VirtualPage) → tag_of p ≡ (segment_code_of p.one_tb * 2 ^ 55 + virtual_address p / 2 ^ 16 / 2 ^ 7 % 2 ^ 55) * 2 ^ 7
+tag_of-high :
+    (p : VirtualPage)
+    → tag_of p
+    ≡ (segment_code_of p.one_tb * 2 ^ 55 + virtual_address p / 2 ^ 16 / 2 ^ 7 % 2 ^ 55) * 2 ^ 7
 unfolding tag_of
-tag_of-high p = ap (λ n. segment_code_of p.one_tb * 2 ^ 62 + n) (and_high (virtual_address p / 2 ^ 16) 55 7) ∙ omega arith
+tag_of-high p =
+    ap (λ n. segment_code_of p.one_tb * 2 ^ 62 + n) (and_high (virtual_address p / 2 ^ 16) 55 7)
+    ∙ omega arith
 
 -- A doubleword 0 that an access compares well has the page's tag, and H and V as the access says.
 pub record HasTag (d t : ℕ) (h : Bool) : Type 0 where
@@ -50,10 +57,17 @@ pub record HasTag (d t : ℕ) (h : Bool) : Type 0 where
   pub secondary : is_secondary d ≡ h
   pub valid : is_valid d ≡ true
 
-split_tag : (d t h : ℕ) → h ≤ 2 → d / 2 ^ 7 % 2 ^ 57 * 2 ^ 7 + d % 2 ^ 2 ≡ t * 2 ^ 7 + h + 1 → (t * 2 ^ 7 ≡ d / 2 ^ 7 % 2 ^ 57 * 2 ^ 7) × (d % 2 ^ 2 ≡ h + 1)
+split_tag :
+    (d t h : ℕ)
+    → h ≤ 2
+    → d / 2 ^ 7 % 2 ^ 57 * 2 ^ 7 + d % 2 ^ 2 ≡ t * 2 ^ 7 + h + 1
+    → (t * 2 ^ 7 ≡ d / 2 ^ 7 % 2 ^ 57 * 2 ^ 7) × (d % 2 ^ 2 ≡ h + 1)
 split_tag d t h low e = (omega arith, omega arith)
 
-low_bits : (d : ℕ) (secondary : Bool) → d % 2 ^ 2 ≡ h_bit secondary + 1 → (is_secondary d ≡ secondary) × (is_valid d ≡ true)
+low_bits :
+    (d : ℕ) (secondary : Bool)
+    → d % 2 ^ 2 ≡ h_bit secondary + 1
+    → (is_secondary d ≡ secondary) × (is_valid d ≡ true)
 low_bits d true e = (secondary-set d (omega arith), valid-set d (omega arith))
 low_bits d false e = (secondary-clear d (omega arith), valid-set d (omega arith))
 
@@ -61,25 +75,45 @@ h_bit-le : (secondary : Bool) → h_bit secondary ≤ 2
 h_bit-le true = omega arith
 h_bit-le false = omega arith
 
-pub compared-has : (p : VirtualPage) (d : ℕ) (secondary : Bool) → compared_bits d ≡ tag_of p + h_bit secondary + 1 → HasTag d (tag_of p) secondary
+pub compared-has :
+    (p : VirtualPage) (d : ℕ) (secondary : Bool)
+    → compared_bits d ≡ tag_of p + h_bit secondary + 1
+    → HasTag d (tag_of p) secondary
 compared-has p d secondary e =
-    let high : ℕ = segment_code_of p.one_tb * 2 ^ 55 + virtual_address p / 2 ^ 16 / 2 ^ 7 % 2 ^ 55 in
-    let parts = split_tag d high (h_bit secondary) (h_bit-le secondary) (sym (compared-parts d) ∙ e ∙ ap (λ n. n + h_bit secondary + 1) (tag_of-high p)) in
+    let high : ℕ = segment_code_of p.one_tb * 2 ^ 55 + virtual_address p / 2 ^ 16 / 2 ^ 7 % 2 ^ 55
+    in
+    let parts = split_tag d high (h_bit secondary) (h_bit-le secondary)
+    (sym (compared-parts d) ∙ e ∙ ap (λ n. n + h_bit secondary + 1) (tag_of-high p)) in
     let low = low_bits d secondary parts.1 in
-    record { tag = tag_of-high p ∙ parts.0 ∙ sym (tag_field-parts d); secondary = low.0; valid = low.1 }
+    record {
+      tag = tag_of-high p ∙ parts.0 ∙ sym (tag_field-parts d);
+      secondary = low.0;
+      valid = low.1;
+    }
 
 -- And the other way round.
 valid-is : (d : ℕ) → is_valid d ≡ true → d % 2 ≡ 1
 valid-is d v = sym (and_mask d 1) ∙ eqb-true (bit_and d 1) 1 v
 
-low_of : (d : ℕ) (secondary : Bool) → is_secondary d ≡ secondary → is_valid d ≡ true → d % 2 ^ 2 ≡ h_bit secondary + 1
+low_of :
+    (d : ℕ) (secondary : Bool)
+    → is_secondary d ≡ secondary
+    → is_valid d ≡ true
+    → d % 2 ^ 2 ≡ h_bit secondary + 1
 low_of d true s v =
     let set : d / 2 ^ 1 % 2 ^ 1 * 2 ^ 1 ≡ 2 = sym (and_high d 1 1) ∙ eqb-true (bit_and d 2) 2 s in
     omega (arith, valid-is d v)
 low_of d false s v =
-    let clear : d / 2 ^ 1 % 2 ^ 1 * 2 ^ 1 ≡ 2 → ⊥ = λ e. eqb-false (bit_and d 2) 2 s (and_high d 1 1 ∙ e) in
+    let clear : d / 2 ^ 1 % 2 ^ 1 * 2 ^ 1 ≡ 2 → ⊥ = λ e. eqb-false (bit_and d 2) 2 s
+    (and_high d 1 1 ∙ e) in
     omega (arith, valid-is d v)
 
-pub has-compared : (p : VirtualPage) (d : ℕ) (secondary : Bool) → HasTag d (tag_of p) secondary → compared_bits d ≡ tag_of p + h_bit secondary + 1
+pub has-compared :
+    (p : VirtualPage) (d : ℕ) (secondary : Bool)
+    → HasTag d (tag_of p) secondary
+    → compared_bits d ≡ tag_of p + h_bit secondary + 1
 has-compared p d secondary h =
-    compared-parts d ∙ ap (λ n. n + d % 2 ^ 2) (sym (h.tag ∙ tag_field-parts d)) ∙ ap (λ n. tag_of p + n) (low_of d secondary h.secondary h.valid) ∙ omega arith
+    compared-parts d
+    ∙ ap (λ n. n + d % 2 ^ 2) (sym (h.tag ∙ tag_field-parts d))
+    ∙ ap (λ n. tag_of p + n) (low_of d secondary h.secondary h.valid)
+    ∙ omega arith

@@ -25,35 +25,82 @@ use Rattle.hpt_walk.proofs.Found.{trial_ops, same_ops, both_calls}
 abbrev pub AreAccesses : List Receipt → Type 0
 AreAccesses rs = AllByRecursion (λ (r : Receipt). is_access r.op ≡ true) rs
 
-step_still : (old new : List State) (r : Receipt) → is_access r.op ≡ true → is_at r.answer ≡ false → IsStep old r new → new ≡ old
+step_still :
+    (old new : List State) (r : Receipt)
+    → is_access r.op ≡ true
+    → is_at r.answer ≡ false
+    → IsStep old r new
+    → new ≡ old
 step_still old new r access off step =
-    let still : after_of r ≡ r.before = access_undone r.before r.op access (ap is_at (sym r.lawful) ∙ off) in
-    step.after ∙ ap (λ s. set old r.entry s) (still ∙ step.before) ∙ set-get_or old r.entry (empty_state 0)
+    let still : after_of r ≡ r.before = access_undone r.before r.op access
+    (ap is_at (sym r.lawful) ∙ off) in
+    step.after
+    ∙ ap (λ s. set old r.entry s) (still ∙ step.before)
+    ∙ set-get_or old r.entry (empty_state 0)
 
-run_still : (old new : List State) (rs : List Receipt) → AreAccesses rs → AllByRecursion (λ (r : Receipt). is_at r.answer ≡ false) rs → IsRun old rs new → new ≡ old
+run_still :
+    (old new : List State) (rs : List Receipt)
+    → AreAccesses rs
+    → AllByRecursion (λ (r : Receipt). is_at r.answer ≡ false) rs
+    → IsRun old rs new
+    → new ≡ old
 run_still old new [] access off run = run
-run_still old new (r ∷ rs) access off run = run_still run.0 new rs access.1 off.1 run.2 ∙ step_still old run.0 r access.0 off.0 run.1
+run_still old new (r ∷ rs) access off run =
+    run_still run.0 new rs access.1 off.1 run.2 ∙ step_still old run.0 r access.0 off.0 run.1
 
 -- ---- the receipts of an access
-calls_access : (order : ℕ) (page : VirtualPage) (mode : AccessMode) → AllByRecursion (λ (c : Call). is_access c.op ≡ true) (walk_calls order page mode)
+calls_access :
+    (order : ℕ) (page : VirtualPage) (mode : AccessMode)
+    → AllByRecursion (λ (c : Call). is_access c.op ≡ true) (walk_calls order page mode)
 unfolding walk_calls
 calls_access order page mode =
-    both_calls (λ (c : Call). is_access c.op ≡ true) (group_calls (access_op page mode false) (group_of page order false)) (group_calls (access_op page mode true) (group_of page order true)) (same_ops (λ op. is_access op ≡ true) (access_op page mode false) (range_with_len (group_of page order false * 8) 8) refl) (same_ops (λ op. is_access op ≡ true) (access_op page mode true) (range_with_len (group_of page order true * 8) 8) refl)
+    both_calls (λ (c : Call). is_access c.op ≡ true)
+    (group_calls (access_op page mode false) (group_of page order false))
+    (group_calls (access_op page mode true) (group_of page order true))
+    (same_ops (λ op. is_access op ≡ true) (access_op page mode false)
+    (range_with_len (group_of page order false * 8) 8) refl)
+    (same_ops (λ op. is_access op ≡ true) (access_op page mode true)
+    (range_with_len (group_of page order true * 8) 8) refl)
 
-walk_accesses : (order : ℕ) (page : VirtualPage) (mode : AccessMode) (rs : List Receipt) → IsTrial is_no_match (walk_calls order page mode) rs → AreAccesses rs
-walk_accesses order page mode rs trial = trial_ops (λ op. is_access op ≡ true) (walk_calls order page mode) rs (calls_access order page mode) trial
+walk_accesses :
+    (order : ℕ) (page : VirtualPage) (mode : AccessMode) (rs : List Receipt)
+    → IsTrial is_no_match (walk_calls order page mode) rs
+    → AreAccesses rs
+walk_accesses order page mode rs trial =
+    trial_ops (λ op. is_access op ≡ true) (walk_calls order page mode) rs
+    (calls_access order page mode) trial
 
-way_accesses : (context : AccessContext) (seg : Segment) (a : Request) (line : Option Line) (way : Option By) (reply : AccessReply) → IsByWay context seg a line way reply → AreAccesses reply.receipts
-way_accesses context seg a (Some line) (Some Hit) reply h = trial_ops (λ op. is_access op ≡ true) (hit_calls seg a line) reply.receipts (refl, tt) h.trial
-way_accesses context seg a (Some line) (Some Walk) reply h = walk_accesses context.order seg.page (mode_for seg a) reply.receipts h.trial
+way_accesses :
+    (context : AccessContext) (seg : Segment) (a : Request) (line : Option Line) (way : Option By)
+    (reply : AccessReply)
+    → IsByWay context seg a line way reply
+    → AreAccesses reply.receipts
+way_accesses context seg a (Some line) (Some Hit) reply h =
+    trial_ops (λ op. is_access op ≡ true) (hit_calls seg a line) reply.receipts (refl, tt) h.trial
+way_accesses context seg a (Some line) (Some Walk) reply h =
+    walk_accesses context.order seg.page (mode_for seg a) reply.receipts h.trial
 way_accesses context seg a (Some line) None reply h = absurd h
-way_accesses context seg a None (Some Walk) reply h = walk_accesses context.order seg.page (mode_for seg a) reply.receipts h.trial
+way_accesses context seg a None (Some Walk) reply h =
+    walk_accesses context.order seg.page (mode_for seg a) reply.receipts h.trial
 way_accesses context seg a None (Some Hit) reply h = absurd h
 way_accesses context seg a None None reply h = absurd h
 
-pub reply_accesses : (context : AccessContext) (cached : VirtualPage → Option Line) (a : Request) (segment : Option Segment) (reply : AccessReply) → IsAccessReply context cached a segment reply → AreAccesses reply.receipts
-reply_accesses context cached a None reply h = subst (λ (x : AccessReply). AreAccesses x.receipts) (sym h) tt
-reply_accesses context cached a (Some seg) reply h = way_accesses context seg a (cached seg.page) reply.by reply h
+pub reply_accesses :
+    (context : AccessContext) (cached : VirtualPage → Option Line) (a : Request)
+    (segment : Option Segment) (reply : AccessReply)
+    → IsAccessReply context cached a segment reply
+    → AreAccesses reply.receipts
+reply_accesses context cached a None reply h =
+    subst (λ (x : AccessReply). AreAccesses x.receipts) (sym h) tt
+reply_accesses context cached a (Some seg) reply h =
+    way_accesses context seg a (cached seg.page) reply.by reply h
 
-pub only_at_changes : (context : AccessContext) (cached : VirtualPage → Option Line) (a : Request) (segment : Option Segment) (reply : AccessReply) (old new : List State) → IsAccessReply context cached a segment reply → AllByRecursion (λ (r : Receipt). is_at r.answer ≡ false) reply.receipts → IsRun old reply.receipts new → new ≡ old
-only_at_changes context cached a segment reply old new h off run = run_still old new reply.receipts (reply_accesses context cached a segment reply h) off run
+pub only_at_changes :
+    (context : AccessContext) (cached : VirtualPage → Option Line) (a : Request)
+    (segment : Option Segment) (reply : AccessReply) (old new : List State)
+    → IsAccessReply context cached a segment reply
+    → AllByRecursion (λ (r : Receipt). is_at r.answer ≡ false) reply.receipts
+    → IsRun old reply.receipts new
+    → new ≡ old
+only_at_changes context cached a segment reply old new h off run =
+    run_still old new reply.receipts (reply_accesses context cached a segment reply h) off run

@@ -24,16 +24,28 @@ large_stays x =
 -- L and the low part of the real page number stay, and so does the size.
 size_stays : (h l : ℕ) → size_of (stored_first h) (stored_second l) ≡ size_of h l
 size_stays h l =
-    rw (large_stays h, field_stays l 0xBFFFFFFFFFFFFFFF 12 4 refl, field_stays l 0xBFFFFFFFFFFFFFFF 12 12 refl, field_stays l 0xBFFFFFFFFFFFFFFF 12 22 refl) refl
+    rw (
+      large_stays h,
+      field_stays l 0xBFFFFFFFFFFFFFFF 12 4 refl,
+      field_stays l 0xBFFFFFFFFFFFFFFF 12 12 refl,
+      field_stays l 0xBFFFFFFFFFFFFFFF 12 22 refl,
+    ) refl
 
 -- the words that H_ENTER stores are given back unchanged
-pub normal_again : (h l : ℕ) (w : ℕ × ℕ) → h < 2 ^ 64 → normal_words h l ≡ Some w → normal_words w.0 w.1 ≡ Some w
-normal_again h l w fits e = at (cases_Bool (nat_lt 1 (segment_code h) || is_none (size_of h l))) where
-  at : ((nat_lt 1 (segment_code h) || is_none (size_of h l)) ≡ true) ⊎ ((nat_lt 1 (segment_code h) || is_none (size_of h l)) ≡ false) → normal_words w.0 w.1 ≡ Some w
-  at (inl refused) = let none : normal_words h l ≡ None = rw refused refl in cc
-  at (inr fine) =
-      let some : normal_words h l ≡ Some (stored_first h, stored_second l) = rw fine refl in
-      let same : w ≡ (stored_first h, stored_second l) = cc in
-      let again : normal_words (stored_first h) (stored_second l) ≡ Some (stored_first h, stored_second l) =
-      rw (segment_stays h fits, size_stays h l, fine) (rw (set_again h 0xFFFFFFFFFFFFFF9F 1, mask_again l 0xBFFFFFFFFFFFFFFF) refl) in
-      subst (λ v. normal_words v.0 v.1 ≡ Some v) (sym same) again
+pub normal_again :
+    (h l : ℕ) (w : ℕ × ℕ) → h < 2 ^ 64 → normal_words h l ≡ Some w → normal_words w.0 w.1 ≡ Some w
+normal_again h l w fits e =
+    at (cases_Bool (nat_lt 1 (segment_code h) || is_none (size_of h l))) where
+      at :
+          ((nat_lt 1 (segment_code h) || is_none (size_of h l)) ≡ true)
+          ⊎ ((nat_lt 1 (segment_code h) || is_none (size_of h l)) ≡ false)
+          → normal_words w.0 w.1 ≡ Some w
+      at (inl refused) = let none : normal_words h l ≡ None = rw refused refl in cc
+      at (inr fine) =
+          let some : normal_words h l ≡ Some (stored_first h, stored_second l) = rw fine refl in
+          let same : w ≡ (stored_first h, stored_second l) = cc in
+          let again :
+          normal_words (stored_first h) (stored_second l) ≡ Some (stored_first h, stored_second l) =
+          rw (segment_stays h fits, size_stays h l, fine)
+          (rw (set_again h 0xFFFFFFFFFFFFFF9F 1, mask_again l 0xBFFFFFFFFFFFFFFF) refl) in
+          subst (λ v. normal_words v.0 v.1 ≡ Some v) (sym same) again

@@ -21,7 +21,8 @@ pub mask_again : (x m : ℕ) → bit_and (bit_and x m) m ≡ bit_and x m
 mask_again x m = same_from_bits _ _ (λ i. simp bit_at_and (omega arith))
 
 -- A field of n bits that lies inside a mask.
-pub field_stays : (x m k n : ℕ) → m / 2 ^ k % 2 ^ n ≡ 2 ^ n - 1 → bit_and x m / 2 ^ k % 2 ^ n ≡ x / 2 ^ k % 2 ^ n
+pub field_stays :
+    (x m k n : ℕ) → m / 2 ^ k % 2 ^ n ≡ 2 ^ n - 1 → bit_and x m / 2 ^ k % 2 ^ n ≡ x / 2 ^ k % 2 ^ n
 field_stays x m k n inside =
     ap (λ y. y % 2 ^ n) (and_shr x m k)
     ∙ and_mod (x / 2 ^ k) (m / 2 ^ k) n

@@ -19,7 +19,15 @@ use Rattle.lock_core.specs.ActorFronts.{fronts_after_step, run_fronts}
 use Rattle.authority_mask.specs.Authority.{no_masks, row_says, key_rows}
 
 entry : ℕ → State
-entry stamp = record { valid = true; dword0 = 0x1001; dword1 = 0x3012; referenced = false; changed = false; stamp = stamp }
+entry stamp =
+    record {
+      valid = true;
+      dword0 = 0x1001;
+      dword1 = 0x3012;
+      referenced = false;
+      changed = false;
+      stamp = stamp;
+    }
 
 access : Want → Op
 access want = Access 0x1001 12 false false want no_masks
@@ -36,16 +44,51 @@ unfolding fronts opening_machine run_fronts pair_of entry
 at_first = refl
 
 -- A store raises its actor's front on its entry by two bits, and a split hands it on.
-after_a_store : fronts ((0, Look 0 (access Store)) ∷ (0, Mark) ∷ (0, Split 1) ∷ []) ≡ (6 ∷ 28 ∷ []) ∷ (6 ∷ 28 ∷ []) ∷ (4 ∷ 28 ∷ []) ∷ []
-unfolding fronts run opening_machine after_step after_allowed_step step_result second_look is_allowed refusal refusals may_act names_entry fits_phase fits changes noted_state next_state receipt is_noted is_still same_access is_stored words_seen words_seen_in state_eq entry access removal has_base permission rows row_says key_rows made_by fronts_after_step run_fronts pair_of
+after_a_store :
+    fronts ((0, Look 0 (access Store)) ∷ (0, Mark) ∷ (0, Split 1) ∷ [])
+    ≡ (6 ∷ 28 ∷ []) ∷ (6 ∷ 28 ∷ []) ∷ (4 ∷ 28 ∷ []) ∷ []
+unfolding fronts run opening_machine after_step after_allowed_step step_result second_look
+    is_allowed refusal refusals may_act names_entry fits_phase fits changes noted_state next_state
+    receipt is_noted is_still same_access is_stored words_seen words_seen_in state_eq entry access
+    removal has_base permission rows row_says key_rows made_by fronts_after_step run_fronts pair_of
 after_a_store = refl
 
 -- A removal raises the other's front by a stamp. The join of an actor that has seen less leaves the larger fronts.
-after_a_join : fronts ((0, Split 1) ∷ (0, Look 0 (access Store)) ∷ (0, Mark) ∷ (0, Lock 0 removal) ∷ (0, LoadData false) ∷ (0, LoadData true) ∷ (0, Shut) ∷ (0, Settle) ∷ (0, Join 1) ∷ []) ≡ (8 ∷ 28 ∷ []) ∷ (4 ∷ 28 ∷ []) ∷ (4 ∷ 28 ∷ []) ∷ []
-unfolding fronts run opening_machine after_step after_allowed_step step_result second_look is_allowed refusal refusals may_act names_entry fits_phase fits changes noted_state next_state receipt is_noted is_still same_access is_stored words_seen words_seen_in state_eq entry access removal has_base permission rows row_says key_rows made_by fronts_after_step run_fronts pair_of
+after_a_join :
+    fronts
+    ((0, Split 1)
+    ∷ (0, Look 0 (access Store))
+    ∷ (0, Mark)
+    ∷ (0, Lock 0 removal)
+    ∷ (0, LoadData false)
+    ∷ (0, LoadData true)
+    ∷ (0, Shut)
+    ∷ (0, Settle)
+    ∷ (0, Join 1)
+    ∷ [])
+    ≡ (8 ∷ 28 ∷ []) ∷ (4 ∷ 28 ∷ []) ∷ (4 ∷ 28 ∷ []) ∷ []
+unfolding fronts run opening_machine after_step after_allowed_step step_result second_look
+    is_allowed refusal refusals may_act names_entry fits_phase fits changes noted_state next_state
+    receipt is_noted is_still same_access is_stored words_seen words_seen_in state_eq entry access
+    removal has_base permission rows row_says key_rows made_by fronts_after_step run_fronts pair_of
 after_a_join = refl
 
 -- So does one of an actor that has seen more.
-after_the_other_join : fronts ((0, Split 1) ∷ (0, Look 0 (access Store)) ∷ (0, Mark) ∷ (1, Lock 0 removal) ∷ (1, LoadData false) ∷ (1, LoadData true) ∷ (1, Shut) ∷ (1, Settle) ∷ (0, Join 1) ∷ []) ≡ (8 ∷ 28 ∷ []) ∷ (8 ∷ 28 ∷ []) ∷ (4 ∷ 28 ∷ []) ∷ []
-unfolding fronts run opening_machine after_step after_allowed_step step_result second_look is_allowed refusal refusals may_act names_entry fits_phase fits changes noted_state next_state receipt is_noted is_still same_access is_stored words_seen words_seen_in state_eq entry access removal has_base permission rows row_says key_rows made_by fronts_after_step run_fronts pair_of
+after_the_other_join :
+    fronts
+    ((0, Split 1)
+    ∷ (0, Look 0 (access Store))
+    ∷ (0, Mark)
+    ∷ (1, Lock 0 removal)
+    ∷ (1, LoadData false)
+    ∷ (1, LoadData true)
+    ∷ (1, Shut)
+    ∷ (1, Settle)
+    ∷ (0, Join 1)
+    ∷ [])
+    ≡ (8 ∷ 28 ∷ []) ∷ (8 ∷ 28 ∷ []) ∷ (4 ∷ 28 ∷ []) ∷ []
+unfolding fronts run opening_machine after_step after_allowed_step step_result second_look
+    is_allowed refusal refusals may_act names_entry fits_phase fits changes noted_state next_state
+    receipt is_noted is_still same_access is_stored words_seen words_seen_in state_eq entry access
+    removal has_base permission rows row_says key_rows made_by fronts_after_step run_fronts pair_of
 after_the_other_join = refl

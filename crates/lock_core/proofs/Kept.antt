@@ -76,7 +76,11 @@ pub record LookedOk (d : Doing) (x : Entry) : Type 0 where
   pub free : d.noted.shut ≡ false
   pub first : IsFresh d x → (n : ℕ) → d.first ≡ Some n → x.dword0 ≡ n
   pub second : IsFresh d x → (n : ℕ) → d.second ≡ Some n → x.dword1 ≡ n
-  pub seen : IsFresh d x → (w : ℕ × ℕ) → d.seen ≡ Some w → (x.dword0 ≡ w.0) × (without_bits x.dword1 ≡ without_bits w.1)
+  pub seen :
+      IsFresh d x
+      → (w : ℕ × ℕ)
+      → d.seen ≡ Some w
+      → (x.dword0 ≡ w.0) × (without_bits x.dword1 ≡ without_bits w.1)
   pub bits : IsFresh d x → HasMoreBits d.noted x.control
 
 abbrev pub PhaseOk : Phase → Entry → Type 0
@@ -88,7 +92,14 @@ PhaseOk (Looked d) x = LookedOk d x
 -- ---- lines and receipts
 -- The line of a sighting, on whatever page.
 abbrev pub as_line : Sighting → Line
-as_line l = record { page = virtual_page false 0 0 0; entry = l.entry; stamp = l.stamp; dword0 = l.dword0; dword1 = l.dword1 }
+as_line l =
+    record {
+      page = virtual_page false 0 0 0;
+      entry = l.entry;
+      stamp = l.stamp;
+      dword0 = l.dword0;
+      dword1 = l.dword1;
+    }
 
 -- The receipts of one entry.
 abbrev pub on_entry : ℕ → List Receipt → List Receipt
@@ -106,10 +117,38 @@ module _ (opening : List State) where
     pub size : length m.entries ≡ length opening
     pub quiet : (i : ℕ) (a : Actor) → slice_get m.actors i ≡ Some a → a.live ≡ false → a ≡ nobody
     pub entries : (e : ℕ) (x : Entry) → slice_get m.entries e ≡ Some x → EntryOk x
-    pub actors : (i e : ℕ) (a : Actor) (x : Entry) → slice_get m.actors i ≡ Some a → IsOn e a.phase → slice_get m.entries e ≡ Some x → PhaseOk a.phase x
-    pub held : (e : ℕ) (x : Entry) → slice_get m.entries e ≡ Some x → x.control.locked ≡ true → (i : ℕ) × (a : Actor) × (slice_get m.actors i ≡ Some a) × HasLock e a.phase
-    pub one : (e i j : ℕ) (a b : Actor) → slice_get m.actors i ≡ Some a → slice_get m.actors j ≡ Some b → HasLock e a.phase → HasLock e b.phase → i ≡ j
-    pub lines : (i k : ℕ) (a : Actor) (l : Sighting) (x : Entry) → slice_get m.actors i ≡ Some a → slice_get a.lines k ≡ Some l → slice_get m.entries l.entry ≡ Some x → Holds (as_line l) x.published
-    pub since : (e : ℕ) (s : State) (x : Entry) → slice_get opening e ≡ Some s → slice_get m.entries e ≡ Some x → Follows s x.published
-    pub chain : (e : ℕ) (s : State) (x : Entry) → slice_get opening e ≡ Some s → slice_get m.entries e ≡ Some x → IsLegal s (on_entry e log) x.published
+    pub actors :
+        (i e : ℕ) (a : Actor) (x : Entry)
+        → slice_get m.actors i ≡ Some a
+        → IsOn e a.phase
+        → slice_get m.entries e ≡ Some x
+        → PhaseOk a.phase x
+    pub held :
+        (e : ℕ) (x : Entry)
+        → slice_get m.entries e ≡ Some x
+        → x.control.locked ≡ true
+        → (i : ℕ) × (a : Actor) × (slice_get m.actors i ≡ Some a) × HasLock e a.phase
+    pub one :
+        (e i j : ℕ) (a b : Actor)
+        → slice_get m.actors i ≡ Some a
+        → slice_get m.actors j ≡ Some b
+        → HasLock e a.phase
+        → HasLock e b.phase
+        → i ≡ j
+    pub lines :
+        (i k : ℕ) (a : Actor) (l : Sighting) (x : Entry)
+        → slice_get m.actors i ≡ Some a
+        → slice_get a.lines k ≡ Some l
+        → slice_get m.entries l.entry ≡ Some x
+        → Holds (as_line l) x.published
+    pub since :
+        (e : ℕ) (s : State) (x : Entry)
+        → slice_get opening e ≡ Some s
+        → slice_get m.entries e ≡ Some x
+        → Follows s x.published
+    pub chain :
+        (e : ℕ) (s : State) (x : Entry)
+        → slice_get opening e ≡ Some s
+        → slice_get m.entries e ≡ Some x
+        → IsLegal s (on_entry e log) x.published
     pub listed : Regrouped log (receipts_of m.actors)

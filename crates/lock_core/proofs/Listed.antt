@@ -13,21 +13,43 @@ use Rattle.lock_core.specs.Steps.{actor_after, entry_of, step_result_of, with_re
 use Rattle.lock_core.proofs.Lists.{none_some}
 use Rattle.lock_core.proofs.Whole.{allowed_parts, live_there}
 
-result_listed : (m : Machine) (i e : ℕ) (t : StepResult) (r : Receipt) → (actor_at m i).live ≡ true → t.made ≡ Some r → (actor_at (with_result m e i t) i).receipts ≡ (actor_at m i).receipts ++ r ∷ []
+result_listed :
+    (m : Machine) (i e : ℕ) (t : StepResult) (r : Receipt)
+    → (actor_at m i).live ≡ true
+    → t.made ≡ Some r
+    → (actor_at (with_result m e i t) i).receipts ≡ (actor_at m i).receipts ++ r ∷ []
 result_listed m i e t r live made =
     let a : Actor = actor_at m i in
     let within = slice_get_within m.actors i a (live_there m.actors i live) in
-    ap (λ (b : Actor). b.receipts) (get_or-set_same m.actors i (actor_after a t.phase t.made) nobody within) ∙ ap (λ o. (actor_after a t.phase o).receipts) made
+    ap (λ (b : Actor). b.receipts)
+    (get_or-set_same m.actors i (actor_after a t.phase t.made) nobody within)
+    ∙ ap (λ o. (actor_after a t.phase o).receipts) made
 
-made_listed : (m : Machine) (i e : ℕ) (s : Step) (r : Receipt) → (is_allowed m i s ≡ true → (actor_at m i).live ≡ true) → (if is_allowed m i s then (step_result_of m i s).made else None) ≡ Some r
-    → (actor_at (if is_allowed m i s then with_result m e i (step_result_of m i s) else m) i).receipts ≡ (actor_at m i).receipts ++ r ∷ []
+made_listed :
+    (m : Machine) (i e : ℕ) (s : Step) (r : Receipt)
+    → (is_allowed m i s ≡ true → (actor_at m i).live ≡ true)
+    → (if is_allowed m i s then (step_result_of m i s).made else None) ≡ Some r
+    →
+    (actor_at (if is_allowed m i s then with_result m e i (step_result_of m i s) else m)
+    i).receipts
+    ≡ (actor_at m i).receipts ++ r ∷ []
 made_listed m i e s r live = at (cases_Bool (is_allowed m i s)) where
-  at : (is_allowed m i s ≡ true) ⊎ (is_allowed m i s ≡ false) → (if is_allowed m i s then (step_result_of m i s).made else None) ≡ Some r → (actor_at (if is_allowed m i s then with_result m e i (step_result_of m i s) else m) i).receipts ≡ (actor_at m i).receipts ++ r ∷ []
+  at :
+      (is_allowed m i s ≡ true) ⊎ (is_allowed m i s ≡ false)
+      → (if is_allowed m i s then (step_result_of m i s).made else None) ≡ Some r
+      →
+      (actor_at (if is_allowed m i s then with_result m e i (step_result_of m i s) else m)
+      i).receipts
+      ≡ (actor_at m i).receipts ++ r ∷ []
   at (inl may) h = rw may (result_listed m i e (step_result_of m i s) r (live may) (rw may at h))
   at (inr not') h = absurd (none_some r (rw not' at h))
 
-pub receipt_listed : (m : Machine) (i : ℕ) (s : Step) (r : Receipt) → made_by m i s ≡ Some r → (actor_at (after_step m i s) i).receipts ≡ (actor_at m i).receipts ++ r ∷ []
+pub receipt_listed :
+    (m : Machine) (i : ℕ) (s : Step) (r : Receipt)
+    → made_by m i s ≡ Some r
+    → (actor_at (after_step m i s) i).receipts ≡ (actor_at m i).receipts ++ r ∷ []
 unfolding made_by after_step after_allowed_step may_act
 receipt_listed m i (Split to) r h = absurd (none_some r h)
 receipt_listed m i (Join from) r h = absurd (none_some r h)
-receipt_listed m i s r h = made_listed m i (entry_of (actor_at m i).phase s) s r (λ may. (allowed_parts m i s may).0) h
+receipt_listed m i s r h =
+    made_listed m i (entry_of (actor_at m i).phase s) s r (λ may. (allowed_parts m i s may).0) h

@@ -10,12 +10,17 @@ module _ {A : Type 0} where
   pub none_some : (x : A) → None ≡ Some x → ⊥
   none_some x h = cc
 
-  pub at_set : (l : List A) (i j : ℕ) (a b : A) → slice_get (set l i a) j ≡ Some b → ((j ≡ i) × (a ≡ b)) ⊎ ((j ≢ i) × (slice_get l j ≡ Some b))
+  pub at_set :
+      (l : List A) (i j : ℕ) (a b : A)
+      → slice_get (set l i a) j ≡ Some b
+      → ((j ≡ i) × (a ≡ b)) ⊎ ((j ≢ i) × (slice_get l j ≡ Some b))
   at_set [] i j a b e = absurd (none_some b e)
   at_set (x ∷ xs) zero zero a b e = inl (refl, some_same a b e)
   at_set (x ∷ xs) zero (suc j) a b e = inr ((λ h. omega arith), e)
   at_set (x ∷ xs) (suc i) zero a b e = inr ((λ h. omega arith), e)
-  at_set (x ∷ xs) (suc i) (suc j) a b e = ⊎_elim (λ t. inl (ap suc t.0, t.1)) (λ t. let n = t.0 in inr ((λ h. n (omega arith)), t.1)) (at_set xs i j a b e)
+  at_set (x ∷ xs) (suc i) (suc j) a b e =
+      ⊎_elim (λ t. inl (ap suc t.0, t.1)) (λ t. let n = t.0 in inr ((λ h. n (omega arith)), t.1))
+      (at_set xs i j a b e)
 
   pub set_else : (l : List A) (i j : ℕ) (a : A) → j ≢ i → slice_get (set l i a) j ≡ slice_get l j
   set_else [] i j a n = refl
@@ -34,32 +39,43 @@ module _ {A : Type 0} where
   set_twice (x ∷ xs) zero a b = refl
   set_twice (x ∷ xs) (suc i) a b = λ k. x ∷ set_twice xs i a b k
 
-  pub set_apart : (l : List A) (i j : ℕ) (a b : A) → i ≢ j → set (set l i a) j b ≡ set (set l j b) i a
+  pub set_apart :
+      (l : List A) (i j : ℕ) (a b : A) → i ≢ j → set (set l i a) j b ≡ set (set l j b) i a
   set_apart [] i j a b n = refl
   set_apart (x ∷ xs) zero zero a b n = absurd (n refl)
   set_apart (x ∷ xs) zero (suc j) a b n = refl
   set_apart (x ∷ xs) (suc i) zero a b n = refl
   set_apart (x ∷ xs) (suc i) (suc j) a b n = λ k. x ∷ set_apart xs i j a b (λ e. n (ap suc e)) k
 
-  pub same_at : (l : List A) (i : ℕ) (a b : A) → slice_get l i ≡ Some a → slice_get l i ≡ Some b → a ≡ b
+  pub same_at :
+      (l : List A) (i : ℕ) (a b : A) → slice_get l i ≡ Some a → slice_get l i ≡ Some b → a ≡ b
   same_at l i a b p q = some_same a b (sym p ∙ q)
 
-  pub set_found : (l : List A) (i : ℕ) (a b : A) → slice_get l i ≡ Some a → slice_get (set l i b) i ≡ Some b
+  pub set_found :
+      (l : List A) (i : ℕ) (a b : A) → slice_get l i ≡ Some a → slice_get (set l i b) i ≡ Some b
   set_found [] i a b e = absurd (none_some a e)
   set_found (x ∷ xs) zero a b e = refl
   set_found (x ∷ xs) (suc i) a b e = set_found xs i a b e
 
-  pub in_append : (xs ys : List A) (m : ℕ) (a : A) → slice_get (xs ++ ys) m ≡ Some a → ((j : ℕ) × (slice_get xs j ≡ Some a)) ⊎ ((j : ℕ) × (slice_get ys j ≡ Some a))
+  pub in_append :
+      (xs ys : List A) (m : ℕ) (a : A)
+      → slice_get (xs ++ ys) m ≡ Some a
+      → ((j : ℕ) × (slice_get xs j ≡ Some a)) ⊎ ((j : ℕ) × (slice_get ys j ≡ Some a))
   in_append [] ys m a e = inr (m, e)
   in_append (x ∷ xs) ys zero a e = inl (zero, e)
-  in_append (x ∷ xs) ys (suc m) a e = ⊎_elim (λ (t : (j : ℕ) × (slice_get xs j ≡ Some a)). inl (suc t.0, t.1)) (λ (t : (j : ℕ) × (slice_get ys j ≡ Some a)). inr t) (in_append xs ys m a e)
+  in_append (x ∷ xs) ys (suc m) a e =
+      ⊎_elim (λ (t : (j : ℕ) × (slice_get xs j ≡ Some a)). inl (suc t.0, t.1))
+      (λ (t : (j : ℕ) × (slice_get ys j ≡ Some a)). inr t) (in_append xs ys m a e)
 
   pub at_copies : (n i : ℕ) (d a : A) → slice_get (replicate n d) i ≡ Some a → d ≡ a
   at_copies zero i d a h = absurd (none_some a h)
   at_copies (suc n) zero d a h = some_same d a h
   at_copies (suc n) (suc i) d a h = at_copies n i d a h
 
-pub at_mapped : {A B : Type 0} (f : A → B) (l : List A) (i : ℕ) (b : B) → slice_get (map f l) i ≡ Some b → (a : A) × (slice_get l i ≡ Some a) × (f a ≡ b)
+pub at_mapped :
+    {A B : Type 0} (f : A → B) (l : List A) (i : ℕ) (b : B)
+    → slice_get (map f l) i ≡ Some b
+    → (a : A) × (slice_get l i ≡ Some a) × (f a ≡ b)
 at_mapped f [] i b h = absurd (none_some b h)
 at_mapped f (x ∷ xs) zero b h = (x, refl, some_same (f x) b h)
 at_mapped f (x ∷ xs) (suc i) b h = at_mapped f xs i b h

@@ -7,7 +7,10 @@ use Rattle.entry_model.specs.CachedLines.{IsLineAt, ShowsLine}
 use Rattle.lock_core.specs.Machine.{sighting_of, shown_sightings}
 use Rattle.lock_core.specs.Laws.{sighting_by}
 
-same_sighting : (r : Receipt) (line : Line) → IsLineAt line r.entry r.before → sighting_of r.entry r.before ≡ sighting_by line
+same_sighting :
+    (r : Receipt) (line : Line)
+    → IsLineAt line r.entry r.before
+    → sighting_of r.entry r.before ≡ sighting_by line
 same_sighting r line at = λ i. record {
   entry = sym at.entry i;
   stamp = sym at.stamp i;
@@ -16,7 +19,10 @@ same_sighting r line at = λ i. record {
 }
 
 -- A line that a receipt shows stands in the list of the lines that they show.
-pub shown_line : (rs : List Receipt) (line : Line) → ShowsLine line rs → Contains (flat_map shown_sightings rs) (sighting_by line)
+pub shown_line :
+    (rs : List Receipt) (line : Line)
+    → ShowsLine line rs
+    → Contains (flat_map shown_sightings rs) (sighting_by line)
 shown_line [] line shows = absurd shows
 shown_line (r ∷ rs) line (inl here) =
     Contains-append_left (shown_sightings r) (flat_map shown_sightings rs) (sighting_by line)
@@ -24,4 +30,5 @@ shown_line (r ∷ rs) line (inl here) =
     (sym (ap (λ b. if b then sighting_of r.entry r.before ∷ [] else []) here.0))
     (0, (omega arith), same_sighting r line here.1))
 shown_line (r ∷ rs) line (inr there) =
-    Contains-append_right (shown_sightings r) (flat_map shown_sightings rs) (sighting_by line) (shown_line rs line there)
+    Contains-append_right (shown_sightings r) (flat_map shown_sightings rs) (sighting_by line)
+    (shown_line rs line there)

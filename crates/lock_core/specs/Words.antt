@@ -113,7 +113,8 @@ masks_eq m n = (m.amr == n.amr) && (m.iamr == n.iamr)
 
 -- The two are the same access.
 unfoldable pub same_access : Op → Op → Bool
-same_access (Access tag base key no_execute want masks) (Access tag' base' key' no_execute' want' masks') =
+same_access (Access tag base key no_execute want masks)
+    (Access tag' base' key' no_execute' want' masks') =
     (tag == tag')
     && (base == base')
     && bool_eq key key'

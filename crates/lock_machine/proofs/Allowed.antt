@@ -18,10 +18,12 @@ pub record IsSplit (m : Machine) (i to : ℕ) : Type 0 where
   pub live : (actor_at m i).live ≡ true
   pub there : to < length m.actors
 
-pub split_parts : (m : Machine) (i to : ℕ) (s : Step) → s ≡ Split to → is_allowed m i s ≡ true → IsSplit m i to
+pub split_parts :
+    (m : Machine) (i to : ℕ) (s : Step) → s ≡ Split to → is_allowed m i s ≡ true → IsSplit m i to
 unfolding may_act
 split_parts m i to s is may =
-    let parts = and_parts _ _ (allowed_parts m i (Split to) (subst (λ z. is_allowed m i z ≡ true) is may)).0 in
+    let parts = and_parts _ _
+    (allowed_parts m i (Split to) (subst (λ z. is_allowed m i z ≡ true) is may)).0 in
     record { live = parts.0; there = ltb-true to (length m.actors) (and_parts _ _ parts.1).0 }
 
 pub record IsJoin (m : Machine) (i from : ℕ) : Type 0 where
@@ -29,9 +31,18 @@ pub record IsJoin (m : Machine) (i from : ℕ) : Type 0 where
   pub other : (actor_at m from).live ≡ true
   pub apart : from ≢ i
 
-pub join_parts : (m : Machine) (i from : ℕ) (s : Step) → s ≡ Join from → is_allowed m i s ≡ true → IsJoin m i from
+pub join_parts :
+    (m : Machine) (i from : ℕ) (s : Step)
+    → s ≡ Join from
+    → is_allowed m i s ≡ true
+    → IsJoin m i from
 unfolding may_act
 join_parts m i from s is may =
-    let parts = and_parts _ _ (allowed_parts m i (Join from) (subst (λ z. is_allowed m i z ≡ true) is may)).0 in
+    let parts = and_parts _ _
+    (allowed_parts m i (Join from) (subst (λ z. is_allowed m i z ≡ true) is may)).0 in
     let other = and_parts _ _ parts.1 in
-    record { live = parts.0; other = other.0; apart = λ e. false≢true (sym (not_is (from == i) other.1) ∙ eq-eqb from i e) }
+    record {
+      live = parts.0;
+      other = other.0;
+      apart = λ e. false≢true (sym (not_is (from == i) other.1) ∙ eq-eqb from i e);
+    }

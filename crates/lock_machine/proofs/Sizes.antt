@@ -20,8 +20,14 @@ stepped_size m i s = (length-set m.entries _ _, length-set m.actors i _)
 
 moved_size : (m : Machine) (i : ℕ) (s : Step) → SameSize m (after_step m i s)
 unfolding after_step
-moved_size m i s = cond_both (is_allowed m i s) (after_allowed_step m i s) m (SameSize m) (λ _. stepped_size m i s) (λ _. (refl, refl))
+moved_size m i s =
+    cond_both (is_allowed m i s) (after_allowed_step m i s) m (SameSize m) (λ _. stepped_size m i s)
+    (λ _. (refl, refl))
 
-pub ended_size : (m m' : Machine) (i : ℕ) (s : Step) (r : Result (Unit {0}) CoreError) → OnOk r (m' ≡ after_step m i s) → OnErr r (m' ≡ m) → SameSize m m'
+pub ended_size :
+    (m m' : Machine) (i : ℕ) (s : Step) (r : Result (Unit {0}) CoreError)
+    → OnOk r (m' ≡ after_step m i s)
+    → OnErr r (m' ≡ m)
+    → SameSize m m'
 ended_size m m' i s (Ok v) done none = subst (SameSize m) (sym done) (moved_size m i s)
 ended_size m m' i s (Err e) done none = subst (SameSize m) (sym none) (refl, refl)

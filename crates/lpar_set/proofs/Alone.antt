@@ -17,12 +17,18 @@ use Rattle.lpar_set.proofs.OwnAddresses.{of_set}
 use Rattle.lpar_set.proofs.AloneTurns.{IsLike, IsRunning, RunsLike, turns_alone}
 
 -- ---- the beginning
-opens_alike : (s : AcceptedSet) (k : ℕ) → IsAcceptedSet s → k < length s.partitions → IsLike (opening_set s) k (page_table (partition_at s k).trace.config)
+opens_alike :
+    (s : AcceptedSet) (k : ℕ)
+    → IsAcceptedSet s
+    → k < length s.partitions
+    → IsLike (opening_set s) k (page_table (partition_at s k).trace.config)
 opens_alike s k is within =
     let c = (partition_at s k).trace.config in
     let own_is = of_set s is k within in
     let configured = own_is.accepted.configured in
-    let range : IsPoolRange c.granted.pool_base c.granted.pool_order = subst (λ n. IsPoolRange n c.granted.pool_order) (sym own_is.base) (subst (λ n. IsPoolRange s.pool_base n) (sym own_is.order) is.pool) in
+    let range : IsPoolRange c.granted.pool_base c.granted.pool_order = subst
+    (λ n. IsPoolRange n c.granted.pool_order) (sym own_is.base)
+    (subst (λ n. IsPoolRange s.pool_base n) (sym own_is.order) is.pool) in
     let over = opens_over (no_blocks s.pool_base s.pool_order) s.partitions k within in
     let own = no_blocks c.granted.pool_base c.granted.pool_order in
     let whole = (opening_set s).pool in
@@ -32,9 +38,14 @@ opens_alike s k is within =
       pool = pool;
       place = place;
       other = 0;
-      is = subst (λ (m : MemberState). page_table c ≡ moved (with_pool whole m) pool place 0) (sym over.is) (opens_like whole over.left c);
+      is =
+          subst (λ (m : MemberState). page_table c ≡ moved (with_pool whole m) pool place 0)
+          (sym over.is) (opens_like whole over.left c);
       alone = opens_alone c range configured.settings.at_least configured.room;
-      order = alone_order c ∙ own_is.order ∙ sym (shared_order (no_blocks s.pool_base s.pool_order) s.partitions);
+      order =
+          alone_order c
+          ∙ own_is.order
+          ∙ sym (shared_order (no_blocks s.pool_base s.pool_order) s.partitions);
     }
 
 opens_running : (s : AcceptedSet) → IsAcceptedSet s → IsRunning s (opening_set s)
@@ -44,10 +55,19 @@ opens_running s is = record {
 }
 
 -- ---- the run
-pub runs_as_if_alone : (s : AcceptedSet) → IsAcceptedSet s → (k : ℕ) → k < length s.partitions → RunsAsIfAlone (partition_at s k).trace (served (replies_of k s.turns (set_replies s)))
+pub runs_as_if_alone :
+    (s : AcceptedSet)
+    → IsAcceptedSet s
+    → (k : ℕ)
+    → k < length s.partitions
+    → RunsAsIfAlone (partition_at s k).trace (served (replies_of k s.turns (set_replies s)))
 runs_as_if_alone s is k within =
     let u = page_table (partition_at s k).trace.config in
     let rs = served (replies_of k s.turns (set_replies s)) in
     let t = (partition_at s k).trace in
-    let alike : RunsLike rs u t.lines = subst (λ (ls : List TraceLine). RunsLike rs u ls) (lines_are_turns s is k within) (turns_alone s k (opening_set s) u s.turns within (opens_running s is) is.turns (opens_alike s k is within)) in
-    subst (λ qs. map without_place rs ≡ map without_place qs) (first_of_serial t (length rs) (of_set s is k within).windows) alike
+    let alike : RunsLike rs u t.lines = subst (λ (ls : List TraceLine). RunsLike rs u ls)
+    (lines_are_turns s is k within)
+    (turns_alone s k (opening_set s) u s.turns within (opens_running s is) is.turns
+    (opens_alike s k is within)) in
+    subst (λ qs. map without_place rs ≡ map without_place qs)
+    (first_of_serial t (length rs) (of_set s is k within).windows) alike

@@ -17,17 +17,24 @@ distinct : (ns : List ℕ) → AllPairs (λ (n m : ℕ). n ≢ m) ns → IsDisti
 unfolding IsDistinct
 distinct [] apart = tt
 distinct (n ∷ ns) apart = (
-  recursion_from_All (λ m. eqb n m ≡ false) ns (λ k d inside. ne_eqb n (get_or ns k d) (AllPairs-head (λ (n m : ℕ). n ≢ m) n ns apart k d inside)),
+  recursion_from_All (λ m. eqb n m ≡ false) ns
+      (λ k d inside.
+      ne_eqb n (get_or ns k d) (AllPairs-head (λ (n m : ℕ). n ≢ m) n ns apart k d inside)),
   distinct ns (AllPairs-tail (λ (n m : ℕ). n ≢ m) n ns apart),
 )
 
 -- Numbers below 8, no two of them one, are eight at most.
-few_below : (ns : List ℕ) → AllByRecursion (λ n. n < 8) ns → AllPairs (λ (n m : ℕ). n ≢ m) ns → length ns ≤ 8
+few_below :
+    (ns : List ℕ)
+    → AllByRecursion (λ n. n < 8) ns
+    → AllPairs (λ (n m : ℕ). n ≢ m) ns
+    → length ns ≤ 8
 few_below ns below apart =
     length-le_from_distinct_below ns 8 (distinct ns apart)
     (λ q there.
     let found = Any-from_list_any (eqb q) ns there in
-    let small : found.1 < 8 = subst (λ n. n < 8) found.3 (All-from_recursion (λ n. n < 8) ns below found.0 found.1 found.2) in
+    let small : found.1 < 8 = subst (λ n. n < 8) found.3
+    (All-from_recursion (λ n. n < 8) ns below found.0 found.1 found.2) in
     subst (λ n. n < 8) (sym (eqb-true q found.1 found.4)) small)
 
 -- Eight at most have begun.
@@ -35,12 +42,22 @@ pub begun_few : (r : SetReading) → IsSetReading r → length r.begun ≤ 8
 begun_few r is = few_below r.begun is.begun.below is.begun.apart
 
 -- While one has not, there is a place for it.
-pub begun_place : (r : SetReading) (number : ℕ) → IsSetReading r → number < 8 → is_running (reading_of r number).stage ≡ false → length r.begun < 8
+pub begun_place :
+    (r : SetReading) (number : ℕ)
+    → IsSetReading r
+    → number < 8
+    → is_running (reading_of r number).stage ≡ false
+    → length r.begun < 8
 begun_place r number is below before =
     let more : length (r.begun ++ number ∷ []) ≤ 8 =
     few_below (r.begun ++ number ∷ [])
-    (recursion_from_All (λ m. m < 8) (r.begun ++ number ∷ []) (All-push (λ m. m < 8) r.begun number (All-from_recursion (λ m. m < 8) r.begun is.begun.below) below))
+    (recursion_from_All (λ m. m < 8) (r.begun ++ number ∷ [])
+    (All-push (λ m. m < 8) r.begun number
+    (All-from_recursion (λ m. m < 8) r.begun is.begun.below) below))
     (all_pairs_push (λ (n m : ℕ). n ≢ m) r.begun number is.begun.apart
-    (λ k d within. begun_other r number (get_or r.begun k d) before (All-get_or (HasBegun r) r.begun k d within (All-from_recursion (HasBegun r) r.begun is.begun.running)))) in
+    (λ k d within.
+    begun_other r number (get_or r.begun k d) before
+    (All-get_or (HasBegun r) r.begun k d within
+    (All-from_recursion (HasBegun r) r.begun is.begun.running)))) in
     let size : length (r.begun ++ number ∷ []) ≡ length r.begun + 1 = length_push r.begun number in
     omega (arith, more, size)

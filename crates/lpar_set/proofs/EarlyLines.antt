@@ -17,7 +17,11 @@ use Rattle.lpar_set.specs.SetGrammar.{SetReading, reading_of, after_own, after_m
 use Rattle.lpar_set.specs.SetRead.{is_early}
 
 -- ---- behind `begin`
-never_comes : (form : Form) (stage : Stage) → is_setting_form form ≡ true → is_running stage ≡ true → comes_at form stage ≡ false
+never_comes :
+    (form : Form) (stage : Stage)
+    → is_setting_form form ≡ true
+    → is_running stage ≡ true
+    → comes_at form stage ≡ false
 never_comes form stages.Order setting running = absurd (false≢true running)
 never_comes form stages.Limit setting running = absurd (false≢true running)
 never_comes form stages.Cpus setting running = absurd (false≢true running)
@@ -38,9 +42,14 @@ never_comes forms.Dump stages.Lines setting running = absurd (false≢true setti
 
 -- The reading after words of which this is the form.
 abbrev by_form : Reading → List (List ℕ) → Result Form Why → Result Reading Why
-by_form r ws said = said >>= (λ form. guard (comes_at form r.stage) Place >>= (λ here. after_form form r ws))
+by_form r ws said =
+    said >>= (λ form. guard (comes_at form r.stage) Place >>= (λ here. after_form form r ws))
 
-formed : (r : Reading) (ws : List (List ℕ)) (said : Result Form Why) → is_setting_if said ≡ true → is_running r.stage ≡ true → by_form r ws said ≡ Err Place
+formed :
+    (r : Reading) (ws : List (List ℕ)) (said : Result Form Why)
+    → is_setting_if said ≡ true
+    → is_running r.stage ≡ true
+    → by_form r ws said ≡ Err Place
 formed r ws (Ok form) setting running = rw (never_comes form r.stage setting running) refl
 formed r ws (Err why) setting running = absurd (false≢true setting)
 
@@ -51,7 +60,11 @@ remark_sets_nothing [] is = refl
 remark_sets_nothing ([] ∷ ws) is = absurd (false≢true is)
 remark_sets_nothing ((c ∷ cs) ∷ ws) is = let hash : c ≡ 35 = eqb-true c 35 is in rw hash refl
 
-behind_begin : (r : Reading) (ws : List (List ℕ)) → is_setting ws ≡ true → is_running r.stage ≡ true → after_text r ws ≡ Err Place
+behind_begin :
+    (r : Reading) (ws : List (List ℕ))
+    → is_setting ws ≡ true
+    → is_running r.stage ≡ true
+    → after_text r ws ≡ Err Place
 unfolding after_text after_words
 behind_begin r ws setting running = at (cases_Bool (is_remark ws)) where
   at : (is_remark ws ≡ true) ⊎ (is_remark ws ≡ false) → after_text r ws ≡ Err Place
@@ -65,20 +78,36 @@ own_line r number ws =
     let old : Reading = reading_of r number in
     after_own r number old ws (after_text (record old { taken = r.taken }) ws)
 
-own_refuses : (r : SetReading) (number : ℕ) (ws : List (List ℕ)) → is_setting ws ≡ true → is_running (reading_of r number).stage ≡ true → Err Place ≡ own_line r number ws
+own_refuses :
+    (r : SetReading) (number : ℕ) (ws : List (List ℕ))
+    → is_setting ws ≡ true
+    → is_running (reading_of r number).stage ≡ true
+    → Err Place ≡ own_line r number ws
 unfolding after_own
 own_refuses r number ws setting running =
     let old : Reading = reading_of r number in
-    ap (after_own r number old ws) (sym (behind_begin (record old { taken = r.taken }) ws setting running))
+    ap (after_own r number old ws)
+    (sym (behind_begin (record old { taken = r.taken }) ws setting running))
 
 -- It is refused for its place before that is asked, or it is as that says.
-pub member_by : (r : SetReading) (number : ℕ) (ws : List (List ℕ)) → after_member r number ws ≡ (if is_early r number ws then Err Place else own_line r number ws)
+pub member_by :
+    (r : SetReading) (number : ℕ) (ws : List (List ℕ))
+    → after_member r number ws ≡ (if is_early r number ws then Err Place else own_line r number ws)
 unfolding after_member
-member_by r number ws = at (cases_Bool (is_setting ws)) (cases_Bool (ltb 0 (length r.turns))) (cases_Bool (is_running (reading_of r number).stage)) where
-  at : (is_setting ws ≡ true) ⊎ (is_setting ws ≡ false) → (ltb 0 (length r.turns) ≡ true) ⊎ (ltb 0 (length r.turns) ≡ false) → (is_running (reading_of r number).stage ≡ true) ⊎ (is_running (reading_of r number).stage ≡ false) → after_member r number ws ≡ (if is_early r number ws then Err Place else own_line r number ws)
-  at (inl setting) (inl later) (inl running) = rw (setting, later, running) (own_refuses r number ws setting running)
-  at (inl setting) (inl later) (inr waiting) = rw (setting, later, waiting) refl
-  at (inl setting) (inr first) running = rw (setting, first) refl
-  at (inr run) (inl later) (inl running) = rw (run, later, running) refl
-  at (inr run) (inl later) (inr waiting) = rw (run, later, waiting) refl
-  at (inr run) (inr first) running = rw (run, first) refl
+member_by r number ws =
+    at (cases_Bool (is_setting ws)) (cases_Bool (ltb 0 (length r.turns)))
+    (cases_Bool (is_running (reading_of r number).stage)) where
+      at :
+          (is_setting ws ≡ true) ⊎ (is_setting ws ≡ false)
+          → (ltb 0 (length r.turns) ≡ true) ⊎ (ltb 0 (length r.turns) ≡ false)
+          → (is_running (reading_of r number).stage ≡ true)
+          ⊎ (is_running (reading_of r number).stage ≡ false)
+          → after_member r number ws
+          ≡ (if is_early r number ws then Err Place else own_line r number ws)
+      at (inl setting) (inl later) (inl running) =
+          rw (setting, later, running) (own_refuses r number ws setting running)
+      at (inl setting) (inl later) (inr waiting) = rw (setting, later, waiting) refl
+      at (inl setting) (inr first) running = rw (setting, first) refl
+      at (inr run) (inl later) (inl running) = rw (run, later, running) refl
+      at (inr run) (inl later) (inr waiting) = rw (run, later, waiting) refl
+      at (inr run) (inr first) running = rw (run, first) refl

@@ -17,7 +17,8 @@ use Rattle.lpar_set.proofs.SetPlaces.{beside_later}
 -- ---- no partition
 -- After so many lines none occurs yet.
 abbrev pub still_empty : ℕ → ℕ → ℕ → Bool → SetReading
-still_empty base order taken untouched = record (set_beside base order) { taken = taken; untouched = untouched }
+still_empty base order taken untouched =
+    record (set_beside base order) { taken = taken; untouched = untouched }
 
 -- None of the eight partitions has been read.
 abbrev pub no_readings : List (Option Reading)
@@ -29,21 +30,40 @@ none_there m = by (cases_lt m 8) where
   by (inl inside) = get_or-replicate 8 m None None inside
   by (inr past) = get_or_past no_readings m None past
 
-none_begun : (base order taken : ℕ) (untouched : Bool) (m : ℕ) → HasBegun (still_empty base order taken untouched) m → ⊥
+none_begun :
+    (base order taken : ℕ) (untouched : Bool) (m : ℕ)
+    → HasBegun (still_empty base order taken untouched) m
+    → ⊥
 none_begun base order taken untouched m begun =
-    let none : reading_of (still_empty base order taken untouched) m ≡ reading_beside base order = ap (λ o. unwrap_or o (reading_beside base order)) (none_there m) in
+    let none : reading_of (still_empty base order taken untouched) m ≡ reading_beside base order =
+    ap (λ o. unwrap_or o (reading_beside base order)) (none_there m) in
     false≢true (rw none at begun)
 
-no_strangers : (i j : ℕ) (d : Option Reading) → i < j → j < 8 → AreStrangers (grants_read (get_or no_readings i d)) (grants_read (get_or no_readings j d))
-no_strangers i j d before inside = rw (get_or-replicate 8 i None d (omega (arith, before, inside))) tt
+no_strangers :
+    (i j : ℕ) (d : Option Reading)
+    → i < j
+    → j < 8
+    → AreStrangers (grants_read (get_or no_readings i d)) (grants_read (get_or no_readings j d))
+no_strangers i j d before inside =
+    rw (get_or-replicate 8 i None d (omega (arith, before, inside))) tt
 
 -- What holds of a set's reading holds while no partition occurs.
-pub empty_is : (base order taken : ℕ) (untouched : Bool) → IsPoolRange base order → taken ≤ 2 ^ 17 → IsSetReading (still_empty base order taken untouched)
+pub empty_is :
+    (base order taken : ℕ) (untouched : Bool)
+    → IsPoolRange base order
+    → taken ≤ 2 ^ 17
+    → IsSetReading (still_empty base order taken untouched)
 empty_is base order taken untouched pool few = record {
   pool = pool;
   eight = refl;
-  fresh = λ first. recursion_from_All (λ (o : Option Reading). o ≡ None) (replicate 8 None) (All-replicate (λ (o : Option Reading). o ≡ None) 8 None refl);
-  beside = recursion_from_All (λ (o : Option Reading). IfSome o (IsBeside base order taken)) (replicate 8 None) (All-replicate (λ (o : Option Reading). IfSome o (IsBeside base order taken)) 8 None tt);
+  fresh =
+      λ first.
+      recursion_from_All (λ (o : Option Reading). o ≡ None) (replicate 8 None)
+      (All-replicate (λ (o : Option Reading). o ≡ None) 8 None refl);
+  beside =
+      recursion_from_All (λ (o : Option Reading). IfSome o (IsBeside base order taken))
+      (replicate 8 None)
+      (All-replicate (λ (o : Option Reading). IfSome o (IsBeside base order taken)) 8 None tt);
   strangers = λ i j d before inside. no_strangers i j d before inside;
   begun = record {
     below = tt;
@@ -61,7 +81,14 @@ empty_is base order taken untouched pool few = record {
 
 -- Before the first line.
 pub opening_set_reading_is : IsSetReading opening_set_reading
-opening_set_reading_is = empty_is 0x1000000000 24 0 true (record { at_least = omega arith; at_most = omega arith; aligned = refl; to_end = omega arith }) (omega arith)
+opening_set_reading_is =
+    empty_is 0x1000000000 24 0 true
+    (record {
+      at_least = omega arith;
+      at_most = omega arith;
+      aligned = refl;
+      to_end = omega arith;
+    }) (omega arith)
 
 -- ---- the pool that a line names
 -- No test that stands before the others refuses.
@@ -69,7 +96,10 @@ record AreClear (test : Bool) (o : Option RangeError) : Type 0 where
   clear : test ≡ false
   rest : is_none o ≡ true
 
-clear_if : (test : Bool) (error : RangeError) (o : Option RangeError) → is_none (if test then Some error else o) ≡ true → AreClear test o
+clear_if :
+    (test : Bool) (error : RangeError) (o : Option RangeError)
+    → is_none (if test then Some error else o) ≡ true
+    → AreClear test o
 clear_if true error o none = absurd (false≢true none)
 clear_if false error o none = record { clear = refl; rest = none }
 
@@ -90,16 +120,28 @@ range_is base order none =
 
 -- ---- one line more
 -- A line that is counted leaves what holds of the set.
-pub counted_is : (r : SetReading) → IsSetReading r → r.taken < 2 ^ 17 → IsSetReading (record r { taken = r.taken + 1 })
+pub counted_is :
+    (r : SetReading)
+    → IsSetReading r
+    → r.taken < 2 ^ 17
+    → IsSetReading (record r { taken = r.taken + 1 })
 counted_is r is few =
     let counted : length r.turns ≤ r.taken = is.counted in
     record {
       pool = is.pool;
       eight = is.eight;
       fresh = is.fresh;
-      beside = beside_later r.readings r.pool_base r.pool_order r.taken (r.taken + 1) (omega arith) is.beside;
+      beside =
+          beside_later r.readings r.pool_base r.pool_order r.taken (r.taken + 1) (omega arith)
+          is.beside;
       strangers = is.strangers;
-      begun = record { below = is.begun.below; apart = is.begun.apart; running = is.begun.running; all = is.begun.all };
+      begun =
+          record {
+            below = is.begun.below;
+            apart = is.begun.apart;
+            running = is.begun.running;
+            all = is.begun.all;
+          };
       tables = is.tables;
       room = is.room;
       turns = is.turns;

@@ -61,9 +61,14 @@ same_reply (acts.Device write liobn ioba) (replies.Device r) q kind = refl
 same_reply (acts.SetMask name value) replies.MaskSet q kind = refl
 same_reply act r q kind = absurd kind
 
-front_erased : (t : RepliedLine) (x : List RepliedLine × List QuietPart) → IsOfKind t.line.act t.reply → cut_before (erased_line t) (erased_cut x) ≡ erased_cut (cut_before t x)
+front_erased :
+    (t : RepliedLine) (x : List RepliedLine × List QuietPart)
+    → IsOfKind t.line.act t.reply
+    → cut_before (erased_line t) (erased_cut x) ≡ erased_cut (cut_before t x)
 front_erased t x kind = at (cases_Bool (is_quiet t.line.act)) where
-  at : (is_quiet t.line.act ≡ true) ⊎ (is_quiet t.line.act ≡ false) → cut_before (erased_line t) (erased_cut x) ≡ erased_cut (cut_before t x)
+  at :
+      (is_quiet t.line.act ≡ true) ⊎ (is_quiet t.line.act ≡ false)
+      → cut_before (erased_line t) (erased_cut x) ≡ erased_cut (cut_before t x)
   at (inl q) = rw q
   at (inr q) = rw (q, same_reply t.line.act t.reply q kind)
 
@@ -73,41 +78,70 @@ AreOfKind ts = AllByRecursion (λ (t : RepliedLine). IsOfKind t.line.act t.reply
 
 cut_erased : (ts : List RepliedLine) → AreOfKind ts → cut (map erased_line ts) ≡ erased_cut (cut ts)
 cut_erased [] kinds = refl
-cut_erased (t ∷ ts) kinds = ap (cut_before (erased_line t)) (cut_erased ts kinds.1) ∙ front_erased t (cut ts) kinds.0
+cut_erased (t ∷ ts) kinds =
+    ap (cut_before (erased_line t)) (cut_erased ts kinds.1) ∙ front_erased t (cut ts) kinds.0
 
-replies_erased : (ls : List TraceLine) (rs : List Reply) → lines_with_replies ls (map without_place rs) ≡ map erased_line (lines_with_replies ls rs)
+replies_erased :
+    (ls : List TraceLine) (rs : List Reply)
+    → lines_with_replies ls (map without_place rs) ≡ map erased_line (lines_with_replies ls rs)
 replies_erased [] rs = refl
 replies_erased (l ∷ ls) [] = refl
-replies_erased (l ∷ ls) (r ∷ rs) = ap (λ ts. erased_line (record { line = l; reply = r }) ∷ ts) (replies_erased ls rs)
+replies_erased (l ∷ ls) (r ∷ rs) =
+    ap (λ ts. erased_line (record { line = l; reply = r }) ∷ ts) (replies_erased ls rs)
 
-from_erased : (on : Act → Bool) (w : Store) (ts : List RepliedLine) (qs : List QuietPart) → sections_from on w ts (map erased_part qs) ≡ map erased (sections_from on w ts qs)
+from_erased :
+    (on : Act → Bool) (w : Store) (ts : List RepliedLine) (qs : List QuietPart)
+    → sections_from on w ts (map erased_part qs) ≡ map erased (sections_from on w ts qs)
 from_erased on w ts [] = refl
-from_erased on w ts (q ∷ qs) = at (cases_Bool (on q.0.line.act)) (λ v. from_erased on v q.1 qs) where
-  at : (on q.0.line.act ≡ true) ⊎ (on q.0.line.act ≡ false) → ((v : Store) → sections_from on v q.1 (map erased_part qs) ≡ map erased (sections_from on v q.1 qs)) → sections_from on w ts (map erased_part (q ∷ qs)) ≡ map erased (sections_from on w ts (q ∷ qs))
-  at (inl here) rest = rw here (ap (λ ss. section_of on w ts (Some (erased_line q.0)) ∷ ss) (rest (run_quiet_line (section_end w (lines_on on ts)) q.0.line.act).1))
-  at (inr off) rest = rw off (ap (λ ss. section_of on w ts None ∷ ss) (rest (section_end w (lines_on on ts))))
+from_erased on w ts (q ∷ qs) =
+    at (cases_Bool (on q.0.line.act)) (λ v. from_erased on v q.1 qs) where
+      at :
+          (on q.0.line.act ≡ true) ⊎ (on q.0.line.act ≡ false)
+          →
+          ((v : Store)
+          → sections_from on v q.1 (map erased_part qs) ≡ map erased (sections_from on v q.1 qs))
+          → sections_from on w ts (map erased_part (q ∷ qs))
+          ≡ map erased (sections_from on w ts (q ∷ qs))
+      at (inl here) rest =
+          rw here
+          (ap (λ ss. section_of on w ts (Some (erased_line q.0)) ∷ ss)
+          (rest (run_quiet_line (section_end w (lines_on on ts)) q.0.line.act).1))
+      at (inr off) rest =
+          rw off (ap (λ ss. section_of on w ts None ∷ ss) (rest (section_end w (lines_on on ts))))
 
-pub sections_erased : (t : AcceptedTrace) (rs : List Reply) → AreReplies t.lines rs → sections_of t (map without_place rs) ≡ map erased (sections_of t rs)
+pub sections_erased :
+    (t : AcceptedTrace) (rs : List Reply)
+    → AreReplies t.lines rs
+    → sections_of t (map without_place rs) ≡ map erased (sections_of t rs)
 sections_erased t rs kinds =
     let w = page_table t.config in
     let on = is_on t.config.windows w.window in
     let all = lines_with_replies t.lines rs in
     ap (λ us. sections_from on w (cut us).0 (cut us).1) (replies_erased t.lines rs)
-    ∙ ap (λ (x : List RepliedLine × List QuietPart). sections_from on w x.0 x.1) (cut_erased all (kinds_each t.lines rs kinds))
+    ∙ ap (λ (x : List RepliedLine × List QuietPart). sections_from on w x.0 x.1)
+    (cut_erased all (kinds_each t.lines rs kinds))
     ∙ from_erased on w (cut all).0 (cut all).1
 
 -- ---- what holds of them
-each_erased : (Q : Section → Type 0) → ((s : Section) → Q (erased s) ≡ Q s) → (ss : List Section) → AllByRecursion Q (map erased ss) ≡ AllByRecursion Q ss
+each_erased :
+    (Q : Section → Type 0)
+    → ((s : Section) → Q (erased s) ≡ Q s)
+    → (ss : List Section)
+    → AllByRecursion Q (map erased ss) ≡ AllByRecursion Q ss
 each_erased Q same [] = refl
 each_erased Q same (s ∷ ss) = λ i. same s i × each_erased Q same ss i
 
-stays_erased : (s : Section) (entry : ℕ) (rest : List Section) → StaysShown (erased s) entry (map erased rest) ≡ StaysShown s entry rest
+stays_erased :
+    (s : Section) (entry : ℕ) (rest : List Section)
+    → StaysShown (erased s) entry (map erased rest) ≡ StaysShown s entry rest
 stays_erased s entry [] = refl
 stays_erased s entry (next ∷ rest) = λ i.
     MatchOption
     (carried_to s next entry)
     (Unit {0})
-    (λ target. ShowsChange (history_in next target) (closing_state next target) (stays_erased next target rest i))
+    (λ target.
+    ShowsChange (history_in next target) (closing_state next target)
+    (stays_erased next target rest i))
 
 stores_erased : (ss : List Section) → NoStoreIsLostIn (map erased ss) ≡ NoStoreIsLostIn ss
 stores_erased [] = refl
@@ -127,7 +161,8 @@ bits_erased (s ∷ rest) = λ i.
     × bits_erased rest i
 
 -- ---- committed resizes
-commits_erased : (call : Hcall) (r : Reply) → commits_call call (without_place r) ≡ commits_call call r
+commits_erased :
+    (call : Hcall) (r : Reply) → commits_call call (without_place r) ≡ commits_call call r
 commits_erased call (replies.Hcall h) = refl
 commits_erased call (replies.Access a) = refl
 commits_erased call (replies.Segment accepted) = refl
@@ -140,7 +175,8 @@ by_erased : (act : Act) (r : Reply) → commits_by act (without_place r) ≡ com
 by_erased (acts.Call number args spelt) r = commits_erased (hcall_of number) r
 by_erased act r = refl
 
-committed_erased : (quiet : Option RepliedLine) → is_committed (option_map erased_line quiet) ≡ is_committed quiet
+committed_erased :
+    (quiet : Option RepliedLine) → is_committed (option_map erased_line quiet) ≡ is_committed quiet
 committed_erased None = refl
 committed_erased (Some q) = by_erased q.line.act q.reply
 
@@ -158,12 +194,14 @@ leaves_out s next h = record {
   stays = rw (sym (committed_erased s.quiet)) h.stays;
 }
 
-resizes_in : (ss : List Section) → ResizesKeepTranslations ss → ResizesKeepTranslations (map erased ss)
+resizes_in :
+    (ss : List Section) → ResizesKeepTranslations ss → ResizesKeepTranslations (map erased ss)
 resizes_in [] h = tt
 resizes_in (s ∷ []) h = tt
 resizes_in (s ∷ next ∷ rest) h = (leaves_in s next h.0, resizes_in (next ∷ rest) h.1)
 
-resizes_out : (ss : List Section) → ResizesKeepTranslations (map erased ss) → ResizesKeepTranslations ss
+resizes_out :
+    (ss : List Section) → ResizesKeepTranslations (map erased ss) → ResizesKeepTranslations ss
 resizes_out [] h = tt
 resizes_out (s ∷ []) h = tt
 resizes_out (s ∷ next ∷ rest) h = (leaves_out s next h.0, resizes_out (next ∷ rest) h.1)
@@ -177,7 +215,8 @@ unworn_reply replies.MaskSet = refl
 unworn_reply (replies.Device r) = refl
 unworn_reply (replies.Dump shown) = refl
 
-unworn_erased : (rs : List Reply) → AllByRecursion IsUnworn (map without_place rs) ≡ AllByRecursion IsUnworn rs
+unworn_erased :
+    (rs : List Reply) → AllByRecursion IsUnworn (map without_place rs) ≡ AllByRecursion IsUnworn rs
 unworn_erased [] = refl
 unworn_erased (r ∷ rs) = λ i. unworn_reply r i × unworn_erased rs i
 
@@ -185,7 +224,9 @@ unworn_erased (r ∷ rs) = λ i. unworn_reply r i × unworn_erased rs i
 abbrev LandsSo : GrantedMemory → RepliedLine → Type 0
 LandsSo granted t = DeviceLands granted t.line.act t.reply
 
-device_erased : (granted : GrantedMemory) (act : Act) (r : Reply) → DeviceLands granted act (without_place r) ≡ DeviceLands granted act r
+device_erased :
+    (granted : GrantedMemory) (act : Act) (r : Reply)
+    → DeviceLands granted act (without_place r) ≡ DeviceLands granted act r
 device_erased granted (acts.Device write liobn ioba) (replies.Hcall h) = refl
 device_erased granted (acts.Device write liobn ioba) (replies.Access a) = refl
 device_erased granted (acts.Device write liobn ioba) (replies.Segment accepted) = refl
@@ -194,14 +235,22 @@ device_erased granted (acts.Device write liobn ioba) (replies.Device d) = refl
 device_erased granted (acts.Device write liobn ioba) (replies.Dump shown) = refl
 device_erased granted act r = refl
 
-devices_erased : (granted : GrantedMemory) (ls : List TraceLine) (rs : List Reply) → AllByRecursion (LandsSo granted) (lines_with_replies ls (map without_place rs)) ≡ AllByRecursion (LandsSo granted) (lines_with_replies ls rs)
+devices_erased :
+    (granted : GrantedMemory) (ls : List TraceLine) (rs : List Reply)
+    → AllByRecursion (LandsSo granted) (lines_with_replies ls (map without_place rs))
+    ≡ AllByRecursion (LandsSo granted) (lines_with_replies ls rs)
 devices_erased granted [] rs = refl
 devices_erased granted (l ∷ ls) [] = refl
-devices_erased granted (l ∷ ls) (r ∷ rs) = λ i. device_erased granted l.act r i × devices_erased granted ls rs i
+devices_erased granted (l ∷ ls) (r ∷ rs) =
+    λ i. device_erased granted l.act r i × devices_erased granted ls rs i
 
 -- ---- all that a run assures
 -- Erasing the places keeps it.
-assured_in : (t : AcceptedTrace) (rs : List Reply) → AreReplies t.lines rs → Assures t rs → Assures t (map without_place rs)
+assured_in :
+    (t : AcceptedTrace) (rs : List Reply)
+    → AreReplies t.lines rs
+    → Assures t rs
+    → Assures t (map without_place rs)
 assured_in t rs kinds h =
     let ss = sections_of t rs in
     let same = sections_erased t rs kinds in
@@ -210,13 +259,19 @@ assured_in t rs kinds h =
       set = rw same (transport⁻¹ (bits_erased ss) h.set);
       cleared = rw same (transport⁻¹ (each_erased ClearedBitsAreShown (λ s. refl) ss) h.cleared);
       pages = rw same (resizes_in ss h.pages);
-      landings = rw same (transport⁻¹ (each_erased (AccessesLand t.config.granted) (λ s. refl) ss) h.landings);
+      landings =
+          rw same
+          (transport⁻¹ (each_erased (AccessesLand t.config.granted) (λ s. refl) ss) h.landings);
       devices = transport⁻¹ (devices_erased t.config.granted t.lines rs) h.devices;
       unworn = transport⁻¹ (unworn_erased rs) h.unworn;
     }
 
 -- It holds already where it holds with the places erased.
-assured_out : (t : AcceptedTrace) (rs : List Reply) → AreReplies t.lines rs → Assures t (map without_place rs) → Assures t rs
+assured_out :
+    (t : AcceptedTrace) (rs : List Reply)
+    → AreReplies t.lines rs
+    → Assures t (map without_place rs)
+    → Assures t rs
 assured_out t rs kinds h =
     let ss = sections_of t rs in
     let same = sections_erased t rs kinds in
@@ -225,11 +280,20 @@ assured_out t rs kinds h =
       set = transport (bits_erased ss) (rw same at h.set);
       cleared = transport (each_erased ClearedBitsAreShown (λ s. refl) ss) (rw same at h.cleared);
       pages = resizes_out ss (rw same at h.pages);
-      landings = transport (each_erased (AccessesLand t.config.granted) (λ s. refl) ss) (rw same at h.landings);
+      landings =
+          transport (each_erased (AccessesLand t.config.granted) (λ s. refl) ss)
+          (rw same at h.landings);
       devices = transport (devices_erased t.config.granted t.lines rs) h.devices;
       unworn = transport (unworn_erased rs) h.unworn;
     }
 
 -- What these replies assure others do that differ in places alone.
-pub assured_like : (t : AcceptedTrace) (rs other : List Reply) → AreReplies t.lines rs → AreReplies t.lines other → map without_place rs ≡ map without_place other → Assures t other → Assures t rs
-assured_like t rs other kinds others same h = assured_out t rs kinds (subst (Assures t) (sym same) (assured_in t other others h))
+pub assured_like :
+    (t : AcceptedTrace) (rs other : List Reply)
+    → AreReplies t.lines rs
+    → AreReplies t.lines other
+    → map without_place rs ≡ map without_place other
+    → Assures t other
+    → Assures t rs
+assured_like t rs other kinds others same h =
+    assured_out t rs kinds (subst (Assures t) (sym same) (assured_in t other others h))

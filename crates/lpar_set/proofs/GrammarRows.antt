@@ -43,84 +43,205 @@ run_line : ℕ → Act → TraceLine
 run_line number act = record { number = number; cpu = 0; act = act }
 
 -- Two partitions, each with a run line.
-two : set_of (codes "shared 0x1000000000 19\n0 order 18\n0 ram 0x0 0x2000000000 0x40000000\n0 begin\n1 order 18\n1 ram 0x0 0x3000000000 0x40000000\n1 begin\n0 0 H_ENTER 0x0 0x20 0x1001 0x3012\n1 0 load 0x5000 priv\n") ≡ Ok (record { pool_base = 0x1000000000; pool_order = 19; partitions = read_partition 0 0x2000000000 (run_line 8 (Call 8 (0 ∷ 0x20 ∷ 0x1001 ∷ 0x3012 ∷ 0 ∷ 0 ∷ 0 ∷ 0 ∷ []) true)) ∷ read_partition 1 0x3000000000 (run_line 9 (Access Load 0x5000 false)) ∷ []; turns = turn 0 0 ∷ turn 1 0 ∷ [] })
-unfolding set_of after_set_lines after_set_line after_set_words after_allowed after_numbered_words with_shared after_member after_own with_given after_text after_words after_form form_of form_named run_form verb_of call_named other_verb number_within with_order pool_named grant_named with_granted with_begin number_at number_of range_refusal add_refusal grant_refusals with_grant run_act dump_act act_by arguments_from mode_at after_act may_add is_quiet hcall_of row_of lowest_place multiples taken_with read_partition run_line
+two :
+    set_of
+    (codes
+    "shared 0x1000000000 19\n0 order 18\n0 ram 0x0 0x2000000000 0x40000000\n0 begin\n1 order 18\n1 ram 0x0 0x3000000000 0x40000000\n1 begin\n0 0 H_ENTER 0x0 0x20 0x1001 0x3012\n1 0 load 0x5000 priv\n")
+    ≡ Ok
+    (record {
+      pool_base = 0x1000000000;
+      pool_order = 19;
+      partitions =
+          read_partition 0 0x2000000000
+          (run_line 8 (Call 8 (0 ∷ 0x20 ∷ 0x1001 ∷ 0x3012 ∷ 0 ∷ 0 ∷ 0 ∷ 0 ∷ []) true))
+          ∷ read_partition 1 0x3000000000 (run_line 9 (Access Load 0x5000 false))
+          ∷ [];
+      turns = turn 0 0 ∷ turn 1 0 ∷ [];
+    })
+unfolding set_of after_set_lines after_set_line after_set_words after_allowed after_numbered_words
+    with_shared after_member after_own with_given after_text after_words after_form form_of
+    form_named run_form verb_of call_named other_verb number_within with_order pool_named
+    grant_named with_granted with_begin number_at number_of range_refusal add_refusal grant_refusals
+    with_grant run_act dump_act act_by arguments_from mode_at after_act may_add is_quiet hcall_of
+    row_of lowest_place multiples taken_with read_partition run_line
 two = refl
 
 -- ---- refused
 -- Machine memory of another partition.
-refused_stranger : set_of (codes "shared 0x1000000000 19\n0 order 18\n0 ram 0x0 0x2000000000 0x40000000\n0 begin\n1 order 18\n1 ram 0x0 0x2000000000 0x40000000\n") ≡ Err (6, whys.Overlap)
-unfolding set_of after_set_lines after_set_line after_set_words after_allowed after_numbered_words with_shared after_member after_own with_given after_text after_words after_form form_of form_named run_form verb_of call_named other_verb number_within with_order pool_named grant_named with_granted with_begin number_at number_of range_refusal add_refusal grant_refusals with_grant run_act dump_act act_by arguments_from mode_at after_act may_add is_quiet hcall_of row_of lowest_place multiples taken_with
+refused_stranger :
+    set_of
+    (codes
+    "shared 0x1000000000 19\n0 order 18\n0 ram 0x0 0x2000000000 0x40000000\n0 begin\n1 order 18\n1 ram 0x0 0x2000000000 0x40000000\n")
+    ≡ Err (6, whys.Overlap)
+unfolding set_of after_set_lines after_set_line after_set_words after_allowed after_numbered_words
+    with_shared after_member after_own with_given after_text after_words after_form form_of
+    form_named run_form verb_of call_named other_verb number_within with_order pool_named
+    grant_named with_granted with_begin number_at number_of range_refusal add_refusal grant_refusals
+    with_grant run_act dump_act act_by arguments_from mode_at after_act may_add is_quiet hcall_of
+    row_of lowest_place multiples taken_with
 refused_stranger = refl
 
 -- A number that is no partition's.
-refused_number : set_of (codes "shared 0x1000000000 19\n0 order 18\n0 ram 0x0 0x2000000000 0x40000000\n0 begin\n9 order 18\n") ≡ Err (5, whys.Lpar)
-unfolding set_of after_set_lines after_set_line after_set_words after_allowed after_numbered_words with_shared after_member after_own with_given after_text after_words after_form form_of form_named run_form verb_of call_named other_verb number_within with_order pool_named grant_named with_granted with_begin number_at number_of range_refusal add_refusal grant_refusals with_grant run_act dump_act act_by arguments_from mode_at after_act may_add is_quiet hcall_of row_of lowest_place multiples taken_with
+refused_number :
+    set_of
+    (codes
+    "shared 0x1000000000 19\n0 order 18\n0 ram 0x0 0x2000000000 0x40000000\n0 begin\n9 order 18\n")
+    ≡ Err (5, whys.Lpar)
+unfolding set_of after_set_lines after_set_line after_set_words after_allowed after_numbered_words
+    with_shared after_member after_own with_given after_text after_words after_form form_of
+    form_named run_form verb_of call_named other_verb number_within with_order pool_named
+    grant_named with_granted with_begin number_at number_of range_refusal add_refusal grant_refusals
+    with_grant run_act dump_act act_by arguments_from mode_at after_act may_add is_quiet hcall_of
+    row_of lowest_place multiples taken_with
 refused_number = refl
 
 -- A word that names no partition.
 refused_word : set_of (codes "order 18\n") ≡ Err (1, whys.Lpar)
-unfolding set_of after_set_lines after_set_line after_set_words after_allowed after_numbered_words with_shared after_member after_own with_given after_text after_words after_form form_of form_named run_form verb_of call_named other_verb number_within with_order pool_named grant_named with_granted with_begin number_at number_of range_refusal add_refusal grant_refusals with_grant run_act dump_act act_by arguments_from mode_at after_act may_add is_quiet hcall_of row_of lowest_place multiples taken_with
+unfolding set_of after_set_lines after_set_line after_set_words after_allowed after_numbered_words
+    with_shared after_member after_own with_given after_text after_words after_form form_of
+    form_named run_form verb_of call_named other_verb number_within with_order pool_named
+    grant_named with_granted with_begin number_at number_of range_refusal add_refusal grant_refusals
+    with_grant run_act dump_act act_by arguments_from mode_at after_act may_add is_quiet hcall_of
+    row_of lowest_place multiples taken_with
 refused_word = refl
 
 -- What is of the whole, behind whatever word.
 refused_shared_pool : set_of (codes "shared pool 1\n") ≡ Err (1, whys.Lpar)
-unfolding set_of after_set_lines after_set_line after_set_words after_allowed after_numbered_words with_shared after_member after_own with_given after_text after_words after_form form_of form_named run_form verb_of call_named other_verb number_within with_order pool_named grant_named with_granted with_begin number_at number_of range_refusal add_refusal grant_refusals with_grant run_act dump_act act_by arguments_from mode_at after_act may_add is_quiet hcall_of row_of lowest_place multiples taken_with
+unfolding set_of after_set_lines after_set_line after_set_words after_allowed after_numbered_words
+    with_shared after_member after_own with_given after_text after_words after_form form_of
+    form_named run_form verb_of call_named other_verb number_within with_order pool_named
+    grant_named with_granted with_begin number_at number_of range_refusal add_refusal grant_refusals
+    with_grant run_act dump_act act_by arguments_from mode_at after_act may_add is_quiet hcall_of
+    row_of lowest_place multiples taken_with
 refused_shared_pool = refl
 
 refused_pool : set_of (codes "0 pool 0x0 20\n") ≡ Err (1, whys.Lpar)
-unfolding set_of after_set_lines after_set_line after_set_words after_allowed after_numbered_words with_shared after_member after_own with_given after_text after_words after_form form_of form_named run_form verb_of call_named other_verb number_within with_order pool_named grant_named with_granted with_begin number_at number_of range_refusal add_refusal grant_refusals with_grant run_act dump_act act_by arguments_from mode_at after_act may_add is_quiet hcall_of row_of lowest_place multiples taken_with
+unfolding set_of after_set_lines after_set_line after_set_words after_allowed after_numbered_words
+    with_shared after_member after_own with_given after_text after_words after_form form_of
+    form_named run_form verb_of call_named other_verb number_within with_order pool_named
+    grant_named with_granted with_begin number_at number_of range_refusal add_refusal grant_refusals
+    with_grant run_act dump_act act_by arguments_from mode_at after_act may_add is_quiet hcall_of
+    row_of lowest_place multiples taken_with
 refused_pool = refl
 
 refused_entry : set_of (codes "0 entry x\n") ≡ Err (1, whys.Lpar)
-unfolding set_of after_set_lines after_set_line after_set_words after_allowed after_numbered_words with_shared after_member after_own with_given after_text after_words after_form form_of form_named run_form verb_of call_named other_verb number_within with_order pool_named grant_named with_granted with_begin number_at number_of range_refusal add_refusal grant_refusals with_grant run_act dump_act act_by arguments_from mode_at after_act may_add is_quiet hcall_of row_of lowest_place multiples taken_with
+unfolding set_of after_set_lines after_set_line after_set_words after_allowed after_numbered_words
+    with_shared after_member after_own with_given after_text after_words after_form form_of
+    form_named run_form verb_of call_named other_verb number_within with_order pool_named
+    grant_named with_granted with_begin number_at number_of range_refusal add_refusal grant_refusals
+    with_grant run_act dump_act act_by arguments_from mode_at after_act may_add is_quiet hcall_of
+    row_of lowest_place multiples taken_with
 refused_entry = refl
 
 refused_window : set_of (codes "0 window 1 0 4\n") ≡ Err (1, whys.Lpar)
-unfolding set_of after_set_lines after_set_line after_set_words after_allowed after_numbered_words with_shared after_member after_own with_given after_text after_words after_form form_of form_named run_form verb_of call_named other_verb number_within with_order pool_named grant_named with_granted with_begin number_at number_of range_refusal add_refusal grant_refusals with_grant run_act dump_act act_by arguments_from mode_at after_act may_add is_quiet hcall_of row_of lowest_place multiples taken_with
+unfolding set_of after_set_lines after_set_line after_set_words after_allowed after_numbered_words
+    with_shared after_member after_own with_given after_text after_words after_form form_of
+    form_named run_form verb_of call_named other_verb number_within with_order pool_named
+    grant_named with_granted with_begin number_at number_of range_refusal add_refusal grant_refusals
+    with_grant run_act dump_act act_by arguments_from mode_at after_act may_add is_quiet hcall_of
+    row_of lowest_place multiples taken_with
 refused_window = refl
 
 -- `shared` comes first: a remark of a partition is a line of it, and one of the input is none.
 refused_shared : set_of (codes "0\nshared 0x1000000000 19\n") ≡ Err (2, whys.Place)
-unfolding set_of after_set_lines after_set_line after_set_words after_allowed after_numbered_words with_shared after_member after_own with_given after_text after_words after_form form_of form_named run_form verb_of call_named other_verb number_within with_order pool_named grant_named with_granted with_begin number_at number_of range_refusal add_refusal grant_refusals with_grant run_act dump_act act_by arguments_from mode_at after_act may_add is_quiet hcall_of row_of lowest_place multiples taken_with
+unfolding set_of after_set_lines after_set_line after_set_words after_allowed after_numbered_words
+    with_shared after_member after_own with_given after_text after_words after_form form_of
+    form_named run_form verb_of call_named other_verb number_within with_order pool_named
+    grant_named with_granted with_begin number_at number_of range_refusal add_refusal grant_refusals
+    with_grant run_act dump_act act_by arguments_from mode_at after_act may_add is_quiet hcall_of
+    row_of lowest_place multiples taken_with
 refused_shared = refl
 
-refused_second : set_of (codes "shared 0x1000000000 19\nshared 0x1000000000 19\n") ≡ Err (2, whys.Place)
-unfolding set_of after_set_lines after_set_line after_set_words after_allowed after_numbered_words with_shared after_member after_own with_given after_text after_words after_form form_of form_named run_form verb_of call_named other_verb number_within with_order pool_named grant_named with_granted with_begin number_at number_of range_refusal add_refusal grant_refusals with_grant run_act dump_act act_by arguments_from mode_at after_act may_add is_quiet hcall_of row_of lowest_place multiples taken_with
+refused_second :
+    set_of (codes "shared 0x1000000000 19\nshared 0x1000000000 19\n") ≡ Err (2, whys.Place)
+unfolding set_of after_set_lines after_set_line after_set_words after_allowed after_numbered_words
+    with_shared after_member after_own with_given after_text after_words after_form form_of
+    form_named run_form verb_of call_named other_verb number_within with_order pool_named
+    grant_named with_granted with_begin number_at number_of range_refusal add_refusal grant_refusals
+    with_grant run_act dump_act act_by arguments_from mode_at after_act may_add is_quiet hcall_of
+    row_of lowest_place multiples taken_with
 refused_second = refl
 
 refused_behind_remark : set_of (codes "# remark\nshared 0x1000000000 17\n") ≡ Err (2, whys.Range)
-unfolding set_of after_set_lines after_set_line after_set_words after_allowed after_numbered_words with_shared after_member after_own with_given after_text after_words after_form form_of form_named run_form verb_of call_named other_verb number_within with_order pool_named grant_named with_granted with_begin number_at number_of range_refusal add_refusal grant_refusals with_grant run_act dump_act act_by arguments_from mode_at after_act may_add is_quiet hcall_of row_of lowest_place multiples taken_with
+unfolding set_of after_set_lines after_set_line after_set_words after_allowed after_numbered_words
+    with_shared after_member after_own with_given after_text after_words after_form form_of
+    form_named run_form verb_of call_named other_verb number_within with_order pool_named
+    grant_named with_granted with_begin number_at number_of range_refusal add_refusal grant_refusals
+    with_grant run_act dump_act act_by arguments_from mode_at after_act may_add is_quiet hcall_of
+    row_of lowest_place multiples taken_with
 refused_behind_remark = refl
 
 -- No configuration line of any partition follows a run line of any.
-refused_setting : set_of (codes "shared 0x1000000000 19\n0 begin\n0 dump\n1 order 18\n") ≡ Err (4, whys.Place)
-unfolding set_of after_set_lines after_set_line after_set_words after_allowed after_numbered_words with_shared after_member after_own with_given after_text after_words after_form form_of form_named run_form verb_of call_named other_verb number_within with_order pool_named grant_named with_granted with_begin number_at number_of range_refusal add_refusal grant_refusals with_grant run_act dump_act act_by arguments_from mode_at after_act may_add is_quiet hcall_of row_of lowest_place multiples taken_with
+refused_setting :
+    set_of (codes "shared 0x1000000000 19\n0 begin\n0 dump\n1 order 18\n") ≡ Err (4, whys.Place)
+unfolding set_of after_set_lines after_set_line after_set_words after_allowed after_numbered_words
+    with_shared after_member after_own with_given after_text after_words after_form form_of
+    form_named run_form verb_of call_named other_verb number_within with_order pool_named
+    grant_named with_granted with_begin number_at number_of range_refusal add_refusal grant_refusals
+    with_grant run_act dump_act act_by arguments_from mode_at after_act may_add is_quiet hcall_of
+    row_of lowest_place multiples taken_with
 refused_setting = refl
 
 -- The pool has room for two tables.
-refused_third : set_of (codes "shared 0x1000000000 19\n0 begin\n1 begin\n2 begin\n") ≡ Err (4, whys.Small)
-unfolding set_of after_set_lines after_set_line after_set_words after_allowed after_numbered_words with_shared after_member after_own with_given after_text after_words after_form form_of form_named run_form verb_of call_named other_verb number_within with_order pool_named grant_named with_granted with_begin number_at number_of range_refusal add_refusal grant_refusals with_grant run_act dump_act act_by arguments_from mode_at after_act may_add is_quiet hcall_of row_of lowest_place multiples taken_with
+refused_third :
+    set_of (codes "shared 0x1000000000 19\n0 begin\n1 begin\n2 begin\n") ≡ Err (4, whys.Small)
+unfolding set_of after_set_lines after_set_line after_set_words after_allowed after_numbered_words
+    with_shared after_member after_own with_given after_text after_words after_form form_of
+    form_named run_form verb_of call_named other_verb number_within with_order pool_named
+    grant_named with_granted with_begin number_at number_of range_refusal add_refusal grant_refusals
+    with_grant run_act dump_act act_by arguments_from mode_at after_act may_add is_quiet hcall_of
+    row_of lowest_place multiples taken_with
 refused_third = refl
 
 -- The pool, and the memory of another partition before it.
-refused_tables : set_of (codes "shared 0x1000000000 19\n0 ram 0x0 0x1000000000 0x1000\n") ≡ Err (2, whys.Tables)
-unfolding set_of after_set_lines after_set_line after_set_words after_allowed after_numbered_words with_shared after_member after_own with_given after_text after_words after_form form_of form_named run_form verb_of call_named other_verb number_within with_order pool_named grant_named with_granted with_begin number_at number_of range_refusal add_refusal grant_refusals with_grant run_act dump_act act_by arguments_from mode_at after_act may_add is_quiet hcall_of row_of lowest_place multiples taken_with
+refused_tables :
+    set_of (codes "shared 0x1000000000 19\n0 ram 0x0 0x1000000000 0x1000\n") ≡ Err (2, whys.Tables)
+unfolding set_of after_set_lines after_set_line after_set_words after_allowed after_numbered_words
+    with_shared after_member after_own with_given after_text after_words after_form form_of
+    form_named run_form verb_of call_named other_verb number_within with_order pool_named
+    grant_named with_granted with_begin number_at number_of range_refusal add_refusal grant_refusals
+    with_grant run_act dump_act act_by arguments_from mode_at after_act may_add is_quiet hcall_of
+    row_of lowest_place multiples taken_with
 refused_tables = refl
 
-refused_stranger_first : set_of (codes "shared 0x1000000000 19\n0 ram 0x0 0x2000000000 0x1000\n1 ram 0x0 0x1000000000 0x1000001000\n") ≡ Err (3, whys.Overlap)
-unfolding set_of after_set_lines after_set_line after_set_words after_allowed after_numbered_words with_shared after_member after_own with_given after_text after_words after_form form_of form_named run_form verb_of call_named other_verb number_within with_order pool_named grant_named with_granted with_begin number_at number_of range_refusal add_refusal grant_refusals with_grant run_act dump_act act_by arguments_from mode_at after_act may_add is_quiet hcall_of row_of lowest_place multiples taken_with
+refused_stranger_first :
+    set_of
+    (codes
+    "shared 0x1000000000 19\n0 ram 0x0 0x2000000000 0x1000\n1 ram 0x0 0x1000000000 0x1000001000\n")
+    ≡ Err (3, whys.Overlap)
+unfolding set_of after_set_lines after_set_line after_set_words after_allowed after_numbered_words
+    with_shared after_member after_own with_given after_text after_words after_form form_of
+    form_named run_form verb_of call_named other_verb number_within with_order pool_named
+    grant_named with_granted with_begin number_at number_of range_refusal add_refusal grant_refusals
+    with_grant run_act dump_act act_by arguments_from mode_at after_act may_add is_quiet hcall_of
+    row_of lowest_place multiples taken_with
 refused_stranger_first = refl
 
 -- No partition, and one that has not begun.
 refused_nothing : set_of [] ≡ Err (1, whys.Begin)
-unfolding set_of after_set_lines after_set_line after_set_words after_allowed after_numbered_words with_shared after_member after_own with_given after_text after_words after_form form_of form_named run_form verb_of call_named other_verb number_within with_order pool_named grant_named with_granted with_begin number_at number_of range_refusal add_refusal grant_refusals with_grant run_act dump_act act_by arguments_from mode_at after_act may_add is_quiet hcall_of row_of lowest_place multiples taken_with
+unfolding set_of after_set_lines after_set_line after_set_words after_allowed after_numbered_words
+    with_shared after_member after_own with_given after_text after_words after_form form_of
+    form_named run_form verb_of call_named other_verb number_within with_order pool_named
+    grant_named with_granted with_begin number_at number_of range_refusal add_refusal grant_refusals
+    with_grant run_act dump_act act_by arguments_from mode_at after_act may_add is_quiet hcall_of
+    row_of lowest_place multiples taken_with
 refused_nothing = refl
 
 refused_no_partition : set_of (codes "# remark\n") ≡ Err (2, whys.Begin)
-unfolding set_of after_set_lines after_set_line after_set_words after_allowed after_numbered_words with_shared after_member after_own with_given after_text after_words after_form form_of form_named run_form verb_of call_named other_verb number_within with_order pool_named grant_named with_granted with_begin number_at number_of range_refusal add_refusal grant_refusals with_grant run_act dump_act act_by arguments_from mode_at after_act may_add is_quiet hcall_of row_of lowest_place multiples taken_with
+unfolding set_of after_set_lines after_set_line after_set_words after_allowed after_numbered_words
+    with_shared after_member after_own with_given after_text after_words after_form form_of
+    form_named run_form verb_of call_named other_verb number_within with_order pool_named
+    grant_named with_granted with_begin number_at number_of range_refusal add_refusal grant_refusals
+    with_grant run_act dump_act act_by arguments_from mode_at after_act may_add is_quiet hcall_of
+    row_of lowest_place multiples taken_with
 refused_no_partition = refl
 
-refused_no_begin : set_of (codes "shared 0x1000000000 19\n0 begin\n1 order 18\n") ≡ Err (4, whys.Begin)
-unfolding set_of after_set_lines after_set_line after_set_words after_allowed after_numbered_words with_shared after_member after_own with_given after_text after_words after_form form_of form_named run_form verb_of call_named other_verb number_within with_order pool_named grant_named with_granted with_begin number_at number_of range_refusal add_refusal grant_refusals with_grant run_act dump_act act_by arguments_from mode_at after_act may_add is_quiet hcall_of row_of lowest_place multiples taken_with
+refused_no_begin :
+    set_of (codes "shared 0x1000000000 19\n0 begin\n1 order 18\n") ≡ Err (4, whys.Begin)
+unfolding set_of after_set_lines after_set_line after_set_words after_allowed after_numbered_words
+    with_shared after_member after_own with_given after_text after_words after_form form_of
+    form_named run_form verb_of call_named other_verb number_within with_order pool_named
+    grant_named with_granted with_begin number_at number_of range_refusal add_refusal grant_refusals
+    with_grant run_act dump_act act_by arguments_from mode_at after_act may_add is_quiet hcall_of
+    row_of lowest_place multiples taken_with
 refused_no_begin = refl

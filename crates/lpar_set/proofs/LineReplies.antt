@@ -43,7 +43,10 @@ IsGranted grants (At address) =
     (logical : ℕ) × (kind : Kind) × (machine_range grants logical 1 ≡ Some (address, kind))
 IsGranted grants other = Unit {0}
 
-landing_granted : (grants : List Grant) (logical : ℕ) (o : Option (ℕ × Kind)) → machine_range grants logical 1 ≡ o → IsGranted grants (landing_at o logical)
+landing_granted :
+    (grants : List Grant) (logical : ℕ) (o : Option (ℕ × Kind))
+    → machine_range grants logical 1 ≡ o
+    → IsGranted grants (landing_at o logical)
 landing_granted grants logical None e = tt
 landing_granted grants logical (Some x) e = (logical, x.1, e)
 
@@ -51,14 +54,22 @@ refusal_granted : (grants : List Grant) (o : Option MaskName) → IsGranted gran
 refusal_granted grants None = tt
 refusal_granted grants (Some name) = tt
 
-found_granted : (grants : List Grant) (ea : ℕ) (found : Option Receipt) → IsGranted grants (outcome_by grants ea found)
+found_granted :
+    (grants : List Grant) (ea : ℕ) (found : Option Receipt)
+    → IsGranted grants (outcome_by grants ea found)
 found_granted grants ea None = tt
 found_granted grants ea (Some r) = at (cases_Bool (is_at r.answer)) where
-  at : (is_at r.answer ≡ true) ⊎ (is_at r.answer ≡ false) → IsGranted grants (outcome_by grants ea (Some r))
-  at (inl q) = rw q (landing_granted grants (logical_of ea r.before) (machine_range grants (logical_of ea r.before) 1) refl)
+  at :
+      (is_at r.answer ≡ true) ⊎ (is_at r.answer ≡ false)
+      → IsGranted grants (outcome_by grants ea (Some r))
+  at (inl q) =
+      rw q
+      (landing_granted grants (logical_of ea r.before)
+      (machine_range grants (logical_of ea r.before) 1) refl)
   at (inr q) = rw q (refusal_granted grants (refusing_mask r))
 
-outcome_granted : (grants : List Grant) (ea : ℕ) (rs : List Receipt) → IsGranted grants (outcome_of grants ea rs)
+outcome_granted :
+    (grants : List Grant) (ea : ℕ) (rs : List Receipt) → IsGranted grants (outcome_of grants ea rs)
 unfolding outcome_of
 outcome_granted grants ea rs = found_granted grants ea (found_of rs)
 
@@ -73,18 +84,30 @@ IsGrantedReply grants other = Unit {0}
 abbrev pub Suits : List Grant → Act → Reply → Type 0
 Suits grants act reply = IsOfKind act reply × IsGrantedReply grants reply
 
-line_suits : (context : AccessContext) (states : List State) (seg : Segment) (a : Request) (c : Option Line) → Suits context.grants (acts.Access a.want a.ea a.user) (result_by_line context states seg a c).0
+line_suits :
+    (context : AccessContext) (states : List State) (seg : Segment) (a : Request) (c : Option Line)
+    → Suits context.grants (acts.Access a.want a.ea a.user)
+    (result_by_line context states seg a c).0
 line_suits context states seg a None = (tt, outcome_granted context.grants a.ea _)
 line_suits context states seg a (Some line) = (tt, outcome_granted context.grants a.ea _)
 
-segment_suits : (context : AccessContext) (p : Processor) (states : List State) (a : Request) (s : Option Segment) → Suits context.grants (acts.Access a.want a.ea a.user) (result_by_segment context p states a s).0
+segment_suits :
+    (context : AccessContext) (p : Processor) (states : List State) (a : Request)
+    (s : Option Segment)
+    → Suits context.grants (acts.Access a.want a.ea a.user)
+    (result_by_segment context p states a s).0
 segment_suits context p states a None = (tt, tt)
-segment_suits context p states a (Some seg) = line_suits context states seg a (current_line states (cached_line p.cache seg.page))
+segment_suits context p states a (Some seg) =
+    line_suits context states seg a (current_line states (cached_line p.cache seg.page))
 
-busy_suits : (context : AccessContext) (p : Processor) (states : List State) (act : Act) → is_quiet act ≡ false → Suits context.grants act (line_result (table_context context) p states act).0
+busy_suits :
+    (context : AccessContext) (p : Processor) (states : List State) (act : Act)
+    → is_quiet act ≡ false
+    → Suits context.grants act (line_result (table_context context) p states act).0
 unfolding line_result is_quiet
 busy_suits context p states (acts.Call number args spelt) q = (tt, tt)
-busy_suits context p states (acts.Access want ea user) q = segment_suits context p states (request want ea user p.masks) (segment_of p.slots ea)
+busy_suits context p states (acts.Access want ea user) q =
+    segment_suits context p states (request want ea user p.masks) (segment_of p.slots ea)
 busy_suits context p states (acts.SlbMte rb rs) q = (tt, tt)
 busy_suits context p states acts.SlbClear q = (tt, tt)
 busy_suits context p states (acts.Device write liobn ioba) q = (tt, refl)
@@ -96,7 +119,8 @@ busy_suits context p states acts.Dump q = cc
 abbrev pub Leaves : List Grant → Reply × Store → Type 0
 Leaves grants x = IsGrantedReply grants x.0 × (x.1.grants ≡ grants)
 
-resize_leaves : (w : Store) (call : Hcall) (args : List ℕ) → Leaves w.grants (run_resize w call args)
+resize_leaves :
+    (w : Store) (call : Hcall) (args : List ℕ) → Leaves w.grants (run_resize w call args)
 unfolding run_resize
 resize_leaves w calls.Prepare args = (tt, refl)
 resize_leaves w calls.Commit args = (tt, refl)
@@ -108,11 +132,26 @@ quiet_leaves w (acts.Call number args spelt) = resize_leaves w (hcall_of number)
 quiet_leaves w act = (tt, refl)
 
 -- ---- any line
-pub line_reply : (w : Store) (l : TraceLine) → IsTable w → Suits w.grants l.act (run_on w l).0 × ((run_on w l).1.grants ≡ w.grants)
+pub line_reply :
+    (w : Store) (l : TraceLine)
+    → IsTable w
+    → Suits w.grants l.act (run_on w l).0 × ((run_on w l).1.grants ≡ w.grants)
 unfolding run_on
 line_reply w l table = at (cases_Bool (is_quiet l.act)) where
-  at : (is_quiet l.act ≡ true) ⊎ (is_quiet l.act ≡ false) → Suits w.grants l.act (run_on w l).0 × ((run_on w l).1.grants ≡ w.grants)
+  at :
+      (is_quiet l.act ≡ true) ⊎ (is_quiet l.act ≡ false)
+      → Suits w.grants l.act (run_on w l).0 × ((run_on w l).1.grants ≡ w.grants)
   at (inl q) =
       let leaves = quiet_leaves w l.act in
       rw q ((quiet_kind w l.act q, leaves.0), leaves.1)
-  at (inr q) = rw q (subst (λ set. Suits w.grants l.act (line_result set (processor_at w.processors l.cpu) (states_of w) l.act).0) (sym (table_is w table)) (busy_suits (access_of (context_of w)) (processor_at w.processors l.cpu) (states_of w) l.act q), refl)
+  at (inr q) =
+      rw q (
+        subst
+            (λ set.
+            Suits w.grants l.act
+            (line_result set (processor_at w.processors l.cpu) (states_of w) l.act).0)
+            (sym (table_is w table))
+            (busy_suits (access_of (context_of w)) (processor_at w.processors l.cpu)
+            (states_of w) l.act q),
+        refl,
+      )

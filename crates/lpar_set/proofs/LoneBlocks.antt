@@ -37,7 +37,8 @@ IsPendingBlock (Some table) block = block ≡ block_at table.place table.order
 
 -- All taken blocks are those of these two tables.
 abbrev pub AreOwn : Table → Option PendingTable → PoolState → Type 0
-AreOwn table pending pool = All (λ (block : Block). (block ≡ block_of table) ⊎ IsPendingBlock pending block) pool.taken
+AreOwn table pending pool =
+    All (λ (block : Block). (block ≡ block_of table) ⊎ IsPendingBlock pending block) pool.taken
 
 -- The pool is sound, the blocks of the tables are taken in it, and no others.
 pub record IsAlone (memory : TableMemory) : Type 0 where
@@ -47,106 +48,184 @@ pub record IsAlone (memory : TableMemory) : Type 0 where
 
 -- ---- what is left, and what is added
 
-without_other : (taken : List Block) (kept : Block) (place : ℕ) (P : Block → Type 0) → All (λ (block : Block). (block ≡ kept) ⊎ P block) taken → ((block : Block) → P block → block.place ≡ place) → AllAre kept (taken_without taken place)
+without_other :
+    (taken : List Block) (kept : Block) (place : ℕ) (P : Block → Type 0)
+    → All (λ (block : Block). (block ≡ kept) ⊎ P block) taken
+    → ((block : Block) → P block → block.place ≡ place)
+    → AllAre kept (taken_without taken place)
 unfolding taken_without
-without_other taken kept place P all gone = λ k d inside. at (get_or (filter stays taken) k d) (All-filter stays Either taken all k d inside) (filter_passes stays taken k d inside) where
-  stays : Block → Bool
-  stays block = not (block.place == place)
+without_other taken kept place P all gone =
+    λ k d inside.
+    at (get_or (filter stays taken) k d) (All-filter stays Either taken all k d inside)
+    (filter_passes stays taken k d inside) where
+      stays : Block → Bool
+      stays block = not (block.place == place)
 
-  Either : Block → Type 0
-  Either block = (block ≡ kept) ⊎ P block
+      Either : Block → Type 0
+      Either block = (block ≡ kept) ⊎ P block
 
-  at : (block : Block) → (block ≡ kept) ⊎ P block → not (block.place == place) ≡ true → block ≡ kept
-  at block (inl same) passes = same
-  at block (inr other) passes =
-      let same : (block.place == place) ≡ true = eq-eqb block.place place (gone block other) in
-      let fails : (block.place == place) ≡ false = not-true _ passes in
-      absurd (cc)
+      at :
+          (block : Block)
+          → (block ≡ kept) ⊎ P block
+          → not (block.place == place) ≡ true
+          → block ≡ kept
+      at block (inl same) passes = same
+      at block (inr other) passes =
+          let same : (block.place == place) ≡ true = eq-eqb block.place place (gone block other) in
+          let fails : (block.place == place) ≡ false = not-true _ passes in
+          absurd (cc)
 
-pub with_new : (taken : List Block) (block : Block) (P : Block → Type 0) → All P taken → P block → All P (taken_with taken block)
+pub with_new :
+    (taken : List Block) (block : Block) (P : Block → Type 0)
+    → All P taken
+    → P block
+    → All P (taken_with taken block)
 unfolding taken_with
 with_new taken block P all new =
-    All-append P (filter (begins_below block) taken) (block ∷ filter (λ other. not (begins_below block other)) taken)
+    All-append P (filter (begins_below block) taken)
+    (block ∷ filter (λ other. not (begins_below block other)) taken)
     (All-filter (begins_below block) P taken all)
-    (All-cons P block (filter (λ other. not (begins_below block other)) taken) new (All-filter (λ other. not (begins_below block other)) P taken all))
+    (All-cons P block (filter (λ other. not (begins_below block other)) taken) new
+    (All-filter (λ other. not (begins_below block other)) P taken all))
 
 -- Without the table that is being prepared, the current table's block alone is taken.
-pub only_table : (table : Table) (pending : Option PendingTable) (pool : PoolState) → AreOwn table pending pool → AllAre (block_of table) (pool_without pending pool).taken
-only_table table None pool own = All-weaker (λ (block : Block). (block ≡ block_of table) ⊎ ⊥) (λ (block : Block). block ≡ block_of table) (λ block. one block) pool.taken own where
-  one : (block : Block) → (block ≡ block_of table) ⊎ ⊥ → block ≡ block_of table
-  one block (inl same) = same
-  one block (inr never) = absurd never
-only_table table (Some pending) pool own = without_other pool.taken (block_of table) pending.place (IsPendingBlock (Some pending)) own (λ block is. ap (λ (b : Block). b.place) is)
+pub only_table :
+    (table : Table) (pending : Option PendingTable) (pool : PoolState)
+    → AreOwn table pending pool
+    → AllAre (block_of table) (pool_without pending pool).taken
+only_table table None pool own =
+    All-weaker (λ (block : Block). (block ≡ block_of table) ⊎ ⊥)
+    (λ (block : Block). block ≡ block_of table) (λ block. one block) pool.taken own where
+      one : (block : Block) → (block ≡ block_of table) ⊎ ⊥ → block ≡ block_of table
+      one block (inl same) = same
+      one block (inr never) = absurd never
+only_table table (Some pending) pool own =
+    without_other pool.taken (block_of table) pending.place (IsPendingBlock (Some pending)) own
+    (λ block is. ap (λ (b : Block). b.place) is)
 
-own_table : (table : Table) (pending : Option PendingTable) (pool : PoolState) → AllAre (block_of table) pool.taken → AreOwn table pending pool
+own_table :
+    (table : Table) (pending : Option PendingTable) (pool : PoolState)
+    → AllAre (block_of table) pool.taken
+    → AreOwn table pending pool
 own_table table pending pool all = λ k d inside. inl (all k d inside)
 
 -- ---- prepare
 abbrev OwnAfter : Table → PrepareOutcome → Type 0
 OwnAfter table after = AreOwn table after.pending after.pool
 
-placed_own : (order : ℕ) (table : Table) (pool : PoolState) (place : Option ℕ) → AllAre (block_of table) pool.taken → OwnAfter table (new_table_outcome order pool place)
+placed_own :
+    (order : ℕ) (table : Table) (pool : PoolState) (place : Option ℕ)
+    → AllAre (block_of table) pool.taken
+    → OwnAfter table (new_table_outcome order pool place)
 placed_own order table pool None all = own_table table None pool all
 placed_own order table pool (Some place) all =
     let block = block_at place order in
-    with_new pool.taken block (λ (b : Block). (b ≡ block_of table) ⊎ (b ≡ block)) (λ k d inside. inl (all k d inside)) (inr refl)
+    with_new pool.taken block (λ (b : Block). (b ≡ block_of table) ⊎ (b ≡ block))
+    (λ k d inside. inl (all k d inside)) (inr refl)
 
-started_own : (order : ℕ) (table : Table) (pending : Option PendingTable) (pool : PoolState) → AreOwn table pending pool → OwnAfter table (start_outcome order pending pool)
+started_own :
+    (order : ℕ) (table : Table) (pending : Option PendingTable) (pool : PoolState)
+    → AreOwn table pending pool
+    → OwnAfter table (start_outcome order pending pool)
 started_own order table pending pool own =
     let left = pool_without pending pool in
-    cond_both (is_pending order pending) (prepare_outcome Success pending pool) (new_table_outcome order left (lowest_place left order)) (OwnAfter table) (λ e. own) (λ e. placed_own order table left (lowest_place left order) (only_table table pending pool own))
+    cond_both (is_pending order pending) (prepare_outcome Success pending pool)
+    (new_table_outcome order left (lowest_place left order)) (OwnAfter table) (λ e. own)
+    (λ e.
+    placed_own order table left (lowest_place left order) (only_table table pending pool own))
 
-continued_own : (table : Table) (start : PrepareOutcome) (pending : Option PendingTable) → start.pending ≡ pending → OwnAfter table start → OwnAfter table (advance_outcome start pending)
+continued_own :
+    (table : Table) (start : PrepareOutcome) (pending : Option PendingTable)
+    → start.pending ≡ pending
+    → OwnAfter table start
+    → OwnAfter table (advance_outcome start pending)
 continued_own table start None is own = own
-continued_own table start (Some next) is own = subst (λ (o : Option PendingTable). AreOwn table o start.pool) is own
+continued_own table start (Some next) is own =
+    subst (λ (o : Option PendingTable). AreOwn table o start.pool) is own
 
-outcome_own : (limit flags shift : ℕ) (table : Table) (pending : Option PendingTable) (pool : PoolState) → AreOwn table pending pool → OwnAfter table (outcome_of_prepare limit flags shift pending pool)
+outcome_own :
+    (limit flags shift : ℕ) (table : Table) (pending : Option PendingTable) (pool : PoolState)
+    → AreOwn table pending pool
+    → OwnAfter table (outcome_of_prepare limit flags shift pending pool)
 unfolding outcome_of_prepare
 outcome_own limit flags shift table pending pool own =
     cond_both (not (is_prepare_request flags shift)) _ _ (OwnAfter table) (λ e. own)
     (λ asked. cond_both (nat_lt limit shift) _ _ (OwnAfter table) (λ e. own)
-    (λ low. cond_both (shift == 0) _ _ (OwnAfter table) (λ e. own_table table None (pool_without pending pool) (only_table table pending pool own))
-    (λ nonzero. continued_own table (start_outcome shift pending pool) (start_outcome shift pending pool).pending refl (started_own shift table pending pool own))))
+    (λ low.
+    cond_both (shift == 0) _ _ (OwnAfter table)
+    (λ e. own_table table None (pool_without pending pool) (only_table table pending pool own))
+    (λ nonzero.
+    continued_own table (start_outcome shift pending pool)
+    (start_outcome shift pending pool).pending refl
+    (started_own shift table pending pool own))))
 
 -- The same of what is at memory.
 abbrev pub OwnsAll : TableMemory → Type 0
 OwnsAll memory = AreOwn memory.table memory.pending memory.pool
 
-prepare_own : (memory : TableMemory) (flags shift : ℕ) → OwnsAll memory → OwnsAll (prepare_result memory flags shift).1
+prepare_own :
+    (memory : TableMemory) (flags shift : ℕ)
+    → OwnsAll memory
+    → OwnsAll (prepare_result memory flags shift).1
 unfolding prepare_result
-prepare_own memory flags shift own = outcome_own memory.limit flags shift memory.table memory.pending memory.pool own
+prepare_own memory flags shift own =
+    outcome_own memory.limit flags shift memory.table memory.pending memory.pool own
 
 -- ---- commit
 abbrev OwnCommitted : CommitOutcome → Type 0
 OwnCommitted after = AreOwn after.table after.pending after.pool
 
-carried_own : (pending : PendingTable) (pool : PoolState) (table : Table) (collision : Option Collision) → AreOwn table (Some pending) pool → OwnCommitted (carry_outcome pending pool table collision)
-carried_own pending pool table (Some collision) own = own_table table None (without_block pool pending.place) (only_table table (Some pending) pool own)
+carried_own :
+    (pending : PendingTable) (pool : PoolState) (table : Table) (collision : Option Collision)
+    → AreOwn table (Some pending) pool
+    → OwnCommitted (carry_outcome pending pool table collision)
+carried_own pending pool table (Some collision) own =
+    own_table table None (without_block pool pending.place)
+    (only_table table (Some pending) pool own)
 carried_own pending pool table None own =
     let new = (carry_outcome pending pool table None).table in
     own_table new None (without_block pool table.place)
-    (without_other pool.taken (block_at pending.place pending.order) table.place (λ (block : Block). block ≡ block_of table) (λ k d inside. turned (own k d inside)) (λ block is. ap (λ (b : Block). b.place) is)) where
+    (without_other pool.taken (block_at pending.place pending.order) table.place
+    (λ (block : Block). block ≡ block_of table) (λ k d inside. turned (own k d inside))
+    (λ block is. ap (λ (b : Block). b.place) is)) where
       turned : {A B : Type 0} → A ⊎ B → B ⊎ A
       turned (inl a) = inr a
       turned (inr b) = inl b
 
-completed_own : (pending : Option PendingTable) (pool : PoolState) (table : Table) → AreOwn table pending pool → OwnCommitted (complete_outcome pending pool table)
+completed_own :
+    (pending : Option PendingTable) (pool : PoolState) (table : Table)
+    → AreOwn table pending pool
+    → OwnCommitted (complete_outcome pending pool table)
 completed_own None pool table own = own
-completed_own (Some pending) pool table own = carried_own pending pool table (collision_of table.order pending.order table.states) own
+completed_own (Some pending) pool table own =
+    carried_own pending pool table (collision_of table.order pending.order table.states) own
 
-answered_own : (refusal : Option Rc) (pending : Option PendingTable) (pool : PoolState) (table : Table) → AreOwn table pending pool → OwnCommitted (answer_outcome refusal pending pool table)
+answered_own :
+    (refusal : Option Rc) (pending : Option PendingTable) (pool : PoolState) (table : Table)
+    → AreOwn table pending pool
+    → OwnCommitted (answer_outcome refusal pending pool table)
 answered_own (Some rc) pending pool table own = own
 answered_own None pending pool table own = completed_own pending pool table own
 
-commit_own : (memory : TableMemory) (flags shift : ℕ) → OwnsAll memory → OwnsAll (commit_result memory flags shift).1
+commit_own :
+    (memory : TableMemory) (flags shift : ℕ)
+    → OwnsAll memory
+    → OwnsAll (commit_result memory flags shift).1
 unfolding commit_result outcome_of_commit
-commit_own memory flags shift own = answered_own (commit_refusal flags shift memory.pending) memory.pending memory.pool memory.table own
+commit_own memory flags shift own =
+    answered_own (commit_refusal flags shift memory.pending) memory.pending memory.pool memory.table
+    own
 
 -- ---- each line
-resize_own : (w : Store) (call : Hcall) (args : List ℕ) → OwnsAll w.memory → OwnsAll (run_resize w call args).1.memory
+resize_own :
+    (w : Store) (call : Hcall) (args : List ℕ)
+    → OwnsAll w.memory
+    → OwnsAll (run_resize w call args).1.memory
 unfolding run_resize
-resize_own w calls.Prepare args own = prepare_own w.memory (slice_index args 0) (slice_index args 1) own
-resize_own w calls.Commit args own = commit_own w.memory (slice_index args 0) (slice_index args 1) own
+resize_own w calls.Prepare args own =
+    prepare_own w.memory (slice_index args 0) (slice_index args 1) own
+resize_own w calls.Commit args own =
+    commit_own w.memory (slice_index args 0) (slice_index args 1) own
 resize_own w other args own = own
 
 quiet_own : (w : Store) (act : Act) → OwnsAll w.memory → OwnsAll (run_quiet_line w act).1.memory

@@ -18,13 +18,27 @@ use Rattle.lpar_set.proofs.RoomAlone.{some_place, clear_fits}
 
 -- ---- alone
 -- An empty pool has room for a table that is no larger.
-empty_room : (base size order : ℕ) → IsPoolRange base size → 18 ≤ order → order ≤ size → lowest_place (no_blocks base size) order ≢ None
+empty_room :
+    (base size order : ℕ)
+    → IsPoolRange base size
+    → 18 ≤ order
+    → order ≤ size
+    → lowest_place (no_blocks base size) order ≢ None
 empty_room base size order range large small =
     let pool = no_blocks base size in
     let some : 0 < 2 ^ (size - order) = pow_pos (size - order) in
-    some_place pool order 0 some (clear_fits pool order 0 range large small some (All-nil (λ (other : Block). overlap (block_at (base + 0 * 2 ^ order) order) other ≡ false)))
+    some_place pool order 0 some
+    (clear_fits pool order 0 range large small some
+    (All-nil
+    (λ (other : Block).
+    overlap (block_at (base + 0 * 2 ^ order) order) other ≡ false)))
 
-pub opens_alone : (c : Configuration) → IsPoolRange c.granted.pool_base c.granted.pool_order → 18 ≤ c.order → c.order ≤ c.granted.pool_order → IsAlone (page_table c).memory
+pub opens_alone :
+    (c : Configuration)
+    → IsPoolRange c.granted.pool_base c.granted.pool_order
+    → 18 ≤ c.order
+    → c.order ≤ c.granted.pool_order
+    → IsAlone (page_table c).memory
 unfolding page_table opening_memory
 opens_alone c range large small =
     let base = c.granted.pool_base in
@@ -32,16 +46,30 @@ opens_alone c range large small =
     let order = c.order in
     let pool = no_blocks base size in
     let block = block_at (opening_place pool order) order in
-    let placed = placed_in pool order (empty_sound base size range) large (empty_room base size order range large small) in
+    let placed = placed_in pool order (empty_sound base size range) large
+    (empty_room base size order range large small) in
     record {
       pool = placed.sound;
-      held = with_one pool order [] placed (record { held = All-nil (Contains pool.taken); apart = λ i j d before inside. absurd (omega arith) });
-      only = with_new [] block (λ (b : Block). (b ≡ block) ⊎ ⊥) (All-nil (λ (b : Block). (b ≡ block) ⊎ ⊥)) (inl refl);
+      held =
+          with_one pool order [] placed
+          (record {
+            held = All-nil (Contains pool.taken);
+            apart = λ i j d before inside. absurd (omega arith);
+          });
+      only =
+          with_new [] block (λ (b : Block). (b ≡ block) ⊎ ⊥)
+          (All-nil (λ (b : Block). (b ≡ block) ⊎ ⊥)) (inl refl);
     }
 
 -- ---- beside others
 -- It opens over whatever the partitions before it left, and but for its place as alone.
-pub opens_like : (whole left : PoolState) (c : Configuration) → (let pool = no_blocks c.granted.pool_base c.granted.pool_order in page_table c ≡ moved (with_pool whole (opening_member left c)) (with_opening pool c.order) (opening_place pool c.order) 0)
+pub opens_like :
+    (whole left : PoolState) (c : Configuration)
+    →
+    (let pool = no_blocks c.granted.pool_base c.granted.pool_order in
+    page_table c
+    ≡ moved (with_pool whole (opening_member left c)) (with_opening pool c.order)
+    (opening_place pool c.order) 0)
 unfolding page_table opening_memory opening_table
 opens_like whole left c = refl
 
@@ -50,14 +78,18 @@ pub record OpensOver (members : List MemberState) (ps : List NumberedTrace) (k :
   pub left : PoolState
   pub is : get_or members k no_member ≡ opening_member left (get_or ps k no_partition).trace.config
 
-pub opens_over : (pool : PoolState) (ps : List NumberedTrace) (k : ℕ) → k < length ps → OpensOver (opening_members pool ps) ps k
+pub opens_over :
+    (pool : PoolState) (ps : List NumberedTrace) (k : ℕ)
+    → k < length ps
+    → OpensOver (opening_members pool ps) ps k
 opens_over pool [] k inside = absurd (omega arith)
 opens_over pool (p ∷ ps) zero inside = record { left = pool; is = refl }
 opens_over pool (p ∷ ps) (suc k) inside =
     let rest = opens_over (with_opening pool p.trace.config.order) ps k (omega arith) in
     record { left = rest.left; is = rest.is }
 
-pub opening_count : (pool : PoolState) (ps : List NumberedTrace) → length (opening_members pool ps) ≡ length ps
+pub opening_count :
+    (pool : PoolState) (ps : List NumberedTrace) → length (opening_members pool ps) ≡ length ps
 opening_count pool [] = refl
 opening_count pool (p ∷ ps) = ap suc (opening_count (with_opening pool p.trace.config.order) ps)
 
@@ -66,6 +98,7 @@ pub alone_order : (c : Configuration) → (page_table c).memory.pool.order ≡ c
 unfolding page_table opening_memory
 alone_order c = refl
 
-pub shared_order : (pool : PoolState) (ps : List NumberedTrace) → (opening_pool pool ps).order ≡ pool.order
+pub shared_order :
+    (pool : PoolState) (ps : List NumberedTrace) → (opening_pool pool ps).order ≡ pool.order
 shared_order pool [] = refl
 shared_order pool (p ∷ ps) = shared_order (with_opening pool p.trace.config.order) ps

@@ -48,16 +48,26 @@ pub record IsLikeAfter (x y : Reply × Store) : Type 0 where
   pub other : ℕ
   pub state : y.1 ≡ moved x.1 pool place other
 
-pub result_like : (v : Store) (pool : PoolState) (place other : ℕ) (l : TraceLine) (x : Reply × List State) → IsLikeAfter (with_result v l x) (with_result (moved v pool place other) l x)
-result_like v pool place other l x = record { reply = refl; pool = pool; place = place; other = other; state = refl }
+pub result_like :
+    (v : Store) (pool : PoolState) (place other : ℕ) (l : TraceLine) (x : Reply × List State)
+    → IsLikeAfter (with_result v l x) (with_result (moved v pool place other) l x)
+result_like v pool place other l x =
+    record { reply = refl; pool = pool; place = place; other = other; state = refl }
 
 -- An answer alone.
-pub answer_like : (v : Store) (pool : PoolState) (place other : ℕ) (reply : Reply) → IsLikeAfter (reply, v) (reply, moved v pool place other)
-answer_like v pool place other reply = record { reply = refl; pool = pool; place = place; other = other; state = refl }
+pub answer_like :
+    (v : Store) (pool : PoolState) (place other : ℕ) (reply : Reply)
+    → IsLikeAfter (reply, v) (reply, moved v pool place other)
+answer_like v pool place other reply =
+    record { reply = refl; pool = pool; place = place; other = other; state = refl }
 
-pub dump_like : (v : Store) (pool : PoolState) (place other : ℕ) → IsLikeAfter (replies.Dump (shown_of v.memory), v) (replies.Dump (shown_of (moved v pool place other).memory), moved v pool place other)
+pub dump_like :
+    (v : Store) (pool : PoolState) (place other : ℕ)
+    → IsLikeAfter (replies.Dump (shown_of v.memory), v)
+    (replies.Dump (shown_of (moved v pool place other).memory), moved v pool place other)
 unfolding shown_of
-dump_like v pool place other = record { reply = refl; pool = pool; place = place; other = other; state = refl }
+dump_like v pool place other =
+    record { reply = refl; pool = pool; place = place; other = other; state = refl }
 
 -- ---- commit
 -- A code, and what is at memory.
@@ -78,9 +88,17 @@ committed memory after = (
   record memory { pool = after.pool; pending = after.pending; table = after.table },
 )
 
-carried_like : (memory : TableMemory) (pending : PendingTable) (pool : PoolState) (place other : ℕ) (collision : Option Collision) → IsLikeMemory (committed memory (carry_outcome pending memory.pool memory.table collision)) (committed (moved_memory memory pool place other) (carry_outcome (pending_at other pending) pool (table_at place memory.table) collision))
+carried_like :
+    (memory : TableMemory) (pending : PendingTable) (pool : PoolState) (place other : ℕ)
+    (collision : Option Collision)
+    → IsLikeMemory (committed memory (carry_outcome pending memory.pool memory.table collision))
+    (committed (moved_memory memory pool place other)
+    (carry_outcome (pending_at other pending) pool (table_at place memory.table)
+    collision))
 carried_like memory pending pool place other (Some collision) = record {
-  pool = (carry_outcome (pending_at other pending) pool (table_at place memory.table) (Some collision)).pool;
+  pool =
+      (carry_outcome (pending_at other pending) pool (table_at place memory.table)
+      (Some collision)).pool;
   place = place;
   other = other;
   same = refl;
@@ -92,21 +110,50 @@ carried_like memory pending pool place other None = record {
   same = refl;
 }
 
-answered_like : (memory : TableMemory) (pending : Option PendingTable) (pool : PoolState) (place other : ℕ) (refusal : Option Rc) → IsLikeMemory (committed memory (answer_outcome refusal pending memory.pool memory.table)) (committed (moved_memory memory pool place other) (answer_outcome refusal (option_map (pending_at other) pending) pool (table_at place memory.table)))
-answered_like memory pending pool place other (Some rc) = record { pool = pool; place = place; other = other; same = refl }
-answered_like memory None pool place other None = record { pool = pool; place = place; other = other; same = refl }
-answered_like memory (Some pending) pool place other None = carried_like memory pending pool place other (collision_of memory.table.order pending.order memory.table.states)
+answered_like :
+    (memory : TableMemory) (pending : Option PendingTable) (pool : PoolState) (place other : ℕ)
+    (refusal : Option Rc)
+    → IsLikeMemory (committed memory (answer_outcome refusal pending memory.pool memory.table))
+    (committed (moved_memory memory pool place other)
+    (answer_outcome refusal (option_map (pending_at other) pending) pool
+    (table_at place memory.table)))
+answered_like memory pending pool place other (Some rc) =
+    record { pool = pool; place = place; other = other; same = refl }
+answered_like memory None pool place other None =
+    record { pool = pool; place = place; other = other; same = refl }
+answered_like memory (Some pending) pool place other None =
+    carried_like memory pending pool place other
+    (collision_of memory.table.order pending.order memory.table.states)
 
-refusal_like : (flags shift : ℕ) (pending : Option PendingTable) (other : ℕ) → commit_refusal flags shift (option_map (pending_at other) pending) ≡ commit_refusal flags shift pending
+refusal_like :
+    (flags shift : ℕ) (pending : Option PendingTable) (other : ℕ)
+    → commit_refusal flags shift (option_map (pending_at other) pending)
+    ≡ commit_refusal flags shift pending
 refusal_like flags shift None other = refl
 refusal_like flags shift (Some pending) other = refl
 
-pub commit_like : (memory : TableMemory) (pool : PoolState) (place other : ℕ) (flags shift : ℕ) → IsLikeMemory (commit_result memory flags shift) (commit_result (moved_memory memory pool place other) flags shift)
+pub commit_like :
+    (memory : TableMemory) (pool : PoolState) (place other : ℕ) (flags shift : ℕ)
+    → IsLikeMemory (commit_result memory flags shift)
+    (commit_result (moved_memory memory pool place other) flags shift)
 unfolding commit_result outcome_of_commit
 commit_like memory pool place other flags shift =
-    rw (refusal_like flags shift memory.pending other) (answered_like memory memory.pending pool place other (commit_refusal flags shift memory.pending))
+    rw (refusal_like flags shift memory.pending other)
+    (answered_like memory memory.pending pool place other
+    (commit_refusal flags shift memory.pending))
 
-pub committed_like : (v : Store) (pool : PoolState) (place other : ℕ) (x y : Rc × TableMemory) → IsLikeMemory x y → IsLikeAfter (after_commit v x) (after_commit (moved v pool place other) y)
+pub committed_like :
+    (v : Store) (pool : PoolState) (place other : ℕ) (x y : Rc × TableMemory)
+    → IsLikeMemory x y
+    → IsLikeAfter (after_commit v x) (after_commit (moved v pool place other) y)
 committed_like v pool place other x y like =
-    subst (λ (z : Rc × TableMemory). IsLikeAfter (after_commit v x) (after_commit (moved v pool place other) z)) (sym like.same)
-    (record { reply = refl; pool = like.pool; place = like.place; other = like.other; state = refl })
+    subst
+    (λ (z : Rc × TableMemory).
+    IsLikeAfter (after_commit v x) (after_commit (moved v pool place other) z)) (sym like.same)
+    (record {
+      reply = refl;
+      pool = like.pool;
+      place = like.place;
+      other = like.other;
+      state = refl;
+    })

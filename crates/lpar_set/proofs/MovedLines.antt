@@ -31,33 +31,70 @@ pub record MayDiffer (v : Store) (pool : PoolState) (place other : ℕ) : Type 0
   pub alone : IsAlone (moved_memory v.memory pool place other)
   pub order : pool.order ≡ v.memory.pool.order
 
-prepared_like : (v : Store) (pool : PoolState) (place other : ℕ) (x y : Rc × TableMemory) → IsLikeMemory x y → IsLikeAfter (after_prepare v x) (after_prepare (moved v pool place other) y)
+prepared_like :
+    (v : Store) (pool : PoolState) (place other : ℕ) (x y : Rc × TableMemory)
+    → IsLikeMemory x y
+    → IsLikeAfter (after_prepare v x) (after_prepare (moved v pool place other) y)
 prepared_like v pool place other x y like =
-    subst (λ (z : Rc × TableMemory). IsLikeAfter (after_prepare v x) (after_prepare (moved v pool place other) z)) (sym like.same)
-    (record { reply = refl; pool = like.pool; place = like.place; other = like.other; state = refl })
+    subst
+    (λ (z : Rc × TableMemory).
+    IsLikeAfter (after_prepare v x) (after_prepare (moved v pool place other) z))
+    (sym like.same)
+    (record {
+      reply = refl;
+      pool = like.pool;
+      place = like.place;
+      other = like.other;
+      state = refl;
+    })
 
-resize_like : (v : Store) (pool : PoolState) (place other : ℕ) (call : Hcall) (args : List ℕ) → MayDiffer v pool place other → is_no_mem (run_resize v call args).0 ≡ false → IsLikeAfter (run_resize v call args) (run_resize (moved v pool place other) call args)
+resize_like :
+    (v : Store) (pool : PoolState) (place other : ℕ) (call : Hcall) (args : List ℕ)
+    → MayDiffer v pool place other
+    → is_no_mem (run_resize v call args).0 ≡ false
+    → IsLikeAfter (run_resize v call args) (run_resize (moved v pool place other) call args)
 unfolding run_resize
 resize_like v pool place other calls.Prepare args may served =
     let flags = slice_index args 0 in
     let shift = slice_index args 1 in
     let alone = moved_memory v.memory pool place other in
     let room = room_too v.memory alone may.sound may.held may.alone may.order refl in
-    prepared_like v pool place other (prepare_result v.memory flags shift) (prepare_result alone flags shift) (prepare_like v.memory pool place other flags shift room served)
+    prepared_like v pool place other (prepare_result v.memory flags shift)
+    (prepare_result alone flags shift)
+    (prepare_like v.memory pool place other flags shift room served)
 resize_like v pool place other calls.Commit args may served =
     let flags = slice_index args 0 in
     let shift = slice_index args 1 in
-    committed_like v pool place other (commit_result v.memory flags shift) (commit_result (moved_memory v.memory pool place other) flags shift) (commit_like v.memory pool place other flags shift)
-resize_like v pool place other call args may served = answer_like v pool place other (reply_of_code rc.Function)
+    committed_like v pool place other (commit_result v.memory flags shift)
+    (commit_result (moved_memory v.memory pool place other) flags shift)
+    (commit_like v.memory pool place other flags shift)
+resize_like v pool place other call args may served =
+    answer_like v pool place other (reply_of_code rc.Function)
 
-quiet_like : (v : Store) (pool : PoolState) (place other : ℕ) (act : Act) → MayDiffer v pool place other → is_no_mem (run_quiet_line v act).0 ≡ false → IsLikeAfter (run_quiet_line v act) (run_quiet_line (moved v pool place other) act)
+quiet_like :
+    (v : Store) (pool : PoolState) (place other : ℕ) (act : Act)
+    → MayDiffer v pool place other
+    → is_no_mem (run_quiet_line v act).0 ≡ false
+    → IsLikeAfter (run_quiet_line v act) (run_quiet_line (moved v pool place other) act)
 unfolding run_quiet_line
-quiet_like v pool place other (acts.Call number args spelt) may served = resize_like v pool place other (hcall_of number) args may served
+quiet_like v pool place other (acts.Call number args spelt) may served =
+    resize_like v pool place other (hcall_of number) args may served
 quiet_like v pool place other act may served = dump_like v pool place other
 
-pub line_like : (v : Store) (pool : PoolState) (place other : ℕ) (l : TraceLine) → MayDiffer v pool place other → is_no_mem (run_on v l).0 ≡ false → IsLikeAfter (run_on v l) (run_on (moved v pool place other) l)
+pub line_like :
+    (v : Store) (pool : PoolState) (place other : ℕ) (l : TraceLine)
+    → MayDiffer v pool place other
+    → is_no_mem (run_on v l).0 ≡ false
+    → IsLikeAfter (run_on v l) (run_on (moved v pool place other) l)
 unfolding run_on
 line_like v pool place other l may = at (cases_Bool (is_quiet l.act)) where
-  at : (is_quiet l.act ≡ true) ⊎ (is_quiet l.act ≡ false) → is_no_mem (run_on v l).0 ≡ false → IsLikeAfter (run_on v l) (run_on (moved v pool place other) l)
+  at :
+      (is_quiet l.act ≡ true) ⊎ (is_quiet l.act ≡ false)
+      → is_no_mem (run_on v l).0 ≡ false
+      → IsLikeAfter (run_on v l) (run_on (moved v pool place other) l)
   at (inl quiet) = rw quiet (quiet_like v pool place other l.act may)
-  at (inr loud) = rw loud (λ served. result_like v pool place other l (line_result (context_of v) (processor_at v.processors l.cpu) (states_of v) l.act))
+  at (inr loud) =
+      rw loud
+      (λ served.
+      result_like v pool place other l
+      (line_result (context_of v) (processor_at v.processors l.cpu) (states_of v) l.act))

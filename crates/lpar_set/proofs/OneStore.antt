@@ -12,13 +12,17 @@ abbrev pub replies_on : Store → List TraceLine → List Reply
 replies_on s [] = []
 replies_on s (l ∷ ls) = (run_on s l).0 ∷ replies_on (run_on s l).1 ls
 
-first_alone : (s : Store) (l : TraceLine) → IsTable s → run_line [] (s ∷ []) l ≡ ((run_on s l).0, (run_on s l).1 ∷ [])
+first_alone :
+    (s : Store) (l : TraceLine)
+    → IsTable s
+    → run_line [] (s ∷ []) l ≡ ((run_on s l).0, (run_on s l).1 ∷ [])
 first_alone s l table =
     let on : is_on [] s.window l.act ≡ true = ap (λ o. is_on [] o l.act) table in
     rw on refl
 
 -- So it is where the page table is the one store.
-pub table_alone : (s : Store) (ls : List TraceLine) → IsTable s → replies_from [] (s ∷ []) ls ≡ replies_on s ls
+pub table_alone :
+    (s : Store) (ls : List TraceLine) → IsTable s → replies_from [] (s ∷ []) ls ≡ replies_on s ls
 table_alone s [] table = refl
 table_alone s (l ∷ ls) table =
     ap (λ (x : Reply × List Store). x.0 ∷ replies_from [] x.1 ls) (first_alone s l table)

@@ -25,17 +25,23 @@ use Rattle.lpar_set.proofs.LineReplies.{IsGranted, IsGrantedReply, line_reply}
 use Rattle.trace_reply.specs.declared.reply.Reply.TheVariants as replies
 
 -- ---- lists
-set_same : {A B : Type 0} (f : A → B) (xs : List A) (k : ℕ) (d x : A) → f x ≡ f (get_or xs k d) → map f (set xs k x) ≡ map f xs
+set_same :
+    {A B : Type 0} (f : A → B) (xs : List A) (k : ℕ) (d x : A)
+    → f x ≡ f (get_or xs k d)
+    → map f (set xs k x) ≡ map f xs
 set_same f [] k d x same = refl
 set_same f (y ∷ ys) zero d x same = ap (λ z. z ∷ map f ys) same
 set_same f (y ∷ ys) (suc k) d x same = ap (λ zs. f y ∷ zs) (set_same f ys k d x same)
 
-at_map : {A B : Type 0} (f : A → B) (xs : List A) (k : ℕ) (d : A) → f (get_or xs k d) ≡ get_or (map f xs) k (f d)
+at_map :
+    {A B : Type 0} (f : A → B) (xs : List A) (k : ℕ) (d : A)
+    → f (get_or xs k d) ≡ get_or (map f xs) k (f d)
 at_map f [] k d = refl
 at_map f (x ∷ xs) zero d = refl
 at_map f (x ∷ xs) (suc k) d = at_map f xs k d
 
-each_contained : {A : Type 0} (P : A → Type 0) (xs : List A) (x : A) → AllByRecursion P xs → Contains xs x → P x
+each_contained :
+    {A : Type 0} (P : A → Type 0) (xs : List A) (x : A) → AllByRecursion P xs → Contains xs x → P x
 each_contained P xs x h here = All-contains P xs x (All-from_recursion P xs h) here
 
 -- ---- the grants of the partitions
@@ -49,47 +55,109 @@ grants_in p = p.trace.config.granted.grants
 abbrev pub HasGrants : AcceptedSet → SetState → Type 0
 HasGrants s w = map grants_of w.members ≡ map grants_in s.partitions
 
-opening_grants : (pool : PoolState) (ps : List NumberedTrace) → map grants_of (opening_members pool ps) ≡ map grants_in ps
+opening_grants :
+    (pool : PoolState) (ps : List NumberedTrace)
+    → map grants_of (opening_members pool ps) ≡ map grants_in ps
 opening_grants pool [] = refl
-opening_grants pool (p ∷ ps) = ap (λ gs. grants_in p ∷ gs) (opening_grants (with_opening pool p.trace.config.order) ps)
+opening_grants pool (p ∷ ps) =
+    ap (λ gs. grants_in p ∷ gs) (opening_grants (with_opening pool p.trace.config.order) ps)
 
 -- No line changes them.
-pub grants_stay : (s : AcceptedSet) (w : SetState) (k : ℕ) (l : TraceLine) → HasGrants s w → HasGrants s (set_line w k l).1
+pub grants_stay :
+    (s : AcceptedSet) (w : SetState) (k : ℕ) (l : TraceLine)
+    → HasGrants s w
+    → HasGrants s (set_line w k l).1
 grants_stay s w k l has =
     let after = (run_on (with_pool w.pool (member_at w k)) l).1 in
-    set_same grants_of w.members k no_member (without_pool after) (line_reply (with_pool w.pool (member_at w k)) l refl).1 ∙ has
+    set_same grants_of w.members k no_member (without_pool after)
+    (line_reply (with_pool w.pool (member_at w k)) l refl).1
+    ∙ has
 
-pub member_grants : (s : AcceptedSet) (w : SetState) (k : ℕ) → HasGrants s w → (member_at w k).grants ≡ (partition_at s k).trace.config.granted.grants
-member_grants s w k has = at_map grants_of w.members k no_member ∙ ap (λ gs. get_or gs k []) has ∙ sym (at_map grants_in s.partitions k no_partition)
+pub member_grants :
+    (s : AcceptedSet) (w : SetState) (k : ℕ)
+    → HasGrants s w
+    → (member_at w k).grants ≡ (partition_at s k).trace.config.granted.grants
+member_grants s w k has =
+    at_map grants_of w.members k no_member
+    ∙ ap (λ gs. get_or gs k []) has
+    ∙ sym (at_map grants_in s.partitions k no_partition)
 
 -- ---- an address of its own
-pub of_set : (s : AcceptedSet) → IsAcceptedSet s → (k : ℕ) → k < length s.partitions → IsOfSet s.pool_base s.pool_order (partition_at s k)
-of_set s is k inside = All-get_or (IsOfSet s.pool_base s.pool_order) s.partitions k no_partition inside (All-from_recursion (IsOfSet s.pool_base s.pool_order) s.partitions is.each)
+pub of_set :
+    (s : AcceptedSet)
+    → IsAcceptedSet s
+    → (k : ℕ)
+    → k < length s.partitions
+    → IsOfSet s.pool_base s.pool_order (partition_at s k)
+of_set s is k inside =
+    All-get_or (IsOfSet s.pool_base s.pool_order) s.partitions k no_partition inside
+    (All-from_recursion (IsOfSet s.pool_base s.pool_order) s.partitions is.each)
 
 -- Two grants that have an address meet.
-no_shared : (address : ℕ) (one two : Grant) → range_within address 1 one.machine one.length ≡ true → IsInGrant address two → meets_machine one two ≡ false → ⊥
+no_shared :
+    (address : ℕ) (one two : Grant)
+    → range_within address 1 one.machine one.length ≡ true
+    → IsInGrant address two
+    → meets_machine one two ≡ false
+    → ⊥
 no_shared address one two first second apart = grind (arith, nat_tests, first, second, apart)
 
-no_shared_back : (address : ℕ) (one two : Grant) → range_within address 1 one.machine one.length ≡ true → IsInGrant address two → meets_machine two one ≡ false → ⊥
+no_shared_back :
+    (address : ℕ) (one two : Grant)
+    → range_within address 1 one.machine one.length ≡ true
+    → IsInGrant address two
+    → meets_machine two one ≡ false
+    → ⊥
 no_shared_back address one two first second apart = grind (arith, nat_tests, first, second, apart)
 
-strange : (s : AcceptedSet) → IsAcceptedSet s → (k address : ℕ) (own : Grant) → k < length s.partitions → Contains (grants_in (partition_at s k)) own → range_within address 1 own.machine own.length ≡ true → (other : ℕ) (g : Grant) → other < length s.partitions → other ≢ k → Contains (grants_in (partition_at s other)) g → IsInGrant address g → ⊥
-strange s is k address own inside here within other g exists differs there in_grant = at (cases_lt k other) (cases_lt other k) where
-  apart : (i j : ℕ) (x y : Grant) → i < j → j < length s.partitions → Contains (grants_in (partition_at s i)) x → Contains (grants_in (partition_at s j)) y → meets_machine x y ≡ false
-  apart i j x y less exist first second =
-      each_contained
-      (λ (b : Grant). meets_machine x b ≡ false)
-      (grants_in (partition_at s j))
-      y
-      (each_contained (λ (a : Grant). AllByRecursion (λ (b : Grant). meets_machine a b ≡ false) (grants_in (partition_at s j))) (grants_in (partition_at s i)) x (is.strangers i j no_partition less exist) first)
-      second
+strange :
+    (s : AcceptedSet)
+    → IsAcceptedSet s
+    → (k address : ℕ) (own : Grant)
+    → k < length s.partitions
+    → Contains (grants_in (partition_at s k)) own
+    → range_within address 1 own.machine own.length ≡ true
+    → (other : ℕ) (g : Grant)
+    → other < length s.partitions
+    → other ≢ k
+    → Contains (grants_in (partition_at s other)) g
+    → IsInGrant address g
+    → ⊥
+strange s is k address own inside here within other g exists differs there in_grant =
+    at (cases_lt k other) (cases_lt other k) where
+      apart :
+          (i j : ℕ) (x y : Grant)
+          → i < j
+          → j < length s.partitions
+          → Contains (grants_in (partition_at s i)) x
+          → Contains (grants_in (partition_at s j)) y
+          → meets_machine x y ≡ false
+      apart i j x y less exist first second =
+          each_contained
+          (λ (b : Grant). meets_machine x b ≡ false)
+          (grants_in (partition_at s j))
+          y
+          (each_contained
+          (λ (a : Grant).
+          AllByRecursion (λ (b : Grant). meets_machine a b ≡ false)
+          (grants_in (partition_at s j))) (grants_in (partition_at s i)) x
+          (is.strangers i j no_partition less exist) first)
+          second
 
-  at : (k < other) ⊎ (other ≤ k) → (other < k) ⊎ (k ≤ other) → ⊥
-  at (inl less) more = no_shared address own g within in_grant (apart k other own g less exists here there)
-  at less (inl more) = no_shared_back address own g within in_grant (apart other k g own more inside there here)
-  at (inr low) (inr high) = differs (omega arith)
+      at : (k < other) ⊎ (other ≤ k) → (other < k) ⊎ (k ≤ other) → ⊥
+      at (inl less) more =
+          no_shared address own g within in_grant (apart k other own g less exists here there)
+      at less (inl more) =
+          no_shared_back address own g within in_grant (apart other k g own more inside there here)
+      at (inr low) (inr high) = differs (omega arith)
 
-own_address : (s : AcceptedSet) → IsAcceptedSet s → (k address logical : ℕ) (kind : Kind) → k < length s.partitions → machine_range (grants_in (partition_at s k)) logical 1 ≡ Some (address, kind) → IsOwnAddress s k address
+own_address :
+    (s : AcceptedSet)
+    → IsAcceptedSet s
+    → (k address logical : ℕ) (kind : Kind)
+    → k < length s.partitions
+    → machine_range (grants_in (partition_at s k)) logical 1 ≡ Some (address, kind)
+    → IsOwnAddress s k address
 own_address s is k address logical kind inside lands =
     let granted : GrantedMemory = (partition_at s k).trace.config.granted in
     let apart : AreApart granted = (of_set s is k inside).accepted.sound.apart in
@@ -99,31 +167,79 @@ own_address s is k address logical kind inside lands =
       own = at.granted_is;
       in_grant = at.within;
       strange = strange s is k address grant inside at.granted_is at.within;
-      off_pool = λ pool. lands_off_pool granted logical (address, kind) apart lands pool.from_base pool.to_end;
+      off_pool =
+          λ pool.
+          lands_off_pool granted logical (address, kind) apart lands pool.from_base pool.to_end;
     }
 
 -- ---- the replies of a partition
-ends_at_home : (s : AcceptedSet) → IsAcceptedSet s → (k : ℕ) → k < length s.partitions → (outcome : Outcome) → IsGranted (grants_in (partition_at s k)) outcome → EndsAtHome s k outcome
+ends_at_home :
+    (s : AcceptedSet)
+    → IsAcceptedSet s
+    → (k : ℕ)
+    → k < length s.partitions
+    → (outcome : Outcome)
+    → IsGranted (grants_in (partition_at s k)) outcome
+    → EndsAtHome s k outcome
 ends_at_home s is k inside (At address) h = own_address s is k address h.0 h.1 inside h.2
 ends_at_home s is k inside other h = tt
 
-stays_at_home : (s : AcceptedSet) → IsAcceptedSet s → (k : ℕ) → k < length s.partitions → (r : Reply) → IsGrantedReply (grants_in (partition_at s k)) r → StaysAtHome s k r
+stays_at_home :
+    (s : AcceptedSet)
+    → IsAcceptedSet s
+    → (k : ℕ)
+    → k < length s.partitions
+    → (r : Reply)
+    → IsGrantedReply (grants_in (partition_at s k)) r
+    → StaysAtHome s k r
 stays_at_home s is k inside (replies.Access r) h = ends_at_home s is k inside r.outcome h
 stays_at_home s is k inside (replies.Device r) h = subst (DeviceEndsAtHome s k) (sym h) tt
 stays_at_home s is k inside other h = tt
 
-line_at_home : (s : AcceptedSet) → IsAcceptedSet s → (w : SetState) (k : ℕ) (l : TraceLine) → HasGrants s w → k < length s.partitions → StaysAtHome s k (set_line w k l).0
+line_at_home :
+    (s : AcceptedSet)
+    → IsAcceptedSet s
+    → (w : SetState) (k : ℕ) (l : TraceLine)
+    → HasGrants s w
+    → k < length s.partitions
+    → StaysAtHome s k (set_line w k l).0
 line_at_home s is w k l has inside =
-    stays_at_home s is k inside (set_line w k l).0 (subst (λ gs. IsGrantedReply gs (set_line w k l).0) (member_grants s w k has) (line_reply (with_pool w.pool (member_at w k)) l refl).0.1)
+    stays_at_home s is k inside (set_line w k l).0
+    (subst (λ gs. IsGrantedReply gs (set_line w k l).0) (member_grants s w k has)
+    (line_reply (with_pool w.pool (member_at w k)) l refl).0.1)
 
-all_at_home : (s : AcceptedSet) → IsAcceptedSet s → (w : SetState) (k : ℕ) (ts : List Turn) → HasGrants s w → k < length s.partitions → AllByRecursion (StaysAtHome s k) (replies_of k ts (replies_from s w ts))
+all_at_home :
+    (s : AcceptedSet)
+    → IsAcceptedSet s
+    → (w : SetState) (k : ℕ) (ts : List Turn)
+    → HasGrants s w
+    → k < length s.partitions
+    → AllByRecursion (StaysAtHome s k) (replies_of k ts (replies_from s w ts))
 all_at_home s is w k [] has inside = tt
-all_at_home s is w k (t ∷ ts) has inside = at (cases_Bool (t.partition == k)) (all_at_home s is (set_line w t.partition (line_of s t)).1 k ts (grants_stay s w t.partition (line_of s t) has) inside) where
-  at : (t.partition == k ≡ true) ⊎ (t.partition == k ≡ false) → AllByRecursion (StaysAtHome s k) (replies_of k ts (replies_from s (set_line w t.partition (line_of s t)).1 ts)) → AllByRecursion (StaysAtHome s k) (replies_of k (t ∷ ts) (replies_from s w (t ∷ ts)))
-  at (inl q) rest =
-      let same : t.partition ≡ k = eqb-true t.partition k q in
-      rw q (subst (λ j. StaysAtHome s k (set_line w j (line_of s t)).0) (sym same) (line_at_home s is w k (line_of s t) has inside), rest)
-  at (inr q) rest = rw q rest
+all_at_home s is w k (t ∷ ts) has inside =
+    at (cases_Bool (t.partition == k))
+    (all_at_home s is (set_line w t.partition (line_of s t)).1 k ts
+    (grants_stay s w t.partition (line_of s t) has) inside) where
+      at :
+          (t.partition == k ≡ true) ⊎ (t.partition == k ≡ false)
+          → AllByRecursion (StaysAtHome s k)
+          (replies_of k ts (replies_from s (set_line w t.partition (line_of s t)).1 ts))
+          → AllByRecursion (StaysAtHome s k) (replies_of k (t ∷ ts) (replies_from s w (t ∷ ts)))
+      at (inl q) rest =
+          let same : t.partition ≡ k = eqb-true t.partition k q in
+          rw q (
+            subst (λ j. StaysAtHome s k (set_line w j (line_of s t)).0) (sym same)
+                (line_at_home s is w k (line_of s t) has inside),
+            rest,
+          )
+      at (inr q) rest = rw q rest
 
-pub at_home_of : (s : AcceptedSet) → IsAcceptedSet s → (k : ℕ) → k < length s.partitions → AllByRecursion (StaysAtHome s k) (replies_of k s.turns (set_replies s))
-at_home_of s is k inside = all_at_home s is (opening_set s) k s.turns (opening_grants (no_blocks s.pool_base s.pool_order) s.partitions) inside
+pub at_home_of :
+    (s : AcceptedSet)
+    → IsAcceptedSet s
+    → (k : ℕ)
+    → k < length s.partitions
+    → AllByRecursion (StaysAtHome s k) (replies_of k s.turns (set_replies s))
+at_home_of s is k inside =
+    all_at_home s is (opening_set s) k s.turns
+    (opening_grants (no_blocks s.pool_base s.pool_order) s.partitions) inside

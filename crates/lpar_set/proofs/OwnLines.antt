@@ -92,19 +92,22 @@ order_leaves : (c d : Configuration) (ws : List (List ℕ)) → with_order c ws 
 unfolding with_order
 order_leaves c d ws e =
     let t = steps_taken (number_within ws 18 22) _ d e in
-    subst (Leaves c) (same_ok _ _ _ refl t.rest) (record { granted = refl; entries = refl; windows = refl })
+    subst (Leaves c) (same_ok _ _ _ refl t.rest)
+    (record { granted = refl; entries = refl; windows = refl })
 
 limit_leaves : (c d : Configuration) (ws : List (List ℕ)) → with_limit c ws ≡ Ok d → Leaves c d
 unfolding with_limit
 limit_leaves c d ws e =
     let t = steps_taken (number_within ws c.order 22) _ d e in
-    subst (Leaves c) (same_ok _ _ _ refl t.rest) (record { granted = refl; entries = refl; windows = refl })
+    subst (Leaves c) (same_ok _ _ _ refl t.rest)
+    (record { granted = refl; entries = refl; windows = refl })
 
 cpus_leave : (c d : Configuration) (ws : List (List ℕ)) → with_cpus c ws ≡ Ok d → Leaves c d
 unfolding with_cpus
 cpus_leave c d ws e =
     let t = steps_taken (number_within ws 1 64) _ d e in
-    subst (Leaves c) (same_ok _ _ _ refl t.rest) (record { granted = refl; entries = refl; windows = refl })
+    subst (Leaves c) (same_ok _ _ _ refl t.rest)
+    (record { granted = refl; entries = refl; windows = refl })
 
 begin_leaves : (c d : Configuration) (ws : List (List ℕ)) → with_begin c ws ≡ Ok d → d ≡ c
 unfolding with_begin
@@ -119,18 +122,32 @@ record Adds (c d : Configuration) (kind : Kind) (ws : List (List ℕ)) : Type 0 
   named : grant_named kind ws ≡ Ok grant
   added : d ≡ record c { granted = with_grant c.granted grant }
 
-checked_adds : (c d : Configuration) (grant : Grant) (o : Option GrantError) → with_checked_grant c grant o ≡ Ok d → d ≡ record c { granted = with_grant c.granted grant }
+checked_adds :
+    (c d : Configuration) (grant : Grant) (o : Option GrantError)
+    → with_checked_grant c grant o ≡ Ok d
+    → d ≡ record c { granted = with_grant c.granted grant }
 checked_adds c d grant None e = sym (same_ok _ _ _ refl e)
 checked_adds c d grant (Some error) e = absurd (never_ok _ d e)
 
-grant_adds : (c d : Configuration) (kind : Kind) (ws : List (List ℕ)) → with_granted c kind ws ≡ Ok d → Adds c d kind ws
+grant_adds :
+    (c d : Configuration) (kind : Kind) (ws : List (List ℕ))
+    → with_granted c kind ws ≡ Ok d
+    → Adds c d kind ws
 unfolding with_granted
 grant_adds c d kind ws e =
     let t = steps_taken (grant_named kind ws) _ d e in
-    record { grant = t.value; named = t.first; added = checked_adds c d t.value (add_refusal c.granted t.value) t.rest }
+    record {
+      grant = t.value;
+      named = t.first;
+      added = checked_adds c d t.value (add_refusal c.granted t.value) t.rest;
+    }
 
 -- ---- where they may stand
-not_running : (form : Form) (stage : Stage) → is_setting_form form ≡ true → comes_at form stage ≡ true → is_running stage ≡ false
+not_running :
+    (form : Form) (stage : Stage)
+    → is_setting_form form ≡ true
+    → comes_at form stage ≡ true
+    → is_running stage ≡ false
 not_running form stages.Order is here = refl
 not_running form stages.Limit is here = refl
 not_running form stages.Cpus is here = refl
@@ -158,12 +175,25 @@ is_own forms.Window = false
 is_own other = true
 
 -- What a configuration line tells is what the reading has behind it.
-set_moves : (given : Given) (r : Reading) (stage : Stage) (said : Result Configuration Why) (s : Reading) → ((c : Configuration) → said ≡ Ok c → HasMoved given r (record r { stage = stage; config = c })) → set_to r stage said ≡ Ok s → HasMoved given r s
+set_moves :
+    (given : Given) (r : Reading) (stage : Stage) (said : Result Configuration Why) (s : Reading)
+    →
+    ((c : Configuration)
+    → said ≡ Ok c
+    → HasMoved given r (record r { stage = stage; config = c }))
+    → set_to r stage said ≡ Ok s
+    → HasMoved given r s
 set_moves given r stage said s each e =
     let t = steps_taken said _ s e in
     subst (HasMoved given r) (same_ok _ _ _ refl t.rest) (each t.value t.first)
 
-setting_moves : (r : Reading) (stage : Stage) (said : Result Configuration Why) (s : Reading) → is_running r.stage ≡ false → is_running stage ≡ false → ((c : Configuration) → said ≡ Ok c → Leaves r.config c) → set_to r stage said ≡ Ok s → HasMoved givens.Setting r s
+setting_moves :
+    (r : Reading) (stage : Stage) (said : Result Configuration Why) (s : Reading)
+    → is_running r.stage ≡ false
+    → is_running stage ≡ false
+    → ((c : Configuration) → said ≡ Ok c → Leaves r.config c)
+    → set_to r stage said ≡ Ok s
+    → HasMoved givens.Setting r s
 setting_moves r stage said s before after each e =
     set_moves givens.Setting r stage said s
     (λ c is.
@@ -177,7 +207,11 @@ setting_moves r stage said s before after each e =
       moves = record { granted = leaves.granted; lines = refl; before = before; after = after };
     }) e
 
-grant_moves : (r : Reading) (kind : Kind) (ws : List (List ℕ)) (s : Reading) → is_running r.stage ≡ false → set_to r stages.Grants (with_granted r.config kind ws) ≡ Ok s → HasMoved (given_grant (grant_named kind ws)) r s
+grant_moves :
+    (r : Reading) (kind : Kind) (ws : List (List ℕ)) (s : Reading)
+    → is_running r.stage ≡ false
+    → set_to r stages.Grants (with_granted r.config kind ws) ≡ Ok s
+    → HasMoved (given_grant (grant_named kind ws)) r s
 unfolding with_grant
 grant_moves r kind ws s before e =
     set_moves (given_grant (grant_named kind ws)) r stages.Grants (with_granted r.config kind ws) s
@@ -189,10 +223,20 @@ grant_moves r kind ws s before e =
       order = ap (λ (d : Configuration). d.granted.pool_order) adds.added;
       entries = ap (λ (d : Configuration). d.entries) adds.added;
       windows = ap (λ (d : Configuration). d.windows) adds.added;
-      moves = record { granted = ap (λ (d : Configuration). d.granted) adds.added; lines = refl; before = before; after = refl };
+      moves =
+          record {
+            granted = ap (λ (d : Configuration). d.granted) adds.added;
+            lines = refl;
+            before = before;
+            after = refl;
+          };
     })) e
 
-begin_moves : (r : Reading) (ws : List (List ℕ)) (s : Reading) → is_running r.stage ≡ false → set_to r stages.Lines (with_begin r.config ws) ≡ Ok s → HasMoved (givens.Begin r.config.order) r s
+begin_moves :
+    (r : Reading) (ws : List (List ℕ)) (s : Reading)
+    → is_running r.stage ≡ false
+    → set_to r stages.Lines (with_begin r.config ws) ≡ Ok s
+    → HasMoved (givens.Begin r.config.order) r s
 begin_moves r ws s before e =
     set_moves (givens.Begin r.config.order) r stages.Lines (with_begin r.config ws) s
     (λ c is.
@@ -206,7 +250,11 @@ begin_moves r ws s before e =
       moves = record { order = refl; config = same; lines = refl; before = before; after = refl };
     }) e
 
-act_moves : (r : Reading) (said : Result (ℕ × Act) Why) (s : Reading) → is_running r.stage ≡ true → after_act r said ≡ Ok s → HasMoved givens.Run r s
+act_moves :
+    (r : Reading) (said : Result (ℕ × Act) Why) (s : Reading)
+    → is_running r.stage ≡ true
+    → after_act r said ≡ Ok s
+    → HasMoved givens.Run r s
 unfolding after_act
 act_moves r said s running e =
     let x = steps_taken said _ s e in
@@ -218,19 +266,40 @@ act_moves r said s running e =
       order = refl;
       entries = refl;
       windows = refl;
-      moves = record { config = refl; line = record { number = r.taken; cpu = x.value.0; act = x.value.1 }; number = refl; lines = refl; before = running; after = running };
+      moves =
+          record {
+            config = refl;
+            line = record { number = r.taken; cpu = x.value.0; act = x.value.1 };
+            number = refl;
+            lines = refl;
+            before = running;
+            after = running;
+          };
     })
 
-form_moves : (form : Form) (r : Reading) (ws : List (List ℕ)) (s : Reading) → is_own form ≡ true → comes_at form r.stage ≡ true → after_form form r ws ≡ Ok s → HasMoved (given_by form r.config ws) r s
+form_moves :
+    (form : Form) (r : Reading) (ws : List (List ℕ)) (s : Reading)
+    → is_own form ≡ true
+    → comes_at form r.stage ≡ true
+    → after_form form r ws ≡ Ok s
+    → HasMoved (given_by form r.config ws) r s
 unfolding after_form
-form_moves forms.Order r ws s own here e = setting_moves r stages.Limit (with_order r.config ws) s (not_running forms.Order r.stage refl here) refl (λ c is. order_leaves r.config c ws is) e
-form_moves forms.Limit r ws s own here e = setting_moves r stages.Cpus (with_limit r.config ws) s (not_running forms.Limit r.stage refl here) refl (λ c is. limit_leaves r.config c ws is) e
-form_moves forms.Cpus r ws s own here e = setting_moves r stages.Pool (with_cpus r.config ws) s (not_running forms.Cpus r.stage refl here) refl (λ c is. cpus_leave r.config c ws is) e
+form_moves forms.Order r ws s own here e =
+    setting_moves r stages.Limit (with_order r.config ws) s
+    (not_running forms.Order r.stage refl here) refl (λ c is. order_leaves r.config c ws is) e
+form_moves forms.Limit r ws s own here e =
+    setting_moves r stages.Cpus (with_limit r.config ws) s
+    (not_running forms.Limit r.stage refl here) refl (λ c is. limit_leaves r.config c ws is) e
+form_moves forms.Cpus r ws s own here e =
+    setting_moves r stages.Pool (with_cpus r.config ws) s (not_running forms.Cpus r.stage refl here)
+    refl (λ c is. cpus_leave r.config c ws is) e
 form_moves forms.Pool r ws s own here e = absurd (false≢true own)
-form_moves (forms.Grant kind) r ws s own here e = grant_moves r kind ws s (not_running (forms.Grant kind) r.stage refl here) e
+form_moves (forms.Grant kind) r ws s own here e =
+    grant_moves r kind ws s (not_running (forms.Grant kind) r.stage refl here) e
 form_moves forms.Entry r ws s own here e = absurd (false≢true own)
 form_moves forms.Window r ws s own here e = absurd (false≢true own)
-form_moves forms.Begin r ws s own here e = begin_moves r ws s (not_running forms.Begin r.stage refl here) e
+form_moves forms.Begin r ws s own here e =
+    begin_moves r ws s (not_running forms.Begin r.stage refl here) e
 form_moves (forms.Run verb) r ws s own here e = act_moves r (run_act r.config.cpus verb ws) s here e
 form_moves forms.Dump r ws s own here e = act_moves r (dump_act ws) s here e
 
@@ -240,18 +309,28 @@ record AreOwn (o : Option Form) : Type 0 where
   each : (form : Form) → o ≡ Some form → is_own form ≡ true
 
 own_some : (form : Form) → is_own form ≡ true → AreOwn (Some form)
-own_some form own = record { each = λ other e. subst (λ f. is_own f ≡ true) (some_same form other e) own } where
-  some_same : (a b : Form) → Some a ≡ Some b → a ≡ b
-  some_same a b e = cc
+own_some form own =
+    record { each = λ other e. subst (λ f. is_own f ≡ true) (some_same form other e) own } where
+      some_same : (a b : Form) → Some a ≡ Some b → a ≡ b
+      some_same a b e = cc
 
 own_none : AreOwn None
 own_none = record { each = λ other e. absurd (never_some other e) }
 
-own_if : (test : Bool) (form : Form) (o : Option Form) → (test ≡ true → is_own form ≡ true) → AreOwn o → AreOwn (if test then Some form else o)
+own_if :
+    (test : Bool) (form : Form) (o : Option Form)
+    → (test ≡ true → is_own form ≡ true)
+    → AreOwn o
+    → AreOwn (if test then Some form else o)
 own_if true form o here rest = own_some form (here refl)
 own_if false form o here rest = rest
 
-named_own : (w : List ℕ) → bytes_eq (codes "pool") w ≡ false → bytes_eq (codes "window") w ≡ false → bytes_eq (codes "entry") w ≡ false → AreOwn (form_named w)
+named_own :
+    (w : List ℕ)
+    → bytes_eq (codes "pool") w ≡ false
+    → bytes_eq (codes "window") w ≡ false
+    → bytes_eq (codes "entry") w ≡ false
+    → AreOwn (form_named w)
 unfolding form_named
 named_own w no_pool no_window no_entry =
     own_if (bytes_eq (codes "order") w) forms.Order _ (λ is. refl)
@@ -272,11 +351,19 @@ run_own (w ∷ ws) form e =
     let verb = steps_taken (required (verb_of w) whys.Word) _ form e in
     subst (λ f. is_own f ≡ true) (same_ok _ _ _ refl verb.rest) refl
 
-form_by : (digit : Bool) (w : List ℕ) (ws : List (List ℕ)) (form : Form) → AreOwn (form_named w) → (if digit then run_form ws else required (form_named w) whys.Word) ≡ Ok form → is_own form ≡ true
+form_by :
+    (digit : Bool) (w : List ℕ) (ws : List (List ℕ)) (form : Form)
+    → AreOwn (form_named w)
+    → (if digit then run_form ws else required (form_named w) whys.Word) ≡ Ok form
+    → is_own form ≡ true
 form_by true w ws form own e = run_own ws form e
 form_by false w ws form own e = own.each form (required_taken (form_named w) whys.Word form e)
 
-form_own : (ws : List (List ℕ)) (form : Form) → is_of_the_whole ws ≡ false → form_of ws ≡ Ok form → is_own form ≡ true
+form_own :
+    (ws : List (List ℕ)) (form : Form)
+    → is_of_the_whole ws ≡ false
+    → form_of ws ≡ Ok form
+    → is_own form ≡ true
 unfolding form_of
 form_own [] form own e = absurd (never_ok _ form e)
 form_own (w ∷ ws) form own e =
@@ -292,32 +379,64 @@ record AreFormed (old new : Reading) (ws : List (List ℕ)) : Type 0 where
   here : comes_at form old.stage ≡ true
   rest : after_form form old ws ≡ Ok new
 
-words_formed : (old new : Reading) (ws : List (List ℕ)) → after_words old ws ≡ Ok new → AreFormed old new ws
+words_formed :
+    (old new : Reading) (ws : List (List ℕ)) → after_words old ws ≡ Ok new → AreFormed old new ws
 unfolding after_words
 words_formed old new ws e =
     let form = steps_taken (form_of ws) _ new e in
     let here = steps_taken (guard (comes_at form.value old.stage) whys.Place) _ new form.rest in
-    record { form = form.value; is = form.first; here = guard_taken _ whys.Place here.value here.first; rest = here.rest }
+    record {
+      form = form.value;
+      is = form.first;
+      here = guard_taken _ whys.Place here.value here.first;
+      rest = here.rest;
+    }
 
-words_move : (old new : Reading) (ws : List (List ℕ)) → is_of_the_whole ws ≡ false → after_words old ws ≡ Ok new → HasMoved (given_if (form_of ws) old.config ws) old new
+words_move :
+    (old new : Reading) (ws : List (List ℕ))
+    → is_of_the_whole ws ≡ false
+    → after_words old ws ≡ Ok new
+    → HasMoved (given_if (form_of ws) old.config ws) old new
 words_move old new ws own e =
     let formed = words_formed old new ws e in
-    rw formed.is (form_moves formed.form old ws new (form_own ws formed.form own formed.is) formed.here formed.rest)
+    rw formed.is
+    (form_moves formed.form old ws new (form_own ws formed.form own formed.is) formed.here
+    formed.rest)
 
 remark_moves : (old new : Reading) → old ≡ new → HasMoved givens.Remark old new
-remark_moves old new same = subst (HasMoved givens.Remark old) same (record { taken = refl; base = refl; order = refl; entries = refl; windows = refl; moves = refl })
+remark_moves old new same =
+    subst (HasMoved givens.Remark old) same
+    (record {
+      taken = refl;
+      base = refl;
+      order = refl;
+      entries = refl;
+      windows = refl;
+      moves = refl;
+    })
 
-text_by : (remark : Bool) (old new : Reading) (ws : List (List ℕ)) → is_of_the_whole ws ≡ false → (if remark then Ok old else after_words old ws) ≡ Ok new → HasMoved (if remark then givens.Remark else given_if (form_of ws) old.config ws) old new
+text_by :
+    (remark : Bool) (old new : Reading) (ws : List (List ℕ))
+    → is_of_the_whole ws ≡ false
+    → (if remark then Ok old else after_words old ws) ≡ Ok new
+    → HasMoved (if remark then givens.Remark else given_if (form_of ws) old.config ws) old new
 text_by true old new ws own e = remark_moves old new (same_ok _ _ _ refl e)
 text_by false old new ws own e = words_move old new ws own e
 
 -- A line of a partition that is accepted does what it gives.
-pub own_moves : (old new : Reading) (ws : List (List ℕ)) → is_of_the_whole ws ≡ false → after_text old ws ≡ Ok new → HasMoved (given_of old.config ws) old new
+pub own_moves :
+    (old new : Reading) (ws : List (List ℕ))
+    → is_of_the_whole ws ≡ false
+    → after_text old ws ≡ Ok new
+    → HasMoved (given_of old.config ws) old new
 unfolding after_text
 own_moves old new ws own e = text_by (is_remark ws) old new ws own e
 
 -- ---- run lines among them
-run_given : (form : Form) (c : Configuration) (ws : List (List ℕ)) → is_setting_form form ≡ false → given_by form c ws ≡ givens.Run
+run_given :
+    (form : Form) (c : Configuration) (ws : List (List ℕ))
+    → is_setting_form form ≡ false
+    → given_by form c ws ≡ givens.Run
 run_given forms.Order c ws run = absurd (false≢true (sym run))
 run_given forms.Limit c ws run = absurd (false≢true (sym run))
 run_given forms.Cpus c ws run = absurd (false≢true (sym run))
@@ -330,7 +449,12 @@ run_given (forms.Run verb) c ws run = refl
 run_given forms.Dump c ws run = refl
 
 -- An accepted line that is neither a remark nor of the configuration is a run line.
-pub given_run : (old new : Reading) (ws : List (List ℕ)) → is_remark ws ≡ false → is_setting ws ≡ false → after_text old ws ≡ Ok new → given_of old.config ws ≡ givens.Run
+pub given_run :
+    (old new : Reading) (ws : List (List ℕ))
+    → is_remark ws ≡ false
+    → is_setting ws ≡ false
+    → after_text old ws ≡ Ok new
+    → given_of old.config ws ≡ givens.Run
 unfolding after_text
 given_run old new ws plain run e =
     let formed = words_formed old new ws (rw plain at e) in
@@ -345,7 +469,10 @@ granted_no_run : (said : Result Grant Why) → is_run (given_grant said) ≡ fal
 granted_no_run (Ok grant) = refl
 granted_no_run (Err why) = refl
 
-setting_given : (form : Form) (c : Configuration) (ws : List (List ℕ)) → is_setting_form form ≡ true → is_run (given_by form c ws) ≡ false
+setting_given :
+    (form : Form) (c : Configuration) (ws : List (List ℕ))
+    → is_setting_form form ≡ true
+    → is_run (given_by form c ws) ≡ false
 setting_given forms.Order c ws is = refl
 setting_given forms.Limit c ws is = refl
 setting_given forms.Cpus c ws is = refl
@@ -357,16 +484,23 @@ setting_given forms.Begin c ws is = refl
 setting_given (forms.Run verb) c ws is = absurd (false≢true is)
 setting_given forms.Dump c ws is = absurd (false≢true is)
 
-formed_given : (said : Result Form Why) (c : Configuration) (ws : List (List ℕ)) → is_setting_if said ≡ true → is_run (given_if said c ws) ≡ false
+formed_given :
+    (said : Result Form Why) (c : Configuration) (ws : List (List ℕ))
+    → is_setting_if said ≡ true
+    → is_run (given_if said c ws) ≡ false
 formed_given (Ok form) c ws is = setting_given form c ws is
 formed_given (Err why) c ws is = absurd (false≢true is)
 
-given_by_remark : (remark : Bool) (c : Configuration) (ws : List (List ℕ)) → is_setting ws ≡ true → is_run (if remark then givens.Remark else given_if (form_of ws) c ws) ≡ false
+given_by_remark :
+    (remark : Bool) (c : Configuration) (ws : List (List ℕ))
+    → is_setting ws ≡ true
+    → is_run (if remark then givens.Remark else given_if (form_of ws) c ws) ≡ false
 given_by_remark true c ws is = refl
 given_by_remark false c ws is = formed_given (form_of ws) c ws is
 
 -- A configuration line is none.
-pub given_no_run : (c : Configuration) (ws : List (List ℕ)) → is_setting ws ≡ true → is_run (given_of c ws) ≡ false
+pub given_no_run :
+    (c : Configuration) (ws : List (List ℕ)) → is_setting ws ≡ true → is_run (given_of c ws) ≡ false
 given_no_run c ws is = given_by_remark (is_remark ws) c ws is
 
 -- A run line is one more.

@@ -46,7 +46,10 @@ shared_numberless (w ∷ ws) is =
     ap number_of (sym same) ∙ shared_number
 
 -- ---- lines without a number
-pub none_of_it : (number : ℕ) (line : List ℕ) → first_number (words_in line) ≡ None → is_line_of number line ≡ false
+pub none_of_it :
+    (number : ℕ) (line : List ℕ)
+    → first_number (words_in line) ≡ None
+    → is_line_of number line ≡ false
 none_of_it number line none = rw none refl
 
 if_none : (test : Bool) (o : Option ℕ) → o ≡ None → (if test then o else None) ≡ None
@@ -59,7 +62,8 @@ none_begins line none = if_none (is_begin (own_form line)) (first_number (words_
 pub none_runs : (line : List ℕ) → first_number (words_in line) ≡ None → is_run_line line ≡ false
 none_runs line none = rw none refl
 
-pub stays_remark : (number : ℕ) (line : List ℕ) → is_line_of number line ≡ false → own_line number line ≡ codes "#"
+pub stays_remark :
+    (number : ℕ) (line : List ℕ) → is_line_of number line ≡ false → own_line number line ≡ codes "#"
 stays_remark number line other = rw other refl
 
 -- ---- remarks alone
@@ -71,27 +75,40 @@ both_hold : (a b : Bool) → (a && b) ≡ true → (a ≡ true) × (b ≡ true)
 both_hold true b e = (refl, e)
 both_hold false b e = absurd (false≢true e)
 
-pub are_remarks : (line : List ℕ) (rest : List (List ℕ)) → list_all is_remark_line (line ∷ rest) ≡ true → AreRemarks line rest
+pub are_remarks :
+    (line : List ℕ) (rest : List (List ℕ))
+    → list_all is_remark_line (line ∷ rest) ≡ true
+    → AreRemarks line rest
 are_remarks line rest all = both_hold (is_remark_line line) (list_all is_remark_line rest) all
 
-pub remarks_read : (ls : List (List ℕ)) (q : Reading) (number : ℕ) → list_all is_remark_line ls ≡ true → q.taken + length ls ≤ 2 ^ 17 → after_all q (own_lines number ls) ≡ Ok (record q { taken = q.taken + length ls })
+pub remarks_read :
+    (ls : List (List ℕ)) (q : Reading) (number : ℕ)
+    → list_all is_remark_line ls ≡ true
+    → q.taken + length ls ≤ 2 ^ 17
+    → after_all q (own_lines number ls) ≡ Ok (record q { taken = q.taken + length ls })
 remarks_read [] q number all few =
     let none : q.taken ≡ q.taken + 0 = omega arith in
     ap (λ n. Ok (record q { taken = n })) none
 remarks_read (l ∷ ls) q number all few =
     let split = are_remarks l ls all in
-    let plain = stays_remark number l (none_of_it number l (remark_numberless (words_in l) split.0)) in
+    let plain = stays_remark number l (none_of_it number l (remark_numberless (words_in l) split.0))
+    in
     let seam : q.taken + 1 + length ls ≡ q.taken + length (l ∷ ls) = omega arith in
     ap (λ line. after_all q (line ∷ own_lines number ls)) plain
-    ∙ ap (λ said. said >>= (λ s. after_all s (own_lines number ls))) (remark_read q (omega (arith, few)))
+    ∙ ap (λ said. said >>= (λ s. after_all s (own_lines number ls)))
+    (remark_read q (omega (arith, few)))
     ∙ remarks_read ls (record q { taken = q.taken + 1 }) number split.1 (omega (arith, few))
     ∙ ap (λ n. Ok (record q { taken = n })) seam
 
-pub remarks_name_none : (ls : List (List ℕ)) (number : ℕ) → list_all is_remark_line ls ≡ true → list_any (is_line_of number) ls ≡ false
+pub remarks_name_none :
+    (ls : List (List ℕ)) (number : ℕ)
+    → list_all is_remark_line ls ≡ true
+    → list_any (is_line_of number) ls ≡ false
 remarks_name_none [] number all = refl
 remarks_name_none (l ∷ ls) number all =
     let split = are_remarks l ls all in
-    rw (none_of_it number l (remark_numberless (words_in l) split.0)) (remarks_name_none ls number split.1)
+    rw (none_of_it number l (remark_numberless (words_in l) split.0))
+    (remarks_name_none ls number split.1)
 
 pub remarks_begin_none : (ls : List (List ℕ)) → list_all is_remark_line ls ≡ true → begun_in ls ≡ []
 remarks_begin_none [] all = refl
@@ -99,7 +116,8 @@ remarks_begin_none (l ∷ ls) all =
     let split = are_remarks l ls all in
     rw (none_begins l (remark_numberless (words_in l) split.0)) (remarks_begin_none ls split.1)
 
-pub remarks_run_none : (ls : List (List ℕ)) → list_all is_remark_line ls ≡ true → list_any is_run_line ls ≡ false
+pub remarks_run_none :
+    (ls : List (List ℕ)) → list_all is_remark_line ls ≡ true → list_any is_run_line ls ≡ false
 remarks_run_none [] all = refl
 remarks_run_none (l ∷ ls) all =
     let split = are_remarks l ls all in

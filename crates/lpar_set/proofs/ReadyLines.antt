@@ -11,14 +11,25 @@ use Rattle.lpar_set.proofs.SetPlaces.{is_beside}
 
 -- ---- the next line
 -- Once the line is counted, its partition may take it.
-pub ready : (r : SetReading) → IsSetReading r → r.taken < 2 ^ 17 → IsReady (record r { taken = r.taken + 1 })
+pub ready :
+    (r : SetReading)
+    → IsSetReading r
+    → r.taken < 2 ^ 17
+    → IsReady (record r { taken = r.taken + 1 })
 ready r is few = record {
   few = omega arith;
-  earlier = λ number. (let behind : (reading_of r number).taken ≤ r.taken = (is_beside r number is).behind in omega arith);
+  earlier =
+      λ number.
+      (let behind : (reading_of r number).taken ≤ r.taken = (is_beside r number is).behind in
+      omega arith);
   place = λ number below stopped. begun_place r number is below stopped;
 }
 
 -- An accepted line keeps what held.
-pub line_sound : (result : Result (Unit {0}) Stop) (r s : SetReading) (line : List ℕ) → IsSetReading r → TakesTo (after_set_line r line) result s → OnOk result (IsSetReading s)
+pub line_sound :
+    (result : Result (Unit {0}) Stop) (r s : SetReading) (line : List ℕ)
+    → IsSetReading r
+    → TakesTo (after_set_line r line) result s
+    → OnOk result (IsSetReading s)
 line_sound (Ok done) r s line is taken = set_line_keeps r s line is taken
 line_sound (Err stop) r s line is taken = tt

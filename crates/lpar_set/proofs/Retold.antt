@@ -17,7 +17,8 @@ use Rattle.lpar_set.proofs.SetPlaces.{beside_set, same_reading, other_reading}
 
 -- The set with a partition's reading told anew, and with these partitions begun, these tables and these turns.
 abbrev pub told : SetReading → ℕ → Reading → List ℕ → PoolState → List Turn → SetReading
-told r number new begun tables turns = record (with_reading r number new) { begun = begun; tables = tables; turns = turns }
+told r number new begun tables turns =
+    record (with_reading r number new) { begun = begun; tables = tables; turns = turns }
 
 -- The new reading stands beside the pool, and its grants apart from those of other partitions.
 pub record IsRetold (r : SetReading) (number : ℕ) (new : Reading) : Type 0 where
@@ -31,10 +32,19 @@ pub record IsRetold (r : SetReading) (number : ℕ) (new : Reading) : Type 0 whe
 
 -- ---- one number
 -- What holds of the new reading, and of the old ones at all other numbers, holds at each number.
-pub told_at : (P : Reading → Type 0) (r : SetReading) (number m : ℕ) (new : Reading) → number < length r.readings → (m ≡ number → P new) → (m ≢ number → P (reading_of r m)) → P (reading_of (with_reading r number new) m)
+pub told_at :
+    (P : Reading → Type 0) (r : SetReading) (number m : ℕ) (new : Reading)
+    → number < length r.readings
+    → (m ≡ number → P new)
+    → (m ≢ number → P (reading_of r m))
+    → P (reading_of (with_reading r number new) m)
 told_at P r number m new inside here there = by (cases_eq m number) where
   by : (m ≡ number) ⊎ (m ≡ number → ⊥) → P (reading_of (with_reading r number new) m)
-  by (inl same) = subst P (sym (ap (reading_of (with_reading r number new)) same ∙ same_reading r number new inside)) (here same)
+  by (inl same) =
+      subst P
+      (sym
+      (ap (reading_of (with_reading r number new)) same
+      ∙ same_reading r number new inside)) (here same)
   by (inr other) = subst P (sym (other_reading r number m new other)) (there other)
 
 -- ---- all parts
@@ -50,20 +60,34 @@ pub record AreToldSo (s : SetReading) : Type 0 where
       → map (λ (t : Turn). t.line) (turns_of k s.turns) ≡ range_with_len 0 (count_at s k)
   pub counted : length s.turns ≤ s.taken
 
-strangers_told : (r : SetReading) (number : ℕ) (new : Reading) → IsSetReading r → IsRetold r number new → AllPairs (λ (one other : Option Reading). AreStrangers (grants_read one) (grants_read other)) (with_reading r number new).readings
+strangers_told :
+    (r : SetReading) (number : ℕ) (new : Reading)
+    → IsSetReading r
+    → IsRetold r number new
+    → AllPairs (λ (one other : Option Reading). AreStrangers (grants_read one) (grants_read other))
+    (with_reading r number new).readings
 strangers_told r number new is retold =
-    pairs_set (λ (one other : Option Reading). AreStrangers (grants_read one) (grants_read other)) r.readings number (Some new) is.strangers
+    pairs_set (λ (one other : Option Reading). AreStrangers (grants_read one) (grants_read other))
+    r.readings number (Some new) is.strangers
     (λ k d inside other.
     let apart = retold.strangers k other inside in
-    rw (get_or_default r.readings k d None inside) (apart, strangers_back new.config.granted.grants (grants_read (reading_at r k)) apart))
+    rw (get_or_default r.readings k d None inside)
+    (apart, strangers_back new.config.granted.grants (grants_read (reading_at r k)) apart))
 
 -- These parts hold, so the whole does.
-pub retold_is : (r : SetReading) (number : ℕ) (new : Reading) (begun : List ℕ) (tables : PoolState) (turns : List Turn) → IsSetReading r → IsRetold r number new → AreToldSo (told r number new begun tables turns) → IsSetReading (told r number new begun tables turns)
+pub retold_is :
+    (r : SetReading) (number : ℕ) (new : Reading) (begun : List ℕ) (tables : PoolState)
+    (turns : List Turn)
+    → IsSetReading r
+    → IsRetold r number new
+    → AreToldSo (told r number new begun tables turns)
+    → IsSetReading (told r number new begun tables turns)
 retold_is r number new begun tables turns is retold so = record {
   pool = is.pool;
   eight = length-set r.readings number (Some new) ∙ is.eight;
   fresh = λ untouched. absurd (false≢true untouched);
-  beside = beside_set r.readings number r.pool_base r.pool_order r.taken new retold.beside is.beside;
+  beside =
+      beside_set r.readings number r.pool_base r.pool_order r.taken new retold.beside is.beside;
   strangers = strangers_told r number new is retold;
   begun = so.begun;
   tables = so.tables;
@@ -81,42 +105,82 @@ pub record IsSteady (r : SetReading) (number : ℕ) (new : Reading) : Type 0 whe
   pub order : HasBegun r number → new.config.order ≡ order_of r number
 
 -- What holds of each element, if another thing does.
-pub weaker : {A : Type 0} (P Q : A → Type 0) (xs : List A) → ((x : A) → P x → Q x) → AllByRecursion P xs → AllByRecursion Q xs
+pub weaker :
+    {A : Type 0} (P Q : A → Type 0) (xs : List A)
+    → ((x : A) → P x → Q x)
+    → AllByRecursion P xs
+    → AllByRecursion Q xs
 weaker P Q [] each all = tt
 weaker P Q (x ∷ xs) each all = (each x all.0, weaker P Q xs each all.1)
 
-steady_kept : (r : SetReading) (number m : ℕ) (new : Reading) → number < length r.readings → IsSteady r number new → HasBegun r m → HasBegun (with_reading r number new) m
+steady_kept :
+    (r : SetReading) (number m : ℕ) (new : Reading)
+    → number < length r.readings
+    → IsSteady r number new
+    → HasBegun r m
+    → HasBegun (with_reading r number new) m
 steady_kept r number m new inside steady begun =
     told_at (λ (x : Reading). is_running x.stage ≡ true) r number m new inside
     (λ same. steady.running ∙ subst (HasBegun r) same begun) (λ other. begun)
 
-steady_back : (r : SetReading) (number m : ℕ) (new : Reading) → number < length r.readings → IsSteady r number new → HasBegun (with_reading r number new) m → HasBegun r m
+steady_back :
+    (r : SetReading) (number m : ℕ) (new : Reading)
+    → number < length r.readings
+    → IsSteady r number new
+    → HasBegun (with_reading r number new) m
+    → HasBegun r m
 steady_back r number m new inside steady =
     told_at (λ (x : Reading). is_running x.stage ≡ true → HasBegun r m) r number m new inside
-    (λ same begun. subst (HasBegun r) (sym same) (sym steady.running ∙ begun)) (λ other begun. begun)
+    (λ same begun. subst (HasBegun r) (sym same) (sym steady.running ∙ begun))
+    (λ other begun. begun)
 
 -- Those that have begun stay.
-pub steady_begun : (r : SetReading) (number : ℕ) (new : Reading) (tables : PoolState) (turns : List Turn) → IsSetReading r → number < length r.readings → IsSteady r number new → AreBegun (told r number new r.begun tables turns)
+pub steady_begun :
+    (r : SetReading) (number : ℕ) (new : Reading) (tables : PoolState) (turns : List Turn)
+    → IsSetReading r
+    → number < length r.readings
+    → IsSteady r number new
+    → AreBegun (told r number new r.begun tables turns)
 steady_begun r number new tables turns is inside steady = record {
   below = is.begun.below;
   apart = is.begun.apart;
-  running = weaker (HasBegun r) (HasBegun (told r number new r.begun tables turns)) r.begun (λ m begun. steady_kept r number m new inside steady begun) is.begun.running;
+  running =
+      weaker (HasBegun r) (HasBegun (told r number new r.begun tables turns)) r.begun
+      (λ m begun. steady_kept r number m new inside steady begun) is.begun.running;
   all = λ m begun. is.begun.all m (steady_back r number m new inside steady begun);
 }
 
-steady_order : (r : SetReading) (number m : ℕ) (new : Reading) → number < length r.readings → IsSteady r number new → HasBegun r m → order_of (with_reading r number new) m ≡ order_of r m
+steady_order :
+    (r : SetReading) (number m : ℕ) (new : Reading)
+    → number < length r.readings
+    → IsSteady r number new
+    → HasBegun r m
+    → order_of (with_reading r number new) m ≡ order_of r m
 steady_order r number m new inside steady begun =
     told_at (λ (x : Reading). x.config.order ≡ order_of r m) r number m new inside
-    (λ same. steady.order (subst (HasBegun r) same begun) ∙ ap (order_of r) (sym same)) (λ other. refl)
+    (λ same. steady.order (subst (HasBegun r) same begun) ∙ ap (order_of r) (sym same))
+    (λ other. refl)
 
 -- So do the orders of their opening tables.
-pub steady_orders : (r : SetReading) (number : ℕ) (new : Reading) (tables : PoolState) (turns : List Turn) → IsSetReading r → number < length r.readings → IsSteady r number new → orders_begun (told r number new r.begun tables turns) ≡ orders_begun r
+pub steady_orders :
+    (r : SetReading) (number : ℕ) (new : Reading) (tables : PoolState) (turns : List Turn)
+    → IsSetReading r
+    → number < length r.readings
+    → IsSteady r number new
+    → orders_begun (told r number new r.begun tables turns) ≡ orders_begun r
 steady_orders r number new tables turns is inside steady =
     map_agree (order_of (told r number new r.begun tables turns)) (order_of r) r.begun
-    (weaker (HasBegun r) (λ m. order_of (told r number new r.begun tables turns) m ≡ order_of r m) r.begun (λ m begun. steady_order r number m new inside steady begun) is.begun.running)
+    (weaker (HasBegun r) (λ m. order_of (told r number new r.begun tables turns) m ≡ order_of r m)
+    r.begun (λ m begun. steady_order r number m new inside steady begun) is.begun.running)
 
 -- Its lines are as many as before.
-pub steady_keeps : (r : SetReading) (number : ℕ) (new : Reading) → IsSetReading r → IsRetold r number new → IsSteady r number new → length new.lines ≡ length (reading_of r number).lines → IsSetReading (with_reading r number new)
+pub steady_keeps :
+    (r : SetReading) (number : ℕ) (new : Reading)
+    → IsSetReading r
+    → IsRetold r number new
+    → IsSteady r number new
+    → length new.lines ≡ length (reading_of r number).lines
+    → IsSetReading (with_reading r number new)
 steady_keeps r number new is retold steady count =
     let orders = steady_orders r number new r.tables r.turns is retold.inside steady in
     retold_is r number new r.begun r.tables r.turns is retold (record {
@@ -131,5 +195,6 @@ steady_keeps r number new is retold steady count =
     counts : (k : ℕ) → count_at (with_reading r number new) k ≡ count_at r k
     counts k =
         let m = get_or r.begun k 8 in
-        told_at (λ (x : Reading). length x.lines ≡ length (reading_of r m).lines) r number m new retold.inside
+        told_at (λ (x : Reading). length x.lines ≡ length (reading_of r m).lines) r number m new
+        retold.inside
         (λ same. count ∙ ap (λ (n : ℕ). length (reading_of r n).lines) (sym same)) (λ other. refl)

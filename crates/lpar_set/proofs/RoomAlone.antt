@@ -14,26 +14,48 @@ use Rattle.hpt_pool.proofs.Powers.{pow_split, pow_most, multiple_of_lower}
 
 -- ---- a place that fits
 -- Where a multiple in the pool fits, there is a lowest place.
-pub some_place : (pool : PoolState) (order n : ℕ) → n < 2 ^ (pool.order - order) → fits pool order (pool.base + n * 2 ^ order) ≡ true → lowest_place pool order ≢ None
+pub some_place :
+    (pool : PoolState) (order n : ℕ)
+    → n < 2 ^ (pool.order - order)
+    → fits pool order (pool.base + n * 2 ^ order) ≡ true
+    → lowest_place pool order ≢ None
 unfolding lowest_place multiples
 some_place pool order n below fit none =
     let count = 2 ^ (pool.order - order) in
     let all = find-None (fits pool order) (multiples pool order) none in
-    let long : length (multiples pool order) ≡ count = length-map-range_with_len (λ m. pool.base + m * 2 ^ order) 0 count in
-    let at_n : get_or (multiples pool order) n 0 ≡ pool.base + n * 2 ^ order = get_or-map-range_with_len (λ m. pool.base + m * 2 ^ order) 0 count n n 0 below (omega arith) in
-    let fails : fits pool order (pool.base + n * 2 ^ order) ≡ false = subst (λ place. fits pool order place ≡ false) at_n (all n 0 (omega arith)) in
+    let long : length (multiples pool order) ≡ count = length-map-range_with_len
+    (λ m. pool.base + m * 2 ^ order) 0 count in
+    let at_n : get_or (multiples pool order) n 0 ≡ pool.base + n * 2 ^ order =
+    get_or-map-range_with_len (λ m. pool.base + m * 2 ^ order) 0 count n n 0 below (omega arith)
+    in
+    let fails : fits pool order (pool.base + n * 2 ^ order) ≡ false = subst
+    (λ place. fits pool order place ≡ false) at_n (all n 0 (omega arith)) in
     absurd (cc)
 
 -- Where no taken block overlaps a multiple, it fits.
-pub clear_fits : (pool : PoolState) (order n : ℕ) → IsPoolRange pool.base pool.order → 18 ≤ order → order ≤ pool.order → n < 2 ^ (pool.order - order) → All (λ (other : Block). overlap (block_at (pool.base + n * 2 ^ order) order) other ≡ false) pool.taken → fits pool order (pool.base + n * 2 ^ order) ≡ true
+pub clear_fits :
+    (pool : PoolState) (order n : ℕ)
+    → IsPoolRange pool.base pool.order
+    → 18 ≤ order
+    → order ≤ pool.order
+    → n < 2 ^ (pool.order - order)
+    → All (λ (other : Block). overlap (block_at (pool.base + n * 2 ^ order) order) other ≡ false)
+    pool.taken
+    → fits pool order (pool.base + n * 2 ^ order) ≡ true
 clear_fits pool order n range large small below clear =
     let placed = multiple_placed pool order n range large small below in
-    let none : list_any (overlap (block_at (pool.base + n * 2 ^ order) order)) pool.taken ≡ false = list_any_none (overlap (block_at (pool.base + n * 2 ^ order) order)) pool.taken clear in
+    let none : list_any (overlap (block_at (pool.base + n * 2 ^ order) order)) pool.taken ≡ false =
+    list_any_none (overlap (block_at (pool.base + n * 2 ^ order) order)) pool.taken clear in
     fits_is pool order (pool.base + n * 2 ^ order) placed ∙ ap not none
 
 -- ---- halves of the pool
 -- A block that shares no address with another one of the pool is smaller than the pool.
-pub smaller : (pool : PoolState) (one other : Block) → IsPlaced pool one → IsPlaced pool other → overlap one other ≡ false → one.order < pool.order
+pub smaller :
+    (pool : PoolState) (one other : Block)
+    → IsPlaced pool one
+    → IsPlaced pool other
+    → overlap one other ≡ false
+    → one.order < pool.order
 smaller pool one other placed second clear = at (cases_lt one.order pool.order) where
   at : (one.order < pool.order) ⊎ (pool.order ≤ one.order) → one.order < pool.order
   at (inl less) = less
@@ -67,20 +89,40 @@ whole_is n some =
     let split : 2 ^ n ≡ 2 ^ (n - (n - 1)) * 2 ^ (n - 1) = pow_split (n - 1) n (omega arith) in
     let one : n - (n - 1) ≡ 1 = omega arith in
     let two : 2 ^ (n - (n - 1)) ≡ 2 = ap (λ k. 2 ^ k) one in
-    split ∙ ap (λ k. k * 2 ^ (n - 1)) two ∙ (let e : 2 * 2 ^ (n - 1) ≡ 2 ^ (n - 1) + 2 ^ (n - 1) = omega arith in e)
+    split
+    ∙ ap (λ k. k * 2 ^ (n - 1)) two
+    ∙ (let e : 2 * 2 ^ (n - 1) ≡ 2 ^ (n - 1) + 2 ^ (n - 1) = omega arith in e)
 
 -- It lies in the lower half or in the upper one.
-pub in_half : (pool : PoolState) (block : Block) → IsPoolRange pool.base pool.order → IsPlaced pool block → block.order < pool.order → (end_of block ≤ pool.base + half_of pool) ⊎ (pool.base + half_of pool ≤ block.place)
+pub in_half :
+    (pool : PoolState) (block : Block)
+    → IsPoolRange pool.base pool.order
+    → IsPlaced pool block
+    → block.order < pool.order
+    → (end_of block ≤ pool.base + half_of pool) ⊎ (pool.base + half_of pool ≤ block.place)
 in_half pool block range placed small =
     let at_base = multiple_of_lower pool.base block.order pool.order (omega arith) range.aligned in
-    let at_place = multiple_of_lower block.place block.order block.order (omega arith) placed.aligned in
-    let half : 2 ^ (pool.order - 1) ≡ 2 ^ (pool.order - 1 - block.order) * 2 ^ block.order = pow_split block.order (pool.order - 1) (omega arith) in
-    of_rows at_base.0 at_place.0 (2 ^ (pool.order - 1 - block.order)) (2 ^ block.order) at_base.1 at_place.1 half refl where
-      of_rows : (b p h size : ℕ) → pool.base ≡ b * size → block.place ≡ p * size → half_of pool ≡ h * size → 2 ^ block.order ≡ size → (end_of block ≤ pool.base + half_of pool) ⊎ (pool.base + half_of pool ≤ block.place)
+    let at_place = multiple_of_lower block.place block.order block.order (omega arith)
+    placed.aligned in
+    let half : 2 ^ (pool.order - 1) ≡ 2 ^ (pool.order - 1 - block.order) * 2 ^ block.order =
+    pow_split block.order (pool.order - 1) (omega arith) in
+    of_rows at_base.0 at_place.0 (2 ^ (pool.order - 1 - block.order)) (2 ^ block.order) at_base.1
+    at_place.1 half refl where
+      of_rows :
+          (b p h size : ℕ)
+          → pool.base ≡ b * size
+          → block.place ≡ p * size
+          → half_of pool ≡ h * size
+          → 2 ^ block.order ≡ size
+          → (end_of block ≤ pool.base + half_of pool) ⊎ (pool.base + half_of pool ≤ block.place)
       of_rows b p h size base_is place_is half_is size_is =
           let sum : (b + h) * size ≡ b * size + h * size = grind arith in
           at sum (size_apart p (b + h) size) where
-            at : (b + h) * size ≡ b * size + h * size → (p * size + size ≤ (b + h) * size) ⊎ ((b + h) * size ≤ p * size) → (end_of block ≤ pool.base + half_of pool) ⊎ (pool.base + half_of pool ≤ block.place)
+            at :
+                (b + h) * size ≡ b * size + h * size
+                → (p * size + size ≤ (b + h) * size) ⊎ ((b + h) * size ≤ p * size)
+                → (end_of block ≤ pool.base + half_of pool)
+                ⊎ (pool.base + half_of pool ≤ block.place)
             at sum (inl low) = inl (omega arith)
             at sum (inr high) = inr (omega arith)
 
@@ -89,38 +131,73 @@ in_half pool block range placed small =
 abbrev pub AllAre : Block → List Block → Type 0
 AllAre block taken = All (λ (other : Block). other ≡ block) taken
 
-all_clear : (block only : Block) (taken : List Block) → overlap block only ≡ false → AllAre only taken → All (λ (other : Block). overlap block other ≡ false) taken
-all_clear block only taken clear all = λ k d inside. subst (λ (other : Block). overlap block other ≡ false) (sym (all k d inside)) clear
+all_clear :
+    (block only : Block) (taken : List Block)
+    → overlap block only ≡ false
+    → AllAre only taken
+    → All (λ (other : Block). overlap block other ≡ false) taken
+all_clear block only taken clear all =
+    λ k d inside.
+    subst (λ (other : Block). overlap block other ≡ false) (sym (all k d inside)) clear
 
-pub room_beside : (pool : PoolState) (order : ℕ) (only : Block) → IsPoolRange pool.base pool.order → 18 ≤ order → order < pool.order → only.order < pool.order → IsPlaced pool only → AllAre only pool.taken → lowest_place pool order ≢ None
-room_beside pool order only range large small small_only placed all = at (in_half pool only range placed small_only) where
-  half : 2 ^ (pool.order - 1) ≡ 2 ^ (pool.order - 1 - order) * 2 ^ order
-  half = pow_split order (pool.order - 1) (omega arith)
+pub room_beside :
+    (pool : PoolState) (order : ℕ) (only : Block)
+    → IsPoolRange pool.base pool.order
+    → 18 ≤ order
+    → order < pool.order
+    → only.order < pool.order
+    → IsPlaced pool only
+    → AllAre only pool.taken
+    → lowest_place pool order ≢ None
+room_beside pool order only range large small small_only placed all =
+    at (in_half pool only range placed small_only) where
+      half : 2 ^ (pool.order - 1) ≡ 2 ^ (pool.order - 1 - order) * 2 ^ order
+      half = pow_split order (pool.order - 1) (omega arith)
 
-  in_pool : 2 ^ (pool.order - 1 - order) < 2 ^ (pool.order - order)
-  in_pool = pow_below (pool.order - 1 - order) (pool.order - order) (omega arith)
+      in_pool : 2 ^ (pool.order - 1 - order) < 2 ^ (pool.order - order)
+      in_pool = pow_below (pool.order - 1 - order) (pool.order - order) (omega arith)
 
-  fits_under : 2 ^ order ≤ 2 ^ (pool.order - 1)
-  fits_under = pow_most order (pool.order - 1) (omega arith)
+      fits_under : 2 ^ order ≤ 2 ^ (pool.order - 1)
+      fits_under = pow_most order (pool.order - 1) (omega arith)
 
-  at : (end_of only ≤ pool.base + half_of pool) ⊎ (pool.base + half_of pool ≤ only.place) → lowest_place pool order ≢ None
-  at (inl low) =
-      let n = 2 ^ (pool.order - 1 - order) in
-      let place : pool.base + n * 2 ^ order ≡ pool.base + half_of pool = ap (λ m. pool.base + m) (sym half) in
-      let clear : overlap (block_at (pool.base + n * 2 ^ order) order) only ≡ false = upper_clear n place low in
-      some_place pool order n in_pool (clear_fits pool order n range large (omega arith) in_pool (all_clear _ only pool.taken clear all)) where
-        upper_clear : (n : ℕ) → pool.base + n * 2 ^ order ≡ pool.base + half_of pool → end_of only ≤ pool.base + half_of pool → overlap (block_at (pool.base + n * 2 ^ order) order) only ≡ false
-        upper_clear n place low =
-            let ends : end_of only ≤ pool.base + n * 2 ^ order = omega arith in
-            above (pool.base + n * 2 ^ order) ends where
-              above : (start : ℕ) → end_of only ≤ start → overlap (block_at start order) only ≡ false
-              above start ends = grind (arith, nat_tests, ends)
-  at (inr high) =
-      let under = fits_under in
-      let some : 0 < 2 ^ (pool.order - order) = pow_pos (pool.order - order) in
-      let zero_place : pool.base + 0 * 2 ^ order ≡ pool.base = omega arith in
-      let ends : pool.base + 0 * 2 ^ order + 2 ^ order ≤ only.place = omega arith in
-      let clear : overlap (block_at (pool.base + 0 * 2 ^ order) order) only ≡ false = below (pool.base + 0 * 2 ^ order) ends in
-      some_place pool order 0 some (clear_fits pool order 0 range large (omega arith) some (all_clear _ only pool.taken clear all)) where
-        below : (start : ℕ) → start + 2 ^ order ≤ only.place → overlap (block_at start order) only ≡ false
-        below start ends = grind (arith, nat_tests, ends)
+      at :
+          (end_of only ≤ pool.base + half_of pool) ⊎ (pool.base + half_of pool ≤ only.place)
+          → lowest_place pool order ≢ None
+      at (inl low) =
+          let n = 2 ^ (pool.order - 1 - order) in
+          let place : pool.base + n * 2 ^ order ≡ pool.base + half_of pool = ap (λ m. pool.base + m)
+          (sym half) in
+          let clear :
+          overlap (block_at (pool.base + n * 2 ^ order) order) only ≡ false = upper_clear n
+          place low in
+          some_place pool order n in_pool
+          (clear_fits pool order n range large (omega arith) in_pool
+          (all_clear _ only pool.taken clear all)) where
+            upper_clear :
+                (n : ℕ)
+                → pool.base + n * 2 ^ order ≡ pool.base + half_of pool
+                → end_of only ≤ pool.base + half_of pool
+                → overlap (block_at (pool.base + n * 2 ^ order) order) only ≡ false
+            upper_clear n place low =
+                let ends : end_of only ≤ pool.base + n * 2 ^ order = omega arith in
+                above (pool.base + n * 2 ^ order) ends where
+                  above :
+                      (start : ℕ)
+                      → end_of only ≤ start
+                      → overlap (block_at start order) only ≡ false
+                  above start ends = grind (arith, nat_tests, ends)
+      at (inr high) =
+          let under = fits_under in
+          let some : 0 < 2 ^ (pool.order - order) = pow_pos (pool.order - order) in
+          let zero_place : pool.base + 0 * 2 ^ order ≡ pool.base = omega arith in
+          let ends : pool.base + 0 * 2 ^ order + 2 ^ order ≤ only.place = omega arith in
+          let clear : overlap (block_at (pool.base + 0 * 2 ^ order) order) only ≡ false = below
+          (pool.base + 0 * 2 ^ order) ends in
+          some_place pool order 0 some
+          (clear_fits pool order 0 range large (omega arith) some
+          (all_clear _ only pool.taken clear all)) where
+            below :
+                (start : ℕ)
+                → start + 2 ^ order ≤ only.place
+                → overlap (block_at start order) only ≡ false
+            below start ends = grind (arith, nat_tests, ends)

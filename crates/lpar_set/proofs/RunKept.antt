@@ -34,15 +34,28 @@ pub record KeepsRun (w after : Store) : Type 0 where
   pub moves : MovesMemory w.memory after.memory
 
 same_run : (w : Store) → HoldsBlocks w → KeepsRun w w
-same_run w all = record { grants = refl; limit = refl; processors = refl; moves = same_moves w.memory.table w.memory.pending w.memory.pool all }
+same_run w all =
+    record {
+      grants = refl;
+      limit = refl;
+      processors = refl;
+      moves = same_moves w.memory.table w.memory.pending w.memory.pool all;
+    }
 
 -- ---- a line that isn't quiet
-result_keeps : (w : Store) (l : TraceLine) (x : Reply × List State) → HoldsBlocks w → KeepsRun w (with_result w l x).1
+result_keeps :
+    (w : Store) (l : TraceLine) (x : Reply × List State)
+    → HoldsBlocks w
+    → KeepsRun w (with_result w l x).1
 result_keeps w l x all = record {
   grants = refl;
   limit = refl;
   processors = processors_size w.processors (record { line = l; reply = x.0 });
-  moves = record { pools = same_pool w.memory.pool; blocks = same_replaces w.memory.pool.taken (memory_blocks w.memory) all };
+  moves =
+      record {
+        pools = same_pool w.memory.pool;
+        blocks = same_replaces w.memory.pool.taken (memory_blocks w.memory) all;
+      };
 }
 
 -- ---- a quiet line
@@ -53,20 +66,40 @@ record KeepsAtMemory (w after : Store) : Type 0 where
   moves : MovesMemory w.memory after.memory
 
 same_memory : (w : Store) → HoldsBlocks w → KeepsAtMemory w w
-same_memory w all = record { grants = refl; limit = refl; moves = same_moves w.memory.table w.memory.pending w.memory.pool all }
+same_memory w all =
+    record {
+      grants = refl;
+      limit = refl;
+      moves = same_moves w.memory.table w.memory.pending w.memory.pool all;
+    }
 
-prepare_limit : (w : Store) (flags shift : ℕ) → (prepare_result w.memory flags shift).1.limit ≡ w.memory.limit
+prepare_limit :
+    (w : Store) (flags shift : ℕ) → (prepare_result w.memory flags shift).1.limit ≡ w.memory.limit
 unfolding prepare_result
 prepare_limit w flags shift = refl
 
-commit_limit : (w : Store) (flags shift : ℕ) → (commit_result w.memory flags shift).1.limit ≡ w.memory.limit
+commit_limit :
+    (w : Store) (flags shift : ℕ) → (commit_result w.memory flags shift).1.limit ≡ w.memory.limit
 unfolding commit_result
 commit_limit w flags shift = refl
 
-resize_keeps : (w : Store) (call : Hcall) (args : List ℕ) → HoldsBlocks w → KeepsAtMemory w (run_resize w call args).1
+resize_keeps :
+    (w : Store) (call : Hcall) (args : List ℕ)
+    → HoldsBlocks w
+    → KeepsAtMemory w (run_resize w call args).1
 unfolding run_resize
-resize_keeps w calls.Prepare args all = record { grants = refl; limit = prepare_limit w (slice_index args 0) (slice_index args 1); moves = prepare_moves w.memory (slice_index args 0) (slice_index args 1) all }
-resize_keeps w calls.Commit args all = record { grants = refl; limit = commit_limit w (slice_index args 0) (slice_index args 1); moves = commit_moves w.memory (slice_index args 0) (slice_index args 1) all }
+resize_keeps w calls.Prepare args all =
+    record {
+      grants = refl;
+      limit = prepare_limit w (slice_index args 0) (slice_index args 1);
+      moves = prepare_moves w.memory (slice_index args 0) (slice_index args 1) all;
+    }
+resize_keeps w calls.Commit args all =
+    record {
+      grants = refl;
+      limit = commit_limit w (slice_index args 0) (slice_index args 1);
+      moves = commit_moves w.memory (slice_index args 0) (slice_index args 1) all;
+    }
 resize_keeps w other args all = same_memory w all
 
 quiet_keeps : (w : Store) (act : Act) → HoldsBlocks w → KeepsAtMemory w (run_quiet_line w act).1
@@ -77,7 +110,12 @@ quiet_keeps w other all = same_memory w all
 quiet_run : (w : Store) (act : Act) → HoldsBlocks w → KeepsRun w (run_quiet_line w act).1
 quiet_run w act all =
     let kept = quiet_keeps w act all in
-    record { grants = kept.grants; limit = kept.limit; processors = quiet_size w act; moves = kept.moves }
+    record {
+      grants = kept.grants;
+      limit = kept.limit;
+      processors = quiet_size w act;
+      moves = kept.moves;
+    }
 
 -- ---- each line
 pub line_keeps_run : (w : Store) (l : TraceLine) → HoldsBlocks w → KeepsRun w (run_on w l).1
@@ -85,4 +123,8 @@ unfolding run_on
 line_keeps_run w l all = at (cases_Bool (is_quiet l.act)) where
   at : (is_quiet l.act ≡ true) ⊎ (is_quiet l.act ≡ false) → KeepsRun w (run_on w l).1
   at (inl quiet) = rw quiet (quiet_run w l.act all)
-  at (inr loud) = rw loud (result_keeps w l (line_result (context_of w) (processor_at w.processors l.cpu) (states_of w) l.act) all)
+  at (inr loud) =
+      rw loud
+      (result_keeps w l
+      (line_result (context_of w) (processor_at w.processors l.cpu) (states_of w) l.act)
+      all)

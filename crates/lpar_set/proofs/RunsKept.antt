@@ -17,41 +17,80 @@ use Rattle.lpar_set.proofs.TurnLines.{StandsAt, stands_at, own_turn, other_turn,
 
 -- The turn that a run line of the partition is.
 abbrev pub next_turn : SetReading → ℕ → Turn
-next_turn r number = record { partition = begun_at r.begun number; line = length (reading_of r number).lines }
+next_turn r number =
+    record { partition = begun_at r.begun number; line = length (reading_of r number).lines }
 
 -- The set with that turn behind the others.
 abbrev pub with_turn : SetReading → ℕ → Reading → SetReading
 with_turn r number new = told r number new r.begun r.tables (r.turns ++ next_turn r number ∷ [])
 
 -- The partition's own lines are one more.
-own_count : (r : SetReading) (number k : ℕ) (new : Reading) → number < length r.readings → length new.lines ≡ length (reading_of r number).lines + 1 → get_or r.begun k 8 ≡ number → count_at (with_turn r number new) k ≡ length (reading_of r number).lines + 1
+own_count :
+    (r : SetReading) (number k : ℕ) (new : Reading)
+    → number < length r.readings
+    → length new.lines ≡ length (reading_of r number).lines + 1
+    → get_or r.begun k 8 ≡ number
+    → count_at (with_turn r number new) k ≡ length (reading_of r number).lines + 1
 own_count r number k new inside more same =
-    told_at (λ (x : Reading). length x.lines ≡ length (reading_of r number).lines + 1) r number (get_or r.begun k 8) new inside
+    told_at (λ (x : Reading). length x.lines ≡ length (reading_of r number).lines + 1) r number
+    (get_or r.begun k 8) new inside
     (λ here. more) (λ other. absurd (other same))
 
 -- Those of others are as many as before.
-other_count : (r : SetReading) (number k : ℕ) (new : Reading) → number < length r.readings → get_or r.begun k 8 ≢ number → count_at (with_turn r number new) k ≡ count_at r k
+other_count :
+    (r : SetReading) (number k : ℕ) (new : Reading)
+    → number < length r.readings
+    → get_or r.begun k 8 ≢ number
+    → count_at (with_turn r number new) k ≡ count_at r k
 other_count r number k new inside other =
-    told_at (λ (x : Reading). length x.lines ≡ count_at r k) r number (get_or r.begun k 8) new inside
+    told_at (λ (x : Reading). length x.lines ≡ count_at r k) r number (get_or r.begun k 8) new
+    inside
     (λ same. absurd (other same)) (λ there. refl)
 
-turn_lines : (r : SetReading) (number k : ℕ) (new : Reading) → IsSetReading r → number < length r.readings → length new.lines ≡ length (reading_of r number).lines + 1 → StandsAt r.begun number → k < length r.begun → map (λ (t : Turn). t.line) (turns_of k (r.turns ++ next_turn r number ∷ [])) ≡ range_with_len 0 (count_at (with_turn r number new) k)
-turn_lines r number k new is inside more stands within = by (cases_eq (begun_at r.begun number) k) where
-  by : (begun_at r.begun number ≡ k) ⊎ (begun_at r.begun number ≡ k → ⊥) → map (λ (t : Turn). t.line) (turns_of k (r.turns ++ next_turn r number ∷ [])) ≡ range_with_len 0 (count_at (with_turn r number new) k)
-  by (inl same) =
-      let here : get_or r.begun k 8 ≡ number = subst (λ j. get_or r.begun j 8 ≡ number) same (stands.here 8) in
-      let count : count_at r k ≡ length (reading_of r number).lines = ap (λ (n : ℕ). length (reading_of r n).lines) here in
-      ap (map (λ (t : Turn). t.line)) (own_turn k r.turns (next_turn r number) same)
-      ∙ lines_push (turns_of k r.turns) (next_turn r number) (length (reading_of r number).lines) (is.lines k within ∙ ap (range_with_len 0) count) refl
-      ∙ ap (range_with_len 0) (sym (own_count r number k new inside more here))
-  by (inr other) =
-      let apart : get_or r.begun (begun_at r.begun number) 8 ≢ get_or r.begun k 8 = pairs_both (λ (n m : ℕ). n ≢ m) r.begun (λ n m differ same. differ (sym same)) is.begun.apart (begun_at r.begun number) k 8 other stands.inside within in
-      ap (map (λ (t : Turn). t.line)) (other_turn k r.turns (next_turn r number) other)
-      ∙ is.lines k within
-      ∙ ap (range_with_len 0) (sym (other_count r number k new inside (λ same. apart (stands.here 8 ∙ sym same))))
+turn_lines :
+    (r : SetReading) (number k : ℕ) (new : Reading)
+    → IsSetReading r
+    → number < length r.readings
+    → length new.lines ≡ length (reading_of r number).lines + 1
+    → StandsAt r.begun number
+    → k < length r.begun
+    → map (λ (t : Turn). t.line) (turns_of k (r.turns ++ next_turn r number ∷ []))
+    ≡ range_with_len 0 (count_at (with_turn r number new) k)
+turn_lines r number k new is inside more stands within =
+    by (cases_eq (begun_at r.begun number) k) where
+      by :
+          (begun_at r.begun number ≡ k) ⊎ (begun_at r.begun number ≡ k → ⊥)
+          → map (λ (t : Turn). t.line) (turns_of k (r.turns ++ next_turn r number ∷ []))
+          ≡ range_with_len 0 (count_at (with_turn r number new) k)
+      by (inl same) =
+          let here : get_or r.begun k 8 ≡ number = subst (λ j. get_or r.begun j 8 ≡ number) same
+          (stands.here 8) in
+          let count : count_at r k ≡ length (reading_of r number).lines = ap
+          (λ (n : ℕ). length (reading_of r n).lines) here in
+          ap (map (λ (t : Turn). t.line)) (own_turn k r.turns (next_turn r number) same)
+          ∙ lines_push (turns_of k r.turns) (next_turn r number)
+          (length (reading_of r number).lines)
+          (is.lines k within ∙ ap (range_with_len 0) count) refl
+          ∙ ap (range_with_len 0) (sym (own_count r number k new inside more here))
+      by (inr other) =
+          let apart : get_or r.begun (begun_at r.begun number) 8 ≢ get_or r.begun k 8 = pairs_both
+          (λ (n m : ℕ). n ≢ m) r.begun (λ n m differ same. differ (sym same)) is.begun.apart
+          (begun_at r.begun number) k 8 other stands.inside within in
+          ap (map (λ (t : Turn). t.line)) (other_turn k r.turns (next_turn r number) other)
+          ∙ is.lines k within
+          ∙ ap (range_with_len 0)
+          (sym (other_count r number k new inside (λ same. apart (stands.here 8 ∙ sym same))))
 
 -- A run line keeps what holds of the set.
-pub run_keeps : (r : SetReading) (number : ℕ) (new : Reading) → IsSetReading r → length r.turns < r.taken → IsRetold r number new → IsSteady r number new → HasBegun r number → length new.lines ≡ length (reading_of r number).lines + 1 → IsSetReading (with_turn r number new)
+pub run_keeps :
+    (r : SetReading) (number : ℕ) (new : Reading)
+    → IsSetReading r
+    → length r.turns < r.taken
+    → IsRetold r number new
+    → IsSteady r number new
+    → HasBegun r number
+    → length new.lines ≡ length (reading_of r number).lines + 1
+    → IsSetReading (with_turn r number new)
 run_keeps r number new is counted retold steady begun more =
     let pool = no_blocks r.pool_base r.pool_order in
     let turns = r.turns ++ next_turn r number ∷ [] in
@@ -63,7 +102,10 @@ run_keeps r number new is counted retold steady begun more =
       begun = steady_begun r number new r.tables turns is retold.inside steady;
       tables = is.tables ∙ ap (with_openings pool) (sym orders);
       room = subst (HasRoomFor pool) (sym orders) is.room;
-      turns = recursion_from_All Within turns (All-push Within r.turns (next_turn r number) (All-from_recursion Within r.turns is.turns) stands.inside);
+      turns =
+          recursion_from_All Within turns
+          (All-push Within r.turns (next_turn r number)
+          (All-from_recursion Within r.turns is.turns) stands.inside);
       lines = λ k within. turn_lines r number k new is retold.inside more stands within;
       counted = omega (arith, counted, size);
     })

@@ -38,7 +38,10 @@ pub record HasEnded (r : SetReading) (s : AcceptedSet) : Type 0 where
   pub begun : list_all has_begun r.readings ≡ true
   pub same : s ≡ set_read r
 
-ended_by : (occurs begun : Bool) (t s : AcceptedSet) (why : ℕ × Why) → (if occurs && begun then Ok t else Err why) ≡ Ok s → (occurs ≡ true) × (begun ≡ true) × (s ≡ t)
+ended_by :
+    (occurs begun : Bool) (t s : AcceptedSet) (why : ℕ × Why)
+    → (if occurs && begun then Ok t else Err why) ≡ Ok s
+    → (occurs ≡ true) × (begun ≡ true) × (s ≡ t)
 ended_by true true t s why e =
     let same : s ≡ t = cc in
     (refl, refl, same)
@@ -48,26 +51,41 @@ ended_by false begun t s why e = absurd (never_ok why s e)
 -- A set that was told at the end is what was read.
 pub has_ended : (r : SetReading) (s : AcceptedSet) → set_at_end r ≡ Ok s → HasEnded r s
 has_ended r s e =
-    let x = ended_by (list_any is_some r.readings) (list_all has_begun r.readings) (set_read r) s _ e in
+    let x = ended_by (list_any is_some r.readings) (list_all has_begun r.readings) (set_read r) s _
+    e in
     record { occurs = x.0; begun = x.1; same = x.2 }
 
 -- ---- partitions that occur
-begun_if : (base order : ℕ) (o : Option Reading) → is_some o ≡ true → has_begun o ≡ true → is_running (unwrap_or o (reading_beside base order)).stage ≡ true
+begun_if :
+    (base order : ℕ) (o : Option Reading)
+    → is_some o ≡ true
+    → has_begun o ≡ true
+    → is_running (unwrap_or o (reading_beside base order)).stage ≡ true
 begun_if base order None some begun = absurd (false≢true some)
 begun_if base order (Some reading) some begun = begun
 
 -- One that occurs has begun.
-pub occurring_begun : (r : SetReading) (s : AcceptedSet) (number : ℕ) → HasEnded r s → number < length r.readings → is_some (reading_at r number) ≡ true → HasBegun r number
+pub occurring_begun :
+    (r : SetReading) (s : AcceptedSet) (number : ℕ)
+    → HasEnded r s
+    → number < length r.readings
+    → is_some (reading_at r number) ≡ true
+    → HasBegun r number
 occurring_begun r s number ended inside there =
-    let begun : has_begun (reading_at r number) ≡ true = true_from_ne_false _ (λ not_begun. both_ways _ (list_all_at has_begun r.readings number None inside not_begun) ended.begun) in
+    let begun : has_begun (reading_at r number) ≡ true = true_from_ne_false _
+    (λ not_begun.
+    both_ways _ (list_all_at has_begun r.readings number None inside not_begun) ended.begun) in
     begun_if r.pool_base r.pool_order (reading_at r number) there begun
 
 -- So at least one has.
-pub some_begun : (r : SetReading) (s : AcceptedSet) → IsSetReading r → HasEnded r s → 1 ≤ length r.begun
+pub some_begun :
+    (r : SetReading) (s : AcceptedSet) → IsSetReading r → HasEnded r s → 1 ≤ length r.begun
 some_begun r s is ended =
     let found = Any-from_list_any is_some r.readings ended.occurs in
-    let here : reading_at r found.0 ≡ found.1 = get_or_default r.readings found.0 None found.1 found.2 ∙ found.3 in
-    let there = is.begun.all found.0 (occurring_begun r s found.0 ended found.2 (ap is_some here ∙ found.4)) in
+    let here : reading_at r found.0 ≡ found.1 = get_or_default r.readings found.0 None found.1
+    found.2 ∙ found.3 in
+    let there = is.begun.all found.0
+    (occurring_begun r s found.0 ended found.2 (ap is_some here ∙ found.4)) in
     omega (arith, there.1)
 
 -- The reading of each partition that has begun is there, and it runs.
@@ -76,53 +94,116 @@ pub record IsThere (r : SetReading) (number : ℕ) : Type 0 where
   pub running : HasBegun r number
 
 -- So it is at each place in the order of `begin` lines.
-pub begun_are_there : (r : SetReading) (k : ℕ) → IsSetReading r → k < length r.begun → IsThere r (get_or r.begun k 8)
+pub begun_are_there :
+    (r : SetReading) (k : ℕ) → IsSetReading r → k < length r.begun → IsThere r (get_or r.begun k 8)
 begun_are_there r k is inside =
-    let begun : HasBegun r (get_or r.begun k 8) = All-get_or (HasBegun r) r.begun k 8 inside (All-from_recursion (HasBegun r) r.begun is.begun.running) in
+    let begun : HasBegun r (get_or r.begun k 8) = All-get_or (HasBegun r) r.begun k 8 inside
+    (All-from_recursion (HasBegun r) r.begun is.begun.running) in
     record { reading = begun_there r (get_or r.begun k 8) begun; running = begun }
 
 -- ---- the partitions in the order of their `begin` lines
-each_of : (r : SetReading) (ns : List ℕ) → IsSetReading r → AllByRecursion (λ n. n < 8) ns → AllByRecursion (λ (p : NumberedTrace). IsAccepted p.trace) (map (partition_read r) ns) → AllByRecursion (IsOfSet r.pool_base r.pool_order) (map (partition_read r) ns)
+each_of :
+    (r : SetReading) (ns : List ℕ)
+    → IsSetReading r
+    → AllByRecursion (λ n. n < 8) ns
+    → AllByRecursion (λ (p : NumberedTrace). IsAccepted p.trace) (map (partition_read r) ns)
+    → AllByRecursion (IsOfSet r.pool_base r.pool_order) (map (partition_read r) ns)
 each_of r [] is below accepted = tt
 each_of r (n ∷ ns) is below accepted =
-    let beside = is_beside r n is in
-    (record { number = below.0; accepted = accepted.0; base = beside.base; order = beside.order; empty = beside.empty; windows = beside.windows }, each_of r ns is below.1 accepted.1)
+    let beside = is_beside r n is in (
+      record {
+        number = below.0;
+        accepted = accepted.0;
+        base = beside.base;
+        order = beside.order;
+        empty = beside.empty;
+        windows = beside.windows;
+      },
+      each_of r ns is below.1 accepted.1,
+    )
 
 -- Pairs of a list that is mapped.
-pairs_map : {X Y : Type 0} (R : Y → Y → Type 0) (f : X → Y) (xs : List X) (e : X) → ((i j : ℕ) → i < j → j < length xs → R (f (get_or xs i e)) (f (get_or xs j e))) → AllPairs R (map f xs)
+pairs_map :
+    {X Y : Type 0} (R : Y → Y → Type 0) (f : X → Y) (xs : List X) (e : X)
+    → ((i j : ℕ) → i < j → j < length xs → R (f (get_or xs i e)) (f (get_or xs j e)))
+    → AllPairs R (map f xs)
 pairs_map R f xs e each i j d before inside =
     let within : j < length xs = subst (λ n. j < n) (length-map xs f) inside in
-    rw (get_or-map f xs i e d (omega (arith, before, within)), get_or-map f xs j e d within) (each i j before within)
+    rw (get_or-map f xs i e d (omega (arith, before, within)), get_or-map f xs j e d within)
+    (each i j before within)
 
-numbers_read : (r : SetReading) → IsSetReading r → AllPairs (λ (p q : NumberedTrace). p.number ≢ q.number) (map (partition_read r) r.begun)
-numbers_read r is = pairs_map (λ (p q : NumberedTrace). p.number ≢ q.number) (partition_read r) r.begun 8 (λ i j before inside. is.begun.apart i j 8 before inside)
+numbers_read :
+    (r : SetReading)
+    → IsSetReading r
+    → AllPairs (λ (p q : NumberedTrace). p.number ≢ q.number) (map (partition_read r) r.begun)
+numbers_read r is =
+    pairs_map (λ (p q : NumberedTrace). p.number ≢ q.number) (partition_read r) r.begun 8
+    (λ i j before inside. is.begun.apart i j 8 before inside)
 
-strangers_two : (r : SetReading) (n m : ℕ) → IsSetReading r → n ≢ m → n < 8 → m < 8 → AreStrangers (reading_of r n).config.granted.grants (reading_of r m).config.granted.grants
+strangers_two :
+    (r : SetReading) (n m : ℕ)
+    → IsSetReading r
+    → n ≢ m
+    → n < 8
+    → m < 8
+    → AreStrangers (reading_of r n).config.granted.grants (reading_of r m).config.granted.grants
 strangers_two r n m is other low high =
-    let R : Option Reading → Option Reading → Type 0 = λ one two. AreStrangers (grants_read one) (grants_read two) in
-    let apart : AreStrangers (grants_read (reading_at r n)) (grants_read (reading_at r m)) = pairs_both R r.readings (λ a b. strangers_back (grants_read a) (grants_read b)) is.strangers n m None other (subst (λ l. n < l) (sym is.eight) low) (subst (λ l. m < l) (sym is.eight) high) in
-    subst (λ (gs : List Grant). AreStrangers gs (reading_of r m).config.granted.grants) (grants_there r n)
+    let R : Option Reading → Option Reading → Type 0 = λ one two. AreStrangers (grants_read one)
+    (grants_read two) in
+    let apart : AreStrangers (grants_read (reading_at r n)) (grants_read (reading_at r m)) =
+    pairs_both R r.readings (λ a b. strangers_back (grants_read a) (grants_read b)) is.strangers
+    n m None other (subst (λ l. n < l) (sym is.eight) low)
+    (subst (λ l. m < l) (sym is.eight) high) in
+    subst (λ (gs : List Grant). AreStrangers gs (reading_of r m).config.granted.grants)
+    (grants_there r n)
     (subst (AreStrangers (grants_read (reading_at r n))) (grants_there r m) apart)
 
-strangers_read : (r : SetReading) → IsSetReading r → AllPairs (λ (p q : NumberedTrace). AreStrangers p.trace.config.granted.grants q.trace.config.granted.grants) (map (partition_read r) r.begun)
+strangers_read :
+    (r : SetReading)
+    → IsSetReading r
+    → AllPairs
+    (λ (p q : NumberedTrace).
+    AreStrangers p.trace.config.granted.grants q.trace.config.granted.grants)
+    (map (partition_read r) r.begun)
 strangers_read r is =
     let below = All-from_recursion (λ n. n < 8) r.begun is.begun.below in
-    pairs_map (λ (p q : NumberedTrace). AreStrangers p.trace.config.granted.grants q.trace.config.granted.grants) (partition_read r) r.begun 8
-    (λ i j before inside. strangers_two r (get_or r.begun i 8) (get_or r.begun j 8) is (is.begun.apart i j 8 before inside) (below i 8 (omega (arith, before, inside))) (below j 8 inside))
+    pairs_map
+    (λ (p q : NumberedTrace).
+    AreStrangers p.trace.config.granted.grants q.trace.config.granted.grants)
+    (partition_read r) r.begun 8
+    (λ i j before inside.
+    strangers_two r (get_or r.begun i 8) (get_or r.begun j 8) is
+    (is.begun.apart i j 8 before inside) (below i 8 (omega (arith, before, inside)))
+    (below j 8 inside))
 
-orders_read : (r : SetReading) (ns : List ℕ) → map (λ (p : NumberedTrace). p.trace.config.order) (map (partition_read r) ns) ≡ map (order_of r) ns
+orders_read :
+    (r : SetReading) (ns : List ℕ)
+    → map (λ (p : NumberedTrace). p.trace.config.order) (map (partition_read r) ns)
+    ≡ map (order_of r) ns
 orders_read r [] = refl
 orders_read r (n ∷ ns) = ap (λ (l : List ℕ). order_of r n ∷ l) (orders_read r ns)
 
-lines_read : (r : SetReading) (k : ℕ) → IsSetReading r → k < length r.begun → map (λ (t : Turn). t.line) (turns_of k r.turns) ≡ range_with_len 0 (length (partition_at (set_read r) k).trace.lines)
+lines_read :
+    (r : SetReading) (k : ℕ)
+    → IsSetReading r
+    → k < length r.begun
+    → map (λ (t : Turn). t.line) (turns_of k r.turns)
+    ≡ range_with_len 0 (length (partition_at (set_read r) k).trace.lines)
 lines_read r k is inside =
     is.lines k inside
-    ∙ ap (λ (p : NumberedTrace). range_with_len 0 (length p.trace.lines)) (sym (get_or-map (partition_read r) r.begun k 8 no_partition inside))
+    ∙ ap (λ (p : NumberedTrace). range_with_len 0 (length p.trace.lines))
+    (sym (get_or-map (partition_read r) r.begun k 8 no_partition inside))
 
 -- ---- the set
-read_accepted : (r : SetReading) → IsSetReading r → 1 ≤ length r.begun → AllByRecursion (λ (p : NumberedTrace). IsAccepted p.trace) (map (partition_read r) r.begun) → IsAcceptedSet (set_read r)
+read_accepted :
+    (r : SetReading)
+    → IsSetReading r
+    → 1 ≤ length r.begun
+    → AllByRecursion (λ (p : NumberedTrace). IsAccepted p.trace) (map (partition_read r) r.begun)
+    → IsAcceptedSet (set_read r)
 read_accepted r is some accepted =
-    let size : length (map (partition_read r) r.begun) ≡ length r.begun = length-map r.begun (partition_read r) in
+    let size : length (map (partition_read r) r.begun) ≡ length r.begun = length-map r.begun
+    (partition_read r) in
     let counted : length r.turns ≤ r.taken = is.counted in
     let few : r.taken ≤ 2 ^ 17 = is.few in
     record {
@@ -131,15 +212,28 @@ read_accepted r is some accepted =
       each = each_of r r.begun is is.begun.below accepted;
       numbers = numbers_read r is;
       strangers = strangers_read r is;
-      room = subst (HasRoomFor (no_blocks r.pool_base r.pool_order)) (sym (orders_read r r.begun)) is.room;
-      turns = weaker (λ (t : Turn). t.partition < length r.begun) (IsTurnOf (set_read r)) r.turns (λ t below. omega (arith, below, size)) is.turns;
+      room =
+          subst (HasRoomFor (no_blocks r.pool_base r.pool_order)) (sym (orders_read r r.begun))
+          is.room;
+      turns =
+          weaker (λ (t : Turn). t.partition < length r.begun) (IsTurnOf (set_read r)) r.turns
+          (λ t below. omega (arith, below, size)) is.turns;
       lines = λ k inside. lines_read r k is (omega (arith, inside, size));
       few = omega (arith, counted, few);
     }
 
 -- A set whose partitions' traces are accepted ones is accepted itself.
-pub ends_accepted : (r : SetReading) (s : AcceptedSet) → IsSetReading r → set_at_end r ≡ Ok s → AllByRecursion (λ (p : NumberedTrace). IsAccepted p.trace) s.partitions → IsAcceptedSet s
+pub ends_accepted :
+    (r : SetReading) (s : AcceptedSet)
+    → IsSetReading r
+    → set_at_end r ≡ Ok s
+    → AllByRecursion (λ (p : NumberedTrace). IsAccepted p.trace) s.partitions
+    → IsAcceptedSet s
 ends_accepted r s is e accepted =
     let ended = has_ended r s e in
-    let traces : AllByRecursion (λ (p : NumberedTrace). IsAccepted p.trace) (map (partition_read r) r.begun) = subst (λ (t : AcceptedSet). AllByRecursion (λ (p : NumberedTrace). IsAccepted p.trace) t.partitions) ended.same accepted in
+    let traces : AllByRecursion (λ (p : NumberedTrace). IsAccepted p.trace)
+    (map (partition_read r) r.begun) = subst
+    (λ (t : AcceptedSet).
+    AllByRecursion (λ (p : NumberedTrace). IsAccepted p.trace) t.partitions) ended.same
+    accepted in
     subst IsAcceptedSet (sym ended.same) (read_accepted r is (some_begun r s is ended) traces)

@@ -13,16 +13,31 @@ use Rattle.lpar_set.specs.SetReadings.{HasBegun, IsBeside, IsSetReading, reading
 
 -- ---- a reading and the others
 -- The reading that was told anew is the partition's.
-pub same_reading : (r : SetReading) (number : ℕ) (new : Reading) → number < length r.readings → reading_of (with_reading r number new) number ≡ new
-same_reading r number new inside = ap (λ o. unwrap_or o (reading_beside r.pool_base r.pool_order)) (get_or-set_same r.readings number (Some new) None inside)
+pub same_reading :
+    (r : SetReading) (number : ℕ) (new : Reading)
+    → number < length r.readings
+    → reading_of (with_reading r number new) number ≡ new
+same_reading r number new inside =
+    ap (λ o. unwrap_or o (reading_beside r.pool_base r.pool_order))
+    (get_or-set_same r.readings number (Some new) None inside)
 
 -- That of another number stays.
-pub other_reading : (r : SetReading) (number m : ℕ) (new : Reading) → m ≢ number → reading_of (with_reading r number new) m ≡ reading_of r m
-other_reading r number m new other = ap (λ o. unwrap_or o (reading_beside r.pool_base r.pool_order)) (get_or-set_other r.readings number m (Some new) None other)
+pub other_reading :
+    (r : SetReading) (number m : ℕ) (new : Reading)
+    → m ≢ number
+    → reading_of (with_reading r number new) m ≡ reading_of r m
+other_reading r number m new other =
+    ap (λ o. unwrap_or o (reading_beside r.pool_base r.pool_order))
+    (get_or-set_other r.readings number m (Some new) None other)
 
 -- ---- numbers that don't occur
-none_at : (r : SetReading) (m : ℕ) → length r.readings ≤ m → reading_of r m ≡ reading_beside r.pool_base r.pool_order
-none_at r m past = ap (λ o. unwrap_or o (reading_beside r.pool_base r.pool_order)) (get_or_past r.readings m None past)
+none_at :
+    (r : SetReading) (m : ℕ)
+    → length r.readings ≤ m
+    → reading_of r m ≡ reading_beside r.pool_base r.pool_order
+none_at r m past =
+    ap (λ o. unwrap_or o (reading_beside r.pool_base r.pool_order))
+    (get_or_past r.readings m None past)
 
 -- One whose `begin` has come occurs.
 pub begun_inside : (r : SetReading) (m : ℕ) → HasBegun r m → m < length r.readings
@@ -31,7 +46,10 @@ begun_inside r m begun = by (cases_lt m (length r.readings)) where
   by (inl inside) = inside
   by (inr past) = absurd (false≢true (rw (none_at r m past) at begun))
 
-begun_option : (base order : ℕ) (o : Option Reading) → is_running (unwrap_or o (reading_beside base order)).stage ≡ true → o ≡ Some (unwrap_or o (reading_beside base order))
+begun_option :
+    (base order : ℕ) (o : Option Reading)
+    → is_running (unwrap_or o (reading_beside base order)).stage ≡ true
+    → o ≡ Some (unwrap_or o (reading_beside base order))
 begun_option base order None begun = absurd (false≢true begun)
 begun_option base order (Some reading) begun = refl
 
@@ -40,36 +58,81 @@ pub begun_there : (r : SetReading) (m : ℕ) → HasBegun r m → reading_at r m
 begun_there r m begun = begun_option r.pool_base r.pool_order (reading_at r m) begun
 
 -- ---- what all have
-beside_option : (base order taken : ℕ) (o : Option Reading) → IfSome o (IsBeside base order taken) → IsBeside base order taken (unwrap_or o (reading_beside base order))
-beside_option base order taken None is = record { base = refl; order = refl; empty = refl; windows = refl; none = λ stopped. refl; behind = omega arith }
+beside_option :
+    (base order taken : ℕ) (o : Option Reading)
+    → IfSome o (IsBeside base order taken)
+    → IsBeside base order taken (unwrap_or o (reading_beside base order))
+beside_option base order taken None is =
+    record {
+      base = refl;
+      order = refl;
+      empty = refl;
+      windows = refl;
+      none = λ stopped. refl;
+      behind = omega arith;
+    }
 beside_option base order taken (Some reading) is = is
 
 -- The reading of a number stands beside the pool, also where it doesn't occur yet.
-pub is_beside : (r : SetReading) (m : ℕ) → IsSetReading r → IsBeside r.pool_base r.pool_order r.taken (reading_of r m)
+pub is_beside :
+    (r : SetReading) (m : ℕ)
+    → IsSetReading r
+    → IsBeside r.pool_base r.pool_order r.taken (reading_of r m)
 is_beside r m is = by (cases_lt m (length r.readings)) where
-  by : (m < length r.readings) ⊎ (length r.readings ≤ m) → IsBeside r.pool_base r.pool_order r.taken (reading_of r m)
-  by (inl inside) = beside_option r.pool_base r.pool_order r.taken (reading_at r m) (All-get_or (λ (o : Option Reading). IfSome o (IsBeside r.pool_base r.pool_order r.taken)) r.readings m None inside (All-from_recursion (λ (o : Option Reading). IfSome o (IsBeside r.pool_base r.pool_order r.taken)) r.readings is.beside))
+  by :
+      (m < length r.readings) ⊎ (length r.readings ≤ m)
+      → IsBeside r.pool_base r.pool_order r.taken (reading_of r m)
+  by (inl inside) =
+      beside_option r.pool_base r.pool_order r.taken (reading_at r m)
+      (All-get_or (λ (o : Option Reading). IfSome o (IsBeside r.pool_base r.pool_order r.taken))
+      r.readings m None inside
+      (All-from_recursion
+      (λ (o : Option Reading). IfSome o (IsBeside r.pool_base r.pool_order r.taken))
+      r.readings is.beside))
   by (inr past) = rw (none_at r m past) (beside_option r.pool_base r.pool_order r.taken None tt)
 
-grants_option : (base order : ℕ) (o : Option Reading) → grants_read o ≡ (unwrap_or o (reading_beside base order)).config.granted.grants
+grants_option :
+    (base order : ℕ) (o : Option Reading)
+    → grants_read o ≡ (unwrap_or o (reading_beside base order)).config.granted.grants
 grants_option base order None = refl
 grants_option base order (Some reading) = refl
 
 -- The grants of a number are those of its reading, none where it doesn't occur.
-pub grants_there : (r : SetReading) (m : ℕ) → grants_read (reading_at r m) ≡ (reading_of r m).config.granted.grants
+pub grants_there :
+    (r : SetReading) (m : ℕ) → grants_read (reading_at r m) ≡ (reading_of r m).config.granted.grants
 grants_there r m = grants_option r.pool_base r.pool_order (reading_at r m)
 
 -- One more reading that stands beside the pool.
-pub beside_set : (readings : List (Option Reading)) (number base order taken : ℕ) (new : Reading) → IsBeside base order taken new → AllByRecursion (λ (o : Option Reading). IfSome o (IsBeside base order taken)) readings → AllByRecursion (λ (o : Option Reading). IfSome o (IsBeside base order taken)) (slice_set readings number (Some new))
+pub beside_set :
+    (readings : List (Option Reading)) (number base order taken : ℕ) (new : Reading)
+    → IsBeside base order taken new
+    → AllByRecursion (λ (o : Option Reading). IfSome o (IsBeside base order taken)) readings
+    → AllByRecursion (λ (o : Option Reading). IfSome o (IsBeside base order taken))
+    (slice_set readings number (Some new))
 beside_set readings number base order taken new is all =
     let Each : Option Reading → Type 0 = λ o. IfSome o (IsBeside base order taken) in
-    recursion_from_All Each (slice_set readings number (Some new)) (All-set Each readings number (Some new) is (All-from_recursion Each readings all))
+    recursion_from_All Each (slice_set readings number (Some new))
+    (All-set Each readings number (Some new) is (All-from_recursion Each readings all))
 
 -- More lines may have been read since.
-pub beside_later : (readings : List (Option Reading)) (base order taken later : ℕ) → taken ≤ later → AllByRecursion (λ (o : Option Reading). IfSome o (IsBeside base order taken)) readings → AllByRecursion (λ (o : Option Reading). IfSome o (IsBeside base order later)) readings
+pub beside_later :
+    (readings : List (Option Reading)) (base order taken later : ℕ)
+    → taken ≤ later
+    → AllByRecursion (λ (o : Option Reading). IfSome o (IsBeside base order taken)) readings
+    → AllByRecursion (λ (o : Option Reading). IfSome o (IsBeside base order later)) readings
 beside_later [] base order taken later most all = tt
-beside_later (None ∷ os) base order taken later most all = (tt, beside_later os base order taken later most all.1)
+beside_later (None ∷ os) base order taken later most all =
+    (tt, beside_later os base order taken later most all.1)
 beside_later (Some reading ∷ os) base order taken later most all =
     let is : IsBeside base order taken reading = all.0 in
-    let behind : reading.taken ≤ taken = is.behind in
-    (record { base = is.base; order = is.order; empty = is.empty; windows = is.windows; none = is.none; behind = omega (arith, behind, most) }, beside_later os base order taken later most all.1)
+    let behind : reading.taken ≤ taken = is.behind in (
+      record {
+        base = is.base;
+        order = is.order;
+        empty = is.empty;
+        windows = is.windows;
+        none = is.none;
+        behind = omega (arith, behind, most);
+      },
+      beside_later os base order taken later most all.1,
+    )

@@ -16,19 +16,34 @@ use Rattle.lpar_set.proofs.MemberSteps.{replied}
 use Rattle.lpar_set.proofs.SetKept.{own_held, line_keeps, opening_keeps}
 
 -- ---- the blocks of the line's partition
-pub own_taken : (w : SetState) (k : ℕ) → IsSetState w → k < length w.members → Contains w.pool.taken (block_at (member_at w k).table.place (member_at w k).table.order)
+pub own_taken :
+    (w : SetState) (k : ℕ)
+    → IsSetState w
+    → k < length w.members
+    → Contains w.pool.taken (block_at (member_at w k).table.place (member_at w k).table.order)
 own_taken w k is inside =
     let m = member_at w k in
-    All-head (Contains w.pool.taken) (block_at m.table.place m.table.order) (pending_blocks m.pending) (own_held w k is inside).held
+    All-head (Contains w.pool.taken) (block_at m.table.place m.table.order)
+    (pending_blocks m.pending) (own_held w k is inside).held
 
-pending_held : (pool : PoolState) (pending : Option PendingTable) → All (Contains pool.taken) (pending_blocks pending) → IsHeld pending pool
+pending_held :
+    (pool : PoolState) (pending : Option PendingTable)
+    → All (Contains pool.taken) (pending_blocks pending)
+    → IsHeld pending pool
 pending_held pool None held = tt
-pending_held pool (Some table) held = All-head (Contains pool.taken) (block_at table.place table.order) [] held
+pending_held pool (Some table) held =
+    All-head (Contains pool.taken) (block_at table.place table.order) [] held
 
-pub own_pending : (w : SetState) (k : ℕ) → IsSetState w → k < length w.members → IsHeld (member_at w k).pending w.pool
+pub own_pending :
+    (w : SetState) (k : ℕ)
+    → IsSetState w
+    → k < length w.members
+    → IsHeld (member_at w k).pending w.pool
 own_pending w k is inside =
     let m = member_at w k in
-    pending_held w.pool m.pending (All-tail (Contains w.pool.taken) (block_at m.table.place m.table.order) (pending_blocks m.pending) (own_held w k is inside).held)
+    pending_held w.pool m.pending
+    (All-tail (Contains w.pool.taken) (block_at m.table.place m.table.order)
+    (pending_blocks m.pending) (own_held w k is inside).held)
 
 -- ---- the set after the line
 -- The set in which this pool and this partition are.
@@ -38,28 +53,69 @@ with_parts w k pool m = record { pool = pool; members = slice_set w.members k m 
 abbrev pub in_set : Reply → SetState → Reply × SetState
 in_set r w = (r, w)
 
-pub set_moved : (w : SetState) (k : ℕ) (m m' : MemberState) (pool' : PoolState) (l : TraceLine) (r : Reply) → m ≡ member_at w k → replied r (with_pool pool' m') ≡ run_on (with_pool w.pool m) l → in_set r (with_parts w k pool' m') ≡ set_line w k l
-set_moved w k m m' pool' l r is moved = ap (λ (x : Reply × Store). in_set x.0 (with_member w k x.1)) (moved ∙ ap (λ (n : MemberState). run_on (with_pool w.pool n) l) is)
+pub set_moved :
+    (w : SetState) (k : ℕ) (m m' : MemberState) (pool' : PoolState) (l : TraceLine) (r : Reply)
+    → m ≡ member_at w k
+    → replied r (with_pool pool' m') ≡ run_on (with_pool w.pool m) l
+    → in_set r (with_parts w k pool' m') ≡ set_line w k l
+set_moved w k m m' pool' l r is moved =
+    ap (λ (x : Reply × Store). in_set x.0 (with_member w k x.1))
+    (moved ∙ ap (λ (n : MemberState). run_on (with_pool w.pool n) l) is)
 
 -- Where nothing changes.
-pub same_parts : (w : SetState) (k : ℕ) (m m' : MemberState) (pool' : PoolState) → m ≡ member_at w k → m' ≡ m → pool' ≡ w.pool → with_parts w k pool' m' ≡ w
+pub same_parts :
+    (w : SetState) (k : ℕ) (m m' : MemberState) (pool' : PoolState)
+    → m ≡ member_at w k
+    → m' ≡ m
+    → pool' ≡ w.pool
+    → with_parts w k pool' m' ≡ w
 same_parts w k m m' pool' is same same_pool =
-    let members : slice_set w.members k m' ≡ w.members = ap (slice_set w.members k) (same ∙ is) ∙ set-get_or w.members k no_member in
+    let members : slice_set w.members k m' ≡ w.members = ap (slice_set w.members k) (same ∙ is) ∙
+    set-get_or w.members k no_member in
     λ i. record { pool = same_pool i; members = members i }
 
-pub still_set : {E : Type 0} (result : Result Unit E) (w : SetState) (k : ℕ) (m m' : MemberState) (pool' : PoolState) (l : TraceLine) (r : Reply) → IsSetState w → k < length w.members → m ≡ member_at w k → OnOk result (replied r (with_pool pool' m') ≡ run_on (with_pool w.pool m) l) → OnErr result (m' ≡ m) → OnErr result (pool' ≡ w.pool) → IsSetState (with_parts w k pool' m')
-still_set (Ok x) w k m m' pool' l r between inside is moved same same_pool = subst IsSetState (sym (ap (λ (x : Reply × SetState). x.1) (set_moved w k m m' pool' l r is moved))) (line_keeps w k l between inside)
-still_set (Err e) w k m m' pool' l r between inside is moved same same_pool = subst IsSetState (sym (same_parts w k m m' pool' is same same_pool)) between
+pub still_set :
+    {E : Type 0} (result : Result Unit E) (w : SetState) (k : ℕ) (m m' : MemberState)
+    (pool' : PoolState) (l : TraceLine) (r : Reply)
+    → IsSetState w
+    → k < length w.members
+    → m ≡ member_at w k
+    → OnOk result (replied r (with_pool pool' m') ≡ run_on (with_pool w.pool m) l)
+    → OnErr result (m' ≡ m)
+    → OnErr result (pool' ≡ w.pool)
+    → IsSetState (with_parts w k pool' m')
+still_set (Ok x) w k m m' pool' l r between inside is moved same same_pool =
+    subst IsSetState
+    (sym (ap (λ (x : Reply × SetState). x.1) (set_moved w k m m' pool' l r is moved)))
+    (line_keeps w k l between inside)
+still_set (Err e) w k m m' pool' l r between inside is moved same same_pool =
+    subst IsSetState (sym (same_parts w k m m' pool' is same same_pool)) between
 
 -- ---- the beginning
 abbrev pub set_of : PoolState → List MemberState → SetState
 set_of pool members = record { pool = pool; members = members }
 
-opened_set : (s : AcceptedSet) (pool pool' : PoolState) (ps : List NumberedTrace) (members : List MemberState) → pool ≡ no_blocks s.pool_base s.pool_order → ps ≡ s.partitions → members ≡ opening_members pool ps → pool' ≡ opening_pool pool ps → set_of pool' members ≡ opening_set s
+opened_set :
+    (s : AcceptedSet) (pool pool' : PoolState) (ps : List NumberedTrace)
+    (members : List MemberState)
+    → pool ≡ no_blocks s.pool_base s.pool_order
+    → ps ≡ s.partitions
+    → members ≡ opening_members pool ps
+    → pool' ≡ opening_pool pool ps
+    → set_of pool' members ≡ opening_set s
 opened_set s pool pool' ps members begins all opened taken =
     (λ i. set_of (taken i) (opened i))
     ∙ (λ i. set_of (opening_pool (begins i) (all i)) (opening_members (begins i) (all i)))
 
-pub opened_keeps : (s : AcceptedSet) (pool pool' : PoolState) (ps : List NumberedTrace) (members : List MemberState) → IsAcceptedSet s → pool ≡ no_blocks s.pool_base s.pool_order → ps ≡ s.partitions → members ≡ opening_members pool ps → pool' ≡ opening_pool pool ps → IsSetState (set_of pool' members)
+pub opened_keeps :
+    (s : AcceptedSet) (pool pool' : PoolState) (ps : List NumberedTrace)
+    (members : List MemberState)
+    → IsAcceptedSet s
+    → pool ≡ no_blocks s.pool_base s.pool_order
+    → ps ≡ s.partitions
+    → members ≡ opening_members pool ps
+    → pool' ≡ opening_pool pool ps
+    → IsSetState (set_of pool' members)
 opened_keeps s pool pool' ps members is begins all opened taken =
-    subst IsSetState (sym (opened_set s pool pool' ps members begins all opened taken)) (opening_keeps s is)
+    subst IsSetState (sym (opened_set s pool pool' ps members begins all opened taken))
+    (opening_keeps s is)

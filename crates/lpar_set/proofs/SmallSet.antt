@@ -69,7 +69,8 @@ abbrev pub small_set : AcceptedSet
 small_set = record {
   pool_base = 0x1000000000;
   pool_order = 19;
-  partitions = small_partition 2 0x2000000000 lower_lines ∷ small_partition 5 0x3000000000 higher_lines ∷ [];
+  partitions =
+      small_partition 2 0x2000000000 lower_lines ∷ small_partition 5 0x3000000000 higher_lines ∷ [];
   turns = turn 0 0 ∷ turn 1 0 ∷ turn 0 1 ∷ turn 1 1 ∷ turn 1 2 ∷ turn 0 2 ∷ turn 1 3 ∷ [];
 }
 

@@ -12,19 +12,28 @@ use Rattle.lpar_set.specs.SetGrammar.{begun_at}
 
 -- ---- one more turn
 -- One of another partition.
-pub other_turn : (k : ℕ) (turns : List Turn) (t : Turn) → t.partition ≢ k → turns_of k (turns ++ t ∷ []) ≡ turns_of k turns
+pub other_turn :
+    (k : ℕ) (turns : List Turn) (t : Turn)
+    → t.partition ≢ k
+    → turns_of k (turns ++ t ∷ []) ≡ turns_of k turns
 other_turn k turns t other =
     filter-append (λ (t : Turn). eqb t.partition k) turns (t ∷ [])
     ∙ rw (ne_eqb t.partition k other) (append-nil (turns_of k turns))
 
 -- One of this.
-pub own_turn : (k : ℕ) (turns : List Turn) (t : Turn) → t.partition ≡ k → turns_of k (turns ++ t ∷ []) ≡ turns_of k turns ++ t ∷ []
+pub own_turn :
+    (k : ℕ) (turns : List Turn) (t : Turn)
+    → t.partition ≡ k
+    → turns_of k (turns ++ t ∷ []) ≡ turns_of k turns ++ t ∷ []
 own_turn k turns t same =
     filter-append (λ (t : Turn). eqb t.partition k) turns (t ∷ [])
     ∙ rw (eq-eqb t.partition k same) refl
 
 -- A partition behind all that have turns has none.
-pub no_turns : (k : ℕ) (turns : List Turn) → AllByRecursion (λ (t : Turn). t.partition < k) turns → turns_of k turns ≡ []
+pub no_turns :
+    (k : ℕ) (turns : List Turn)
+    → AllByRecursion (λ (t : Turn). t.partition < k) turns
+    → turns_of k turns ≡ []
 no_turns k [] below = refl
 no_turns k (t ∷ ts) below =
     let other : t.partition ≢ k = λ same. omega (arith, below.0, same) in
@@ -38,7 +47,11 @@ range_push n =
     ∙ ap (λ (l : List ℕ). l ++ n ∷ []) (map-id (range_with_len 0 n))
 
 -- Lines that were numbered from 0 on, and the next.
-pub lines_push : (turns : List Turn) (t : Turn) (n : ℕ) → map (λ (t : Turn). t.line) turns ≡ range_with_len 0 n → t.line ≡ n → map (λ (t : Turn). t.line) (turns ++ t ∷ []) ≡ range_with_len 0 (n + 1)
+pub lines_push :
+    (turns : List Turn) (t : Turn) (n : ℕ)
+    → map (λ (t : Turn). t.line) turns ≡ range_with_len 0 n
+    → t.line ≡ n
+    → map (λ (t : Turn). t.line) (turns ++ t ∷ []) ≡ range_with_len 0 (n + 1)
 lines_push turns t n so next =
     map-append (λ (t : Turn). t.line) turns (t ∷ [])
     ∙ ap (λ (l : List ℕ). l ++ t.line ∷ []) so
@@ -54,8 +67,17 @@ pub record StandsAt (begun : List ℕ) (number : ℕ) : Type 0 where
 -- Where a list has a number, that stands at the place which is looked up.
 pub stands_at : (begun : List ℕ) (number : ℕ) → Contains begun number → StandsAt begun number
 stands_at begun number there = by (cases_lt (begun_at begun number) (length begun)) where
-  by : (begun_at begun number < length begun) ⊎ (length begun ≤ begun_at begun number) → StandsAt begun number
-  by (inl inside) = record { inside = inside; here = λ d. eqb-true _ _ (passes_at_first (λ n. eqb n number) begun d inside) }
+  by :
+      (begun_at begun number < length begun) ⊎ (length begun ≤ begun_at begun number)
+      → StandsAt begun number
+  by (inl inside) =
+      record {
+        inside = inside;
+        here = λ d. eqb-true _ _ (passes_at_first (λ n. eqb n number) begun d inside);
+      }
   by (inr past) =
       let before : there.0 < begun_at begun number = omega (arith, past, there.1) in
-      absurd (false≢true (sym (fails_before_first (λ n. eqb n number) begun there.0 number before) ∙ eq-eqb _ _ there.2))
+      absurd
+      (false≢true
+      (sym (fails_before_first (λ n. eqb n number) begun there.0 number before)
+      ∙ eq-eqb _ _ there.2))

@@ -8,15 +8,22 @@ use Rattle.std.specs.Io.{StartsWith}
 pub starts_before : (old more new : List ℕ) → StartsWith new (old ++ more) → StartsWith new old
 starts_before old more new starts =
     let shorter : length old ≤ length (old ++ more) = omega (arith, length-append old more) in
-    sym (take-take (length old) (length (old ++ more)) new shorter) ∙ ap (take (length old)) starts ∙ take-append_seam old more
+    sym (take-take (length old) (length (old ++ more)) new shorter)
+    ∙ ap (take (length old)) starts
+    ∙ take-append_seam old more
 
 -- A text that starts with another still does with more behind it.
 pub starts_still : (old new more : List ℕ) → StartsWith new old → StartsWith (new ++ more) old
 starts_still old new more starts =
-    let shorter : length old ≤ length new = omega (arith, ap length starts, length-take (length old) new) in
+    let shorter : length old ≤ length new = omega
+    (arith, ap length starts, length-take (length old) new) in
     take-append-le (length old) new more shorter ∙ starts
 
 -- What `push_str` says where it appends.
-pub OnOk-push_str : {T E : Type 0} (r : Result T E) (old more new text : List ℕ) → new ≡ (if is_ok r then old ++ more else old) → more ≡ text → OnOk r (new ≡ old ++ text)
+pub OnOk-push_str :
+    {T E : Type 0} (r : Result T E) (old more new text : List ℕ)
+    → new ≡ (if is_ok r then old ++ more else old)
+    → more ≡ text
+    → OnOk r (new ≡ old ++ text)
 OnOk-push_str (Ok x) old more new text pushed same = pushed ∙ ap (λ xs. old ++ xs) same
 OnOk-push_str (Err e) old more new text pushed same = tt

@@ -30,7 +30,10 @@ no_memory = record { status = 5; length = 0 }
 abbrev pub handed : Status → List ℕ → List ℕ → CallEnd × List ℕ
 handed status text place =
     if nat_le (length text) (length place)
-    then (record { status = status_number status; length = length text }, text ++ drop (length text) place)
+    then (
+      record { status = status_number status; length = length text },
+      text ++ drop (length text) place,
+    )
     else (record { status = 7; length = length text }, place)
 
 -- The input is all that the source has, and the text is all that the sink took.

@@ -25,13 +25,21 @@ use Rattle.papr_top.specs.ImageLines.{with_lfs}
 
 -- ---- cutting
 -- Up to the first separator.
-cut_at : (p : ℕ → Bool) (end : ℕ) (xs rest : List ℕ) → p end ≡ true → AllByRecursion (λ c. p c ≡ false) xs → slice_split p (xs ++ end ∷ rest) ≡ xs ∷ slice_split p rest
+cut_at :
+    (p : ℕ → Bool) (end : ℕ) (xs rest : List ℕ)
+    → p end ≡ true
+    → AllByRecursion (λ c. p c ≡ false) xs
+    → slice_split p (xs ++ end ∷ rest) ≡ xs ∷ slice_split p rest
 cut_at p end [] rest is none = slice_split-cons_yes p end rest is
-cut_at p end (x ∷ xs) rest is none = slice_split-cons_no p x (xs ++ end ∷ rest) none.0 ∙ ap (onto_first x) (cut_at p end xs rest is none.1)
+cut_at p end (x ∷ xs) rest is none =
+    slice_split-cons_no p x (xs ++ end ∷ rest) none.0
+    ∙ ap (onto_first x) (cut_at p end xs rest is none.1)
 
-cut_none : (p : ℕ → Bool) (xs : List ℕ) → AllByRecursion (λ c. p c ≡ false) xs → slice_split p xs ≡ xs ∷ []
+cut_none :
+    (p : ℕ → Bool) (xs : List ℕ) → AllByRecursion (λ c. p c ≡ false) xs → slice_split p xs ≡ xs ∷ []
 cut_none p [] none = refl
-cut_none p (x ∷ xs) none = slice_split-cons_no p x xs none.0 ∙ ap (onto_first x) (cut_none p xs none.1)
+cut_none p (x ∷ xs) none =
+    slice_split-cons_no p x xs none.0 ∙ ap (onto_first x) (cut_none p xs none.1)
 
 -- ---- lines
 -- The last LF is no line's begin.
@@ -45,28 +53,42 @@ between : List ℕ → List (List ℕ) → List ℕ
 between line [] = line
 between line (next ∷ rest) = line ++ 10 ∷ between next rest
 
-with_last : (line : List ℕ) (rest : List (List ℕ)) → with_lfs (line ∷ rest) ≡ between line rest ++ 10 ∷ []
+with_last :
+    (line : List ℕ) (rest : List (List ℕ)) → with_lfs (line ∷ rest) ≡ between line rest ++ 10 ∷ []
 unfolding between
 with_last line [] = refl
-with_last line (next ∷ rest) = ap (λ x. line ++ 10 ∷ x) (with_last next rest) ∙ sym (append_assoc line (10 ∷ between next rest) (10 ∷ []))
+with_last line (next ∷ rest) =
+    ap (λ x. line ++ 10 ∷ x) (with_last next rest)
+    ∙ sym (append_assoc line (10 ∷ between next rest) (10 ∷ []))
 
 -- No byte of it ends a line.
 abbrev pub IsLine : List ℕ → Type 0
 IsLine line = AllByRecursion (λ c. is_lf c ≡ false) line
 
-cut_between : (line : List ℕ) (rest : List (List ℕ)) → IsLine line → AllByRecursion IsLine rest → slice_split is_lf (between line rest) ≡ line ∷ rest
+cut_between :
+    (line : List ℕ) (rest : List (List ℕ))
+    → IsLine line
+    → AllByRecursion IsLine rest
+    → slice_split is_lf (between line rest) ≡ line ∷ rest
 unfolding between
 cut_between line [] one others = cut_none is_lf line one
-cut_between line (next ∷ rest) one others = cut_at is_lf 10 line (between next rest) refl one ∙ ap (λ x. line ∷ x) (cut_between next rest others.0 others.1)
+cut_between line (next ∷ rest) one others =
+    cut_at is_lf 10 line (between next rest) refl one
+    ∙ ap (λ x. line ∷ x) (cut_between next rest others.0 others.1)
 
 some_lines : (xs : List ℕ) → 0 < length xs → raw_lines xs ≡ slice_split is_lf (without_last 10 xs)
 some_lines [] some = absurd (omega (arith, some))
 some_lines (x ∷ xs) some = refl
 
-lines_back : (line : List ℕ) (rest : List (List ℕ)) → IsLine line → AllByRecursion IsLine rest → raw_lines (with_lfs (line ∷ rest)) ≡ line ∷ rest
+lines_back :
+    (line : List ℕ) (rest : List (List ℕ))
+    → IsLine line
+    → AllByRecursion IsLine rest
+    → raw_lines (with_lfs (line ∷ rest)) ≡ line ∷ rest
 lines_back line rest one others =
     ap raw_lines (with_last line rest)
-    ∙ some_lines (between line rest ++ 10 ∷ []) (omega (arith, length-append (between line rest) (10 ∷ [])))
+    ∙ some_lines (between line rest ++ 10 ∷ [])
+    (omega (arith, length-append (between line rest) (10 ∷ [])))
     ∙ ap (slice_split is_lf) (last_dropped (between line rest))
     ∙ cut_between line rest one others
 
@@ -77,7 +99,9 @@ lines_again (l ∷ ls) all = lines_back l ls all.0 all.1
 
 pub lines_joined : (xs ys : List (List ℕ)) → with_lfs (xs ++ ys) ≡ with_lfs xs ++ with_lfs ys
 lines_joined [] ys = refl
-lines_joined (x ∷ xs) ys = ap (λ z. x ++ 10 ∷ z) (lines_joined xs ys) ∙ sym (append_assoc x (10 ∷ with_lfs xs) (with_lfs ys))
+lines_joined (x ∷ xs) ys =
+    ap (λ z. x ++ 10 ∷ z) (lines_joined xs ys)
+    ∙ sym (append_assoc x (10 ∷ with_lfs xs) (with_lfs ys))
 
 -- ---- the bytes of words
 -- A byte that may stand in a word.
@@ -100,24 +124,43 @@ not_blank (x ∷ xs) word =
     ((grind (arith, nat_tests, low)), not_blank xs word.1)
 
 -- One word and a blank, or a word at the end, in front of the others.
-first_word : (word : List ℕ) (rest : List (List ℕ)) → 0 < length word → filter (λ w. not (length w == 0)) (word ∷ rest) ≡ word ∷ filter (λ w. not (length w == 0)) rest
+first_word :
+    (word : List ℕ) (rest : List (List ℕ))
+    → 0 < length word
+    → filter (λ w. not (length w == 0)) (word ∷ rest)
+    ≡ word ∷ filter (λ w. not (length w == 0)) rest
 first_word [] rest some = absurd (omega (arith, some))
 first_word (x ∷ xs) rest some = rw (eqb-suc-zero (length xs)) refl
 
-word_cut : (word rest : List ℕ) → 0 < length word → IsWord word → words_of (word ++ 32 ∷ rest) ≡ word ∷ words_of rest
+word_cut :
+    (word rest : List ℕ)
+    → 0 < length word
+    → IsWord word
+    → words_of (word ++ 32 ∷ rest) ≡ word ∷ words_of rest
 word_cut word rest some is =
     ap (filter (λ w. not (length w == 0))) (cut_at is_blank 32 word rest refl (not_blank word is))
     ∙ first_word word (slice_split is_blank rest) some
 
 word_left : (word : List ℕ) → 0 < length word → IsWord word → words_of word ≡ word ∷ []
 word_left word some is =
-    ap (filter (λ w. not (length w == 0))) (cut_none is_blank word (not_blank word is)) ∙ first_word word [] some
+    ap (filter (λ w. not (length w == 0))) (cut_none is_blank word (not_blank word is))
+    ∙ first_word word [] some
 
 -- Four words with a blank between each two.
 abbrev pub four_words : List ℕ → List ℕ → List ℕ → List ℕ → List ℕ
 four_words a b c d = a ++ 32 ∷ (b ++ 32 ∷ (c ++ 32 ∷ d))
 
-pub words_back : (a b c d : List ℕ) → 0 < length a → 0 < length b → 0 < length c → 0 < length d → IsWord a → IsWord b → IsWord c → IsWord d → words_of (four_words a b c d) ≡ a ∷ b ∷ c ∷ d ∷ []
+pub words_back :
+    (a b c d : List ℕ)
+    → 0 < length a
+    → 0 < length b
+    → 0 < length c
+    → 0 < length d
+    → IsWord a
+    → IsWord b
+    → IsWord c
+    → IsWord d
+    → words_of (four_words a b c d) ≡ a ∷ b ∷ c ∷ d ∷ []
 words_back a b c d some_a some_b some_c some_d is_a is_b is_c is_d =
     word_cut a (b ++ 32 ∷ (c ++ 32 ∷ d)) some_a is_a
     ∙ ap (λ x. a ∷ x) (word_cut b (c ++ 32 ∷ d) some_b is_b
@@ -143,9 +186,17 @@ word_then (x ∷ xs) rest is text =
     let low : 33 ≤ x = is.0.low in
     (record { low = omega arith; high = is.0.high }, word_then xs rest is.1 text)
 
-pub four_text : (a b c d : List ℕ) → IsWord a → IsWord b → IsWord c → IsWord d → IsText (four_words a b c d)
+pub four_text :
+    (a b c d : List ℕ) → IsWord a → IsWord b → IsWord c → IsWord d → IsText (four_words a b c d)
 four_text a b c d is_a is_b is_c is_d =
-    word_then a _ is_a (blank_byte, word_then b _ is_b (blank_byte, word_then c _ is_c (blank_byte, subst IsText (append_nil_of d) (word_then d [] is_d tt)))) where
+    word_then a _ is_a (
+      blank_byte,
+      word_then b _ is_b (
+        blank_byte,
+        word_then c _ is_c
+            (blank_byte, subst IsText (append_nil_of d) (word_then d [] is_d tt)),
+      ),
+    ) where
       append_nil_of : (xs : List ℕ) → xs ++ [] ≡ xs
       append_nil_of [] = refl
       append_nil_of (x ∷ xs) = ap (λ z. x ∷ z) (append_nil_of xs)
@@ -179,7 +230,8 @@ text_whole xs text = by (slice_index xs (length xs - 1) == 13) refl where
 -- ---- the words of an entry's line
 -- A digit of either case is a byte of words.
 digit_byte : (c : ℕ) → digit_value c < 16 → IsWordByte c
-digit_byte c small = record { low = grind (arith, nat_tests, small); high = grind (arith, nat_tests, small) }
+digit_byte c small =
+    record { low = grind (arith, nat_tests, small); high = grind (arith, nat_tests, small) }
 
 digits_word : (ds : List ℕ) → AllDigits 16 ds → IsWord ds
 digits_word [] all = tt
@@ -188,7 +240,11 @@ digits_word (d ∷ ds) all = (digit_byte d all.0, digits_word ds all.1)
 pub hex_word : (n : ℕ) → n < 2 ^ 32 → IsWord (hex n)
 hex_word n small =
     let numeral = digits_is_IsNumeral 16 false (omega arith) (omega arith) n (omega arith) in
-    joined_words (codes "0x") (digits 16 false n) (record { low = omega arith; high = omega arith }, (record { low = omega arith; high = omega arith }, tt)) (digits_word (digits 16 false n) numeral.0.1)
+    joined_words (codes "0x") (digits 16 false n) (
+      record { low = omega arith; high = omega arith },
+      (record { low = omega arith; high = omega arith }, tt),
+    )
+    (digits_word (digits 16 false n) numeral.0.1)
 
 -- One of the sixteen digits.
 all_digits : IsWord lower_digits
@@ -201,8 +257,13 @@ all_digits = by lower_digits refl where
   each [] is = tt
   each (x ∷ xs) is =
       let parts = and_parts (nat_le 33 x) (nat_le x 126 && checked xs) is in
-      let others = and_parts (nat_le x 126) (checked xs) parts.1 in
-      (record { low = grind (arith, nat_tests, parts.0); high = grind (arith, nat_tests, others.0) }, each xs others.1)
+      let others = and_parts (nat_le x 126) (checked xs) parts.1 in (
+        record {
+          low = grind (arith, nat_tests, parts.0);
+          high = grind (arith, nat_tests, others.0);
+        },
+        each xs others.1,
+      )
 
   by : (xs : List ℕ) → checked xs ≡ true → IsWord xs
   by = each
@@ -216,8 +277,13 @@ encoded_word : (bytes : List ℕ) → IsBytes bytes → IsWord (encode_with lowe
 unfolding encode_with
 encoded_word [] small = tt
 encoded_word (b ∷ rest) small =
-    let byte : b < 256 = small 0 in
-    (at_place lower_digits (b / 16) (omega arith) all_digits, (at_place lower_digits (b % 16) (omega arith) all_digits, encoded_word rest (λ i. small (suc i))))
+    let byte : b < 256 = small 0 in (
+      at_place lower_digits (b / 16) (omega arith) all_digits,
+      (
+        at_place lower_digits (b % 16) (omega arith) all_digits,
+        encoded_word rest (λ i. small (suc i)),
+      ),
+    )
 
 byte_small : (k x : ℕ) → byte_at k x < 256
 byte_small zero x = omega arith
@@ -239,25 +305,73 @@ pub record AreDigits (digits : List ℕ) : Type 0 where
 spelt : (w : ℕ × ℕ) → AreDigits (digits_of_words w)
 unfolding encode_with
 spelt w =
-    let none = subst IsBytes (append-nil (bytes_high_first 8 w.1)) (bytes_of_number 8 w.1 [] no_bytes) in
-    record { some = omega arith; word = encoded_word (bytes_high_first 8 w.0 ++ bytes_high_first 8 w.1) (bytes_of_number 8 w.0 (bytes_high_first 8 w.1) none) }
+    let none = subst IsBytes (append-nil (bytes_high_first 8 w.1))
+    (bytes_of_number 8 w.1 [] no_bytes) in
+    record {
+      some = omega arith;
+      word =
+          encoded_word (bytes_high_first 8 w.0 ++ bytes_high_first 8 w.1)
+          (bytes_of_number 8 w.0 (bytes_high_first 8 w.1) none);
+    }
 
-laid_spelt : (o : Option (ℕ × ℕ)) (digits : List ℕ) → option_map digits_of_words o ≡ Some digits → AreDigits digits
+laid_spelt :
+    (o : Option (ℕ × ℕ)) (digits : List ℕ)
+    → option_map digits_of_words o ≡ Some digits
+    → AreDigits digits
 laid_spelt (Some w) digits e =
     let same : digits_of_words w ≡ digits = cc in
     subst AreDigits same (spelt w)
 laid_spelt None digits e = cc
 
-pub digits_spelt : (layout : Layout) (w : ℕ × ℕ) (digits : List ℕ) → entry_digits layout w ≡ Some digits → AreDigits digits
+pub digits_spelt :
+    (layout : Layout) (w : ℕ × ℕ) (digits : List ℕ)
+    → entry_digits layout w ≡ Some digits
+    → AreDigits digits
 unfolding entry_digits
 digits_spelt layout w digits e = laid_spelt (laid_out layout w) digits e
 
 pub layout_spelt : (layout : Layout) → AreDigits (layout_word layout)
-layout_spelt Old = record { some = omega arith; word = (record { low = omega arith; high = omega arith }, (record { low = omega arith; high = omega arith }, (record { low = omega arith; high = omega arith }, tt))) }
-layout_spelt New = record { some = omega arith; word = (record { low = omega arith; high = omega arith }, (record { low = omega arith; high = omega arith }, (record { low = omega arith; high = omega arith }, tt))) }
+layout_spelt Old =
+    record {
+      some = omega arith;
+      word = (
+        record { low = omega arith; high = omega arith },
+        (
+          record { low = omega arith; high = omega arith },
+          (record { low = omega arith; high = omega arith }, tt),
+        ),
+      );
+    }
+layout_spelt New =
+    record {
+      some = omega arith;
+      word = (
+        record { low = omega arith; high = omega arith },
+        (
+          record { low = omega arith; high = omega arith },
+          (record { low = omega arith; high = omega arith }, tt),
+        ),
+      );
+    }
 
 pub entry_spelt : AreDigits (codes "entry")
-entry_spelt = record { some = omega arith; word = (record { low = omega arith; high = omega arith }, (record { low = omega arith; high = omega arith }, (record { low = omega arith; high = omega arith }, (record { low = omega arith; high = omega arith }, (record { low = omega arith; high = omega arith }, tt))))) }
+entry_spelt =
+    record {
+      some = omega arith;
+      word = (
+        record { low = omega arith; high = omega arith },
+        (
+          record { low = omega arith; high = omega arith },
+          (
+            record { low = omega arith; high = omega arith },
+            (
+              record { low = omega arith; high = omega arith },
+              (record { low = omega arith; high = omega arith }, tt),
+            ),
+          ),
+        ),
+      );
+    }
 
 pub hex_spelt : (n : ℕ) → n < 2 ^ 32 → AreDigits (hex n)
 hex_spelt n small = record { some = omega arith; word = hex_word n small }

@@ -8,8 +8,15 @@ use Rattle.papr_edge.specs.Reading.{IsParsedInput}
 use Rattle.papr_edge.proofs.JudgedInputs.{by_parts}
 
 -- With a trace that is refused.
-pub trace_refused : (bytes trace text : List ℕ) (error : NoInput) → length bytes ≤ 2 ^ 24 → cut_of bytes ≡ Some (trace, text) → IsParsedInput (Err error) (trace_input trace) → IsParsedInput (Err error) (judged_input bytes)
+pub trace_refused :
+    (bytes trace text : List ℕ) (error : NoInput)
+    → length bytes ≤ 2 ^ 24
+    → cut_of bytes ≡ Some (trace, text)
+    → IsParsedInput (Err error) (trace_input trace)
+    → IsParsedInput (Err error) (judged_input bytes)
 trace_refused bytes trace text (missing.Refused line reason) within parts said =
-    by_parts bytes within ∙ ap (judged_parts (length (raw_lines bytes))) parts ∙ ap (with_text text) said
+    by_parts bytes within
+    ∙ ap (judged_parts (length (raw_lines bytes))) parts
+    ∙ ap (with_text text) said
 trace_refused bytes trace text missing.Fault within parts said = tt
 trace_refused bytes trace text missing.Memory within parts said = tt

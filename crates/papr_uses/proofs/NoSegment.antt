@@ -25,10 +25,19 @@ no_segment : (ea : ℕ) → segment_of no_slots ea ≡ None
 unfolding no_slots segment_of
 no_segment ea = refl
 
-pub replied : (context : AccessContext) (cached : VirtualPage → Option Line) (a : Request) (ea : ℕ) (slots : List (Option Slot)) (r : AccessReply) → slots ≡ no_slots → IsAccessReply context cached a (segment_of slots ea) r → r ≡ no_segment_reply
+pub replied :
+    (context : AccessContext) (cached : VirtualPage → Option Line) (a : Request) (ea : ℕ)
+    (slots : List (Option Slot)) (r : AccessReply)
+    → slots ≡ no_slots
+    → IsAccessReply context cached a (segment_of slots ea) r
+    → r ≡ no_segment_reply
 replied context cached a ea slots r none reply =
-    let at_none : IsAccessReply context cached a (segment_of no_slots ea) r = subst (λ (s : List (Option Slot)). IsAccessReply context cached a (segment_of s ea) r) none reply in
-    subst (λ (segment : Option Segment). IsAccessReply context cached a segment r) (no_segment ea) at_none
+    let at_none : IsAccessReply context cached a (segment_of no_slots ea) r = subst
+    (λ (s : List (Option Slot)). IsAccessReply context cached a (segment_of s ea) r) none reply
+    in
+    subst (λ (segment : Option Segment). IsAccessReply context cached a segment r) (no_segment ea)
+    at_none
 
-pub nothing_made : (old new : List State) (rs : List Receipt) → rs ≡ [] → IsRun old rs new → new ≡ old
+pub nothing_made :
+    (old new : List State) (rs : List Receipt) → rs ≡ [] → IsRun old rs new → new ≡ old
 nothing_made old new rs none made = subst (λ (xs : List Receipt). IsRun old xs new) none made

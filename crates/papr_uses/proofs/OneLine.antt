@@ -15,7 +15,9 @@ bool_self false = refl
 page_self : (page : VirtualPage) → same_page page page ≡ true
 unfolding same_page
 page_self page =
-    and_from _ _ (and_from _ _ (and_from _ _ (bool_self page.one_tb) (eq-eqb page.vsid page.vsid refl)) (eq-eqb page.shift page.shift refl)) (eq-eqb page.index page.index refl)
+    and_from _ _
+    (and_from _ _ (and_from _ _ (bool_self page.one_tb) (eq-eqb page.vsid page.vsid refl))
+    (eq-eqb page.shift page.shift refl)) (eq-eqb page.index page.index refl)
 
 -- The page's set is one of the 32.
 within : (page : VirtualPage) → set_number page < 32
@@ -27,7 +29,8 @@ unfolding empty_cache
 none_of page = get_or-replicate 32 (set_number page) [] [] (within page)
 
 -- The set of a page that was made into these lines.
-made_set : (page : VirtualPage) (lines : List Line) → set_of (with_set page lines empty_cache) page ≡ lines
+made_set :
+    (page : VirtualPage) (lines : List Line) → set_of (with_set page lines empty_cache) page ≡ lines
 unfolding empty_cache
 made_set page lines = get_or-set_same (replicate 32 []) (set_number page) lines [] (within page)
 
@@ -40,17 +43,24 @@ abbrev pub with_line : Line → List (List Line)
 with_line line = with_set line.page (put_last line (set_of empty_cache line.page)) empty_cache
 
 one_line : (line : Line) → set_of (with_line line) line.page ≡ line ∷ []
-one_line line = made_set line.page (put_last line (set_of empty_cache line.page)) ∙ ap (put_last line) (none_of line.page)
+one_line line =
+    made_set line.page (put_last line (set_of empty_cache line.page))
+    ∙ ap (put_last line) (none_of line.page)
 
 pub one_cached : (line : Line) → cached_line (with_line line) line.page ≡ Some line
 unfolding cached_line
 one_cached line = ap (line_of_page line.page) (one_line line) ∙ rw (page_self line.page) refl
 
 -- From which it is dropped.
-pub dropped_again : (line : Line) → with_set line.page (without_page line.page (set_of (with_line line) line.page)) (with_line line) ≡ empty_cache
+pub dropped_again :
+    (line : Line)
+    → with_set line.page (without_page line.page (set_of (with_line line) line.page))
+    (with_line line)
+    ≡ empty_cache
 unfolding empty_cache
 dropped_again line =
-    let none : without_page line.page (set_of (with_line line) line.page) ≡ [] = ap (without_page line.page) (one_line line) ∙ rw (page_self line.page) refl in
+    let none : without_page line.page (set_of (with_line line) line.page) ≡ [] = ap
+    (without_page line.page) (one_line line) ∙ rw (page_self line.page) refl in
     ap (λ (lines : List Line). with_set line.page lines (with_line line)) none
     ∙ set-set empty_cache (set_number line.page) (put_last line (set_of empty_cache line.page)) []
     ∙ ap (λ (lines : List Line). with_set line.page lines empty_cache) (sym (none_of line.page))

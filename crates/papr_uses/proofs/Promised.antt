@@ -5,7 +5,18 @@ use Rattle.trace_reply.specs.declared.reply.Reply.{Reply}
 use Rattle.papr_uses.specs.Promises.{Promise, PutsReplies}
 
 -- The replies keep each promise that follows from one that they keep.
-pub keeps_also : {D : Type 0} {P Q : Promise} {bytes : List ℕ} {old new : Option (List ℕ)} → ((t : AcceptedTrace) (rs : List Reply) → P t rs → Q t rs) → (D → PutsReplies P bytes old new) → D → PutsReplies Q bytes old new
+pub keeps_also :
+    {D : Type 0} {P Q : Promise} {bytes : List ℕ} {old new : Option (List ℕ)}
+    → ((t : AcceptedTrace) (rs : List Reply) → P t rs → Q t rs)
+    → (D → PutsReplies P bytes old new)
+    → D
+    → PutsReplies Q bytes old new
 keeps_also follows puts done =
     let p = puts done in
-    record { trace = p.trace; replies = p.replies; accepted = p.accepted; put = p.put; kept = follows p.trace p.replies p.kept }
+    record {
+      trace = p.trace;
+      replies = p.replies;
+      accepted = p.accepted;
+      put = p.put;
+      kept = follows p.trace p.replies p.kept;
+    }

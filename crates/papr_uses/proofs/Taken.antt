@@ -8,16 +8,28 @@ use Rattle.std.proofs.lemmas.List.Folds.{list_any_at}
 use Rattle.hpt_pool.specs.Pool.{Block, PoolState, block_at, begins_below, fits, overlap, taken_with, taken_without, with_block, without_block, IsLowest, IsSound}
 
 -- ---- lists
-passing_filter : {X : Type 0} (p : X → Bool) (xs : List X) → All (λ x. p x ≡ true) xs → filter p xs ≡ xs
+passing_filter :
+    {X : Type 0} (p : X → Bool) (xs : List X) → All (λ x. p x ≡ true) xs → filter p xs ≡ xs
 passing_filter p [] all = refl
-passing_filter p (x ∷ xs) all = rw (All-head (λ y. p y ≡ true) x xs all, passing_filter p xs (All-tail (λ y. p y ≡ true) x xs all)) refl
+passing_filter p (x ∷ xs) all =
+    rw (
+      All-head (λ y. p y ≡ true) x xs all,
+      passing_filter p xs (All-tail (λ y. p y ≡ true) x xs all),
+    ) refl
 
-failing_filter : {X : Type 0} (p : X → Bool) (xs : List X) → All (λ x. p x ≡ false) xs → filter p xs ≡ []
+failing_filter :
+    {X : Type 0} (p : X → Bool) (xs : List X) → All (λ x. p x ≡ false) xs → filter p xs ≡ []
 failing_filter p [] all = refl
-failing_filter p (x ∷ xs) all = rw (All-head (λ y. p y ≡ false) x xs all) (failing_filter p xs (All-tail (λ y. p y ≡ false) x xs all))
+failing_filter p (x ∷ xs) all =
+    rw (All-head (λ y. p y ≡ false) x xs all)
+    (failing_filter p xs (All-tail (λ y. p y ≡ false) x xs all))
 
 -- Where no element passes, one of them doesn't.
-pub fails_at : {X : Type 0} (p : X → Bool) (xs : List X) (x : X) → list_any p xs ≡ false → Contains xs x → p x ≡ false
+pub fails_at :
+    {X : Type 0} (p : X → Bool) (xs : List X) (x : X)
+    → list_any p xs ≡ false
+    → Contains xs x
+    → p x ≡ false
 fails_at {X} p xs x none (k, inside, is) = at (cases_Bool (p x)) where
   at : (p x ≡ true) ⊎ (p x ≡ false) → p x ≡ false
   at (inl passes) =
@@ -30,15 +42,20 @@ further : {X : Type 0} (x y : X) (xs : List X) → Contains xs y → Contains (x
 further x y xs (k, inside, is) = (suc k, omega arith, is)
 
 -- An element that passes is kept.
-kept_by : {X : Type 0} (p : X → Bool) (xs : List X) (x : X) → p x ≡ true → Contains xs x → Contains (filter p xs) x
+kept_by :
+    {X : Type 0} (p : X → Bool) (xs : List X) (x : X)
+    → p x ≡ true
+    → Contains xs x
+    → Contains (filter p xs) x
 kept_by p [] x passes (k, inside, is) = absurd (omega arith)
 kept_by {X} p (y ∷ ys) x passes (zero, inside, is) =
     let here : p y ≡ true = subst (λ (z : X). p z ≡ true) (sym is) passes in
     rw here (0, omega arith, is)
-kept_by {X} p (y ∷ ys) x passes (suc k, inside, is) = at (kept_by p ys x passes (k, omega arith, is)) (cases_Bool (p y)) where
-  at : Contains (filter p ys) x → (p y ≡ true) ⊎ (p y ≡ false) → Contains (filter p (y ∷ ys)) x
-  at later (inl kept) = rw kept (further y x (filter p ys) later)
-  at later (inr dropped) = rw dropped later
+kept_by {X} p (y ∷ ys) x passes (suc k, inside, is) =
+    at (kept_by p ys x passes (k, omega arith, is)) (cases_Bool (p y)) where
+      at : Contains (filter p ys) x → (p y ≡ true) ⊎ (p y ≡ false) → Contains (filter p (y ∷ ys)) x
+      at later (inl kept) = rw kept (further y x (filter p ys) later)
+      at later (inr dropped) = rw dropped later
 
 -- ---- the blocks
 abbrev not_below : Block → Block → Bool
@@ -47,68 +64,127 @@ not_below block other = not (begins_below block other)
 -- A block that is taken is there.
 pub taken_has : (taken : List Block) (block : Block) → Contains (taken_with taken block) block
 unfolding taken_with
-taken_has taken block = Contains-append_right (filter (begins_below block) taken) (block ∷ filter (not_below block) taken) block (0, omega arith, refl)
+taken_has taken block =
+    Contains-append_right (filter (begins_below block) taken)
+    (block ∷ filter (not_below block) taken) block (0, omega arith, refl)
 
 -- So is each one that was.
-pub taken_keeps : (taken : List Block) (block kept : Block) → Contains taken kept → Contains (taken_with taken block) kept
+pub taken_keeps :
+    (taken : List Block) (block kept : Block)
+    → Contains taken kept
+    → Contains (taken_with taken block) kept
 unfolding taken_with
 taken_keeps taken block kept here = at (cases_Bool (begins_below block kept)) where
-  at : (begins_below block kept ≡ true) ⊎ (begins_below block kept ≡ false) → Contains (filter (begins_below block) taken ++ block ∷ filter (not_below block) taken) kept
-  at (inl below) = Contains-append_left (filter (begins_below block) taken) (block ∷ filter (not_below block) taken) kept (kept_by (begins_below block) taken kept below here)
+  at :
+      (begins_below block kept ≡ true) ⊎ (begins_below block kept ≡ false)
+      → Contains (filter (begins_below block) taken ++ block ∷ filter (not_below block) taken) kept
+  at (inl below) =
+      Contains-append_left (filter (begins_below block) taken)
+      (block ∷ filter (not_below block) taken) kept
+      (kept_by (begins_below block) taken kept below here)
   at (inr above) =
-      Contains-append_right (filter (begins_below block) taken) (block ∷ filter (not_below block) taken) kept
-      (further block kept (filter (not_below block) taken) (kept_by (not_below block) taken kept (ap not above) here))
+      Contains-append_right (filter (begins_below block) taken)
+      (block ∷ filter (not_below block) taken) kept
+      (further block kept (filter (not_below block) taken)
+      (kept_by (not_below block) taken kept (ap not above) here))
 
 -- In rising blocks those that begin below another one stand first.
-rising_split : (block : Block) (taken : List Block) → AllPairs (λ (lower higher : Block). lower.place < higher.place) taken → filter (begins_below block) taken ++ filter (not_below block) taken ≡ taken
+rising_split :
+    (block : Block) (taken : List Block)
+    → AllPairs (λ (lower higher : Block). lower.place < higher.place) taken
+    → filter (begins_below block) taken ++ filter (not_below block) taken ≡ taken
 rising_split block [] rising = refl
-rising_split block (b ∷ bs) rising = at (rising_split block bs tail) (cases_lt b.place block.place) where
-  tail : AllPairs (λ (lower higher : Block). lower.place < higher.place) bs
-  tail = λ i j d before inside. rising (suc i) (suc j) d (omega arith) (omega arith)
+rising_split block (b ∷ bs) rising =
+    at (rising_split block bs tail) (cases_lt b.place block.place) where
+      tail : AllPairs (λ (lower higher : Block). lower.place < higher.place) bs
+      tail = λ i j d before inside. rising (suc i) (suc j) d (omega arith) (omega arith)
 
-  later : (k : ℕ) (d : Block) → k < length bs → b.place < (get_or bs k d).place
-  later k d inside = rising 0 (suc k) d (omega arith) (omega arith)
+      later : (k : ℕ) (d : Block) → k < length bs → b.place < (get_or bs k d).place
+      later k d inside = rising 0 (suc k) d (omega arith) (omega arith)
 
-  at : filter (begins_below block) bs ++ filter (not_below block) bs ≡ bs → (b.place < block.place) ⊎ (block.place ≤ b.place) → filter (begins_below block) (b ∷ bs) ++ filter (not_below block) (b ∷ bs) ≡ b ∷ bs
-  at rest (inl below) =
-      let here : begins_below block b ≡ true = lt-ltb b.place block.place below in
-      rw here (ap (λ (l : List Block). b ∷ l) rest)
-  at rest (inr above) =
-      let here : begins_below block b ≡ false = le-ltb b.place block.place above in
-      let none : filter (begins_below block) bs ≡ [] = failing_filter (begins_below block) bs (λ k d inside. le-ltb (get_or bs k d).place block.place (let far = later k d inside in omega arith)) in
-      let all : filter (not_below block) bs ≡ bs = passing_filter (not_below block) bs (λ k d inside. ap not (le-ltb (get_or bs k d).place block.place (let far = later k d inside in omega arith))) in
-      rw (here, none, all) refl
+      at :
+          filter (begins_below block) bs ++ filter (not_below block) bs ≡ bs
+          → (b.place < block.place) ⊎ (block.place ≤ b.place)
+          → filter (begins_below block) (b ∷ bs) ++ filter (not_below block) (b ∷ bs) ≡ b ∷ bs
+      at rest (inl below) =
+          let here : begins_below block b ≡ true = lt-ltb b.place block.place below in
+          rw here (ap (λ (l : List Block). b ∷ l) rest)
+      at rest (inr above) =
+          let here : begins_below block b ≡ false = le-ltb b.place block.place above in
+          let none : filter (begins_below block) bs ≡ [] = failing_filter (begins_below block) bs
+          (λ k d inside.
+          le-ltb (get_or bs k d).place block.place (let far = later k d inside in omega arith)) in
+          let all : filter (not_below block) bs ≡ bs = passing_filter (not_below block) bs
+          (λ k d inside.
+          ap not
+          (le-ltb (get_or bs k d).place block.place
+          (let far = later k d inside in omega arith))) in
+          rw (here, none, all) refl
 
 -- Blocks that begin at one place overlap.
-begins_elsewhere : (block other : Block) → overlap block other ≡ false → other.place ≡ block.place → ⊥
+begins_elsewhere :
+    (block other : Block) → overlap block other ≡ false → other.place ≡ block.place → ⊥
 begins_elsewhere block other apart same =
     let size : 0 < 2 ^ block.order = pow_pos block.order in
     let size_other : 0 < 2 ^ other.order = pow_pos other.order in
-    let meets : overlap block other ≡ true = and_from _ _ (lt-ltb block.place (other.place + 2 ^ other.order) (omega arith)) (lt-ltb other.place (block.place + 2 ^ block.order) (omega arith)) in
+    let meets : overlap block other ≡ true = and_from _ _
+    (lt-ltb block.place (other.place + 2 ^ other.order) (omega arith))
+    (lt-ltb other.place (block.place + 2 ^ block.order) (omega arith)) in
     let wrong : true ≡ false = sym meets ∙ apart in
     absurd (cc)
 
-given_back : (taken : List Block) (block : Block) → AllPairs (λ (lower higher : Block). lower.place < higher.place) taken → list_any (overlap block) taken ≡ false → taken_without (taken_with taken block) block.place ≡ taken
+given_back :
+    (taken : List Block) (block : Block)
+    → AllPairs (λ (lower higher : Block). lower.place < higher.place) taken
+    → list_any (overlap block) taken ≡ false
+    → taken_without (taken_with taken block) block.place ≡ taken
 unfolding taken_with taken_without
 given_back taken block rising apart =
     let p : Block → Bool = λ (b : Block). not (b.place == block.place) in
     let stays : All (λ (b : Block). p b ≡ true) taken =
-    All-weaker (Contains taken) (λ (b : Block). p b ≡ true) (λ b here. ap not (ne_eqb b.place block.place (begins_elsewhere block b (fails_at (overlap block) taken b apart here)))) taken (All-contains_itself taken) in
+    All-weaker (Contains taken) (λ (b : Block). p b ≡ true)
+    (λ b here.
+    ap not
+    (ne_eqb b.place block.place
+    (begins_elsewhere block b (fails_at (overlap block) taken b apart here)))) taken
+    (All-contains_itself taken) in
     let goes : p block ≡ false = ap not (eq-eqb block.place block.place refl) in
-    let low : filter p (filter (begins_below block) taken) ≡ filter (begins_below block) taken = passing_filter p (filter (begins_below block) taken) (All-filter (begins_below block) (λ (b : Block). p b ≡ true) taken stays) in
-    let high : filter p (filter (not_below block) taken) ≡ filter (not_below block) taken = passing_filter p (filter (not_below block) taken) (All-filter (not_below block) (λ (b : Block). p b ≡ true) taken stays) in
-    let behind : filter p (block ∷ filter (not_below block) taken) ≡ filter (not_below block) taken = rw goes high in
-    filter-append p (filter (begins_below block) taken) (block ∷ filter (not_below block) taken) ∙ rw (low, behind) (rising_split block taken rising)
+    let low : filter p (filter (begins_below block) taken) ≡ filter (begins_below block) taken =
+    passing_filter p (filter (begins_below block) taken)
+    (All-filter (begins_below block) (λ (b : Block). p b ≡ true) taken stays) in
+    let high : filter p (filter (not_below block) taken) ≡ filter (not_below block) taken =
+    passing_filter p (filter (not_below block) taken)
+    (All-filter (not_below block) (λ (b : Block). p b ≡ true) taken stays) in
+    let behind : filter p (block ∷ filter (not_below block) taken) ≡ filter (not_below block) taken
+    = rw goes high in
+    filter-append p (filter (begins_below block) taken) (block ∷ filter (not_below block) taken)
+    ∙ rw (low, behind) (rising_split block taken rising)
 
 -- ---- the pool
-apart_at : (pool : PoolState) (order place : ℕ) → fits pool order place ≡ true → list_any (overlap (block_at place order)) pool.taken ≡ false
-apart_at pool order place fitting = not-true (list_any (overlap (block_at place order)) pool.taken) (and_parts _ _ fitting).1
+apart_at :
+    (pool : PoolState) (order place : ℕ)
+    → fits pool order place ≡ true
+    → list_any (overlap (block_at place order)) pool.taken ≡ false
+apart_at pool order place fitting =
+    not-true (list_any (overlap (block_at place order)) pool.taken) (and_parts _ _ fitting).1
 
 -- A pool to which the block is given back that was taken from it.
-pub same_again : (pool : PoolState) (order place : ℕ) → IsSound pool → IsLowest pool order place → without_block (with_block pool (block_at place order)) place ≡ pool
+pub same_again :
+    (pool : PoolState) (order place : ℕ)
+    → IsSound pool
+    → IsLowest pool order place
+    → without_block (with_block pool (block_at place order)) place ≡ pool
 same_again pool order place sound lowest =
-    ap (λ (taken : List Block). record pool { taken = taken }) (given_back pool.taken (block_at place order) sound.blocks.rising (apart_at pool order place lowest.fitting))
+    ap (λ (taken : List Block). record pool { taken = taken })
+    (given_back pool.taken (block_at place order) sound.blocks.rising
+    (apart_at pool order place lowest.fitting))
 
 -- A block that was taken overlaps none that was there.
-pub taken_apart : (pool : PoolState) (order place : ℕ) (other : Block) → IsLowest pool order place → Contains pool.taken other → overlap (block_at place order) other ≡ false
-taken_apart pool order place other lowest here = fails_at (overlap (block_at place order)) pool.taken other (apart_at pool order place lowest.fitting) here
+pub taken_apart :
+    (pool : PoolState) (order place : ℕ) (other : Block)
+    → IsLowest pool order place
+    → Contains pool.taken other
+    → overlap (block_at place order) other ≡ false
+taken_apart pool order place other lowest here =
+    fails_at (overlap (block_at place order)) pool.taken other
+    (apart_at pool order place lowest.fitting) here

@@ -26,12 +26,18 @@ never_rose (inl rose) = absurd (omega (arith, rose))
 never_rose (inr last) = absurd (omega (arith, last))
 
 -- The one word `run` is the command.
-pub run_word : (word : String Global) → string_bytes word ≡ codes "run" → command_of (word ∷ []) ≡ Some commands.Run
+pub run_word :
+    (word : String Global)
+    → string_bytes word ≡ codes "run"
+    → command_of (word ∷ []) ≡ Some commands.Run
 unfolding command_of reading_of
 run_word word is = rw is refl
 
 -- The one word `par` is.
-pub par_word : (word : String Global) → string_bytes word ≡ codes "par" → command_of (word ∷ []) ≡ Some commands.Par
+pub par_word :
+    (word : String Global)
+    → string_bytes word ≡ codes "par"
+    → command_of (word ∷ []) ≡ Some commands.Par
 unfolding command_of reading_of
 par_word word is = rw is refl
 
@@ -50,7 +56,8 @@ still_err : (r : Result AcceptedTrace (ℕ × Why)) → IsErr r → IsErr (with_
 still_err (Ok t) is = is
 still_err (Err e) is = is
 
-was_trace : (r : Result AcceptedTrace (ℕ × Why)) (t : AcceptedTrace) → with_reason r ≡ Ok t → r ≡ Ok t
+was_trace :
+    (r : Result AcceptedTrace (ℕ × Why)) (t : AcceptedTrace) → with_reason r ≡ Ok t → r ≡ Ok t
 was_trace (Ok u) t e = cc
 was_trace (Err u) t e = cc
 
@@ -66,35 +73,54 @@ run_done Done is = refl
 run_done other is = absurd is
 
 -- What was read and is a trace is within the limit, and so it is the whole input.
-whole : (input bytes rest : List ℕ) (t : AcceptedTrace) → Reads (Some input) bytes (Some rest) → trace_of bytes ≡ Ok t → bytes ≡ input
+whole :
+    (input bytes rest : List ℕ) (t : AcceptedTrace)
+    → Reads (Some input) bytes (Some rest)
+    → trace_of bytes ≡ Ok t
+    → bytes ≡ input
 whole input bytes rest t read accepted =
     elim (cases_lt (2 ^ 24) (length bytes)) [
-      | inl longer ↦ (let refused : trace_of bytes ≡ Err (0, Long) = refused_long bytes longer in cc)
+      | inl longer ↦
+          (let refused : trace_of bytes ≡ Err (0, Long) = refused_long bytes longer in cc)
       | inr within ↦ sym (read.took ∙ ap (λ z. bytes ++ z) (read.end within) ∙ append-nil bytes)
     ]
 
 -- A text that was written of the input, with the trace that this is.
-pub record Wrote (says : AcceptedTrace → List ℕ → Type 0) (input : List ℕ) (run : Run) : Type 0 where
+pub record Wrote (says : AcceptedTrace → List ℕ → Type 0) (input : List ℕ) (run : Run) :
+    Type 0 where
   pub trace : AcceptedTrace
   pub text : List ℕ
   pub accepted : trace_of input ≡ Ok trace
   pub said : says trace text
   pub put : Put run.taken text run.taken_after
 
-pub wrote : (says : AcceptedTrace → List ℕ → Type 0) (input rest : List ℕ) (run : Run) → run.left ≡ Some input → run.left_after ≡ Some rest → Answers trace_input says run → Wrote says input run
+pub wrote :
+    (says : AcceptedTrace → List ℕ → Type 0) (input rest : List ℕ) (run : Run)
+    → run.left ≡ Some input
+    → run.left_after ≡ Some rest
+    → Answers trace_input says run
+    → Wrote says input run
 wrote says input rest run left left_after a =
-    let read : Reads (Some input) a.bytes (Some rest) = subst (λ after. Reads (Some input) a.bytes after) left_after (subst (λ before. Reads before a.bytes run.left_after) left a.read) in
-    let accepted : trace_of a.bytes ≡ Ok a.input = was_trace (trace_of a.bytes) a.input a.accepted in
+    let read : Reads (Some input) a.bytes (Some rest) = subst
+    (λ after. Reads (Some input) a.bytes after) left_after
+    (subst (λ before. Reads before a.bytes run.left_after) left a.read) in
+    let accepted : trace_of a.bytes ≡ Ok a.input = was_trace (trace_of a.bytes) a.input a.accepted
+    in
     record {
       trace = a.input;
       text = a.text;
-      accepted = subst (λ bytes. trace_of bytes ≡ Ok a.input) (whole input a.bytes rest a.input read accepted) accepted;
+      accepted =
+          subst (λ bytes. trace_of bytes ≡ Ok a.input)
+          (whole input a.bytes rest a.input read accepted) accepted;
       said = a.said;
       put = a.written;
     }
 
 -- The text of its serial run was written.
-pub answered : (input : List ℕ) (run : Run) → Wrote IsSerialText input run → PutsTextOfBytes input run.taken run.taken_after
+pub answered :
+    (input : List ℕ) (run : Run)
+    → Wrote IsSerialText input run
+    → PutsTextOfBytes input run.taken run.taken_after
 answered input run w =
     record {
       text = w.text;
@@ -107,7 +133,10 @@ answered input run w =
     }
 
 -- The replies of its serial run were.
-pub serially : (input : List ℕ) (run : Run) → Wrote IsSerialText input run → PutsReplies IsOfOneThread input run.taken run.taken_after
+pub serially :
+    (input : List ℕ) (run : Run)
+    → Wrote IsSerialText input run
+    → PutsReplies IsOfOneThread input run.taken run.taken_after
 serially input run w =
     record {
       trace = w.trace;
@@ -118,7 +147,10 @@ serially input run w =
     }
 
 -- Those of a run by threads were.
-pub by_threads : (input : List ℕ) (run : Run) → Wrote IsParallelText input run → PutsReplies IsOfThreads input run.taken run.taken_after
+pub by_threads :
+    (input : List ℕ) (run : Run)
+    → Wrote IsParallelText input run
+    → PutsReplies IsOfThreads input run.taken run.taken_after
 by_threads input run w =
     record {
       trace = w.trace;

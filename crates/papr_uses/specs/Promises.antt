@@ -30,7 +30,8 @@ abbrev pub Promise : Type 1
 Promise = AcceptedTrace → List Reply → Type 0
 
 -- The bytes are a trace, and the text of replies to it that keep the promise was put behind what was there.
-pub record PutsReplies (promise : Promise) (bytes : List ℕ) (old new : Option (List ℕ)) : Type 0 where
+pub record PutsReplies (promise : Promise) (bytes : List ℕ) (old new : Option (List ℕ)) :
+    Type 0 where
   pub trace : AcceptedTrace
   pub replies : List Reply
   pub accepted : trace_of bytes ≡ Ok trace

@@ -16,7 +16,11 @@ use Rattle.entry_model.specs.Run.{state_at}
 use Rattle.hpt_resize.specs.TableMemory.{empty_states, with_entries}
 use Rattle.hpt_resize.proofs.OpeningStates.{with_entry, entries-more, entries-other, opening-length}
 
-pub each_map : {A : Type 0} (P Q : A → Type 0) (xs : List A) → ((x : A) → P x → Q x) → AllByRecursion P xs → AllByRecursion Q xs
+pub each_map :
+    {A : Type 0} (P Q : A → Type 0) (xs : List A)
+    → ((x : A) → P x → Q x)
+    → AllByRecursion P xs
+    → AllByRecursion Q xs
 each_map P Q [] f h = tt
 each_map P Q (x ∷ xs) f h = (f x h.0, each_map P Q xs f h.1)
 
@@ -25,13 +29,24 @@ abbrev pub AreInTable : ℕ → List ImageEntry → Type 0
 AreInTable count entries = AllByRecursion (λ (e : ImageEntry). e.index < count) entries
 
 -- Each entry is in its place.
-pub each_entered : (states : List State) (es : List ImageEntry) → AreInTable (length states) es → AreRising es → AllByRecursion (λ (e : ImageEntry). state_at (with_entries states es) e.index ≡ entered_state e.dword0 e.dword1) es
+pub each_entered :
+    (states : List State) (es : List ImageEntry)
+    → AreInTable (length states) es
+    → AreRising es
+    → AllByRecursion
+    (λ (e : ImageEntry).
+    state_at (with_entries states es) e.index ≡ entered_state e.dword0 e.dword1) es
 each_entered states [] within rising = tt
 each_entered states (e ∷ es) within rising =
     let here : e.index < length states = within.0 in
-    let apart : AllByRecursion (λ (later : ImageEntry). e.index ≢ later.index) es = each_map (λ (later : ImageEntry). e.index < later.index) (λ (later : ImageEntry). e.index ≢ later.index) es (λ later lt same. omega arith) rising.0 in
-    let size : length states ≡ length (with_entry states e) = sym (length-set states e.index (entered_state e.dword0 e.dword1)) in (
-      entries-other (with_entry states e) es e.index apart ∙ get_or-set_same states e.index (entered_state e.dword0 e.dword1) (empty_state 0) here,
+    let apart : AllByRecursion (λ (later : ImageEntry). e.index ≢ later.index) es = each_map
+    (λ (later : ImageEntry). e.index < later.index)
+    (λ (later : ImageEntry). e.index ≢ later.index) es (λ later lt same. omega arith) rising.0
+    in
+    let size : length states ≡ length (with_entry states e) = sym
+    (length-set states e.index (entered_state e.dword0 e.dword1)) in (
+      entries-other (with_entry states e) es e.index apart
+          ∙ get_or-set_same states e.index (entered_state e.dword0 e.dword1) (empty_state 0) here,
       each_entered (with_entry states e) es (subst (λ n. AreInTable n es) size within.1) rising.1,
     )
 
@@ -39,24 +54,46 @@ each_entered states (e ∷ es) within rising =
 pub empty_at : (order index : ℕ) → state_at (empty_states order) index ≡ empty_state 0
 unfolding empty_states
 empty_at order index = at (cases_lt index (entry_count order)) where
-  at : (index < entry_count order) ⊎ (entry_count order ≤ index) → state_at (replicate (entry_count order) (empty_state 0)) index ≡ empty_state 0
-  at (inl inside) = get_or-replicate (entry_count order) index (empty_state 0) (empty_state 0) inside
-  at (inr past) = get_or_past (replicate (entry_count order) (empty_state 0)) index (empty_state 0) (omega (arith, length-replicate (entry_count order) (empty_state 0)))
+  at :
+      (index < entry_count order) ⊎ (entry_count order ≤ index)
+      → state_at (replicate (entry_count order) (empty_state 0)) index ≡ empty_state 0
+  at (inl inside) =
+      get_or-replicate (entry_count order) index (empty_state 0) (empty_state 0) inside
+  at (inr past) =
+      get_or_past (replicate (entry_count order) (empty_state 0)) index (empty_state 0)
+      (omega (arith, length-replicate (entry_count order) (empty_state 0)))
 
 -- ---- along the loop that puts them in
-each_at : {A : Type 0} (P : A → Type 0) (xs : List A) (i : ℕ) (d : A) → i < length xs → AllByRecursion P xs → P (get_or xs i d)
+each_at :
+    {A : Type 0} (P : A → Type 0) (xs : List A) (i : ℕ) (d : A)
+    → i < length xs
+    → AllByRecursion P xs
+    → P (get_or xs i d)
 each_at P [] i d inside h = absurd (omega arith)
 each_at P (x ∷ xs) zero d inside h = h.0
 each_at P (x ∷ xs) (suc i) d inside h = each_at P xs i d (omega arith) h.1
 
 -- The next entry's index is one of the table's.
-pub next_inside : (order : ℕ) (grants : List Grant) (states : List State) (es some : List ImageEntry) (i : ℕ) (d : ImageEntry) → AreOpeningEntries order grants es → i < length es → states ≡ with_entries (empty_states order) some → (get_or es i d).index < length states
+pub next_inside :
+    (order : ℕ) (grants : List Grant) (states : List State) (es some : List ImageEntry) (i : ℕ)
+    (d : ImageEntry)
+    → AreOpeningEntries order grants es
+    → i < length es
+    → states ≡ with_entries (empty_states order) some
+    → (get_or es i d).index < length states
 next_inside order grants states es some i d is inside so_far =
-    let entry : IsOpeningEntry order grants (get_or es i d) = each_at (IsOpeningEntry order grants) es i d inside is.each in
-    subst (λ n. (get_or es i d).index < n) (sym (ap length so_far ∙ opening-length order some)) entry.in_table
+    let entry : IsOpeningEntry order grants (get_or es i d) = each_at (IsOpeningEntry order grants)
+    es i d inside is.each in
+    subst (λ n. (get_or es i d).index < n) (sym (ap length so_far ∙ opening-length order some))
+    entry.in_table
 
 -- With it one more entry is in its place.
-pub next_placed : (order : ℕ) (states : List State) (es : List ImageEntry) (i : ℕ) (d : ImageEntry) (one : State) → i < length es → states ≡ with_entries (empty_states order) (take i es) → one ≡ entered_state (get_or es i d).dword0 (get_or es i d).dword1 → set states (get_or es i d).index one ≡ with_entries (empty_states order) (take (i + 1) es)
+pub next_placed :
+    (order : ℕ) (states : List State) (es : List ImageEntry) (i : ℕ) (d : ImageEntry) (one : State)
+    → i < length es
+    → states ≡ with_entries (empty_states order) (take i es)
+    → one ≡ entered_state (get_or es i d).dword0 (get_or es i d).dword1
+    → set states (get_or es i d).index one ≡ with_entries (empty_states order) (take (i + 1) es)
 next_placed order states es i d one inside so_far is =
     let e = get_or es i d in
     let more : take (suc i) es ≡ take i es ++ e ∷ [] = take-suc es i d inside in
@@ -67,9 +104,16 @@ next_placed order states es i d one inside so_far is =
     ∙ rw add-one refl
 
 -- ---- the empty states
-pub all_empty : (states : List State) (order n : ℕ) (one : State) → order ≤ 22 → states ≡ replicate n one → n ≡ 1 * 2 ^ (order - 4) % 2 ^ 64 → one ≡ empty_state 0 → states ≡ empty_states order
+pub all_empty :
+    (states : List State) (order n : ℕ) (one : State)
+    → order ≤ 22
+    → states ≡ replicate n one
+    → n ≡ 1 * 2 ^ (order - 4) % 2 ^ 64
+    → one ≡ empty_state 0
+    → states ≡ empty_states order
 unfolding empty_states
 all_empty states order n one small is count empty =
     let most : 2 ^ (order - 4) ≤ 2 ^ 18 = pow_mono {i = order - 4} {j = 18} (omega arith) in
-    let fits : 1 * 2 ^ (order - 4) % 2 ^ 64 ≡ 2 ^ (order - 4) = omega (arith, mod-eq_of_lt {n = 1 * 2 ^ (order - 4)} {m = 2 ^ 64} (omega arith)) in
+    let fits : 1 * 2 ^ (order - 4) % 2 ^ 64 ≡ 2 ^ (order - 4) = omega
+    (arith, mod-eq_of_lt {n = 1 * 2 ^ (order - 4)} {m = 2 ^ 64} (omega arith)) in
     is ∙ ap (λ m. replicate m one) (count ∙ fits) ∙ ap (replicate (2 ^ (order - 4))) empty

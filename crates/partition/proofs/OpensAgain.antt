@@ -8,6 +8,8 @@ pub opens_again : OpensAgain
 opens_again grants s canonical valid stored =
     let parts = stored_parts grants s.dword0 s.dword1 stored in
     record {
-      stored = stored_whole grants (words_of s).0 (words_of s).1 (put_stored grants s.dword0 s.dword1 s.referenced s.changed parts);
+      stored =
+          stored_whole grants (words_of s).0 (words_of s).1
+          (put_stored grants s.dword0 s.dword1 s.referenced s.changed parts);
       state = state_back s canonical valid parts.second;
     }

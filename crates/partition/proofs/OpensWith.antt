@@ -33,7 +33,12 @@ entered_canonical dword0 dword1 = record {
 }
 
 -- The states where each entry is in its place.
-opened_at : (order : ℕ) (grants : List Grant) (states : List State) (e : ImageEntry) → length states ≡ entry_count order → IsOpeningEntry order grants e → state_at states e.index ≡ entered_state e.dword0 e.dword1 → IsOpenedAt states e
+opened_at :
+    (order : ℕ) (grants : List Grant) (states : List State) (e : ImageEntry)
+    → length states ≡ entry_count order
+    → IsOpeningEntry order grants e
+    → state_at states e.index ≡ entered_state e.dword0 e.dword1
+    → IsOpenedAt states e
 opened_at order grants states e size is there =
     let low = second_low e.dword1 (stored_parts grants e.dword0 e.dword1 is.stored).second in
     record {
@@ -44,9 +49,18 @@ opened_at order grants states e size is there =
       stamp = ap (λ (s : State). s.stamp) there;
     }
 
-opened_all : (order : ℕ) (grants : List Grant) (states : List State) (es : List ImageEntry) → length states ≡ entry_count order → AllByRecursion (IsOpeningEntry order grants) es → AllByRecursion (λ (e : ImageEntry). state_at states e.index ≡ entered_state e.dword0 e.dword1) es → AllByRecursion (IsOpenedAt states) es
+opened_all :
+    (order : ℕ) (grants : List Grant) (states : List State) (es : List ImageEntry)
+    → length states ≡ entry_count order
+    → AllByRecursion (IsOpeningEntry order grants) es
+    → AllByRecursion (λ (e : ImageEntry). state_at states e.index ≡ entered_state e.dword0 e.dword1)
+    es
+    → AllByRecursion (IsOpenedAt states) es
 opened_all order grants states [] size is there = tt
-opened_all order grants states (e ∷ es) size is there = (opened_at order grants states e size is.0 there.0, opened_all order grants states es size is.1 there.1)
+opened_all order grants states (e ∷ es) size is there = (
+  opened_at order grants states e size is.0 there.0,
+  opened_all order grants states es size is.1 there.1,
+)
 
 pub opens_with_entries : OpensWithEntries
 unfolding opening_partition opening_memory
@@ -54,13 +68,21 @@ opens_with_entries config is =
     let order = config.order in
     let grants = config.granted.grants in
     let size = opening-length order config.entries in
-    let empty_size : entry_count order ≡ length (empty_states order) = sym (opening-length order []) in
-    let within : AreInTable (entry_count order) config.entries = each_map (IsOpeningEntry order grants) (λ (e : ImageEntry). e.index < entry_count order) config.entries (λ e h. h.in_table) is.each in
-    let there = each_entered (empty_states order) config.entries (subst (λ n. AreInTable n config.entries) empty_size within) is.rising in
+    let empty_size : entry_count order ≡ length (empty_states order) = sym (opening-length order [])
+    in
+    let within : AreInTable (entry_count order) config.entries = each_map
+    (IsOpeningEntry order grants) (λ (e : ImageEntry). e.index < entry_count order)
+    config.entries (λ e h. h.in_table) is.each in
+    let there = each_entered (empty_states order) config.entries
+    (subst (λ n. AreInTable n config.entries) empty_size within) is.rising in
     record {
       order_is = refl;
       number = refl;
       whole = size;
-      opened = opened_all order grants (with_entries (empty_states order) config.entries) config.entries size is.each there;
-      others = λ index apart. entries-other (empty_states order) config.entries index apart ∙ empty_at order index;
+      opened =
+          opened_all order grants (with_entries (empty_states order) config.entries) config.entries
+          size is.each there;
+      others =
+          λ index apart.
+          entries-other (empty_states order) config.entries index apart ∙ empty_at order index;
     }

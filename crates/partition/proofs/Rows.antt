@@ -13,13 +13,22 @@ use Rattle.partition.specs.PartitionState.{PartitionState, opening_partition}
 
 -- ---- the opening table
 config : ℕ → Configuration
-config order = record { order = order; limit = 22; cpus = 1; granted = no_grants 0x1000000000 24; entries = []; windows = [] }
+config order =
+    record {
+      order = order;
+      limit = 22;
+      cpus = 1;
+      granted = no_grants 0x1000000000 24;
+      entries = [];
+      windows = [];
+    }
 
 at_the_base_of_the_pool : (opening_partition (config 18)).memory.table.place ≡ 0x1000000000
 unfolding opening_partition opening_memory lowest_place multiples config
 at_the_base_of_the_pool = refl
 
-its_block_is_taken : (opening_partition (config 20)).memory.pool.taken ≡ block_at 0x1000000000 20 ∷ []
+its_block_is_taken :
+    (opening_partition (config 20)).memory.pool.taken ≡ block_at 0x1000000000 20 ∷ []
 unfolding opening_partition opening_memory lowest_place multiples taken_with config
 its_block_is_taken = refl
 
@@ -30,9 +39,22 @@ the_first_number = refl
 -- ---- an entry that is valid at first, with R and C
 opened : PartitionState
 unfolding opening_partition opening_memory lowest_place multiples
-opened = opening_partition (record (config 18) { entries = record { index = 0x20; dword0 = 0x1001; dword1 = 0x3192 } ∷ [] })
+opened =
+    opening_partition
+    (record (config 18) {
+      entries = record { index = 0x20; dword0 = 0x1001; dword1 = 0x3192 } ∷ [];
+    })
 
-it_has_its_words : state_at opened.memory.table.states 0x20 ≡ record { valid = true; dword0 = 0x1001; dword1 = 0x3012; referenced = true; changed = true; stamp = 0 }
+it_has_its_words :
+    state_at opened.memory.table.states 0x20
+    ≡ record {
+      valid = true;
+      dword0 = 0x1001;
+      dword1 = 0x3012;
+      referenced = true;
+      changed = true;
+      stamp = 0;
+    }
 unfolding opened opening_partition opening_memory empty_states config
 it_has_its_words = refl
 
@@ -52,26 +74,41 @@ memory limit pending more states = record {
 pending : ℕ → Option PendingTable
 pending ready = Some (record { order = 22; place = 0x1000400000; ready = ready })
 
-a_first_part : (states : List State) → prepare_result (memory 22 None [] states) 0 22 ≡ (LongBusy, memory 22 (pending 16384) (block_at 0x1000400000 22 ∷ []) states)
+a_first_part :
+    (states : List State)
+    → prepare_result (memory 22 None [] states) 0 22
+    ≡ (LongBusy, memory 22 (pending 16384) (block_at 0x1000400000 22 ∷ []) states)
 unfolding prepare_result outcome_of_prepare lowest_place multiples taken_with memory pending
 a_first_part states = refl
 
-the_last_part : (states : List State) → prepare_result (memory 22 (pending 245760) (block_at 0x1000400000 22 ∷ []) states) 0 22 ≡ (Success, memory 22 (pending 262144) (block_at 0x1000400000 22 ∷ []) states)
+the_last_part :
+    (states : List State)
+    → prepare_result (memory 22 (pending 245760) (block_at 0x1000400000 22 ∷ []) states) 0 22
+    ≡ (Success, memory 22 (pending 262144) (block_at 0x1000400000 22 ∷ []) states)
 unfolding prepare_result outcome_of_prepare memory pending
 the_last_part states = refl
 
-above_the_limit : (states : List State) → prepare_result (memory 20 None [] states) 0 22 ≡ (Resource, memory 20 None [] states)
+above_the_limit :
+    (states : List State)
+    → prepare_result (memory 20 None [] states) 0 22 ≡ (Resource, memory 20 None [] states)
 unfolding prepare_result outcome_of_prepare memory
 above_the_limit states = refl
 
-too_early : (states : List State) → commit_result (memory 22 (pending 16384) (block_at 0x1000400000 22 ∷ []) states) 0 22 ≡ (Busy, memory 22 (pending 16384) (block_at 0x1000400000 22 ∷ []) states)
+too_early :
+    (states : List State)
+    → commit_result (memory 22 (pending 16384) (block_at 0x1000400000 22 ∷ []) states) 0 22
+    ≡ (Busy, memory 22 (pending 16384) (block_at 0x1000400000 22 ∷ []) states)
 unfolding commit_result outcome_of_commit memory pending
 too_early states = refl
 
-nothing_pending : (states : List State) → commit_result (memory 22 None [] states) 0 22 ≡ (Closed, memory 22 None [] states)
+nothing_pending :
+    (states : List State)
+    → commit_result (memory 22 None [] states) 0 22 ≡ (Closed, memory 22 None [] states)
 unfolding commit_result outcome_of_commit memory
 nothing_pending states = refl
 
-with_a_flag : (states : List State) → commit_result (memory 22 None [] states) 1 22 ≡ (Parameter, memory 22 None [] states)
+with_a_flag :
+    (states : List State)
+    → commit_result (memory 22 None [] states) 1 22 ≡ (Parameter, memory 22 None [] states)
 unfolding commit_result outcome_of_commit memory
 with_a_flag states = refl

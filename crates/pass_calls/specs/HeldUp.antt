@@ -16,7 +16,8 @@ pub record IsBusyAt (entry : ℕ) (op : Op) (b : Busy) : Type 0 where
 
 -- There is a call behind those of the receipts, and it is busy.
 abbrev pub IsHeldUpAt : List Call → List Receipt → Busy → Type 0
-IsHeldUpAt cs rs b = (op : Op) × ((call_at cs (length rs) ≡ Some (b.entry, op)) × IsBusyAt b.entry op b)
+IsHeldUpAt cs rs b =
+    (op : Op) × ((call_at cs (length rs) ≡ Some (b.entry, op)) × IsBusyAt b.entry op b)
 
 -- The hypervisor call is held up at its next call on an entry.
 abbrev pub IsHeldUp : Plan → List Receipt → Busy → Type 0

@@ -13,10 +13,22 @@ shifted order small =
     let most = size_most order small in
     omega (arith, mod-eq_of_lt {n = 1 * 2 ^ order} {m = 2 ^ 64} (omega arith))
 
-pub range_of : (base order size : ℕ) → size ≡ 2 ^ order → 18 ≤ order → order ≤ 34 → base % size ≡ 0 → base ≤ 2 ^ 60 - size → IsPoolRange base order
+pub range_of :
+    (base order size : ℕ)
+    → size ≡ 2 ^ order
+    → 18 ≤ order
+    → order ≤ 34
+    → base % size ≡ 0
+    → base ≤ 2 ^ 60 - size
+    → IsPoolRange base order
 range_of base order size is large small aligned low =
     let most = size_most order small in
-    record { at_least = large; at_most = small; aligned = ap (λ n. base % n) (sym is) ∙ aligned; to_end = omega arith }
+    record {
+      at_least = large;
+      at_most = small;
+      aligned = ap (λ n. base % n) (sym is) ∙ aligned;
+      to_end = omega arith;
+    }
 
 pub nothing_refuses : (base order : ℕ) → IsPoolRange base order → range_refusal base order ≡ None
 unfolding range_refusal

@@ -63,11 +63,17 @@ IsPage-from_test p h =
 pub is_page-true : (p : VirtualPage) → IsPage p → is_page p ≡ true
 is_page-true p is =
     let vsid : is_vsid p.one_tb p.vsid ≡ true = lt-ltb p.vsid (2 ^ vsid_bits p.one_tb) is.vsid in
-    let index : nat_lt p.index (2 ^ (offset_bits p.one_tb - p.shift)) ≡ true = lt-ltb p.index (2 ^ (offset_bits p.one_tb - p.shift)) is.index in
+    let index : nat_lt p.index (2 ^ (offset_bits p.one_tb - p.shift)) ≡ true = lt-ltb p.index
+    (2 ^ (offset_bits p.one_tb - p.shift)) is.index in
     rw (vsid, is.shift, index) refl
 
 -- A segment's number and a page's index stay within the bits of an address.
-in_address : (b : Bool) (v x s : ℕ) → IsKind (offset_bits b) s → v < 2 ^ vsid_bits b → x < 2 ^ (offset_bits b - s) → v * 2 ^ offset_bits b + x * 2 ^ s < 2 ^ 78
+in_address :
+    (b : Bool) (v x s : ℕ)
+    → IsKind (offset_bits b) s
+    → v < 2 ^ vsid_bits b
+    → x < 2 ^ (offset_bits b - s)
+    → v * 2 ^ offset_bits b + x * 2 ^ s < 2 ^ 78
 in_address false v x s small_4k p q = omega arith
 in_address false v x s small_64k p q = omega arith
 in_address false v x s small_16m p q = omega arith
@@ -77,10 +83,14 @@ in_address true v x s large_16m p q = omega arith
 in_address true v x s large_16g p q = omega arith
 
 pub virtual_address-lt : (p : VirtualPage) → IsPage p → virtual_address p < 2 ^ 78
-virtual_address-lt p is = in_address p.one_tb p.vsid p.index p.shift (kind_of p.one_tb p.shift is.shift) is.vsid is.index
+virtual_address-lt p is =
+    in_address p.one_tb p.vsid p.index p.shift (kind_of p.one_tb p.shift is.shift) is.vsid is.index
 
 -- ---- the page that holds an address
-index_in_segment : (b : Bool) (s ea : ℕ) → IsKind (offset_bits b) s → ea % 2 ^ offset_bits b / 2 ^ s < 2 ^ (offset_bits b - s)
+index_in_segment :
+    (b : Bool) (s ea : ℕ)
+    → IsKind (offset_bits b) s
+    → ea % 2 ^ offset_bits b / 2 ^ s < 2 ^ (offset_bits b - s)
 index_in_segment false s ea small_4k = omega arith
 index_in_segment false s ea small_64k = omega arith
 index_in_segment false s ea small_16m = omega arith
@@ -90,19 +100,32 @@ index_in_segment true s ea large_16m = omega arith
 index_in_segment true s ea large_16g = omega arith
 
 -- It is a page, and these are its parts.
-pub page_of_address-some : (b : Bool) (v s ea : ℕ) (p : VirtualPage) → page_of_address b v s ea ≡ Some p → IsPage p × (p ≡ page_at_address b v s ea)
+pub page_of_address-some :
+    (b : Bool) (v s ea : ℕ) (p : VirtualPage)
+    → page_of_address b v s ea ≡ Some p
+    → IsPage p × (p ≡ page_at_address b v s ea)
 page_of_address-some b v s ea p e = at (cases_Bool (is_vsid b v && is_base_shift b s)) where
-  at : ((is_vsid b v && is_base_shift b s) ≡ true) ⊎ ((is_vsid b v && is_base_shift b s) ≡ false) → IsPage p × (p ≡ page_at_address b v s ea)
+  at :
+      ((is_vsid b v && is_base_shift b s) ≡ true) ⊎ ((is_vsid b v && is_base_shift b s) ≡ false)
+      → IsPage p × (p ≡ page_at_address b v s ea)
   at (inl fine) =
       let some : page_of_address b v s ea ≡ Some (page_at_address b v s ea) = rw fine refl in
       let same : p ≡ page_at_address b v s ea = cc in
       let parts = both_true (is_vsid b v) (is_base_shift b s) fine in
-      let is : IsPage (page_at_address b v s ea) = record { vsid = ltb-true v (2 ^ vsid_bits b) parts.0; shift = parts.1; index = index_in_segment b s ea (kind_of b s parts.1) } in
+      let is : IsPage (page_at_address b v s ea) = record {
+        vsid = ltb-true v (2 ^ vsid_bits b) parts.0;
+        shift = parts.1;
+        index = index_in_segment b s ea (kind_of b s parts.1);
+      } in
       (subst IsPage (sym same) is, same)
   at (inr refused) = let none : page_of_address b v s ea ≡ None = rw refused refl in cc
 
 -- A page is the one that holds each address in it.
-pub page_of_address-is : (b : Bool) (v s ea : ℕ) (p : VirtualPage) → IsPage p → page_at_address b v s ea ≡ p → page_of_address b v s ea ≡ Some p
+pub page_of_address-is :
+    (b : Bool) (v s ea : ℕ) (p : VirtualPage)
+    → IsPage p
+    → page_at_address b v s ea ≡ p
+    → page_of_address b v s ea ≡ Some p
 page_of_address-is b v s ea p is e =
     let there : IsPage (page_at_address b v s ea) = subst IsPage (sym e) is in
     let vsid : is_vsid b v ≡ true = lt-ltb v (2 ^ vsid_bits b) there.vsid in

@@ -18,4 +18,10 @@ page_same p q h =
 
 pub page_self : (p : VirtualPage) → same_page p p ≡ true
 unfolding same_page
-page_self p = rw (bool_self p.one_tb, eq-eqb p.vsid p.vsid refl, eq-eqb p.shift p.shift refl, eq-eqb p.index p.index refl)
+page_self p =
+    rw (
+      bool_self p.one_tb,
+      eq-eqb p.vsid p.vsid refl,
+      eq-eqb p.shift p.shift refl,
+      eq-eqb p.index p.index refl,
+    )

@@ -20,7 +20,9 @@ are_ascii (b ∷ bs) = nat_lt b 128 && are_ascii bs
 
 IsAscii-from_test : (bs : List ℕ) → T (are_ascii bs) → IsAscii bs
 IsAscii-from_test [] all = IsAscii-nil
-IsAscii-from_test (b ∷ bs) all = IsAscii-cons b bs (ltb_yes (and_l _ (are_ascii bs) all)) (IsAscii-from_test bs (and_r _ (are_ascii bs) all))
+IsAscii-from_test (b ∷ bs) all =
+    IsAscii-cons b bs (ltb_yes (and_l _ (are_ascii bs) all))
+    (IsAscii-from_test bs (and_r _ (are_ascii bs) all))
 
 IsAscii-answer_word : (a : Answer) → IsAscii (answer_word a)
 IsAscii-answer_word Entered = IsAscii-from_test (codes "entered") tt
@@ -42,12 +44,19 @@ IsAscii-receipt_text r =
     let word : List ℕ = codes "." ++ answer_word r.answer in
     let bits : List ℕ = codes "." ++ (decimal (bits_digit r.before) ++ word) in
     let rest : List ℕ = codes "." ++ (decimal r.before.stamp ++ bits) in
-    let of_word : IsAscii word = IsAscii-append (codes ".") (answer_word r.answer) point (IsAscii-answer_word r.answer) in
-    let of_digit : IsAscii (decimal (bits_digit r.before) ++ word) = IsAscii-append (decimal (bits_digit r.before)) word (decimal_IsAscii (bits_digit r.before)) of_word in
-    let of_bits : IsAscii bits = IsAscii-append (codes ".") (decimal (bits_digit r.before) ++ word) point of_digit in
-    let of_stamp : IsAscii (decimal r.before.stamp ++ bits) = IsAscii-append (decimal r.before.stamp) bits (decimal_IsAscii r.before.stamp) of_bits in
-    let of_rest : IsAscii rest = IsAscii-append (codes ".") (decimal r.before.stamp ++ bits) point of_stamp in
-    let of_entry : IsAscii (hex r.entry ++ rest) = IsAscii-append (hex r.entry) rest (hex_IsAscii r.entry) of_rest in
-    let whole : IsAscii (codes " " ++ (hex r.entry ++ rest)) = IsAscii-append (codes " ") (hex r.entry ++ rest) (IsAscii-from_test (codes " ") tt) of_entry in
+    let of_word : IsAscii word = IsAscii-append (codes ".") (answer_word r.answer) point
+    (IsAscii-answer_word r.answer) in
+    let of_digit : IsAscii (decimal (bits_digit r.before) ++ word) = IsAscii-append
+    (decimal (bits_digit r.before)) word (decimal_IsAscii (bits_digit r.before)) of_word in
+    let of_bits : IsAscii bits = IsAscii-append (codes ".") (decimal (bits_digit r.before) ++ word)
+    point of_digit in
+    let of_stamp : IsAscii (decimal r.before.stamp ++ bits) = IsAscii-append
+    (decimal r.before.stamp) bits (decimal_IsAscii r.before.stamp) of_bits in
+    let of_rest : IsAscii rest = IsAscii-append (codes ".") (decimal r.before.stamp ++ bits) point
+    of_stamp in
+    let of_entry : IsAscii (hex r.entry ++ rest) = IsAscii-append (hex r.entry) rest
+    (hex_IsAscii r.entry) of_rest in
+    let whole : IsAscii (codes " " ++ (hex r.entry ++ rest)) = IsAscii-append (codes " ")
+    (hex r.entry ++ rest) (IsAscii-from_test (codes " ") tt) of_entry in
     let same : codes " " ++ (hex r.entry ++ rest) ≡ receipt_text r = simp append_assoc in
     subst IsAscii same whole

@@ -27,7 +27,15 @@ use Rattle.authority_mask.specs.Authority.{no_masks, row_says, key_rows}
 
 -- An entry of the page of VSID 1 and index 1, read-only, with C and without R.
 used : State
-used = record { valid = true; dword0 = 0x1001; dword1 = 0x3013; referenced = false; changed = true; stamp = 31 }
+used =
+    record {
+      valid = true;
+      dword0 = 0x1001;
+      dword1 = 0x3013;
+      referenced = false;
+      changed = true;
+      stamp = 31;
+    }
 
 -- The same with R, at the last stamp.
 worn : State
@@ -37,7 +45,22 @@ reached : ℕ → Op
 reached tag = ops.Access tag 12 false false Store no_masks
 
 -- ---- codes
-each_code : flat_map code_text (map rc_code (rc.Success ∷ rc.Busy ∷ rc.Closed ∷ rc.LongBusy ∷ rc.Hardware ∷ rc.Function ∷ rc.Parameter ∷ rc.PtegFull ∷ rc.NotFound ∷ rc.NoMem ∷ rc.Resource ∷ [])) ≡ codes " 0 1 2 9900 -1 -2 -4 -6 -7 -9 -16"
+each_code :
+    flat_map code_text
+    (map rc_code
+    (rc.Success
+    ∷ rc.Busy
+    ∷ rc.Closed
+    ∷ rc.LongBusy
+    ∷ rc.Hardware
+    ∷ rc.Function
+    ∷ rc.Parameter
+    ∷ rc.PtegFull
+    ∷ rc.NotFound
+    ∷ rc.NoMem
+    ∷ rc.Resource
+    ∷ []))
+    ≡ codes " 0 1 2 9900 -1 -2 -4 -6 -7 -9 -16"
 unfolding digits code_text
 each_code = refl
 
@@ -59,60 +82,144 @@ lines =
 
 made : List Reply
 made =
-    replies.Hcall (record { rc = rc.PtegFull; words = []; receipts = receipt_of 9 used (ops.Enter 0x1001 0x3013) ∷ [] })
-    ∷ replies.Hcall (record { rc = rc.Success; words = 0xFFFFFFFFFFFFFFFF ∷ 0 ∷ []; receipts = receipt_of 9 used ops.Read ∷ receipt_of 10 (empty_state 0) ops.Read ∷ [] })
-    ∷ replies.Access (record { outcome = At 0x2000003ABC; by = Some Hit; receipts = receipt_of 4 (record used { dword1 = 0x3012 }) (reached 0x1001) ∷ [] })
-    ∷ replies.Access (record { outcome = Denied; by = Some Walk; receipts = receipt_of 2 used (reached 0x2001) ∷ receipt_of 3 used (reached 0x1001) ∷ [] })
-    ∷ replies.Access (record { outcome = NoPage; by = Some Walk; receipts = receipt_of 2 used (reached 0x2001) ∷ [] })
+    replies.Hcall
+    (record {
+      rc = rc.PtegFull;
+      words = [];
+      receipts = receipt_of 9 used (ops.Enter 0x1001 0x3013) ∷ [];
+    })
+    ∷ replies.Hcall
+    (record {
+      rc = rc.Success;
+      words = 0xFFFFFFFFFFFFFFFF ∷ 0 ∷ [];
+      receipts = receipt_of 9 used ops.Read ∷ receipt_of 10 (empty_state 0) ops.Read ∷ [];
+    })
+    ∷ replies.Access
+    (record {
+      outcome = At 0x2000003ABC;
+      by = Some Hit;
+      receipts = receipt_of 4 (record used { dword1 = 0x3012 }) (reached 0x1001) ∷ [];
+    })
+    ∷ replies.Access
+    (record {
+      outcome = Denied;
+      by = Some Walk;
+      receipts =
+          receipt_of 2 used (reached 0x2001) ∷ receipt_of 3 used (reached 0x1001) ∷ [];
+    })
+    ∷ replies.Access
+    (record {
+      outcome = NoPage;
+      by = Some Walk;
+      receipts = receipt_of 2 used (reached 0x2001) ∷ [];
+    })
     ∷ replies.Access (record { outcome = NoSegment; by = None; receipts = [] })
     ∷ replies.Access (record { outcome = Ungranted 0x7000; by = Some Walk; receipts = [] })
     ∷ replies.Segment true
     ∷ replies.Segment false
     ∷ replies.Segment true
-    ∷ replies.Dump (record { number = 12; order = 22; place = 0x1000400000; states = (0, worn) ∷ (0x3FFF, record used { dword0 = 0x4000000001000011; dword1 = 0x8000000000003012; changed = false; stamp = 2 }) ∷ [] })
+    ∷ replies.Dump
+    (record {
+      number = 12;
+      order = 22;
+      place = 0x1000400000;
+      states =
+          (0, worn)
+          ∷ (
+            0x3FFF,
+            record used {
+              dword0 = 0x4000000001000011;
+              dword1 = 0x8000000000003012;
+              changed = false;
+              stamp = 2;
+            },
+          )
+          ∷ [];
+    })
     ∷ []
 
-each_form : text_from lines made ≡ codes "10 63 H_ENTER -6 | 0x9.31.1.taken\n11 0 hcall 0 0xffffffffffffffff 0x0 | 0x9.31.1.read 0xa.0.0.read\n12 1 load at 0x2000003abc hit | 0x4.31.1.at\n13 1 store denied walk | 0x2.31.1.nomatch 0x3.31.1.denied\n14 1 fetch nopage walk | 0x2.31.1.nomatch\n15 1 load nosegment\n16 1 load ungranted 0x7000 walk\n17 1 slbmte ok\n18 1 slbmte refused\n19 1 slbclear ok\n131072 dump table 12 order 22 place 0x1000400000 entries 2\n 0x0 0x1001 0x3193 4294967295\n 0x3fff 0x4000000001000011 0x8000000000003012 2\n"
-unfolding digits lines made used worn reached has_base permission rows row_says key_rows hcall_of row_of text_from head_text code_text entry_text dump_head table_text
+each_form :
+    text_from lines made
+    ≡ codes
+    "10 63 H_ENTER -6 | 0x9.31.1.taken\n11 0 hcall 0 0xffffffffffffffff 0x0 | 0x9.31.1.read 0xa.0.0.read\n12 1 load at 0x2000003abc hit | 0x4.31.1.at\n13 1 store denied walk | 0x2.31.1.nomatch 0x3.31.1.denied\n14 1 fetch nopage walk | 0x2.31.1.nomatch\n15 1 load nosegment\n16 1 load ungranted 0x7000 walk\n17 1 slbmte ok\n18 1 slbmte refused\n19 1 slbclear ok\n131072 dump table 12 order 22 place 0x1000400000 entries 2\n 0x0 0x1001 0x3193 4294967295\n 0x3fff 0x4000000001000011 0x8000000000003012 2\n"
+unfolding digits lines made used worn reached has_base permission rows row_says key_rows hcall_of
+    row_of text_from head_text code_text entry_text dump_head table_text
 each_form = refl
 
 -- Lines that set masks, and an access that one refuses.
 masked_lines : List TraceLine
-masked_lines = record { number = 6; cpu = 0; act = SetMask Amr 1 } ∷ record { number = 7; cpu = 0; act = SetMask Iamr 1 } ∷ record { number = 8; cpu = 0; act = Access Fetch 0x5000 false } ∷ []
+masked_lines =
+    record { number = 6; cpu = 0; act = SetMask Amr 1 }
+    ∷ record { number = 7; cpu = 0; act = SetMask Iamr 1 }
+    ∷ record { number = 8; cpu = 0; act = Access Fetch 0x5000 false }
+    ∷ []
 
 masked_made : List Reply
-masked_made = replies.MaskSet ∷ replies.MaskSet ∷ replies.Access (record { outcome = Masked Iamr; by = Some Hit; receipts = [] }) ∷ []
+masked_made =
+    replies.MaskSet
+    ∷ replies.MaskSet
+    ∷ replies.Access (record { outcome = Masked Iamr; by = Some Hit; receipts = [] })
+    ∷ []
 
-masks_told : text_from masked_lines masked_made ≡ codes "6 0 amr ok\n7 0 iamr ok\n8 0 fetch masked iamr hit\n"
+masks_told :
+    text_from masked_lines masked_made
+    ≡ codes "6 0 amr ok\n7 0 iamr ok\n8 0 fetch masked iamr hit\n"
 unfolding digits masked_lines masked_made text_from head_text
 masks_told = refl
 
 -- Accesses of devices.
 device_lines : List TraceLine
-device_lines = record { number = 6; cpu = 0; act = Device false 1 0x5008 } ∷ record { number = 7; cpu = 0; act = Device true 1 0x5008 } ∷ record { number = 8; cpu = 1; act = Device true 2 0 } ∷ record { number = 9; cpu = 1; act = Device false 1 0 } ∷ []
+device_lines =
+    record { number = 6; cpu = 0; act = Device false 1 0x5008 }
+    ∷ record { number = 7; cpu = 0; act = Device true 1 0x5008 }
+    ∷ record { number = 8; cpu = 1; act = Device true 2 0 }
+    ∷ record { number = 9; cpu = 1; act = Device false 1 0 }
+    ∷ []
 
 device_made : List Reply
 device_made =
-    replies.Device (record { outcome = devices.At 0x2000003008; receipts = receipt_of 5 (empty_state 1) ops.Read ∷ [] })
-    ∷ replies.Device (record { outcome = devices.Denied; receipts = receipt_of 5 (empty_state 1) ops.Read ∷ [] })
+    replies.Device
+    (record {
+      outcome = devices.At 0x2000003008;
+      receipts = receipt_of 5 (empty_state 1) ops.Read ∷ [];
+    })
+    ∷ replies.Device
+    (record { outcome = devices.Denied; receipts = receipt_of 5 (empty_state 1) ops.Read ∷ [] })
     ∷ replies.Device (record { outcome = devices.NoWindow; receipts = [] })
     ∷ replies.Device (record { outcome = devices.Ungranted 0x7000; receipts = [] })
     ∷ []
 
-devices_told : text_from device_lines device_made ≡ codes "6 0 dmaread at 0x2000003008 | 0x5.1.0.read\n7 0 dmawrite denied | 0x5.1.0.read\n8 1 dmawrite nowindow\n9 1 dmaread ungranted 0x7000\n"
+devices_told :
+    text_from device_lines device_made
+    ≡ codes
+    "6 0 dmaread at 0x2000003008 | 0x5.1.0.read\n7 0 dmawrite denied | 0x5.1.0.read\n8 1 dmawrite nowindow\n9 1 dmaread ungranted 0x7000\n"
 unfolding digits device_lines device_made text_from head_text
 devices_told = refl
 
 -- ---- the summary
 -- Of no replies, of four, and of those above. A hit that is denied is a hit; an access that is ungranted is an access alone.
-of_none : summary_text 0 [] [] ≡ codes "lines 0\nhcalls 0\nsuccess 0\nfull 0\nnotfound 0\naccesses 0\nat 0\ndenied 0\nnopage 0\nhits 0\nentries 0\nchanged 0\n"
+of_none :
+    summary_text 0 [] []
+    ≡ codes
+    "lines 0\nhcalls 0\nsuccess 0\nfull 0\nnotfound 0\naccesses 0\nat 0\ndenied 0\nnopage 0\nhits 0\nentries 0\nchanged 0\n"
 unfolding digits summary_text counts_text row_text entries_text
 of_none = refl
 
-of_four : summary_text 4 (replies.Hcall (record { rc = rc.NotFound; words = []; receipts = [] }) ∷ replies.Access (record { outcome = At 0; by = Some Hit; receipts = [] }) ∷ replies.Access (record { outcome = Denied; by = Some Hit; receipts = [] }) ∷ replies.Segment true ∷ []) ((1, used) ∷ (2, record used { changed = false }) ∷ (3, worn) ∷ []) ≡ codes "lines 4\nhcalls 1\nsuccess 0\nfull 0\nnotfound 1\naccesses 2\nat 1\ndenied 1\nnopage 0\nhits 2\nentries 3\nchanged 2\n"
+of_four :
+    summary_text 4
+    (replies.Hcall (record { rc = rc.NotFound; words = []; receipts = [] })
+    ∷ replies.Access (record { outcome = At 0; by = Some Hit; receipts = [] })
+    ∷ replies.Access (record { outcome = Denied; by = Some Hit; receipts = [] })
+    ∷ replies.Segment true
+    ∷ []) ((1, used) ∷ (2, record used { changed = false }) ∷ (3, worn) ∷ [])
+    ≡ codes
+    "lines 4\nhcalls 1\nsuccess 0\nfull 0\nnotfound 1\naccesses 2\nat 1\ndenied 1\nnopage 0\nhits 2\nentries 3\nchanged 2\n"
 unfolding digits used worn summary_text counts_text row_text entries_text
 of_four = refl
 
-of_all : summary_text 11 made ((0, worn) ∷ []) ≡ codes "lines 11\nhcalls 2\nsuccess 1\nfull 1\nnotfound 0\naccesses 5\nat 1\ndenied 1\nnopage 1\nhits 1\nentries 1\nchanged 1\n"
+of_all :
+    summary_text 11 made ((0, worn) ∷ [])
+    ≡ codes
+    "lines 11\nhcalls 2\nsuccess 1\nfull 1\nnotfound 0\naccesses 5\nat 1\ndenied 1\nnopage 1\nhits 1\nentries 1\nchanged 1\n"
 unfolding digits made worn used summary_text counts_text row_text entries_text
 of_all = refl

@@ -33,7 +33,15 @@ use Rattle.authority_mask.specs.Authority.{no_masks, row_says, key_rows}
 
 -- A bolted entry of the page of VSID 0x801 and index 1, at index 0 of a table of 2 ^ 18 bytes.
 entry : Bool → State
-entry changed = record { valid = true; dword0 = 0x801011; dword1 = 0x3012; referenced = true; changed = changed; stamp = 3 }
+entry changed =
+    record {
+      valid = true;
+      dword0 = 0x801011;
+      dword1 = 0x3012;
+      referenced = true;
+      changed = changed;
+      stamp = 3;
+    }
 
 made : Bool → Op → Receipt
 made changed op = receipt_of 0 (entry changed) op
@@ -61,7 +69,8 @@ unfolding made entry
 removed_clears = refl
 
 -- A removal whose test fails leaves the entry.
-failed_removal : clears (made true (Remove (record { avpn = Some 0x801080; andcond = None }))) ≡ false
+failed_removal :
+    clears (made true (Remove (record { avpn = Some 0x801080; andcond = None }))) ≡ false
 unfolding made entry
 failed_removal = refl
 
@@ -129,7 +138,8 @@ section order number states = record {
   quiet = None;
 }
 
-in_the_same_table : carried_to (section 18 0 (entry true ∷ [])) (section 18 0 (entry true ∷ [])) 0 ≡ Some 0
+in_the_same_table :
+    carried_to (section 18 0 (entry true ∷ [])) (section 18 0 (entry true ∷ [])) 0 ≡ Some 0
 unfolding section
 in_the_same_table = refl
 
@@ -138,7 +148,9 @@ in_a_larger_table : carried_to (section 18 0 (entry true ∷ [])) (section 19 1 
 unfolding section entry section_end closing_states target_of carried_page page_at group_of tag_of
 in_a_larger_table = refl
 
-not_bolted : carried_to (section 18 0 (record (entry true) { dword0 = 0x801001 } ∷ [])) (section 19 1 []) 0 ≡ None
+not_bolted :
+    carried_to (section 18 0 (record (entry true) { dword0 = 0x801001 } ∷ [])) (section 19 1 []) 0
+    ≡ None
 unfolding section entry section_end closing_states target_of carried_page
 not_bolted = refl
 
@@ -147,7 +159,9 @@ lost_by_a_resize : StaysShown (section 18 0 (entry true ∷ [])) 0 (section 19 1
 unfolding section entry section_end closing_states target_of carried_page page_at group_of tag_of
 lost_by_a_resize h = let no : false ≡ true = h.0 in cc
 
-dropped_by_a_resize : StaysShown (section 18 0 (record (entry true) { dword0 = 0x801001 } ∷ [])) 0 (section 19 1 [] ∷ [])
+dropped_by_a_resize :
+    StaysShown (section 18 0 (record (entry true) { dword0 = 0x801001 } ∷ [])) 0
+    (section 19 1 [] ∷ [])
 unfolding section entry section_end closing_states target_of carried_page
 dropped_by_a_resize = tt
 
@@ -177,7 +191,8 @@ page : VirtualPage
 page = virtual_page false 0x801 12 1
 
 lands : IsLanding granted 18 0x1234 page (made true store) 0x2000003234
-unfolding granted page made entry store has_base permission rows row_says key_rows machine_range tag_of group_of
+unfolding granted page made entry store has_base permission rows row_says key_rows machine_range
+    tag_of group_of
 lands = record {
   allowed = refl;
   of_page = record { valid = refl; tag = refl; size = refl; segment = refl; group = refl };
@@ -189,10 +204,13 @@ lands = record {
 -- Another byte of the same grant.
 lands_elsewhere : IsLanding granted 18 0x1234 page (made true store) 0x2000003235 → ⊥
 unfolding granted page made entry store has_base permission rows row_says key_rows machine_range
-lands_elsewhere h = let no : 0x2000003234 ≡ 0x2000003235 = ap (λ x. option_map_or (λ (y : ℕ × Kind). y.0) x 0) h.in_grant in absurd (omega (arith, no))
+lands_elsewhere h = let no :
+    0x2000003234 ≡ 0x2000003235 =
+    ap (λ x. option_map_or (λ (y : ℕ × Kind). y.0) x 0) h.in_grant in absurd (omega (arith, no))
 
 -- The entry is none of the next page.
-lands_by_another_page : IsLanding granted 18 0x1234 (virtual_page false 0x801 12 2) (made true store) 0x2000003234 → ⊥
+lands_by_another_page :
+    IsLanding granted 18 0x1234 (virtual_page false 0x801 12 2) (made true store) 0x2000003234 → ⊥
 unfolding made entry store group_of
 lands_by_another_page h = let no : 3 ≡ 0 = h.of_page.group in absurd (omega (arith, no))
 
@@ -217,7 +235,9 @@ no_write_by_it h = let no : false ≡ true = h.permitted in cc
 
 device_lands_elsewhere : IsDeviceLanding granted false 0x10234 read_tce 0x2000003235 → ⊥
 unfolding granted read_tce machine_range
-device_lands_elsewhere h = let no : 0x2000003234 ≡ 0x2000003235 = ap (λ x. option_map_or (λ (y : ℕ × Kind). y.0) x 0) h.in_grant in absurd (omega (arith, no))
+device_lands_elsewhere h = let no :
+    0x2000003234 ≡ 0x2000003235 =
+    ap (λ x. option_map_or (λ (y : ℕ × Kind). y.0) x 0) h.in_grant in absurd (omega (arith, no))
 
 -- None ends outside the grants, and none lands without a receipt.
 never_ungranted : DeviceLandsBy granted false 0x10234 (Ungranted 0x3234) (read_tce ∷ []) → ⊥

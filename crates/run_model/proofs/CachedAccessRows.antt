@@ -10,10 +10,25 @@ use Rattle.entry_model.specs.Receipt.{receipt_of}
 use Rattle.run_model.specs.CachedAccesses.{UsesLine}
 
 abbrev line : Line
-line = record { page = virtual_page false 1 12 0; entry = 1; stamp = 2; dword0 = 0x1001; dword1 = 0x3012 }
+line =
+    record {
+      page = virtual_page false 1 12 0;
+      entry = 1;
+      stamp = 2;
+      dword0 = 0x1001;
+      dword1 = 0x3012;
+    }
 
 abbrev at_stamp : ℕ → State
-at_stamp n = record { valid = true; dword0 = 0x1001; dword1 = 0x3012; referenced = false; changed = false; stamp = n }
+at_stamp n =
+    record {
+      valid = true;
+      dword0 = 0x1001;
+      dword1 = 0x3012;
+      referenced = false;
+      changed = false;
+      stamp = n;
+    }
 
 abbrev on : ℕ → State → Receipt
 on entry before = receipt_of entry before Read
@@ -28,7 +43,13 @@ first_stamp (r ∷ rs) = r.before.stamp
 
 -- ---- hits
 hit : UsesLine (closing 2) (Some Hit) (Some line) (on 1 (at_stamp 2) ∷ [])
-hit = record { receipt = on 1 (at_stamp 2); only = refl; entry = refl; current = record { valid = refl; stamp = refl; dword0 = refl; dword1 = refl } }
+hit =
+    record {
+      receipt = on 1 (at_stamp 2);
+      only = refl;
+      entry = refl;
+      current = record { valid = refl; stamp = refl; dword0 = refl; dword1 = refl };
+    }
 
 -- Not by an entry that has left the stamp, by another entry, or by none.
 stale_hit : UsesLine (closing 3) (Some Hit) (Some line) (on 1 (at_stamp 3) ∷ []) → ⊥
@@ -39,7 +60,14 @@ no_line h = h
 
 -- ---- walks
 past : UsesLine (closing 3) (Some Walk) (Some line) (on 0 (empty_state 0) ∷ on 1 (at_stamp 3) ∷ [])
-past = record { left = omega arith; later = ((λ same. absurd (let clash : 0 ≡ 1 = same in omega (arith, clash))), ((λ same. omega arith), tt)) }
+past =
+    record {
+      left = omega arith;
+      later = (
+        (λ same. absurd (let clash : 0 ≡ 1 = same in omega (arith, clash))),
+        ((λ same. omega arith), tt),
+      );
+    }
 
 -- Not past a line that is current to the end, and not by a receipt of the line's stamp.
 past_a_current_line : UsesLine (closing 2) (Some Walk) (Some line) [] → ⊥

@@ -18,40 +18,60 @@ use Rattle.run_model.proofs.HeldLines.{none_hold}
 abbrev pub Moves : Table → CommitOutcome → Type 0
 Moves table c = (c.rc ≡ Success) ⊎ (c.table ≡ table)
 
-carried_moves : (pending : PendingTable) (pool : PoolState) (table : Table) (collision : Option Collision) → Moves table (carry_outcome pending pool table collision)
+carried_moves :
+    (pending : PendingTable) (pool : PoolState) (table : Table) (collision : Option Collision)
+    → Moves table (carry_outcome pending pool table collision)
 carried_moves pending pool table (Some collision) = inr refl
 carried_moves pending pool table None = inl refl
 
-completed_moves : (pending : Option PendingTable) (pool : PoolState) (table : Table) → Moves table (complete_outcome pending pool table)
+completed_moves :
+    (pending : Option PendingTable) (pool : PoolState) (table : Table)
+    → Moves table (complete_outcome pending pool table)
 completed_moves None pool table = inr refl
-completed_moves (Some pending) pool table = carried_moves pending pool table (collision_of table.order pending.order table.states)
+completed_moves (Some pending) pool table =
+    carried_moves pending pool table (collision_of table.order pending.order table.states)
 
-answered_moves : (refusal : Option Rc) (pending : Option PendingTable) (pool : PoolState) (table : Table) → Moves table (answer_outcome refusal pending pool table)
+answered_moves :
+    (refusal : Option Rc) (pending : Option PendingTable) (pool : PoolState) (table : Table)
+    → Moves table (answer_outcome refusal pending pool table)
 answered_moves (Some rc) pending pool table = inr refl
 answered_moves None pending pool table = completed_moves pending pool table
 
-pub commit_moves : (flags shift : ℕ) (pending : Option PendingTable) (pool : PoolState) (table : Table) → Moves table (outcome_of_commit flags shift pending pool table)
+pub commit_moves :
+    (flags shift : ℕ) (pending : Option PendingTable) (pool : PoolState) (table : Table)
+    → Moves table (outcome_of_commit flags shift pending pool table)
 unfolding outcome_of_commit
-commit_moves flags shift pending pool table = answered_moves (commit_refusal flags shift pending) pending pool table
+commit_moves flags shift pending pool table =
+    answered_moves (commit_refusal flags shift pending) pending pool table
 
 -- The processors after a commit that was answered so.
 abbrev pub cleared : Rc → List Processor → List Processor
 cleared rc processors = if is_success rc then map without_cache processors else processors
 
 -- Their cached lines hold of the table that it leaves.
-pub moved_hold : (rc : Rc) (old new : Table) (processors : List Processor) → (rc ≡ Success) ⊎ (new ≡ old) → AllHold old.states processors → AllHold new.states (cleared rc processors)
-moved_hold rc old new processors (inl done) h = subst (λ (code : Rc). AllHold new.states (cleared code processors)) (sym done) (none_hold new.states processors)
+pub moved_hold :
+    (rc : Rc) (old new : Table) (processors : List Processor)
+    → (rc ≡ Success) ⊎ (new ≡ old)
+    → AllHold old.states processors
+    → AllHold new.states (cleared rc processors)
+moved_hold rc old new processors (inl done) h =
+    subst (λ (code : Rc). AllHold new.states (cleared code processors)) (sym done)
+    (none_hold new.states processors)
 moved_hold rc old new processors (inr same) h =
     cond_both (is_success rc) (map without_cache processors) processors (AllHold new.states)
     (λ e. none_hold new.states processors)
     (λ e. subst (λ (t : Table). AllHold t.states processors) (sym same) h)
 
 -- The same of a partition's table memory.
-pub result_moves : (memory : TableMemory) (flags shift : ℕ) → ((commit_result memory flags shift).0 ≡ Success) ⊎ ((commit_result memory flags shift).1.table ≡ memory.table)
+pub result_moves :
+    (memory : TableMemory) (flags shift : ℕ)
+    → ((commit_result memory flags shift).0 ≡ Success)
+    ⊎ ((commit_result memory flags shift).1.table ≡ memory.table)
 unfolding commit_result
 result_moves memory flags shift = commit_moves flags shift memory.pending memory.pool memory.table
 
 -- Where it did not succeed, the table stays.
-pub table_stays : (rc : Rc) (old new : Table) → (rc ≡ Success) ⊎ (new ≡ old) → (rc ≡ Success → ⊥) → new ≡ old
+pub table_stays :
+    (rc : Rc) (old new : Table) → (rc ≡ Success) ⊎ (new ≡ old) → (rc ≡ Success → ⊥) → new ≡ old
 table_stays rc old new (inl done) failed = absurd (failed done)
 table_stays rc old new (inr same) failed = same

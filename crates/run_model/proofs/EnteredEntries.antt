@@ -67,36 +67,71 @@ abbrev AreKept : List Grant → List State → Type 0
 AreKept grants states = AllByRecursion (IsKept grants) states
 
 empty_kept : (grants : List Grant) → IsKept grants (empty_state 0)
-empty_kept grants = (empty_stored grants 0, record { apart = refl; no_first = λ e. refl; no_second = λ e. refl; no_reference = λ e. refl; no_change = λ e. refl })
+empty_kept grants = (
+  empty_stored grants 0,
+  record {
+    apart = refl;
+    no_first = λ e. refl;
+    no_second = λ e. refl;
+    no_reference = λ e. refl;
+    no_change = λ e. refl;
+  },
+)
 
-reply_kept : (grants : List Grant) (s : State) (op : Op) → EntersOnly (AreStored grants) op → IsKept grants s → IsKept grants (reply_of s op).1
+reply_kept :
+    (grants : List Grant) (s : State) (op : Op)
+    → EntersOnly (AreStored grants) op
+    → IsKept grants s
+    → IsKept grants (reply_of s op).1
 reply_kept grants s op enters h = (reply_stored grants s op enters h.0, reply_canonical s op h.1)
 
 -- ---- calls on entries
 abbrev EnterStored : List Grant → List Call → Type 0
 EnterStored grants cs = AllByRecursion (λ (c : Call). EntersOnly (AreStored grants) c.op) cs
 
-trial_kept : (grants : List Grant) (goes : Answer → Bool) (states : List State) (cs : List Call) → EnterStored grants cs → AreKept grants states → AreKept grants (trial_run goes states cs).1
+trial_kept :
+    (grants : List Grant) (goes : Answer → Bool) (states : List State) (cs : List Call)
+    → EnterStored grants cs
+    → AreKept grants states
+    → AreKept grants (trial_run goes states cs).1
 unfolding trial_run
 trial_kept grants goes states [] enters h = h
 trial_kept grants goes states (c ∷ cs) enters h =
     let r = receipt_at states c in
-    let before : IsKept grants (state_at states c.entry) = each_at (IsKept grants) states c.entry (empty_state 0) (empty_kept grants) h in
-    let after : AreKept grants (states_after states r) = each_set (IsKept grants) states c.entry (reply_of (state_at states c.entry) c.op).1 (reply_kept grants (state_at states c.entry) c.op enters.0 before) h in
+    let before : IsKept grants (state_at states c.entry) = each_at (IsKept grants) states c.entry
+    (empty_state 0) (empty_kept grants) h in
+    let after : AreKept grants (states_after states r) = each_set (IsKept grants) states c.entry
+    (reply_of (state_at states c.entry) c.op).1
+    (reply_kept grants (state_at states c.entry) c.op enters.0 before) h in
     let rest = trial_run goes (states_after states r) cs in
-    cond_both (goes r.answer) (r ∷ rest.0, rest.1) (r ∷ [], states_after states r) (λ (x : List Receipt × List State). AreKept grants x.1) (λ _. trial_kept grants goes (states_after states r) cs enters.1 after) (λ _. after)
+    cond_both (goes r.answer) (r ∷ rest.0, rest.1) (r ∷ [], states_after states r)
+    (λ (x : List Receipt × List State). AreKept grants x.1)
+    (λ _. trial_kept grants goes (states_after states r) cs enters.1 after) (λ _. after)
 
 -- ---- hypervisor calls
-words_enter : (grants : List Grant) (flags ptex : ℕ) (words : Option (ℕ × ℕ)) → ((w : ℕ × ℕ) → words ≡ Some w → AreStored grants w.0 w.1) → EnterStored grants (words_plan flags ptex words).calls
+words_enter :
+    (grants : List Grant) (flags ptex : ℕ) (words : Option (ℕ × ℕ))
+    → ((w : ℕ × ℕ) → words ≡ Some w → AreStored grants w.0 w.1)
+    → EnterStored grants (words_plan flags ptex words).calls
 words_enter grants flags ptex None h = tt
-words_enter grants flags ptex (Some w) h = each_call (EntersOnly (AreStored grants)) (ops.Enter w.0 w.1) (candidates flags ptex) (h w refl)
+words_enter grants flags ptex (Some w) h =
+    each_call (EntersOnly (AreStored grants)) (ops.Enter w.0 w.1) (candidates flags ptex) (h w refl)
 
-enter_enters : (order : ℕ) (grants : List Grant) (flags ptex pteh ptel : ℕ) → EnterStored grants (h_enter_plan order grants flags ptex pteh ptel).calls
+enter_enters :
+    (order : ℕ) (grants : List Grant) (flags ptex pteh ptel : ℕ)
+    → EnterStored grants (h_enter_plan order grants flags ptex pteh ptel).calls
 unfolding h_enter_plan
 enter_enters order grants flags ptex pteh ptel =
-    cond_both (nat_lt ptex (entry_count order)) (words_plan flags ptex (entered_words grants pteh ptel)) (plan_of_code Parameter) (λ (p : Plan). EnterStored grants p.calls) (λ _. words_enter grants flags ptex (entered_words grants pteh ptel) (entered_again grants pteh ptel)) (λ _. tt)
+    cond_both (nat_lt ptex (entry_count order))
+    (words_plan flags ptex (entered_words grants pteh ptel)) (plan_of_code Parameter)
+    (λ (p : Plan). EnterStored grants p.calls)
+    (λ _.
+    words_enter grants flags ptex (entered_words grants pteh ptel)
+    (entered_again grants pteh ptel)) (λ _. tt)
 
-hcall_enters : (set : AccessContext) (h : Hcall) (args : List ℕ) → EnterStored set.grants (hcall_plan (table_context set) h args).calls
+hcall_enters :
+    (set : AccessContext) (h : Hcall) (args : List ℕ)
+    → EnterStored set.grants (hcall_plan (table_context set) h args).calls
 unfolding hcall_plan
 hcall_enters set calls.Enter args = enter_enters set.order set.grants _ _ _ _
 hcall_enters set calls.Remove args = (h_remove_tame (AreStored set.grants) set.order _ _ _).enters
@@ -104,7 +139,8 @@ hcall_enters set calls.Protect args = (h_protect_tame (AreStored set.grants) set
 hcall_enters set calls.Read args = (h_read_tame (AreStored set.grants) set.order _ _).enters
 hcall_enters set calls.ClearRef args = (h_clear_ref_tame (AreStored set.grants) set.order _).enters
 hcall_enters set calls.ClearMod args = (h_clear_mod_tame (AreStored set.grants) set.order _).enters
-hcall_enters set calls.BulkRemove args = (h_bulk_remove_tame (AreStored set.grants) set.order args).enters
+hcall_enters set calls.BulkRemove args =
+    (h_bulk_remove_tame (AreStored set.grants) set.order args).enters
 hcall_enters set other args = tt
 
 -- ---- lines
@@ -112,22 +148,42 @@ hcall_enters set other args = tt
 abbrev Keeps : List Grant → Reply × List State → Type 0
 Keeps grants x = AreKept grants x.1
 
-plan_kept : (grants : List Grant) (plan : Plan) (states : List State) → EnterStored grants plan.calls → AreKept grants states → AreKept grants (plan_run plan states).1
+plan_kept :
+    (grants : List Grant) (plan : Plan) (states : List State)
+    → EnterStored grants plan.calls
+    → AreKept grants states
+    → AreKept grants (plan_run plan states).1
 unfolding plan_run
 plan_kept grants plan states enters h = trial_kept grants plan.goes_on states plan.calls enters h
 
-line_kept : (set : AccessContext) (states : List State) (seg : Segment) (a : Request) (c : Option Line) → AreKept set.grants states → Keeps set.grants (result_by_line set states seg a c)
-line_kept set states seg a (Some line) h = trial_kept set.grants is_no_match states (hit_calls seg a line) (tt, tt) h
-line_kept set states seg a None h = trial_kept set.grants is_no_match states (walk_calls set.order seg.page (mode_for seg a)) (walk_enters (AreStored set.grants) set.order seg a) h
+line_kept :
+    (set : AccessContext) (states : List State) (seg : Segment) (a : Request) (c : Option Line)
+    → AreKept set.grants states
+    → Keeps set.grants (result_by_line set states seg a c)
+line_kept set states seg a (Some line) h =
+    trial_kept set.grants is_no_match states (hit_calls seg a line) (tt, tt) h
+line_kept set states seg a None h =
+    trial_kept set.grants is_no_match states (walk_calls set.order seg.page (mode_for seg a))
+    (walk_enters (AreStored set.grants) set.order seg a) h
 
-segment_kept : (set : AccessContext) (p : Processor) (states : List State) (a : Request) (s : Option Segment) → AreKept set.grants states → Keeps set.grants (result_by_segment set p states a s)
+segment_kept :
+    (set : AccessContext) (p : Processor) (states : List State) (a : Request) (s : Option Segment)
+    → AreKept set.grants states
+    → Keeps set.grants (result_by_segment set p states a s)
 segment_kept set p states a None h = h
-segment_kept set p states a (Some seg) h = line_kept set states seg a (current_line states (cached_line p.cache seg.page)) h
+segment_kept set p states a (Some seg) h =
+    line_kept set states seg a (current_line states (cached_line p.cache seg.page)) h
 
-result_kept : (set : AccessContext) (p : Processor) (states : List State) (act : Act) → AreKept set.grants states → Keeps set.grants (line_result (table_context set) p states act)
+result_kept :
+    (set : AccessContext) (p : Processor) (states : List State) (act : Act)
+    → AreKept set.grants states
+    → Keeps set.grants (line_result (table_context set) p states act)
 unfolding line_result
-result_kept set p states (acts.Call number args spelt) h = plan_kept set.grants (hcall_plan (table_context set) (hcall_of number) args) states (hcall_enters set (hcall_of number) args) h
-result_kept set p states (acts.Access want ea user) h = segment_kept set p states (request want ea user p.masks) (segment_of p.slots ea) h
+result_kept set p states (acts.Call number args spelt) h =
+    plan_kept set.grants (hcall_plan (table_context set) (hcall_of number) args) states
+    (hcall_enters set (hcall_of number) args) h
+result_kept set p states (acts.Access want ea user) h =
+    segment_kept set p states (request want ea user p.masks) (segment_of p.slots ea) h
 result_kept set p states (acts.SlbMte rb rs) h = h
 result_kept set p states acts.SlbClear h = h
 result_kept set p states (acts.Device write liobn ioba) h = h
@@ -141,26 +197,67 @@ record IsKeptRun (grants : List Grant) (w : Store) : Type 0 where
   table : IsTable w
   states : AreKept grants (states_of w)
 
-resize_kept : (grants : List Grant) (w : Store) (call : Hcall) (args : List ℕ) → IsKeptRun grants w → IsKeptRun grants (run_resize w call args).1
+resize_kept :
+    (grants : List Grant) (w : Store) (call : Hcall) (args : List ℕ)
+    → IsKeptRun grants w
+    → IsKeptRun grants (run_resize w call args).1
 unfolding run_resize
 resize_kept grants w calls.Prepare args h =
     let table = prepare_table w.memory (slice_index args 0) (slice_index args 1) in
-    record { same = h.same; table = h.table; states = subst (λ t. AreKept grants t.states) (sym table) h.states }
+    record {
+      same = h.same;
+      table = h.table;
+      states = subst (λ t. AreKept grants t.states) (sym table) h.states;
+    }
 resize_kept grants w calls.Commit args h =
-    record { same = h.same; table = h.table; states = committed_each (IsKept grants) (empty_kept grants) (λ s k. k) w.memory (slice_index args 0) (slice_index args 1) h.states }
+    record {
+      same = h.same;
+      table = h.table;
+      states =
+          committed_each (IsKept grants) (empty_kept grants) (λ s k. k) w.memory
+          (slice_index args 0) (slice_index args 1) h.states;
+    }
 resize_kept grants w other args h = h
 
-quiet_kept : (grants : List Grant) (w : Store) (act : Act) → IsKeptRun grants w → IsKeptRun grants (run_quiet_line w act).1
+quiet_kept :
+    (grants : List Grant) (w : Store) (act : Act)
+    → IsKeptRun grants w
+    → IsKeptRun grants (run_quiet_line w act).1
 unfolding run_quiet_line
 quiet_kept grants w (acts.Call number args spelt) h = resize_kept grants w (hcall_of number) args h
 quiet_kept grants w other h = h
 
-plain_kept : (grants : List Grant) (w : Store) (l : TraceLine) → IsKeptRun grants w → IsKeptRun grants (with_result w l (line_result (context_of w) (processor_at w.processors l.cpu) (states_of w) l.act)).1
+plain_kept :
+    (grants : List Grant) (w : Store) (l : TraceLine)
+    → IsKeptRun grants w
+    → IsKeptRun grants
+    (with_result w l
+    (line_result (context_of w) (processor_at w.processors l.cpu) (states_of w) l.act)).1
 plain_kept grants w l h =
-    let own : AreKept w.grants (states_of w) = subst (λ g. AreKept g (states_of w)) (sym h.same) h.states in
-    record { same = h.same; table = h.table; states = subst (λ g. AreKept g (line_result (context_of w) (processor_at w.processors l.cpu) (states_of w) l.act).1) h.same (subst (λ set. AreKept w.grants (line_result set (processor_at w.processors l.cpu) (states_of w) l.act).1) (sym (table_is w h.table)) (result_kept (access_of (context_of w)) (processor_at w.processors l.cpu) (states_of w) l.act own)) }
+    let own : AreKept w.grants (states_of w) = subst (λ g. AreKept g (states_of w)) (sym h.same)
+    h.states in
+    record {
+      same = h.same;
+      table = h.table;
+      states =
+          subst
+          (λ g.
+          AreKept g
+          (line_result (context_of w) (processor_at w.processors l.cpu) (states_of w)
+          l.act).1) h.same
+          (subst
+          (λ set.
+          AreKept w.grants
+          (line_result set (processor_at w.processors l.cpu) (states_of w) l.act).1)
+          (sym (table_is w h.table))
+          (result_kept (access_of (context_of w)) (processor_at w.processors l.cpu)
+          (states_of w) l.act own));
+    }
 
-one_kept : (grants : List Grant) (w : Store) (l : TraceLine) → IsKeptRun grants w → IsKeptRun grants (run_on w l).1
+one_kept :
+    (grants : List Grant) (w : Store) (l : TraceLine)
+    → IsKeptRun grants w
+    → IsKeptRun grants (run_on w l).1
 unfolding run_on
 one_kept grants w l h = at (cases_Bool (is_quiet l.act)) where
   at : (is_quiet l.act ≡ true) ⊎ (is_quiet l.act ≡ false) → IsKeptRun grants (run_on w l).1
@@ -169,22 +266,40 @@ one_kept grants w l h = at (cases_Bool (is_quiet l.act)) where
 
 -- ---- the beginning
 -- What opens is what H_ENTER makes of an empty entry, but for the stamp.
-entered_kept : (order : ℕ) (grants : List Grant) (e : ImageEntry) → IsOpeningEntry order grants e → IsKept grants (entered_state e.dword0 e.dword1)
-entered_kept order grants e h = reply_kept grants (empty_state 0) (ops.Enter e.dword0 e.dword1) (stored_parts grants e.dword0 e.dword1 h.stored) (empty_kept grants)
+entered_kept :
+    (order : ℕ) (grants : List Grant) (e : ImageEntry)
+    → IsOpeningEntry order grants e
+    → IsKept grants (entered_state e.dword0 e.dword1)
+entered_kept order grants e h =
+    reply_kept grants (empty_state 0) (ops.Enter e.dword0 e.dword1)
+    (stored_parts grants e.dword0 e.dword1 h.stored) (empty_kept grants)
 
 opening_is : (c : Configuration) → IsTable (page_table c)
 unfolding page_table
 opening_is c = refl
 
-opening_kept : (c : Configuration) → AreOpeningEntries c.order c.granted.grants c.entries → IsKeptRun c.granted.grants (page_table c)
-opening_kept c is = record { same = opening_grants c; table = opening_is c; states = each_opening (IsKept c.granted.grants) c (empty_kept c.granted.grants) (entered_kept c.order c.granted.grants) is }
+opening_kept :
+    (c : Configuration)
+    → AreOpeningEntries c.order c.granted.grants c.entries
+    → IsKeptRun c.granted.grants (page_table c)
+opening_kept c is =
+    record {
+      same = opening_grants c;
+      table = opening_is c;
+      states =
+          each_opening (IsKept c.granted.grants) c (empty_kept c.granted.grants)
+          (entered_kept c.order c.granted.grants) is;
+    }
 
 can_be_entered : (grants : List Grant) (s : State) → IsKept grants s → CanBeEntered grants s
-can_be_entered grants s h = record { canonical = h.1; stored = λ valid. stored_whole grants s.dword0 s.dword1 (h.0 valid) }
+can_be_entered grants s h =
+    record { canonical = h.1; stored = λ valid. stored_whole grants s.dword0 s.dword1 (h.0 valid) }
 
 pub entries_can_be_entered : EntriesCanBeEntered
 entries_can_be_entered t lines is =
     let grants = t.config.granted.grants in
     let after = table_after t.config lines in
-    let kept = first_after (IsKeptRun grants) t.config lines (one_kept grants) (opening_kept t.config is.entries) in
-    each_map (IsKept grants) (CanBeEntered grants) (states_of after) (can_be_entered grants) kept.states
+    let kept = first_after (IsKeptRun grants) t.config lines (one_kept grants)
+    (opening_kept t.config is.entries) in
+    each_map (IsKept grants) (CanBeEntered grants) (states_of after) (can_be_entered grants)
+    kept.states

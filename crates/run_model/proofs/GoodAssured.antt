@@ -12,7 +12,8 @@ use Rattle.run_model.proofs.ClearedBits.{cleared_are_shown}
 use Rattle.run_model.proofs.StoresKept.{no_store_is_lost, no_set_bit_is_lost}
 use Rattle.run_model.proofs.SectionChain.{resizes_keep_bolted_pages}
 
-pub good_assures : (t : AcceptedTrace) (rs : List Reply) → IsAccepted t → IsGoodRun t rs → Assures t rs
+pub good_assures :
+    (t : AcceptedTrace) (rs : List Reply) → IsAccepted t → IsGoodRun t rs → Assures t rs
 good_assures t rs is good = record {
   stores = no_store_is_lost t rs is good;
   set = no_set_bit_is_lost t rs is good;

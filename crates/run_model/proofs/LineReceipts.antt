@@ -8,16 +8,29 @@ use Rattle.run_model.specs.Histories.{receipts_by}
 use Rattle.run_model.proofs.Each.{each_append, each_front, each_back}
 
 -- What holds of each receipt of each line holds of each receipt; and back.
-pub each_receipt : (Q : Receipt → Type 0) (ts : List RepliedLine) → AllByRecursion (λ (t : RepliedLine). AllByRecursion Q (receipts_in t.reply)) ts → AllByRecursion Q (receipts_by ts)
+pub each_receipt :
+    (Q : Receipt → Type 0) (ts : List RepliedLine)
+    → AllByRecursion (λ (t : RepliedLine). AllByRecursion Q (receipts_in t.reply)) ts
+    → AllByRecursion Q (receipts_by ts)
 each_receipt Q [] h = tt
-each_receipt Q (t ∷ ts) h = each_append Q (receipts_in t.reply) (receipts_by ts) h.0 (each_receipt Q ts h.1)
+each_receipt Q (t ∷ ts) h =
+    each_append Q (receipts_in t.reply) (receipts_by ts) h.0 (each_receipt Q ts h.1)
 
-pub receipts_of_each : (Q : Receipt → Type 0) (ts : List RepliedLine) → AllByRecursion Q (receipts_by ts) → AllByRecursion (λ (t : RepliedLine). AllByRecursion Q (receipts_in t.reply)) ts
+pub receipts_of_each :
+    (Q : Receipt → Type 0) (ts : List RepliedLine)
+    → AllByRecursion Q (receipts_by ts)
+    → AllByRecursion (λ (t : RepliedLine). AllByRecursion Q (receipts_in t.reply)) ts
 receipts_of_each Q [] h = tt
-receipts_of_each Q (t ∷ ts) h = (each_front Q (receipts_in t.reply) (receipts_by ts) h, receipts_of_each Q ts (each_back Q (receipts_in t.reply) (receipts_by ts) h))
+receipts_of_each Q (t ∷ ts) h = (
+  each_front Q (receipts_in t.reply) (receipts_by ts) h,
+  receipts_of_each Q ts (each_back Q (receipts_in t.reply) (receipts_by ts) h),
+)
 
 -- Lines that raise few stamps do so together.
-pub weight_by_lines : (ts : List RepliedLine) → AllByRecursion (λ (t : RepliedLine). weight (receipts_in t.reply) ≤ 32) ts → weight (receipts_by ts) ≤ 32 * length ts
+pub weight_by_lines :
+    (ts : List RepliedLine)
+    → AllByRecursion (λ (t : RepliedLine). weight (receipts_in t.reply) ≤ 32) ts
+    → weight (receipts_by ts) ≤ 32 * length ts
 weight_by_lines [] h = omega arith
 weight_by_lines (t ∷ ts) h =
     let few : weight (receipts_in t.reply) ≤ 32 = h.0 in

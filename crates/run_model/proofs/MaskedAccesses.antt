@@ -36,24 +36,46 @@ use Rattle.run_model.proofs.Each.{each_at, each_filter, each_map}
 use Rattle.run_model.proofs.ProcessorLists.{after_each}
 
 -- ---- accesses
-line_masked : (context : AccessContext) (p : Processor) (act : Act) (reply : Reply) → IsReplyToAccess context p act reply → IsMaskedByItsEntry p act reply
-line_masked context p (acts.Access want ea user) (replies.Access r) is = λ name. masked_where_refused context (cached_line p.cache) (request want ea user p.masks) (segment_of p.slots ea) r name is
+line_masked :
+    (context : AccessContext) (p : Processor) (act : Act) (reply : Reply)
+    → IsReplyToAccess context p act reply
+    → IsMaskedByItsEntry p act reply
+line_masked context p (acts.Access want ea user) (replies.Access r) is =
+    λ name.
+    masked_where_refused context (cached_line p.cache) (request want ea user p.masks)
+    (segment_of p.slots ea) r name is
 line_masked context p act reply is = tt
 
-lines_masked : (context : AccessContext) (states : List State) (p : Processor) (ts : List RepliedLine) → EachLineOfProcessor (IsAccessLine context states) p ts → EachLineOfProcessor (λ p t. IsMaskedByItsEntry p t.line.act t.reply) p ts
+lines_masked :
+    (context : AccessContext) (states : List State) (p : Processor) (ts : List RepliedLine)
+    → EachLineOfProcessor (IsAccessLine context states) p ts
+    → EachLineOfProcessor (λ p t. IsMaskedByItsEntry p t.line.act t.reply) p ts
 lines_masked context states p [] h = tt
-lines_masked context states p (t ∷ ts) h =
-    (line_masked context p t.line.act t.reply h.0.reply, lines_masked context states (processor_after p t.line.act t.reply) ts h.1)
+lines_masked context states p (t ∷ ts) h = (
+  line_masked context p t.line.act t.reply h.0.reply,
+  lines_masked context states (processor_after p t.line.act t.reply) ts h.1,
+)
 
 section_masked : (s : Section) → AccessesAreReplied s → MasksRefuse s
-section_masked s replied = λ cpu. lines_masked (access_of (context_of s.before)) (states_of (closing s)) (processor_at s.before.processors cpu) (lines_of_processor cpu s.replied_lines) (replied cpu)
+section_masked s replied =
+    λ cpu.
+    lines_masked (access_of (context_of s.before)) (states_of (closing s))
+    (processor_at s.before.processors cpu) (lines_of_processor cpu s.replied_lines)
+    (replied cpu)
 
-sections_masked : (ss : List Section) → AllByRecursion AccessesAreReplied ss → AllByRecursion MasksRefuse ss
+sections_masked :
+    (ss : List Section) → AllByRecursion AccessesAreReplied ss → AllByRecursion MasksRefuse ss
 sections_masked [] replied = tt
 sections_masked (s ∷ ss) replied = (section_masked s replied.0, sections_masked ss replied.1)
 
-pub masks_refuse : (t : AcceptedTrace) (rs : List Reply) → IsGoodRun t rs → AllByRecursion MasksRefuse (sections_of t rs)
-masks_refuse t rs good = sections_masked (sections_of t rs) (each_map IsGoodSection AccessesAreReplied (sections_of t rs) (λ s h. h.accesses) good.stores.0)
+pub masks_refuse :
+    (t : AcceptedTrace) (rs : List Reply)
+    → IsGoodRun t rs
+    → AllByRecursion MasksRefuse (sections_of t rs)
+masks_refuse t rs good =
+    sections_masked (sections_of t rs)
+    (each_map IsGoodSection AccessesAreReplied (sections_of t rs) (λ s h. h.accesses)
+    good.stores.0)
 
 -- ---- lines that set no mask but to 0
 abbrev IsZeroLine : RepliedLine → Type 0
@@ -62,7 +84,10 @@ IsZeroLine t = SetsZero t.line.act
 abbrev AreZeroLines : List RepliedLine → Type 0
 AreZeroLines ts = AllByRecursion IsZeroLine ts
 
-replied_zero : (ls : List TraceLine) (rs : List Reply) → AllByRecursion (λ (l : TraceLine). SetsZero l.act) ls → AreZeroLines (lines_with_replies ls rs)
+replied_zero :
+    (ls : List TraceLine) (rs : List Reply)
+    → AllByRecursion (λ (l : TraceLine). SetsZero l.act) ls
+    → AreZeroLines (lines_with_replies ls rs)
 replied_zero [] rs h = tt
 replied_zero (l ∷ ls) [] h = tt
 replied_zero (l ∷ ls) (r ∷ rs) h = (h.0, replied_zero ls rs h.1)
@@ -70,7 +95,11 @@ replied_zero (l ∷ ls) (r ∷ rs) h = (h.0, replied_zero ls rs h.1)
 abbrev IsZeroCut : List RepliedLine × List QuietPart → Type 0
 IsZeroCut x = AreZeroLines x.0 × AllByRecursion (λ (q : QuietPart). AreZeroLines q.1) x.1
 
-cut_by : (quiet : Bool) (t : RepliedLine) (x : List RepliedLine × List QuietPart) → IsZeroLine t → IsZeroCut x → IsZeroCut (if quiet then ([], (t, x.0) ∷ x.1) else (t ∷ x.0, x.1))
+cut_by :
+    (quiet : Bool) (t : RepliedLine) (x : List RepliedLine × List QuietPart)
+    → IsZeroLine t
+    → IsZeroCut x
+    → IsZeroCut (if quiet then ([], (t, x.0) ∷ x.1) else (t ∷ x.0, x.1))
 cut_by true t x here rest = (tt, (rest.0, rest.1))
 cut_by false t x here rest = ((here, rest.0), rest.1)
 
@@ -82,7 +111,11 @@ cut_zero (t ∷ ts) h = cut_by (is_quiet t.line.act) t (cut ts) h.0 (cut_zero ts
 abbrev HasZeroMasks : Processor → Type 0
 HasZeroMasks p = p.masks ≡ no_masks
 
-after_zero : (p : Processor) (act : Act) (reply : Reply) → SetsZero act → HasZeroMasks p → HasZeroMasks (processor_after p act reply)
+after_zero :
+    (p : Processor) (act : Act) (reply : Reply)
+    → SetsZero act
+    → HasZeroMasks p
+    → HasZeroMasks (processor_after p act reply)
 after_zero p (acts.SetMask Amr value) reply is h = λ i. record (h i) { amr = is i }
 after_zero p (acts.SetMask Iamr value) reply is h = λ i. record (h i) { iamr = is i }
 after_zero p (acts.Access want ea user) (replies.Access r) is h = h
@@ -93,15 +126,32 @@ after_zero p (acts.Device write liobn ioba) reply is h = h
 after_zero p (acts.Call number args spelt) reply is h = h
 after_zero p acts.Dump reply is h = h
 
-no_masked : (context : AccessContext) (p : Processor) (act : Act) (reply : Reply) → HasZeroMasks p → IsReplyToAccess context p act reply → HasNoMasked act reply
-no_masked context p (acts.Access want ea user) (replies.Access r) h is = zero_refuses_none context (cached_line p.cache) (request want ea user p.masks) (segment_of p.slots ea) r h is
+no_masked :
+    (context : AccessContext) (p : Processor) (act : Act) (reply : Reply)
+    → HasZeroMasks p
+    → IsReplyToAccess context p act reply
+    → HasNoMasked act reply
+no_masked context p (acts.Access want ea user) (replies.Access r) h is =
+    zero_refuses_none context (cached_line p.cache) (request want ea user p.masks)
+    (segment_of p.slots ea) r h is
 no_masked context p act reply h is = tt
 
-lines_unmasked : (context : AccessContext) (states : List State) (p : Processor) (ts : List RepliedLine) → HasZeroMasks p → AreZeroLines ts → EachLineOfProcessor (IsAccessLine context states) p ts → EachLineOfProcessor IsUnmasked p ts × HasZeroMasks (processor_after_lines p ts)
+lines_unmasked :
+    (context : AccessContext) (states : List State) (p : Processor) (ts : List RepliedLine)
+    → HasZeroMasks p
+    → AreZeroLines ts
+    → EachLineOfProcessor (IsAccessLine context states) p ts
+    → EachLineOfProcessor IsUnmasked p ts × HasZeroMasks (processor_after_lines p ts)
 lines_unmasked context states p [] h zeros replied = (tt, h)
 lines_unmasked context states p (t ∷ ts) h zeros replied =
-    let rest = lines_unmasked context states (processor_after p t.line.act t.reply) ts (after_zero p t.line.act t.reply zeros.0 h) zeros.1 replied.1 in
-    ((record { masks = h; answers = no_masked context p t.line.act t.reply h replied.0.reply }, rest.0), rest.1)
+    let rest = lines_unmasked context states (processor_after p t.line.act t.reply) ts
+    (after_zero p t.line.act t.reply zeros.0 h) zeros.1 replied.1 in (
+      (
+        record { masks = h; answers = no_masked context p t.line.act t.reply h replied.0.reply },
+        rest.0,
+      ),
+      rest.1,
+    )
 
 -- ---- sections
 abbrev HaveZeroMasks : Store → Type 0
@@ -115,25 +165,56 @@ all_new_zero : (count : ℕ) → AllByRecursion HasZeroMasks (replicate count ne
 all_new_zero zero = tt
 all_new_zero (suc count) = (new_zero, all_new_zero count)
 
-section_unmasked : (s : Section) → HaveZeroMasks s.before → AreZeroLines s.replied_lines → AccessesAreReplied s → NoneIsMasked s × HaveZeroMasks (closing s)
+section_unmasked :
+    (s : Section)
+    → HaveZeroMasks s.before
+    → AreZeroLines s.replied_lines
+    → AccessesAreReplied s
+    → NoneIsMasked s × HaveZeroMasks (closing s)
 unfolding section_end
-section_unmasked s h zeros replied = (λ cpu. (one cpu).0, after_each HasZeroMasks 0 s.before.processors s.replied_lines (λ k within. subst (λ n. HasZeroMasks (processor_after_lines (processor_at s.before.processors k) (lines_of_processor n s.replied_lines))) (omega arith) (one k).1)) where
-  one : (cpu : ℕ) → EachLineOfProcessor IsUnmasked (processor_at s.before.processors cpu) (lines_of_processor cpu s.replied_lines) × HasZeroMasks (processor_after_lines (processor_at s.before.processors cpu) (lines_of_processor cpu s.replied_lines))
+section_unmasked s h zeros replied = (
+  λ cpu.
+      (one cpu).0,
+  after_each HasZeroMasks 0 s.before.processors s.replied_lines
+      (λ k within.
+      subst
+      (λ n.
+      HasZeroMasks
+      (processor_after_lines (processor_at s.before.processors k)
+      (lines_of_processor n s.replied_lines))) (omega arith) (one k).1),
+) where
+  one :
+      (cpu : ℕ)
+      → EachLineOfProcessor IsUnmasked (processor_at s.before.processors cpu)
+      (lines_of_processor cpu s.replied_lines)
+      × HasZeroMasks
+      (processor_after_lines (processor_at s.before.processors cpu)
+      (lines_of_processor cpu s.replied_lines))
   one cpu =
-      lines_unmasked (access_of (context_of s.before)) (states_of (closing s)) (processor_at s.before.processors cpu) (lines_of_processor cpu s.replied_lines)
+      lines_unmasked (access_of (context_of s.before)) (states_of (closing s))
+      (processor_at s.before.processors cpu) (lines_of_processor cpu s.replied_lines)
       (each_at HasZeroMasks s.before.processors cpu new_processor new_zero h)
       (each_filter IsZeroLine _ s.replied_lines zeros)
       (replied cpu)
 
-all_cleared : (ps : List Processor) → AllByRecursion HasZeroMasks ps → AllByRecursion HasZeroMasks (map without_cache ps)
+all_cleared :
+    (ps : List Processor)
+    → AllByRecursion HasZeroMasks ps
+    → AllByRecursion HasZeroMasks (map without_cache ps)
 all_cleared [] h = tt
 all_cleared (p ∷ ps) h = (h.0, all_cleared ps h.1)
 
-committed_zero : (done : Bool) (ps : List Processor) → AllByRecursion HasZeroMasks ps → AllByRecursion HasZeroMasks (if done then map without_cache ps else ps)
+committed_zero :
+    (done : Bool) (ps : List Processor)
+    → AllByRecursion HasZeroMasks ps
+    → AllByRecursion HasZeroMasks (if done then map without_cache ps else ps)
 committed_zero true ps h = all_cleared ps h
 committed_zero false ps h = h
 
-resized_zero : (w : Store) (call : Hcall) (args : List ℕ) → HaveZeroMasks w → HaveZeroMasks (run_resize w call args).1
+resized_zero :
+    (w : Store) (call : Hcall) (args : List ℕ)
+    → HaveZeroMasks w
+    → HaveZeroMasks (run_resize w call args).1
 unfolding run_resize
 resized_zero w calls.Prepare args h = h
 resized_zero w calls.Commit args h = committed_zero _ w.processors h
@@ -144,22 +225,41 @@ unfolding run_quiet_line
 quiet_zero w (acts.Call number args spelt) h = resized_zero w (hcall_of number) args h
 quiet_zero w other h = h
 
-left_zero : (s : Store) (quiet : Option RepliedLine) → HaveZeroMasks s → HaveZeroMasks (after_quiet s quiet)
+left_zero :
+    (s : Store) (quiet : Option RepliedLine) → HaveZeroMasks s → HaveZeroMasks (after_quiet s quiet)
 left_zero s None h = h
 left_zero s (Some q) h = quiet_zero s q.line.act h
 
-sections_unmasked : (on : Act → Bool) (s : Store) (ts : List RepliedLine) (qs : List QuietPart) → HaveZeroMasks s → IsZeroCut (ts, qs) → AllByRecursion IsGoodSection (sections_from on s ts qs) → AllByRecursion NoneIsMasked (sections_from on s ts qs)
-sections_unmasked on s ts [] h zeros good = ((section_unmasked (section_of on s ts None) h (each_filter IsZeroLine _ ts zeros.0) good.0.accesses).0, tt)
+sections_unmasked :
+    (on : Act → Bool) (s : Store) (ts : List RepliedLine) (qs : List QuietPart)
+    → HaveZeroMasks s
+    → IsZeroCut (ts, qs)
+    → AllByRecursion IsGoodSection (sections_from on s ts qs)
+    → AllByRecursion NoneIsMasked (sections_from on s ts qs)
+sections_unmasked on s ts [] h zeros good = (
+  (section_unmasked (section_of on s ts None) h (each_filter IsZeroLine _ ts zeros.0)
+      good.0.accesses).0,
+  tt,
+)
 sections_unmasked on s ts (q ∷ qs) h zeros good =
     let x = section_of on s ts (quiet_on on q.0) in
-    let here = section_unmasked x h (each_filter IsZeroLine _ ts zeros.0) good.0.accesses in
-    (here.0, sections_unmasked on (after_quiet (closing x) x.quiet) q.1 qs (left_zero (closing x) x.quiet here.1) (zeros.1.0, zeros.1.1) good.1)
+    let here = section_unmasked x h (each_filter IsZeroLine _ ts zeros.0) good.0.accesses in (
+      here.0,
+      sections_unmasked on (after_quiet (closing x) x.quiet) q.1 qs
+          (left_zero (closing x) x.quiet here.1) (zeros.1.0, zeros.1.1) good.1,
+    )
 
 opening_zero : (c : Configuration) → HaveZeroMasks (page_table c)
 unfolding page_table
 opening_zero c = all_new_zero c.cpus
 
-pub zero_masks_refuse : (t : AcceptedTrace) (rs : List Reply) → AllByRecursion (λ (l : TraceLine). SetsZero l.act) t.lines → IsGoodRun t rs → AllByRecursion NoneIsMasked (sections_of t rs)
+pub zero_masks_refuse :
+    (t : AcceptedTrace) (rs : List Reply)
+    → AllByRecursion (λ (l : TraceLine). SetsZero l.act) t.lines
+    → IsGoodRun t rs
+    → AllByRecursion NoneIsMasked (sections_of t rs)
 zero_masks_refuse t rs zeros good =
     let all = lines_with_replies t.lines rs in
-    sections_unmasked (is_on t.config.windows (page_table t.config).window) (page_table t.config) (cut all).0 (cut all).1 (opening_zero t.config) (cut_zero all (replied_zero t.lines rs zeros)) good.stores.0
+    sections_unmasked (is_on t.config.windows (page_table t.config).window) (page_table t.config)
+    (cut all).0 (cut all).1 (opening_zero t.config)
+    (cut_zero all (replied_zero t.lines rs zeros)) good.stores.0

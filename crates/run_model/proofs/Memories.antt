@@ -32,21 +32,41 @@ MemoryStands memory = IsMemory memory.limit memory.pending memory.table
 abbrev Allows : PrepareOutcome → Type 0
 Allows p = IfSome p.pending IsAllowed
 
-placed_allows : (order : ℕ) (pool : PoolState) (place : Option ℕ) → 18 ≤ order → order ≤ 22 → Allows (new_table_outcome order pool place)
+placed_allows :
+    (order : ℕ) (pool : PoolState) (place : Option ℕ)
+    → 18 ≤ order
+    → order ≤ 22
+    → Allows (new_table_outcome order pool place)
 placed_allows order pool None low high = tt
 placed_allows order pool (Some place) low high = (low, high)
 
-started_allows : (order : ℕ) (pending : Option PendingTable) (pool : PoolState) → 18 ≤ order → order ≤ 22 → IfSome pending IsAllowed → Allows (start_outcome order pending pool)
+started_allows :
+    (order : ℕ) (pending : Option PendingTable) (pool : PoolState)
+    → 18 ≤ order
+    → order ≤ 22
+    → IfSome pending IsAllowed
+    → Allows (start_outcome order pending pool)
 started_allows order pending pool low high h =
-    cond_both (is_pending order pending) (prepare_outcome Success pending pool) (new_table_outcome order (pool_without pending pool) (lowest_place (pool_without pending pool) order)) Allows (λ _. h) (λ _. placed_allows order (pool_without pending pool) (lowest_place (pool_without pending pool) order) low high)
+    cond_both (is_pending order pending) (prepare_outcome Success pending pool)
+    (new_table_outcome order (pool_without pending pool)
+    (lowest_place (pool_without pending pool) order)) Allows (λ _. h)
+    (λ _.
+    placed_allows order (pool_without pending pool)
+    (lowest_place (pool_without pending pool) order) low high)
 
-continued_allows : (start : PrepareOutcome) (pending : Option PendingTable) → IfSome pending IsAllowed → Allows start → Allows (advance_outcome start pending)
+continued_allows :
+    (start : PrepareOutcome) (pending : Option PendingTable)
+    → IfSome pending IsAllowed
+    → Allows start
+    → Allows (advance_outcome start pending)
 continued_allows start None h k = k
 continued_allows start (Some table) h k = h
 
-request_low : (flags shift : ℕ) → is_prepare_request flags shift ≡ true → (shift == 0) ≡ false → 18 ≤ shift
+request_low :
+    (flags shift : ℕ) → is_prepare_request flags shift ≡ true → (shift == 0) ≡ false → 18 ≤ shift
 request_low flags shift h off =
-    let either : ((shift == 0) || (nat_le 18 shift && nat_le shift 46)) ≡ true = (and_parts (flags == 0) ((shift == 0) || (nat_le 18 shift && nat_le shift 46)) h).1 in
+    let either : ((shift == 0) || (nat_le 18 shift && nat_le shift 46)) ≡ true =
+    (and_parts (flags == 0) ((shift == 0) || (nat_le 18 shift && nat_le shift 46)) h).1 in
     let low : (nat_le 18 shift && nat_le shift 46) ≡ true = rw off at either in
     leb-true 18 shift (and_parts (nat_le 18 shift) (nat_le shift 46) low).0
 
@@ -54,21 +74,52 @@ not_true : (b : Bool) → not b ≡ false → b ≡ true
 not_true true h = refl
 not_true false h = cc
 
-prepared_allows : (limit flags shift : ℕ) (pending : Option PendingTable) (pool : PoolState) → limit ≤ 22 → IfSome pending IsAllowed → Allows (outcome_of_prepare limit flags shift pending pool)
+prepared_allows :
+    (limit flags shift : ℕ) (pending : Option PendingTable) (pool : PoolState)
+    → limit ≤ 22
+    → IfSome pending IsAllowed
+    → Allows (outcome_of_prepare limit flags shift pending pool)
 unfolding outcome_of_prepare
-prepared_allows limit flags shift pending pool high h = cond_both (not (is_prepare_request flags shift)) _ _ Allows (λ _. h) (λ asked. cond_both (nat_lt limit shift) _ _ Allows (λ _. h) (λ below. cond_both (shift == 0) _ _ Allows (λ _. tt) (λ some. made (not_true _ asked) below some))) where
-  made : is_prepare_request flags shift ≡ true → nat_lt limit shift ≡ false → (shift == 0) ≡ false → Allows (advance_outcome (start_outcome shift pending pool) (start_outcome shift pending pool).pending)
-  made asked below some =
-      let least : 18 ≤ shift = request_low flags shift asked some in
-      let most : shift ≤ limit = ltb-false limit shift below in
-      let begun : Allows (start_outcome shift pending pool) = started_allows shift pending pool least (omega arith) h in
-      continued_allows (start_outcome shift pending pool) (start_outcome shift pending pool).pending begun begun
+prepared_allows limit flags shift pending pool high h =
+    cond_both (not (is_prepare_request flags shift)) _ _ Allows (λ _. h)
+    (λ asked.
+    cond_both (nat_lt limit shift) _ _ Allows (λ _. h)
+    (λ below.
+    cond_both (shift == 0) _ _ Allows (λ _. tt)
+    (λ some. made (not_true _ asked) below some))) where
+      made :
+          is_prepare_request flags shift ≡ true
+          → nat_lt limit shift ≡ false
+          → (shift == 0) ≡ false
+          → Allows
+          (advance_outcome (start_outcome shift pending pool)
+          (start_outcome shift pending pool).pending)
+      made asked below some =
+          let least : 18 ≤ shift = request_low flags shift asked some in
+          let most : shift ≤ limit = ltb-false limit shift below in
+          let begun : Allows (start_outcome shift pending pool) = started_allows shift pending pool
+          least (omega arith) h in
+          continued_allows (start_outcome shift pending pool)
+          (start_outcome shift pending pool).pending
+          begun begun
 
-pub memory_prepared : (memory : TableMemory) (flags shift : ℕ) → MemoryStands memory → MemoryStands (prepare_result memory flags shift).1
+pub memory_prepared :
+    (memory : TableMemory) (flags shift : ℕ)
+    → MemoryStands memory
+    → MemoryStands (prepare_result memory flags shift).1
 unfolding prepare_result
-memory_prepared memory flags shift h = record { limited = h.limited; low = h.low; size = h.size; allowed = prepared_allows memory.limit flags shift memory.pending memory.pool h.limited h.allowed }
+memory_prepared memory flags shift h =
+    record {
+      limited = h.limited;
+      low = h.low;
+      size = h.size;
+      allowed =
+          prepared_allows memory.limit flags shift memory.pending memory.pool h.limited h.allowed;
+    }
 
-pub prepare_table : (memory : TableMemory) (flags shift : ℕ) → (prepare_result memory flags shift).1.table ≡ memory.table
+pub prepare_table :
+    (memory : TableMemory) (flags shift : ℕ)
+    → (prepare_result memory flags shift).1.table ≡ memory.table
 unfolding prepare_result
 prepare_table memory flags shift = refl
 
@@ -78,27 +129,69 @@ pub record Commits (limit : ℕ) (table : Table) (c : CommitOutcome) : Type 0 wh
   pub stands : IsMemory limit c.pending c.table
   pub moved : (c.rc ≡ Success) ⊎ (c.table ≡ table)
 
-carried_commits : (limit : ℕ) (pending : PendingTable) (pool : PoolState) (table : Table) (collision : Option Collision) → IsMemory limit (Some pending) table → Commits limit table (carry_outcome pending pool table collision)
-carried_commits limit pending pool table (Some collision) h = record { stands = record { limited = h.limited; low = h.low; size = h.size; allowed = tt }; moved = inr refl }
-carried_commits limit pending pool table None h = record { stands = record { limited = h.limited; low = h.allowed.0; size = rehashed-length table.order pending.order table.states; allowed = tt }; moved = inl refl }
+carried_commits :
+    (limit : ℕ) (pending : PendingTable) (pool : PoolState) (table : Table)
+    (collision : Option Collision)
+    → IsMemory limit (Some pending) table
+    → Commits limit table (carry_outcome pending pool table collision)
+carried_commits limit pending pool table (Some collision) h =
+    record {
+      stands = record { limited = h.limited; low = h.low; size = h.size; allowed = tt };
+      moved = inr refl;
+    }
+carried_commits limit pending pool table None h =
+    record {
+      stands =
+          record {
+            limited = h.limited;
+            low = h.allowed.0;
+            size = rehashed-length table.order pending.order table.states;
+            allowed = tt;
+          };
+      moved = inl refl;
+    }
 
-completed_commits : (limit : ℕ) (pending : Option PendingTable) (pool : PoolState) (table : Table) → IsMemory limit pending table → Commits limit table (complete_outcome pending pool table)
+completed_commits :
+    (limit : ℕ) (pending : Option PendingTable) (pool : PoolState) (table : Table)
+    → IsMemory limit pending table
+    → Commits limit table (complete_outcome pending pool table)
 completed_commits limit None pool table h = record { stands = h; moved = inr refl }
-completed_commits limit (Some pending) pool table h = carried_commits limit pending pool table (collision_of table.order pending.order table.states) h
+completed_commits limit (Some pending) pool table h =
+    carried_commits limit pending pool table (collision_of table.order pending.order table.states) h
 
-answered_commits : (limit : ℕ) (refusal : Option Rc) (pending : Option PendingTable) (pool : PoolState) (table : Table) → IsMemory limit pending table → Commits limit table (answer_outcome refusal pending pool table)
+answered_commits :
+    (limit : ℕ) (refusal : Option Rc) (pending : Option PendingTable) (pool : PoolState)
+    (table : Table)
+    → IsMemory limit pending table
+    → Commits limit table (answer_outcome refusal pending pool table)
 answered_commits limit (Some rc) pending pool table h = record { stands = h; moved = inr refl }
 answered_commits limit None pending pool table h = completed_commits limit pending pool table h
 
-pub memory_committed : (memory : TableMemory) (flags shift : ℕ) → MemoryStands memory → MemoryStands (commit_result memory flags shift).1
+pub memory_committed :
+    (memory : TableMemory) (flags shift : ℕ)
+    → MemoryStands memory
+    → MemoryStands (commit_result memory flags shift).1
 unfolding commit_result outcome_of_commit
-memory_committed memory flags shift h = (answered_commits memory.limit (commit_refusal flags shift memory.pending) memory.pending memory.pool memory.table h).stands
+memory_committed memory flags shift h =
+    (answered_commits memory.limit (commit_refusal flags shift memory.pending) memory.pending
+    memory.pool memory.table h).stands
 
-pub commit_moves : (memory : TableMemory) (flags shift : ℕ) → MemoryStands memory → ((commit_result memory flags shift).0 ≡ Success) ⊎ ((commit_result memory flags shift).1.table ≡ memory.table)
+pub commit_moves :
+    (memory : TableMemory) (flags shift : ℕ)
+    → MemoryStands memory
+    → ((commit_result memory flags shift).0 ≡ Success)
+    ⊎ ((commit_result memory flags shift).1.table ≡ memory.table)
 unfolding commit_result outcome_of_commit
-commit_moves memory flags shift h = (answered_commits memory.limit (commit_refusal flags shift memory.pending) memory.pending memory.pool memory.table h).moved
+commit_moves memory flags shift h =
+    (answered_commits memory.limit (commit_refusal flags shift memory.pending) memory.pending
+    memory.pool memory.table h).moved
 
 -- ---- the beginning
-pub opening_stands : (limit order base size : ℕ) (entries : List ImageEntry) → limit ≤ 22 → 18 ≤ order → MemoryStands (opening_memory limit order base size entries)
+pub opening_stands :
+    (limit order base size : ℕ) (entries : List ImageEntry)
+    → limit ≤ 22
+    → 18 ≤ order
+    → MemoryStands (opening_memory limit order base size entries)
 unfolding opening_memory
-opening_stands limit order base size entries high low = record { limited = high; low = low; size = opening-length order entries; allowed = tt }
+opening_stands limit order base size entries high low =
+    record { limited = high; low = low; size = opening-length order entries; allowed = tt }

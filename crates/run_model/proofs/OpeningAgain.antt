@@ -46,7 +46,10 @@ abbrev IsShownAt : List (ℕ × State) → ℕ → ℕ × State → Type 0
 IsShownAt shown k x = (k < length shown) × (slice_index_or shown k x ≡ x)
 
 module _ (P : State → Type 0) (x : ℕ × State) where
-  found_behind : (first : ℕ) (s : State) (ss : List State) → IsFound P (first + 1) ss x → IsFound P first (s ∷ ss) x
+  found_behind :
+      (first : ℕ) (s : State) (ss : List State)
+      → IsFound P (first + 1) ss x
+      → IsFound P first (s ∷ ss) x
   found_behind first s ss f = record {
     place = suc f.place;
     behind = let behind : x.0 ≡ first + 1 + f.place = f.behind in omega arith;
@@ -56,7 +59,12 @@ module _ (P : State → Type 0) (x : ℕ × State) where
     holds = f.holds;
   }
 
-  found_here : (first : ℕ) (s : State) (ss : List State) → s.valid ≡ true → P s → (first, s) ≡ x → IsFound P first (s ∷ ss) x
+  found_here :
+      (first : ℕ) (s : State) (ss : List State)
+      → s.valid ≡ true
+      → P s
+      → (first, s) ≡ x
+      → IsFound P first (s ∷ ss) x
   found_here first s ss valid holds same = record {
     place = 0;
     behind = let index : x.0 ≡ first = sym (ap (λ (y : ℕ × State). y.0) same) in omega arith;
@@ -66,40 +74,69 @@ module _ (P : State → Type 0) (x : ℕ × State) where
     holds = subst (λ (y : ℕ × State). P y.1) same holds;
   }
 
-  found_by : (first : ℕ) (s : State) (ss : List State) (valid : Bool) → s.valid ≡ valid → P s → ((k : ℕ) → IsShownAt (valid_from (first + 1) ss) k x → IsFound P (first + 1) ss x) → (k : ℕ) → IsShownAt (if valid then (first, s) ∷ valid_from (first + 1) ss else valid_from (first + 1) ss) k x → IsFound P first (s ∷ ss) x
+  found_by :
+      (first : ℕ) (s : State) (ss : List State) (valid : Bool)
+      → s.valid ≡ valid
+      → P s
+      → ((k : ℕ) → IsShownAt (valid_from (first + 1) ss) k x → IsFound P (first + 1) ss x)
+      → (k : ℕ)
+      → IsShownAt
+      (if valid then (first, s) ∷ valid_from (first + 1) ss else valid_from (first + 1) ss) k x
+      → IsFound P first (s ∷ ss) x
   found_by first s ss true valid holds rest zero shown = found_here first s ss valid holds shown.1
-  found_by first s ss true valid holds rest (suc k) shown = found_behind first s ss (rest k (omega (arith, shown.0), shown.1))
+  found_by first s ss true valid holds rest (suc k) shown =
+      found_behind first s ss (rest k (omega (arith, shown.0), shown.1))
   found_by first s ss false valid holds rest k shown = found_behind first s ss (rest k shown)
 
-  found : (first : ℕ) (states : List State) → AllByRecursion P states → (k : ℕ) → IsShownAt (valid_from first states) k x → IsFound P first states x
+  found :
+      (first : ℕ) (states : List State)
+      → AllByRecursion P states
+      → (k : ℕ)
+      → IsShownAt (valid_from first states) k x
+      → IsFound P first states x
   found first [] holds k shown = absurd (omega (arith, shown.0))
-  found first (s ∷ ss) holds k shown = found_by first s ss s.valid refl holds.0 (found (first + 1) ss holds.1) k shown
+  found first (s ∷ ss) holds k shown =
+      found_by first s ss s.valid refl holds.0 (found (first + 1) ss holds.1) k shown
 
 -- ---- its digits
 -- Words that H_ENTER would store are read back from their digits.
-digits_back : (grants : List Grant) (layout : Layout) (w : ℕ × ℕ) (digits : List ℕ) → entered_words grants w.0 w.1 ≡ Some w → entry_digits layout w ≡ Some digits → entry_words layout digits ≡ Some w
+digits_back :
+    (grants : List Grant) (layout : Layout) (w : ℕ × ℕ) (digits : List ℕ)
+    → entered_words grants w.0 w.1 ≡ Some w
+    → entry_digits layout w ≡ Some digits
+    → entry_words layout digits ≡ Some w
 digits_back grants layout w digits stored held =
     let kept = (stored_parts grants w.0 w.1 stored).second in
     let low : w.1 < 2 ^ 64 = omega (arith, kept, and_le_r w.1 0xBFFFFFFFFFFFFFFF) in
-    let clear : bit_and w.1 cleared_bit ≡ 0 = ap (λ n. bit_and n cleared_bit) (sym kept) ∙ masks_join w.1 0xBFFFFFFFFFFFFFFF cleared_bit ∙ and_zero_r w.1 in
-    is_read_back.words layout w.0 w.1 digits (entered_suited grants w.0 w.1 w stored).fits low clear held
+    let clear : bit_and w.1 cleared_bit ≡ 0 = ap (λ n. bit_and n cleared_bit) (sym kept) ∙
+    masks_join w.1 0xBFFFFFFFFFFFFFFF cleared_bit ∙ and_zero_r w.1 in
+    is_read_back.words layout w.0 w.1 digits (entered_suited grants w.0 w.1 w stored).fits low clear
+    held
 
 -- ---- the table
 -- One more entry takes its place, and leaves the others.
 module _ (c : Configuration) (e : ImageEntry) where
-  now_there : e.index < entry_count c.order → state_at (opening_states (with_image_entry c e)) e.index ≡ entered_state e.dword0 e.dword1
+  now_there :
+      e.index < entry_count c.order
+      → state_at (opening_states (with_image_entry c e)) e.index ≡ entered_state e.dword0 e.dword1
   unfolding page_table opening_memory
   now_there inside =
       let states = with_entries (empty_states c.order) c.entries in
-      ap (λ (ss : List State). state_at ss e.index) (entries-more (empty_states c.order) c.entries e)
-      ∙ get_or-set_same states e.index (entered_state e.dword0 e.dword1) (empty_state 0) (subst (λ n. e.index < n) (sym (opening-length c.order c.entries)) inside)
+      ap (λ (ss : List State). state_at ss e.index)
+      (entries-more (empty_states c.order) c.entries e)
+      ∙ get_or-set_same states e.index (entered_state e.dword0 e.dword1) (empty_state 0)
+      (subst (λ n. e.index < n) (sym (opening-length c.order c.entries)) inside)
 
-  as_before : (other : ℕ) → other ≢ e.index → state_at (opening_states (with_image_entry c e)) other ≡ state_at (opening_states c) other
+  as_before :
+      (other : ℕ)
+      → other ≢ e.index
+      → state_at (opening_states (with_image_entry c e)) other ≡ state_at (opening_states c) other
   unfolding page_table opening_memory
   as_before other apart =
       let states = with_entries (empty_states c.order) c.entries in
       ap (λ (ss : List State). state_at ss other) (entries-more (empty_states c.order) c.entries e)
-      ∙ get_or-set_other states e.index other (entered_state e.dword0 e.dword1) (empty_state 0) apart
+      ∙ get_or-set_other states e.index other (entered_state e.dword0 e.dword1) (empty_state 0)
+      apart
 
 pub images_open_again : ImagesOpenAgain
 unfolding shown_of
@@ -107,14 +144,25 @@ images_open_again t lines layout index s digits c is shown held order grants ris
     let memory = memory_after t lines in
     let allowed = t.config.granted.grants in
     let sized = serial_sized t lines is in
-    let at = found (CanBeEntered allowed) (index, s) 0 memory.table.states (entries_can_be_entered t lines is) shown.0 (shown.1, shown.2) in
+    let at = found (CanBeEntered allowed) (index, s) 0 memory.table.states
+    (entries_can_be_entered t lines is) shown.0 (shown.1, shown.2) in
     let within : index < length memory.table.states = omega (arith, at.behind, at.inside) in
-    let inside : index < entry_count c.order = subst (λ n. index < entry_count n) (sym order) (subst (λ n. index < n) sized.stands.size within) in
+    let inside : index < entry_count c.order = subst (λ n. index < entry_count n) (sym order)
+    (subst (λ n. index < n) sized.stands.size within) in
     let parts = stored_parts allowed s.dword0 s.dword1 (at.holds.stored at.valid) in
-    let stored : entered_words allowed (words_of s).0 (words_of s).1 ≡ Some (words_of s) = stored_whole allowed (words_of s).0 (words_of s).1 (put_stored allowed s.dword0 s.dword1 s.referenced s.changed parts) in
-    let again : entered_words c.granted.grants (words_of s).0 (words_of s).1 ≡ Some (words_of s) = subst (λ (gs : List Grant). entered_words gs (words_of s).0 (words_of s).1 ≡ Some (words_of s)) (sym grants) stored in
+    let stored : entered_words allowed (words_of s).0 (words_of s).1 ≡ Some (words_of s) =
+    stored_whole allowed (words_of s).0 (words_of s).1
+    (put_stored allowed s.dword0 s.dword1 s.referenced s.changed parts) in
+    let again : entered_words c.granted.grants (words_of s).0 (words_of s).1 ≡ Some (words_of s) =
+    subst
+    (λ (gs : List Grant). entered_words gs (words_of s).0 (words_of s).1 ≡ Some (words_of s))
+    (sym grants) stored in
     record {
-      accepted = line_read c layout index digits (words_of s) (small_index memory index sized within) inside rises (digits_back allowed layout (words_of s) digits stored held) again;
-      state = now_there c (image_entry index s) inside ∙ state_back s at.holds.canonical at.valid parts.second;
+      accepted =
+          line_read c layout index digits (words_of s) (small_index memory index sized within)
+          inside rises (digits_back allowed layout (words_of s) digits stored held) again;
+      state =
+          now_there c (image_entry index s) inside
+          ∙ state_back s at.holds.canonical at.valid parts.second;
       others = as_before c (image_entry index s);
     }

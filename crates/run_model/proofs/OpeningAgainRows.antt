@@ -34,7 +34,8 @@ reached = record {
   stamp = 7;
 }
 
-in_image : image_entry 0x2F reached ≡ record { index = 0x2F; dword0 = 0x4000000000001001; dword1 = 0x3112 }
+in_image :
+    image_entry 0x2F reached ≡ record { index = 0x2F; dword0 = 0x4000000000001001; dword1 = 0x3112 }
 unfolding reached
 in_image = refl
 
@@ -45,7 +46,16 @@ its_state : state_at (opening_states two_entries) 0x2F ≡ record reached { stam
 unfolding page_table opening_memory empty_states one_entry two_entries reached
 its_state = refl
 
-the_other : state_at (opening_states two_entries) 0x20 ≡ record { valid = true; dword0 = 0x1001; dword1 = 0x3012; referenced = true; changed = true; stamp = 0 }
+the_other :
+    state_at (opening_states two_entries) 0x20
+    ≡ record {
+      valid = true;
+      dword0 = 0x1001;
+      dword1 = 0x3012;
+      referenced = true;
+      changed = true;
+      stamp = 0;
+    }
 unfolding page_table opening_memory empty_states one_entry two_entries reached
 the_other = refl
 

@@ -22,7 +22,15 @@ use Rattle.trace_reply.specs.declared.reply.Reply.TheVariants as replies
 
 -- The entry 0 with the page of VSID 1.
 abbrev present : State
-present = record { valid = true; dword0 = 0x1001; dword1 = 0x3012; referenced = false; changed = false; stamp = 1 }
+present =
+    record {
+      valid = true;
+      dword0 = 0x1001;
+      dword1 = 0x3012;
+      referenced = false;
+      changed = false;
+      stamp = 1;
+    }
 
 abbrev entered : Receipt
 entered = receipt_of 0 (empty_state 0) (ops.Enter 0x1001 0x3012)
@@ -40,7 +48,12 @@ reading before words = record {
 -- Line 6, by processor 1: H_ENTER of the entry 0.
 abbrev entering : RepliedLine
 entering = record {
-  line = record { number = 6; cpu = 1; act = Call 0x08 (0x8000000000 ∷ 0 ∷ 0x1001 ∷ 0x3012 ∷ 0 ∷ 0 ∷ 0 ∷ 0 ∷ []) true };
+  line =
+      record {
+        number = 6;
+        cpu = 1;
+        act = Call 0x08 (0x8000000000 ∷ 0 ∷ 0x1001 ∷ 0x3012 ∷ 0 ∷ 0 ∷ 0 ∷ 0 ∷ []) true;
+      };
   reply = replies.Hcall (record { rc = Success; words = 0 ∷ []; receipts = entered ∷ [] });
 }
 
@@ -48,7 +61,9 @@ abbrev fronts : List ℕ
 fronts = opening_fronts (states_of (small 2))
 
 -- The read of line 5 may find what line 6 entered, and its processor's front is the entry's pair then.
-reads_what_line_6_entered : WorksLine (context_of (small 2)) fronts new_processor (reading present (0x1001 ∷ 0x3012 ∷ [])) (fronts_after fronts (read present))
+reads_what_line_6_entered :
+    WorksLine (context_of (small 2)) fronts new_processor (reading present (0x1001 ∷ 0x3012 ∷ []))
+    (fronts_after fronts (read present))
 unfolding hcall_plan hcall_of row_of h_read_plan pair_of
 reads_what_line_6_entered = record {
   call = record { trial = (record { entry = refl; op = refl }, tt); told = refl };
@@ -60,11 +75,17 @@ reads_what_line_6_entered = record {
 }
 
 -- Behind it no read of this processor may find the entry as it was before.
-no_earlier_read : (later : List ℕ) → WorksLine (context_of (small 2)) (fronts_after fronts (read present)) new_processor (reading (empty_state 0) (0 ∷ 0 ∷ [])) later → ⊥
+no_earlier_read :
+    (later : List ℕ)
+    → WorksLine (context_of (small 2)) (fronts_after fronts (read present)) new_processor
+    (reading (empty_state 0) (0 ∷ 0 ∷ [])) later
+    → ⊥
 unfolding pair_of
 no_earlier_read later h = let no : 4 ≤ 0 = h.keeps.0 in omega arith
 
 -- The receipts are listed by processor, and the history has them in the order in which they were made.
-history_of_both : history 0 (receipts_from_processor 2 0 (reading present (0x1001 ∷ 0x3012 ∷ []) ∷ entering ∷ [])) ≡ entered ∷ read present ∷ []
+history_of_both :
+    history 0 (receipts_from_processor 2 0 (reading present (0x1001 ∷ 0x3012 ∷ []) ∷ entering ∷ []))
+    ≡ entered ∷ read present ∷ []
 unfolding place pair_of state_eq
 history_of_both = refl

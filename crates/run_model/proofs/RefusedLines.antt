@@ -67,62 +67,128 @@ landed : (x : Option (ℕ × Kind)) (logical : ℕ) → IsNowhere (landing_at x 
 landed None logical h = h.granted logical refl
 landed (Some x) logical h = false≢true (sym h.off)
 
-found_not_at : (grants : List Grant) (ea : ℕ) (r : Receipt) → IsNowhere (outcome_by grants ea (Some r)) → is_at r.answer ≡ false
+found_not_at :
+    (grants : List Grant) (ea : ℕ) (r : Receipt)
+    → IsNowhere (outcome_by grants ea (Some r))
+    → is_at r.answer ≡ false
 found_not_at grants ea r h = at (cases_Bool (is_at r.answer)) where
   at : (is_at r.answer ≡ true) ⊎ (is_at r.answer ≡ false) → is_at r.answer ≡ false
-  at (inl on) = absurd (landed (machine_range grants (logical_of ea r.before) 1) (logical_of ea r.before) (rw on at h))
+  at (inl on) =
+      absurd
+      (landed (machine_range grants (logical_of ea r.before) 1) (logical_of ea r.before)
+      (rw on at h))
   at (inr off) = off
 
 no_match_not_at : (answer : Answer) → is_no_match answer ≡ true → is_at answer ≡ false
 no_match_not_at answers.NoMatch on = refl
 no_match_not_at other on = cc
 
-tried_not_at : (grants : List Grant) (ea : ℕ) (cs : List Call) (rs : List Receipt) → IsTrial is_no_match cs rs → IsNowhere (outcome_by grants ea (found_of rs)) → NoneAt rs
+tried_not_at :
+    (grants : List Grant) (ea : ℕ) (cs : List Call) (rs : List Receipt)
+    → IsTrial is_no_match cs rs
+    → IsNowhere (outcome_by grants ea (found_of rs))
+    → NoneAt rs
 tried_not_at grants ea cs [] trial h = tt
 tried_not_at grants ea [] (r ∷ rs) trial h = absurd trial
 tried_not_at grants ea (c ∷ cs) (r ∷ rs) trial h =
     elim (cases_Bool (is_no_match r.answer)) [
-      | inl on ↦ (no_match_not_at r.answer on, tried_not_at grants ea cs rs (rw on at trial.1) (rw on at h))
+      | inl on ↦ (
+        no_match_not_at r.answer on,
+        tried_not_at grants ea cs rs (rw on at trial.1) (rw on at h),
+      )
       | inr ended ↦
           (let none : rs ≡ [] = rw ended at trial.1 in
           (found_not_at grants ea r (rw ended at h), subst NoneAt (sym none) tt))
     ]
 
-told_not_at : (context : AccessContext) (ea : ℕ) (cs : List Call) (r : AccessReply) → IsTrial is_no_match cs r.receipts → r.outcome ≡ outcome_of context.grants ea r.receipts → IsNowhere r.outcome → NoneAt r.receipts
+told_not_at :
+    (context : AccessContext) (ea : ℕ) (cs : List Call) (r : AccessReply)
+    → IsTrial is_no_match cs r.receipts
+    → r.outcome ≡ outcome_of context.grants ea r.receipts
+    → IsNowhere r.outcome
+    → NoneAt r.receipts
 unfolding outcome_of
-told_not_at context ea cs r trial told h = tried_not_at context.grants ea cs r.receipts trial (subst IsNowhere told h)
+told_not_at context ea cs r trial told h =
+    tried_not_at context.grants ea cs r.receipts trial (subst IsNowhere told h)
 
-way_not_at : (context : AccessContext) (seg : Segment) (a : Request) (line : Option Line) (way : Option By) (r : AccessReply) → IsByWay context seg a line way r → IsNowhere r.outcome → NoneAt r.receipts
-way_not_at context seg a (Some line) (Some Hit) r is h = told_not_at context a.ea (hit_calls seg a line) r is.trial is.outcome h
-way_not_at context seg a (Some line) (Some Walk) r is h = told_not_at context a.ea (walk_calls context.order seg.page (mode_for seg a)) r is.trial is.outcome h
+way_not_at :
+    (context : AccessContext) (seg : Segment) (a : Request) (line : Option Line) (way : Option By)
+    (r : AccessReply)
+    → IsByWay context seg a line way r
+    → IsNowhere r.outcome
+    → NoneAt r.receipts
+way_not_at context seg a (Some line) (Some Hit) r is h =
+    told_not_at context a.ea (hit_calls seg a line) r is.trial is.outcome h
+way_not_at context seg a (Some line) (Some Walk) r is h =
+    told_not_at context a.ea (walk_calls context.order seg.page (mode_for seg a)) r is.trial
+    is.outcome h
 way_not_at context seg a (Some line) None r is h = absurd is
-way_not_at context seg a None (Some Walk) r is h = told_not_at context a.ea (walk_calls context.order seg.page (mode_for seg a)) r is.trial is.outcome h
+way_not_at context seg a None (Some Walk) r is h =
+    told_not_at context a.ea (walk_calls context.order seg.page (mode_for seg a)) r is.trial
+    is.outcome h
 way_not_at context seg a None (Some Hit) r is h = absurd is
 way_not_at context seg a None None r is h = absurd is
 
-reply_not_at : (context : AccessContext) (cached : VirtualPage → Option Line) (a : Request) (segment : Option Segment) (r : AccessReply) → IsAccessReply context cached a segment r → IsNowhere r.outcome → NoneAt r.receipts
-reply_not_at context cached a None r is h = subst (λ (x : AccessReply). NoneAt x.receipts) (sym is) tt
-reply_not_at context cached a (Some seg) r is h = way_not_at context seg a (cached seg.page) r.by r is h
+reply_not_at :
+    (context : AccessContext) (cached : VirtualPage → Option Line) (a : Request)
+    (segment : Option Segment) (r : AccessReply)
+    → IsAccessReply context cached a segment r
+    → IsNowhere r.outcome
+    → NoneAt r.receipts
+reply_not_at context cached a None r is h =
+    subst (λ (x : AccessReply). NoneAt x.receipts) (sym is) tt
+reply_not_at context cached a (Some seg) r is h =
+    way_not_at context seg a (cached seg.page) r.by r is h
 
-accesses_leave : (rs : List Receipt) → AreAccesses rs → NoneAt rs → AllByRecursion (LeavesEntry false) rs
+accesses_leave :
+    (rs : List Receipt) → AreAccesses rs → NoneAt rs → AllByRecursion (LeavesEntry false) rs
 accesses_leave [] access off = tt
-accesses_leave (r ∷ rs) access off = (access_undone r.before r.op access.0 (ap is_at (sym r.lawful) ∙ off.0), accesses_leave rs access.1 off.1)
+accesses_leave (r ∷ rs) access off = (
+  access_undone r.before r.op access.0 (ap is_at (sym r.lawful) ∙ off.0),
+  accesses_leave rs access.1 off.1,
+)
 
-access_leaves : (context : AccessContext) (cached : VirtualPage → Option Line) (a : Request) (segment : Option Segment) (r : AccessReply) → IsAccessReply context cached a segment r → IsNowhere r.outcome → AllByRecursion (LeavesEntry false) r.receipts
-access_leaves context cached a segment r is h = accesses_leave r.receipts (reply_accesses context cached a segment r is) (reply_not_at context cached a segment r is h)
+access_leaves :
+    (context : AccessContext) (cached : VirtualPage → Option Line) (a : Request)
+    (segment : Option Segment) (r : AccessReply)
+    → IsAccessReply context cached a segment r
+    → IsNowhere r.outcome
+    → AllByRecursion (LeavesEntry false) r.receipts
+access_leaves context cached a segment r is h =
+    accesses_leave r.receipts (reply_accesses context cached a segment r is)
+    (reply_not_at context cached a segment r is h)
 
 -- No access ends outside the grants.
-ungranted : (granted : GrantedMemory) (order ea : ℕ) (segment : Option Segment) (found : Option Receipt) (address : ℕ) → Lands granted order ea segment found (outcomes.Ungranted address) → ⊥
+ungranted :
+    (granted : GrantedMemory) (order ea : ℕ) (segment : Option Segment) (found : Option Receipt)
+    (address : ℕ)
+    → Lands granted order ea segment found (outcomes.Ungranted address)
+    → ⊥
 ungranted granted order ea None None address h = h
 ungranted granted order ea None (Some r) address h = h
 ungranted granted order ea (Some seg) None address h = h
 ungranted granted order ea (Some seg) (Some r) address h = h
 
-lands_nowhere : (granted : GrantedMemory) (order ea : ℕ) (segment : Option Segment) (found : Option Receipt) (outcome : Outcome) → Lands granted order ea segment found outcome → ends_at outcome ≡ false → IsNowhere outcome
-lands_nowhere granted order ea segment found outcome h off = record { off = off; granted = λ address is. ungranted granted order ea segment found address (subst (Lands granted order ea segment found) is h) }
+lands_nowhere :
+    (granted : GrantedMemory) (order ea : ℕ) (segment : Option Segment) (found : Option Receipt)
+    (outcome : Outcome)
+    → Lands granted order ea segment found outcome
+    → ends_at outcome ≡ false
+    → IsNowhere outcome
+lands_nowhere granted order ea segment found outcome h off =
+    record {
+      off = off;
+      granted =
+          λ address is.
+          ungranted granted order ea segment found address
+          (subst (Lands granted order ea segment found) is h);
+    }
 
 -- ---- the cache
-none_out : (page : VirtualPage) (lines : List Line) → line_of_page page lines ≡ None → without_page page lines ≡ lines
+none_out :
+    (page : VirtualPage) (lines : List Line)
+    → line_of_page page lines ≡ None
+    → without_page page lines ≡ lines
 none_out page [] none = refl
 none_out page (l ∷ ls) none =
     elim (cases_Bool (is_of page l)) [
@@ -130,7 +196,10 @@ none_out page (l ∷ ls) none =
       | inr there ↦ rw there (ap (λ zs. l ∷ zs) (none_out page ls (rw there at none)))
     ]
 
-found_of_page : (page : VirtualPage) (lines : List Line) (line : Line) → line_of_page page lines ≡ Some line → line.page ≡ page
+found_of_page :
+    (page : VirtualPage) (lines : List Line) (line : Line)
+    → line_of_page page lines ≡ Some line
+    → line.page ≡ page
 found_of_page page [] line found = absurd (cc)
 found_of_page page (l ∷ ls) line found =
     elim (cases_Bool (is_of page l)) [
@@ -141,7 +210,10 @@ found_of_page page (l ∷ ls) line found =
       | inr there ↦ found_of_page page ls line (rw there at found)
     ]
 
-no_line_kept : (page : VirtualPage) (outcome : Outcome) (found : Option Receipt) → ends_at outcome ≡ false → kept_line page outcome found ≡ None
+no_line_kept :
+    (page : VirtualPage) (outcome : Outcome) (found : Option Receipt)
+    → ends_at outcome ≡ false
+    → kept_line page outcome found ≡ None
 no_line_kept page (outcomes.At address) found off = cc
 no_line_kept page outcomes.Denied found off = refl
 no_line_kept page (outcomes.Masked name) found off = refl
@@ -149,17 +221,34 @@ no_line_kept page outcomes.NoPage found off = refl
 no_line_kept page outcomes.NoSegment found off = refl
 no_line_kept page (outcomes.Ungranted address) found off = refl
 
-taken_out : (cache : List (List Line)) (page : VirtualPage) (line : Option Line) → line_of_page page (set_of cache page) ≡ line → with_set page (without_page page (set_of cache page)) cache ≡ cache_without line cache
+taken_out :
+    (cache : List (List Line)) (page : VirtualPage) (line : Option Line)
+    → line_of_page page (set_of cache page) ≡ line
+    → with_set page (without_page page (set_of cache page)) cache ≡ cache_without line cache
 taken_out cache page None none =
-    ap (λ lines. with_set page lines cache) (none_out page (set_of cache page) none) ∙ set-get_or cache (set_number page) []
+    ap (λ lines. with_set page lines cache) (none_out page (set_of cache page) none)
+    ∙ set-get_or cache (set_number page) []
 taken_out cache page (Some line) found =
-    subst (λ p. with_set page (without_page page (set_of cache page)) cache ≡ with_set p (without_page p (set_of cache p)) cache) (sym (found_of_page page (set_of cache page) line found)) refl
+    subst
+    (λ p.
+    with_set page (without_page page (set_of cache page)) cache
+    ≡ with_set p (without_page p (set_of cache p)) cache)
+    (sym (found_of_page page (set_of cache page) line found)) refl
 
-walk_leaves : (cache : List (List Line)) (page : VirtualPage) (r : AccessReply) → ends_at r.outcome ≡ false → after_walk cache page r ≡ cache_without (cached_line cache page) cache
+walk_leaves :
+    (cache : List (List Line)) (page : VirtualPage) (r : AccessReply)
+    → ends_at r.outcome ≡ false
+    → after_walk cache page r ≡ cache_without (cached_line cache page) cache
 unfolding after_walk cached_line
-walk_leaves cache page r off = rw (no_line_kept page r.outcome (found_of r.receipts) off) (taken_out cache page (line_of_page page (set_of cache page)) refl)
+walk_leaves cache page r off =
+    rw (no_line_kept page r.outcome (found_of r.receipts) off)
+    (taken_out cache page (line_of_page page (set_of cache page)) refl)
 
-way_cache : (cache : List (List Line)) (seg : Segment) (way : Option By) (r : AccessReply) → ends_at r.outcome ≡ false → cache_after cache (Some seg) way r ≡ cache_without (gone_by_way way (cached_line cache seg.page)) cache
+way_cache :
+    (cache : List (List Line)) (seg : Segment) (way : Option By) (r : AccessReply)
+    → ends_at r.outcome ≡ false
+    → cache_after cache (Some seg) way r
+    ≡ cache_without (gone_by_way way (cached_line cache seg.page)) cache
 way_cache cache seg (Some Walk) r off = walk_leaves cache seg.page r off
 way_cache cache seg (Some Hit) r off = refl
 way_cache cache seg None r off = refl
@@ -169,58 +258,126 @@ false_of_not : (b : Bool) → not b ≡ true → b ≡ false
 false_of_not false h = refl
 false_of_not true h = cc
 
-access_all : (context : AccessContext) (p : Processor) (want : _) (ea : ℕ) (user : Bool) (segment : Option Segment) (r : AccessReply) → segment_of p.slots ea ≡ segment → IsAccessReply context (cached_line p.cache) (request want ea user p.masks) segment r → IsNowhere r.outcome → LeavesAll p (acts.Access want ea user) (replies.Access r)
+access_all :
+    (context : AccessContext) (p : Processor) (want : _) (ea : ℕ) (user : Bool)
+    (segment : Option Segment) (r : AccessReply)
+    → segment_of p.slots ea ≡ segment
+    → IsAccessReply context (cached_line p.cache) (request want ea user p.masks) segment r
+    → IsNowhere r.outcome
+    → LeavesAll p (acts.Access want ea user) (replies.Access r)
 access_all context p want ea user None r e is h = record {
   entries = access_leaves context (cached_line p.cache) (request want ea user p.masks) None r is h;
   slots = refl;
   cache = rw e refl;
 }
 access_all context p want ea user (Some seg) r e is h = record {
-  entries = access_leaves context (cached_line p.cache) (request want ea user p.masks) (Some seg) r is h;
+  entries =
+      access_leaves context (cached_line p.cache) (request want ea user p.masks) (Some seg) r is h;
   slots = refl;
   cache = rw e (way_cache p.cache seg r.by r h.off);
 }
 
-refused_slots : (refusal : Option BadSlb) (slots old : List (Option Slot)) → is_none refusal ≡ false → slots_or refusal slots old ≡ old
+refused_slots :
+    (refusal : Option BadSlb) (slots old : List (Option Slot))
+    → is_none refusal ≡ false
+    → slots_or refusal slots old ≡ old
 refused_slots None slots old h = cc
 refused_slots (Some error) slots old h = refl
 
-mte_all : (p : Processor) (rb rs : ℕ) (accepted : Bool) → accepted ≡ is_none (mte_refusal rb rs) → accepted ≡ false → LeavesAll p (acts.SlbMte rb rs) (replies.Segment accepted)
+mte_all :
+    (p : Processor) (rb rs : ℕ) (accepted : Bool)
+    → accepted ≡ is_none (mte_refusal rb rs)
+    → accepted ≡ false
+    → LeavesAll p (acts.SlbMte rb rs) (replies.Segment accepted)
 mte_all p rb rs accepted told off = record {
   entries = tt;
   slots = refused_slots (mte_refusal rb rs) (slots_after p.slots rb rs) p.slots (sym told ∙ off);
   cache = refl;
 }
 
-line_leaves : (granted : GrantedMemory) (context : AccessContext) (p : Processor) (act : Act) (reply : Reply) → IsCallReply (table_context context) act reply → IsReplyToAccess context p act reply → LandsByItsEntry granted context.order p act reply → is_refused act reply ≡ true → LeavesAll p act reply
-line_leaves granted context p (acts.Call number args spelt) (replies.Hcall h) call access lands refused =
-    record { entries = hcall_leaves (table_context context) (hcall_of number) args h call refused; slots = refl; cache = refl }
-line_leaves granted context p (acts.Access want ea user) (replies.Access r) call access lands refused =
-    access_all context p want ea user (segment_of p.slots ea) r refl access (lands_nowhere granted context.order ea (segment_of p.slots ea) (found_of r.receipts) r.outcome lands (false_of_not (ends_at r.outcome) refused))
-line_leaves granted context p (acts.Device write liobn ioba) (replies.Device r) call access lands refused =
-    subst (λ (x : Reply). LeavesAll p (acts.Device write liobn ioba) x) (sym call) (record { entries = tt; slots = refl; cache = refl })
-line_leaves granted context p (acts.SlbMte rb rs) (replies.Segment accepted) call access lands refused =
+line_leaves :
+    (granted : GrantedMemory) (context : AccessContext) (p : Processor) (act : Act) (reply : Reply)
+    → IsCallReply (table_context context) act reply
+    → IsReplyToAccess context p act reply
+    → LandsByItsEntry granted context.order p act reply
+    → is_refused act reply ≡ true
+    → LeavesAll p act reply
+line_leaves granted context p (acts.Call number args spelt) (replies.Hcall h) call access lands
+    refused =
+    record {
+      entries = hcall_leaves (table_context context) (hcall_of number) args h call refused;
+      slots = refl;
+      cache = refl;
+    }
+line_leaves granted context p (acts.Access want ea user) (replies.Access r) call access lands
+    refused =
+    access_all context p want ea user (segment_of p.slots ea) r refl access
+    (lands_nowhere granted context.order ea (segment_of p.slots ea) (found_of r.receipts)
+    r.outcome lands (false_of_not (ends_at r.outcome) refused))
+line_leaves granted context p (acts.Device write liobn ioba) (replies.Device r) call access lands
+    refused =
+    subst (λ (x : Reply). LeavesAll p (acts.Device write liobn ioba) x) (sym call)
+    (record { entries = tt; slots = refl; cache = refl })
+line_leaves granted context p (acts.SlbMte rb rs) (replies.Segment accepted) call access lands
+    refused =
     let told : accepted ≡ is_none (mte_refusal rb rs) = cc in
     mte_all p rb rs accepted told (false_of_not accepted refused)
 line_leaves granted context p act reply call access lands refused = absurd (false≢true refused)
 
 -- ---- a run
-lines_leave : (granted : GrantedMemory) (context : AccessContext) (b : _) (p : Processor) (ts : List RepliedLine) → EachLineOfProcessor (λ q t. IsCallReply (table_context context) t.line.act t.reply) p ts → EachLineOfProcessor (IsAccessLine context b) p ts → EachLineOfProcessor (λ q t. LandsByItsEntry granted context.order q t.line.act t.reply) p ts → EachLineOfProcessor (λ q t. is_refused t.line.act t.reply ≡ true → LeavesAll q t.line.act t.reply) p ts
+lines_leave :
+    (granted : GrantedMemory) (context : AccessContext) (b : _) (p : Processor)
+    (ts : List RepliedLine)
+    → EachLineOfProcessor (λ q t. IsCallReply (table_context context) t.line.act t.reply) p ts
+    → EachLineOfProcessor (IsAccessLine context b) p ts
+    → EachLineOfProcessor (λ q t. LandsByItsEntry granted context.order q t.line.act t.reply) p ts
+    → EachLineOfProcessor
+    (λ q t. is_refused t.line.act t.reply ≡ true → LeavesAll q t.line.act t.reply) p ts
 lines_leave granted context b p [] calls accesses lands = tt
-lines_leave granted context b p (t ∷ ts) calls accesses lands =
-    (line_leaves granted context p t.line.act t.reply calls.0 accesses.0.reply lands.0, lines_leave granted context b (processor_after p t.line.act t.reply) ts calls.1 accesses.1 lands.1)
+lines_leave granted context b p (t ∷ ts) calls accesses lands = (
+  line_leaves granted context p t.line.act t.reply calls.0 accesses.0.reply lands.0,
+  lines_leave granted context b (processor_after p t.line.act t.reply) ts calls.1 accesses.1
+      lands.1,
+)
 
-section_leaves : (granted : GrantedMemory) (s : Section) → IsTable s.before → CallsAreReplied s → AccessesAreReplied s → AccessesLand granted s → RefusedLinesLeave s
+section_leaves :
+    (granted : GrantedMemory) (s : Section)
+    → IsTable s.before
+    → CallsAreReplied s
+    → AccessesAreReplied s
+    → AccessesLand granted s
+    → RefusedLinesLeave s
 unfolding section_end
 section_leaves granted s table calls accesses lands = record {
-  lines = λ cpu. lines_leave granted (access_of (context_of s.before)) (states_of (closing s)) _ _ (subst (λ set. EachLineOfProcessor (λ q t. IsCallReply set t.line.act t.reply) (processor_at s.before.processors cpu) (lines_of_processor cpu s.replied_lines)) (table_is s.before table) (calls cpu)) (accesses cpu) (lands cpu);
+  lines =
+      λ cpu.
+      lines_leave granted (access_of (context_of s.before)) (states_of (closing s)) _ _
+      (subst
+      (λ set.
+      EachLineOfProcessor (λ q t. IsCallReply set t.line.act t.reply)
+      (processor_at s.before.processors cpu) (lines_of_processor cpu s.replied_lines))
+      (table_is s.before table) (calls cpu)) (accesses cpu) (lands cpu);
   grants = refl;
   memory = refl;
 }
 
-sections_leave : (granted : GrantedMemory) (ss : List Section) → AllByRecursion (λ (s : Section). IsTable s.before) ss → AllByRecursion IsGoodSection ss → AllByRecursion (AccessesLand granted) ss → AllByRecursion RefusedLinesLeave ss
+sections_leave :
+    (granted : GrantedMemory) (ss : List Section)
+    → AllByRecursion (λ (s : Section). IsTable s.before) ss
+    → AllByRecursion IsGoodSection ss
+    → AllByRecursion (AccessesLand granted) ss
+    → AllByRecursion RefusedLinesLeave ss
 sections_leave granted [] table good lands = tt
-sections_leave granted (s ∷ ss) table good lands = (section_leaves granted s table.0 good.0.calls good.0.accesses lands.0, sections_leave granted ss table.1 good.1 lands.1)
+sections_leave granted (s ∷ ss) table good lands = (
+  section_leaves granted s table.0 good.0.calls good.0.accesses lands.0,
+  sections_leave granted ss table.1 good.1 lands.1,
+)
 
-pub refused_lines_leave : (t : AcceptedTrace) (rs : List Reply) → IsAccepted t → IsGoodRun t rs → AllByRecursion RefusedLinesLeave (sections_of t rs)
-refused_lines_leave t rs is good = sections_leave t.config.granted (sections_of t rs) (all_table t rs) good.stores.0 (accesses_land t rs is good)
+pub refused_lines_leave :
+    (t : AcceptedTrace) (rs : List Reply)
+    → IsAccepted t
+    → IsGoodRun t rs
+    → AllByRecursion RefusedLinesLeave (sections_of t rs)
+refused_lines_leave t rs is good =
+    sections_leave t.config.granted (sections_of t rs) (all_table t rs) good.stores.0
+    (accesses_land t rs is good)

@@ -43,7 +43,15 @@ use Rattle.trace_reply.specs.declared.reply.Reply.TheVariants as replies
 
 -- ---- a table whose entry 0 is valid
 entry : State
-entry = record { valid = true; dword0 = 0x1001; dword1 = 0x3012; referenced = false; changed = false; stamp = 1 }
+entry =
+    record {
+      valid = true;
+      dword0 = 0x1001;
+      dword1 = 0x3012;
+      referenced = false;
+      changed = false;
+      stamp = 1;
+    }
 
 with_entry : Store
 with_entry = record (small 1) { memory = memory_of (entry ∷ replicate 15 (empty_state 0)) }
@@ -56,12 +64,14 @@ enter : TraceLine
 enter = calls 5 0x08 (0x8000000000 ∷ 0 ∷ 0x1001 ∷ 0x3012 ∷ [])
 
 enter_is_refused : is_refused enter.act (reply_to enter) ≡ true
-unfolding enter reply_to with_entry entry run_on line_result hcall_plan is_quiet hcall_of row_of plan_run trial_run candidates suits_grants h_enter_plan machine_range new_processor
+unfolding enter reply_to with_entry entry run_on line_result hcall_plan is_quiet hcall_of row_of
+    plan_run trial_run candidates suits_grants h_enter_plan machine_range new_processor
 enter_is_refused = refl
 
 -- All that the run carries stands.
 enter_leaves : (run_on with_entry enter).1 ≡ with_entry
-unfolding enter with_entry entry run_on line_result hcall_plan is_quiet hcall_of row_of plan_run trial_run candidates suits_grants h_enter_plan machine_range new_processor
+unfolding enter with_entry entry run_on line_result hcall_plan is_quiet hcall_of row_of plan_run
+    trial_run candidates suits_grants h_enter_plan machine_range new_processor
 enter_leaves = refl
 
 -- ---- a device, and H_PUT_TCE, where there is no window
@@ -80,15 +90,18 @@ put : TraceLine
 put = calls 5 0x20 (1 ∷ 0x5000 ∷ 0x3001 ∷ [])
 
 put_finds_no_window : reply_to put ≡ reply_of_code Parameter
-unfolding put reply_to with_entry entry run_on line_result hcall_plan is_quiet hcall_of row_of plan_run trial_run new_processor
+unfolding put reply_to with_entry entry run_on line_result hcall_plan is_quiet hcall_of row_of
+    plan_run trial_run new_processor
 put_finds_no_window = refl
 
 put_leaves : (run_on with_entry put).1 ≡ with_entry
-unfolding put with_entry entry run_on line_result hcall_plan is_quiet hcall_of row_of plan_run trial_run new_processor
+unfolding put with_entry entry run_on line_result hcall_plan is_quiet hcall_of row_of plan_run
+    trial_run new_processor
 put_leaves = refl
 
 put_keeps_no_removals : keeps_removals_by put.act (reply_to put) ≡ false
-unfolding put reply_to with_entry entry run_on line_result hcall_plan is_quiet hcall_of row_of plan_run trial_run new_processor
+unfolding put reply_to with_entry entry run_on line_result hcall_plan is_quiet hcall_of row_of
+    plan_run trial_run new_processor
 put_keeps_no_removals = refl
 
 -- ---- H_PUT_TCE on a window, while another call enters a TCE
@@ -111,7 +124,11 @@ busy = record { rc = Busy; words = []; receipts = emptied ∷ taken ∷ [] }
 -- It is this call's reply.
 put_is_busy : IsReplyOf (put_plan (small 1).grants (Some window) 0x5008 0x3001) busy
 unfolding busy emptied taken with_tce window put_tce_plan is_ram machine_range
-put_is_busy = record { trial = (record { entry = refl; op = refl }, (record { entry = refl; op = refl }, tt)); told = refl }
+put_is_busy =
+    record {
+      trial = (record { entry = refl; op = refl }, (record { entry = refl; op = refl }, tt));
+      told = refl;
+    }
 
 busy_where_taken : BusyWhereTaken put.act (replies.Hcall busy)
 unfolding put busy emptied taken with_tce hcall_of row_of
@@ -133,7 +150,8 @@ busy_keeps_removals = refl
 -- The TCE that was there is gone, and the other call's stands.
 put_leaves_the_other : AllByRecursion (LeavesEntry true) busy.receipts
 unfolding busy emptied taken with_tce
-put_leaves_the_other = ((λ stands. absurd (let clash : true ≡ false = stands in cc)), ((λ _. refl), tt))
+put_leaves_the_other =
+    ((λ stands. absurd (let clash : true ≡ false = stands in cc)), ((λ _. refl), tt))
 
 emptied_is_gone : after_of emptied ≡ empty_state 8
 unfolding emptied with_tce
@@ -147,7 +165,10 @@ read_tce = receipt_of 1 (with_tce 0x4001 7) ops.Read
 denied : Reply
 denied = replies.Device (device_reply_with Denied (read_tce ∷ []))
 
-device_is_denied : (device_by_window (small 1).grants (Some window) 0x5008 true (empty_state 0 ∷ with_tce 0x4001 7 ∷ [])).0 ≡ denied
+device_is_denied :
+    (device_by_window (small 1).grants (Some window) 0x5008 true
+    (empty_state 0 ∷ with_tce 0x4001 7 ∷ [])).0
+    ≡ denied
 unfolding denied read_tce with_tce window trial_run
 device_is_denied = refl
 
@@ -155,13 +176,24 @@ denied_is_refused : is_refused device.act denied ≡ true
 unfolding device denied
 denied_is_refused = refl
 
-denied_leaves : AllByRecursion (LeavesEntry (keeps_removals_by device.act denied)) (receipts_in denied)
+denied_leaves :
+    AllByRecursion (LeavesEntry (keeps_removals_by device.act denied)) (receipts_in denied)
 unfolding device denied read_tce with_tce
 denied_leaves = (refl, tt)
 
 -- ---- H_BULK_REMOVE of entries 0 and 1, and an ill-formed third pair
 bulk_remove : TraceLine
-bulk_remove = calls 5 0x124 (0x4000000000000000 ∷ 0 ∷ 0x4000000000000001 ∷ 0 ∷ 0x4300000000000002 ∷ 0 ∷ 0x4000000000000000 ∷ 0 ∷ [])
+bulk_remove =
+    calls 5 0x124
+    (0x4000000000000000
+    ∷ 0
+    ∷ 0x4000000000000001
+    ∷ 0
+    ∷ 0x4300000000000002
+    ∷ 0
+    ∷ 0x4000000000000000
+    ∷ 0
+    ∷ [])
 
 removed : Receipt
 removed = receipt_of 0 entry (ops.Remove (record { avpn = None; andcond = None }))
@@ -170,11 +202,13 @@ not_found : Receipt
 not_found = receipt_of 1 (empty_state 0) (ops.Remove (record { avpn = None; andcond = None }))
 
 bulk_remove_is_refused : is_refused bulk_remove.act (reply_to bulk_remove) ≡ true
-unfolding bulk_remove reply_to with_entry entry run_on line_result hcall_plan is_quiet hcall_of row_of plan_run trial_run h_bulk_remove_plan bulk_calls bulk_told asked_by new_processor
+unfolding bulk_remove reply_to with_entry entry run_on line_result hcall_plan is_quiet hcall_of
+    row_of plan_run trial_run h_bulk_remove_plan bulk_calls bulk_told asked_by new_processor
 bulk_remove_is_refused = refl
 
 removals_are_kept : keeps_removals_by bulk_remove.act (reply_to bulk_remove) ≡ true
-unfolding bulk_remove reply_to with_entry entry run_on line_result hcall_plan is_quiet hcall_of row_of plan_run trial_run h_bulk_remove_plan bulk_calls bulk_told asked_by new_processor
+unfolding bulk_remove reply_to with_entry entry run_on line_result hcall_plan is_quiet hcall_of
+    row_of plan_run trial_run h_bulk_remove_plan bulk_calls bulk_told asked_by new_processor
 removals_are_kept = refl
 
 -- The pair behind the removed one leaves its entry, and the removed entry is empty.
@@ -196,7 +230,12 @@ no_removal_elsewhere h = let clash : false ≡ true = ap (λ (s : State). s.vali
 with_pending : Store
 with_pending = record with_entry {
   memory = record (memory_of []) {
-    pool = record { base = 0x1000000000; order = 20; taken = block_at 0x1000000000 18 ∷ block_at 0x1000080000 19 ∷ [] };
+    pool =
+        record {
+          base = 0x1000000000;
+          order = 20;
+          taken = block_at 0x1000000000 18 ∷ block_at 0x1000080000 19 ∷ [];
+        };
     pending = Some (record { order = 19; place = 0x1000080000; ready = 16384 });
   };
 }
@@ -205,7 +244,8 @@ prepare : Act
 prepare = Call 0x36C (0 ∷ 20 ∷ []) true
 
 no_memory : (run_quiet_line with_pending prepare).0 ≡ reply_of_code NoMem
-unfolding prepare with_pending with_entry run_quiet_line run_resize hcall_of row_of prepare_result outcome_of_prepare lowest_place multiples taken_without
+unfolding prepare with_pending with_entry run_quiet_line run_resize hcall_of row_of prepare_result
+    outcome_of_prepare lowest_place multiples taken_without
 no_memory = refl
 
 prepare_is_refused : is_refused prepare (reply_of_code NoMem) ≡ true
@@ -213,11 +253,15 @@ unfolding prepare
 prepare_is_refused = refl
 
 -- The pending table is dropped and its block given back, and all else stands.
-prepare_leaves : (run_quiet_line with_pending prepare).1 ≡ record with_entry { memory = memory_of [] }
-unfolding prepare with_pending with_entry run_quiet_line run_resize hcall_of row_of prepare_result outcome_of_prepare lowest_place multiples taken_without
+prepare_leaves :
+    (run_quiet_line with_pending prepare).1 ≡ record with_entry { memory = memory_of [] }
+unfolding prepare with_pending with_entry run_quiet_line run_resize hcall_of row_of prepare_result
+    outcome_of_prepare lowest_place multiples taken_without
 prepare_leaves = refl
 
-left_without_memory : run_left prepare (reply_of_code NoMem) with_pending ≡ record with_entry { memory = memory_of [] }
+left_without_memory :
+    run_left prepare (reply_of_code NoMem) with_pending
+    ≡ record with_entry { memory = memory_of [] }
 unfolding prepare with_pending with_entry hcall_of row_of taken_without
 left_without_memory = refl
 
@@ -226,7 +270,8 @@ of_another_order : DropsAnother prepare (reply_of_code NoMem) with_pending
 unfolding prepare with_pending with_entry hcall_of row_of
 of_another_order = refl
 
-of_the_order_itself : DropsAnother (Call 0x36C (0 ∷ 19 ∷ []) true) (reply_of_code NoMem) with_pending → ⊥
+of_the_order_itself :
+    DropsAnother (Call 0x36C (0 ∷ 19 ∷ []) true) (reply_of_code NoMem) with_pending → ⊥
 unfolding with_pending with_entry hcall_of row_of
 of_the_order_itself h = let clash : true ≡ false = h in cc
 
@@ -235,7 +280,9 @@ left_in_place : run_left prepare (reply_of_code Parameter) with_pending ≡ with
 unfolding prepare with_pending with_entry hcall_of row_of
 left_in_place = refl
 
-left_by_a_commit : run_left (Call 0x370 (0 ∷ 19 ∷ []) true) (reply_of_code PtegFull) with_pending ≡ record with_entry { memory = memory_of [] }
+left_by_a_commit :
+    run_left (Call 0x370 (0 ∷ 19 ∷ []) true) (reply_of_code PtegFull) with_pending
+    ≡ record with_entry { memory = memory_of [] }
 unfolding with_pending with_entry hcall_of row_of taken_without
 left_by_a_commit = refl
 

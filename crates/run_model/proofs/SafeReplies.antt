@@ -49,24 +49,43 @@ use Rattle.trace_line.specs.declared.act.Act.TheVariants as acts
 use Rattle.trace_reply.specs.declared.reply.Reply.TheVariants as replies
 
 -- ---- words that H_ENTER accepts have a granted page
-size_granted : (grants : List Grant) (dword1 actual : ℕ) (x : Option (ℕ × Kind)) → machine_range grants (frame_of dword1 actual) (2 ^ actual) ≡ x → option_map_or (λ (y : ℕ × Kind). suits_kind (wimg_of dword1) y.1) x false ≡ true → IsGrantedPage grants (frame_of dword1 actual) actual
+size_granted :
+    (grants : List Grant) (dword1 actual : ℕ) (x : Option (ℕ × Kind))
+    → machine_range grants (frame_of dword1 actual) (2 ^ actual) ≡ x
+    → option_map_or (λ (y : ℕ × Kind). suits_kind (wimg_of dword1) y.1) x false ≡ true
+    → IsGrantedPage grants (frame_of dword1 actual) actual
 size_granted grants dword1 actual None e h = absurd (cc)
 size_granted grants dword1 actual (Some x) e h = (x, e)
 
-words_granted : (grants : List Grant) (dword1 : ℕ) (size : Option PageSize) → option_map_or (suits_size grants dword1) size false ≡ true → IsGrantedPage grants (frame_of dword1 (option_map_or (λ (s : PageSize). s.actual) size 12)) (option_map_or (λ (s : PageSize). s.actual) size 12)
+words_granted :
+    (grants : List Grant) (dword1 : ℕ) (size : Option PageSize)
+    → option_map_or (suits_size grants dword1) size false ≡ true
+    → IsGrantedPage grants (frame_of dword1 (option_map_or (λ (s : PageSize). s.actual) size 12))
+    (option_map_or (λ (s : PageSize). s.actual) size 12)
 words_granted grants dword1 None h = absurd (cc)
-words_granted grants dword1 (Some size) h = size_granted grants dword1 size.actual (machine_range grants (frame_of dword1 size.actual) (2 ^ size.actual)) refl h
+words_granted grants dword1 (Some size) h =
+    size_granted grants dword1 size.actual
+    (machine_range grants (frame_of dword1 size.actual) (2 ^ size.actual)) refl h
 
-pub suited_granted : (grants : List Grant) (dword0 dword1 : ℕ) → IsSuited grants dword0 dword1 → IsGrantedWords grants dword0 dword1
+pub suited_granted :
+    (grants : List Grant) (dword0 dword1 : ℕ)
+    → IsSuited grants dword0 dword1
+    → IsGrantedWords grants dword0 dword1
 unfolding suits_grants
-suited_granted grants dword0 dword1 h = record { page = words_granted grants dword1 (size_of dword0 dword1) h.suits; fits = h.fits }
+suited_granted grants dword0 dword1 h =
+    record { page = words_granted grants dword1 (size_of dword0 dword1) h.suits; fits = h.fits }
 
-enters_granted : (grants : List Grant) (op : Op) → EntersOnly (IsSuited grants) op → EntersOnly (IsGrantedWords grants) op
+enters_granted :
+    (grants : List Grant) (op : Op)
+    → EntersOnly (IsSuited grants) op
+    → EntersOnly (IsGrantedWords grants) op
 enters_granted grants (ops.Enter dword0 dword1) h = suited_granted grants dword0 dword1 h
 enters_granted grants other h = tt
 
 -- ---- hypervisor calls
-hcall_tame : (set : AccessContext) (h : Hcall) (args : List ℕ) → IsTame (IsSuited set.grants) (hcall_plan (table_context set) h args)
+hcall_tame :
+    (set : AccessContext) (h : Hcall) (args : List ℕ)
+    → IsTame (IsSuited set.grants) (hcall_plan (table_context set) h args)
 unfolding hcall_plan
 hcall_tame set calls.Enter args = h_enter_tame set.order set.grants _ _ _ _
 hcall_tame set calls.Remove args = h_remove_tame (IsSuited set.grants) set.order _ _ _
@@ -86,56 +105,121 @@ pub record IsTameLine (granted : GrantedMemory) (reply : Reply) : Type 0 where
   pub few : weight (receipts_in reply) ≤ 32
   pub safe : FromLowStamp granted.grants top (receipts_in reply) → IsUnworn reply
 
-call_line : (granted : GrantedMemory) (set : AccessContext) (h : Hcall) (args : List ℕ) (reply : HReply) → set.grants ≡ granted.grants → IsReplyOf (hcall_plan (table_context set) h args) reply → IsTameLine granted (replies.Hcall reply)
+call_line :
+    (granted : GrantedMemory) (set : AccessContext) (h : Hcall) (args : List ℕ) (reply : HReply)
+    → set.grants ≡ granted.grants
+    → IsReplyOf (hcall_plan (table_context set) h args) reply
+    → IsTameLine granted (replies.Hcall reply)
 call_line granted set h args reply same is =
-    let tame : IsTameReply (IsSuited granted.grants) reply = subst (λ g. IsTameReply (IsSuited g) reply) same (tame_reply (IsSuited set.grants) (hcall_plan (table_context set) h args) reply (hcall_tame set h args) is) in
+    let tame : IsTameReply (IsSuited granted.grants) reply = subst
+    (λ g. IsTameReply (IsSuited g) reply) same
+    (tame_reply (IsSuited set.grants) (hcall_plan (table_context set) h args) reply
+    (hcall_tame set h args) is) in
     record {
-      enters = each_map (λ (r : Receipt). EntersOnly (IsSuited granted.grants) r.op) (λ (r : Receipt). EntersOnly (IsGrantedWords granted.grants) r.op) reply.receipts (λ r. enters_granted granted.grants r.op) tame.enters;
+      enters =
+          each_map (λ (r : Receipt). EntersOnly (IsSuited granted.grants) r.op)
+          (λ (r : Receipt). EntersOnly (IsGrantedWords granted.grants) r.op) reply.receipts
+          (λ r. enters_granted granted.grants r.op) tame.enters;
       few = tame.few;
       safe = λ low_stamp. tame.code (none_worn granted.grants reply.receipts low_stamp);
     }
 
 -- ---- accesses
-access_line : (granted : GrantedMemory) (r : AccessReply) (cs : List Call) → AllByRecursion (λ (c : Call). EntersOnly (IsGrantedWords granted.grants) c.op) cs → calls_cost cs ≤ 32 → IsTrial is_no_match cs r.receipts → IsTameLine granted (replies.Access r)
+access_line :
+    (granted : GrantedMemory) (r : AccessReply) (cs : List Call)
+    → AllByRecursion (λ (c : Call). EntersOnly (IsGrantedWords granted.grants) c.op) cs
+    → calls_cost cs ≤ 32
+    → IsTrial is_no_match cs r.receipts
+    → IsTameLine granted (replies.Access r)
 access_line granted r cs enters low trial = record {
-  enters = trial_ops (EntersOnly (IsGrantedWords granted.grants)) is_no_match cs r.receipts enters trial;
+  enters =
+      trial_ops (EntersOnly (IsGrantedWords granted.grants)) is_no_match cs r.receipts enters trial;
   few = omega (arith, trial_weight is_no_match cs r.receipts trial);
   safe = λ low_stamp. tt;
 }
 
-walk_cost : (order : ℕ) (seg : Segment) (a : Request) → calls_cost (walk_calls order seg.page (mode_for seg a)) ≤ 32
+walk_cost :
+    (order : ℕ) (seg : Segment) (a : Request)
+    → calls_cost (walk_calls order seg.page (mode_for seg a)) ≤ 32
 unfolding walk_calls
 walk_cost order seg a =
     let first = access_op seg.page (mode_for seg a) false in
     let second = access_op seg.page (mode_for seg a) true in
-    omega (arith, cost_append (group_calls first (group_of seg.page order false)) (group_calls second (group_of seg.page order true)), entries_cost first (group_of seg.page order false * 8) 8, entries_cost second (group_of seg.page order true * 8) 8)
+    omega (
+      arith,
+      cost_append (group_calls first (group_of seg.page order false))
+          (group_calls second (group_of seg.page order true)),
+      entries_cost first (group_of seg.page order false * 8) 8,
+      entries_cost second (group_of seg.page order true * 8) 8,
+    )
 
-pub walk_enters : (W : ℕ → ℕ → Type 0) (order : ℕ) (seg : Segment) (a : Request) → AllByRecursion (λ (c : Call). EntersOnly W c.op) (walk_calls order seg.page (mode_for seg a))
+pub walk_enters :
+    (W : ℕ → ℕ → Type 0) (order : ℕ) (seg : Segment) (a : Request)
+    → AllByRecursion (λ (c : Call). EntersOnly W c.op) (walk_calls order seg.page (mode_for seg a))
 unfolding walk_calls
 walk_enters W order seg a =
     let first = access_op seg.page (mode_for seg a) false in
     let second = access_op seg.page (mode_for seg a) true in
-    each_append (λ (c : Call). EntersOnly W c.op) (group_calls first (group_of seg.page order false)) (group_calls second (group_of seg.page order true)) (each_call (EntersOnly W) first (range_with_len (group_of seg.page order false * 8) 8) tt) (each_call (EntersOnly W) second (range_with_len (group_of seg.page order true * 8) 8) tt)
+    each_append (λ (c : Call). EntersOnly W c.op)
+    (group_calls first (group_of seg.page order false))
+    (group_calls second (group_of seg.page order true))
+    (each_call (EntersOnly W) first (range_with_len (group_of seg.page order false * 8) 8) tt)
+    (each_call (EntersOnly W) second (range_with_len (group_of seg.page order true * 8) 8) tt)
 
-way_line : (granted : GrantedMemory) (set : AccessContext) (seg : Segment) (a : Request) (c : Option Line) (by : Option By) (r : AccessReply) → IsByWay set seg a c by r → IsTameLine granted (replies.Access r)
-way_line granted set seg a (Some line) (Some Hit) r h = access_line granted r (hit_calls seg a line) (tt, tt) (omega arith) h.trial
-way_line granted set seg a (Some line) (Some Walk) r h = access_line granted r (walk_calls set.order seg.page (mode_for seg a)) (walk_enters (IsGrantedWords granted.grants) set.order seg a) (walk_cost set.order seg a) h.trial
-way_line granted set seg a None (Some Walk) r h = access_line granted r (walk_calls set.order seg.page (mode_for seg a)) (walk_enters (IsGrantedWords granted.grants) set.order seg a) (walk_cost set.order seg a) h.trial
+way_line :
+    (granted : GrantedMemory) (set : AccessContext) (seg : Segment) (a : Request) (c : Option Line)
+    (by : Option By) (r : AccessReply)
+    → IsByWay set seg a c by r
+    → IsTameLine granted (replies.Access r)
+way_line granted set seg a (Some line) (Some Hit) r h =
+    access_line granted r (hit_calls seg a line) (tt, tt) (omega arith) h.trial
+way_line granted set seg a (Some line) (Some Walk) r h =
+    access_line granted r (walk_calls set.order seg.page (mode_for seg a))
+    (walk_enters (IsGrantedWords granted.grants) set.order seg a) (walk_cost set.order seg a)
+    h.trial
+way_line granted set seg a None (Some Walk) r h =
+    access_line granted r (walk_calls set.order seg.page (mode_for seg a))
+    (walk_enters (IsGrantedWords granted.grants) set.order seg a) (walk_cost set.order seg a)
+    h.trial
 way_line granted set seg a None (Some Hit) r h = absurd h
 way_line granted set seg a None None r h = absurd h
 way_line granted set seg a (Some line) None r h = absurd h
 
-segment_line : (granted : GrantedMemory) (set : AccessContext) (cached : VirtualPage → Option Line) (a : Request) (s : Option Segment) (r : AccessReply) → IsAccessReply set cached a s r → IsTameLine granted (replies.Access r)
-segment_line granted set cached a None r h = subst (λ (x : AccessReply). IsTameLine granted (replies.Access x)) (sym h) (record { enters = tt; few = omega arith; safe = λ low_stamp. tt })
-segment_line granted set cached a (Some seg) r h = way_line granted set seg a (cached seg.page) r.by r h
+segment_line :
+    (granted : GrantedMemory) (set : AccessContext) (cached : VirtualPage → Option Line)
+    (a : Request) (s : Option Segment) (r : AccessReply)
+    → IsAccessReply set cached a s r
+    → IsTameLine granted (replies.Access r)
+segment_line granted set cached a None r h =
+    subst (λ (x : AccessReply). IsTameLine granted (replies.Access x)) (sym h)
+    (record { enters = tt; few = omega arith; safe = λ low_stamp. tt })
+segment_line granted set cached a (Some seg) r h =
+    way_line granted set seg a (cached seg.page) r.by r h
 
 -- ---- each line
-pub line_tame : (granted : GrantedMemory) (set : AccessContext) (processor : Processor) (act : Act) (reply : Reply) → set.grants ≡ granted.grants → IsOfKind act reply → IsCallReply (table_context set) act reply → IsReplyToAccess set processor act reply → IsTameLine granted reply
-line_tame granted set processor (acts.Call number args spelt) (replies.Hcall h) same kind call acc = call_line granted set (hcall_of number) args h same call
-line_tame granted set processor (acts.Access want ea user) (replies.Access r) same kind call acc = segment_line granted set (cached_line processor.cache) (request want ea user processor.masks) (segment_of processor.slots ea) r acc
-line_tame granted set processor (acts.SlbMte rb rs) (replies.Segment accepted) same kind call acc = record { enters = tt; few = omega arith; safe = λ low_stamp. tt }
-line_tame granted set processor acts.SlbClear (replies.Segment accepted) same kind call acc = record { enters = tt; few = omega arith; safe = λ low_stamp. tt }
-line_tame granted set processor (acts.SetMask name value) replies.MaskSet same kind call acc = record { enters = tt; few = omega arith; safe = λ low_stamp. tt }
-line_tame granted set processor (acts.Device write liobn ioba) (replies.Device r) same kind call acc = subst (λ (x : Reply). IsTameLine granted x) (sym call) (record { enters = tt; few = omega arith; safe = λ low_stamp. tt })
-line_tame granted set processor acts.Dump (replies.Dump shown) same kind call acc = record { enters = tt; few = omega arith; safe = λ low_stamp. tt }
+pub line_tame :
+    (granted : GrantedMemory) (set : AccessContext) (processor : Processor) (act : Act)
+    (reply : Reply)
+    → set.grants ≡ granted.grants
+    → IsOfKind act reply
+    → IsCallReply (table_context set) act reply
+    → IsReplyToAccess set processor act reply
+    → IsTameLine granted reply
+line_tame granted set processor (acts.Call number args spelt) (replies.Hcall h) same kind call acc =
+    call_line granted set (hcall_of number) args h same call
+line_tame granted set processor (acts.Access want ea user) (replies.Access r) same kind call acc =
+    segment_line granted set (cached_line processor.cache) (request want ea user processor.masks)
+    (segment_of processor.slots ea) r acc
+line_tame granted set processor (acts.SlbMte rb rs) (replies.Segment accepted) same kind call acc =
+    record { enters = tt; few = omega arith; safe = λ low_stamp. tt }
+line_tame granted set processor acts.SlbClear (replies.Segment accepted) same kind call acc =
+    record { enters = tt; few = omega arith; safe = λ low_stamp. tt }
+line_tame granted set processor (acts.SetMask name value) replies.MaskSet same kind call acc =
+    record { enters = tt; few = omega arith; safe = λ low_stamp. tt }
+line_tame granted set processor (acts.Device write liobn ioba) (replies.Device r) same kind call acc
+    =
+    subst (λ (x : Reply). IsTameLine granted x) (sym call)
+    (record { enters = tt; few = omega arith; safe = λ low_stamp. tt })
+line_tame granted set processor acts.Dump (replies.Dump shown) same kind call acc =
+    record { enters = tt; few = omega arith; safe = λ low_stamp. tt }
 line_tame granted set processor act reply same kind call acc = absurd kind

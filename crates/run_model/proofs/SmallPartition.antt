@@ -13,7 +13,12 @@ use Rattle.run_model.specs.Stores.{Store}
 abbrev pub memory_of : List State → TableMemory
 memory_of states = record {
   limit = 20;
-  pool = record { base = 0x1000000000; order = 20; taken = record { place = 0x1000000000; order = 18 } ∷ [] };
+  pool =
+      record {
+        base = 0x1000000000;
+        order = 20;
+        taken = record { place = 0x1000000000; order = 18 } ∷ [];
+      };
   pending = None;
   table = record { order = 18; place = 0x1000000000; number = 0; states = states };
 }
@@ -21,7 +26,10 @@ memory_of states = record {
 -- So many processors, 1 GB of main storage and 64 KB of a device.
 abbrev pub small : ℕ → Store
 small cpus = record {
-  grants = record { logical = 0; machine = 0x2000000000; length = 0x40000000; kind = Ram } ∷ record { logical = 0x40000000; machine = 0x3000000000; length = 0x10000; kind = Io } ∷ [];
+  grants =
+      record { logical = 0; machine = 0x2000000000; length = 0x40000000; kind = Ram }
+      ∷ record { logical = 0x40000000; machine = 0x3000000000; length = 0x10000; kind = Io }
+      ∷ [];
   window = None;
   memory = memory_of (replicate 16 (empty_state 0));
   processors = replicate cpus new_processor;

@@ -18,7 +18,12 @@ use Rattle.entry_model.specs.declared.operation.Op.TheVariants as ops
 
 -- ---- the bits of doubleword 1 that H_PROTECT replaces
 -- What is shifted to bits of a mask, which has them all.
-shifted_in : (x m k top low : ℕ) → low < 2 ^ k → 0 < 2 ^ k → bit_and m top ≡ m → bit_and (bit_and x m * 2 ^ k) (top * 2 ^ k + low) ≡ bit_and x m * 2 ^ k
+shifted_in :
+    (x m k top low : ℕ)
+    → low < 2 ^ k
+    → 0 < 2 ^ k
+    → bit_and m top ≡ m
+    → bit_and (bit_and x m * 2 ^ k) (top * 2 ^ k + low) ≡ bit_and x m * 2 ^ k
 shifted_in x m k top low small some inside =
     let left : bit_and x m * 2 ^ k ≡ bit_and x m * 2 ^ k + 0 = omega arith in
     ap (λ y. bit_and y (top * 2 ^ k + low)) left
@@ -38,14 +43,23 @@ key_bits f = bit_and f 0x3000 * 2 ^ 48
 abbrev low_bits : ℕ → ℕ
 low_bits f = bit_and f 0xE07
 
-mask_of_four : (a b c d mask : ℕ) → bit_and (bit_or (bit_or (bit_or a b) c) d) mask ≡ bit_or (bit_or (bit_or (bit_and a mask) (bit_and b mask)) (bit_and c mask)) (bit_and d mask)
+mask_of_four :
+    (a b c d mask : ℕ)
+    → bit_and (bit_or (bit_or (bit_or a b) c) d) mask
+    ≡ bit_or (bit_or (bit_or (bit_and a mask) (bit_and b mask)) (bit_and c mask)) (bit_and d mask)
 mask_of_four a b c d mask =
     mask_of_or (bit_or (bit_or a b) c) d mask
     ∙ ap (λ n. bit_or n (bit_and d mask)) (mask_of_or (bit_or a b) c mask)
     ∙ ap (λ n. bit_or (bit_or n (bit_and c mask)) (bit_and d mask)) (mask_of_or a b mask)
 
 -- Four parts, each of which is another number.
-four_parts : (a b c d w x y z : ℕ) → a ≡ w → b ≡ x → c ≡ y → d ≡ z → bit_or (bit_or (bit_or a b) c) d ≡ bit_or (bit_or (bit_or w x) y) z
+four_parts :
+    (a b c d w x y z : ℕ)
+    → a ≡ w
+    → b ≡ x
+    → c ≡ y
+    → d ≡ z
+    → bit_or (bit_or (bit_or a b) c) d ≡ bit_or (bit_or (bit_or w x) y) z
 four_parts a b c d w x y z e f g h = cc
 
 none_of_three : (a : ℕ) → bit_or (bit_or (bit_or a 0) 0) 0 ≡ a
@@ -55,7 +69,8 @@ none_of_three a = or_zero_r (bit_or (bit_or a 0) 0) ∙ or_zero_r (bit_or a 0) �
 protected_control : (d f : ℕ) → bit_and (protected_word d f) 0x78 ≡ bit_and d 0x78
 protected_control d f =
     mask_of_four (stays d) (first_bit f) (key_bits f) (low_bits f) 0x78
-    ∙ four_parts (bit_and (stays d) 0x78) (bit_and (first_bit f) 0x78) (bit_and (key_bits f) 0x78) (bit_and (low_bits f) 0x78) (bit_and d 0x78) 0 0 0
+    ∙ four_parts (bit_and (stays d) 0x78) (bit_and (first_bit f) 0x78) (bit_and (key_bits f) 0x78)
+    (bit_and (low_bits f) 0x78) (bit_and d 0x78) 0 0 0
     (masks_join d 0x4FFFFFFFFFFFF1F8 0x78)
     (shifted_apart (bit_and f 0x100) 55 0x78 (lit< tt) (lit< tt))
     (shifted_apart (bit_and f 0x3000) 48 0x78 (lit< tt) (lit< tt))
@@ -63,50 +78,106 @@ protected_control d f =
     ∙ none_of_three (bit_and d 0x78)
 
 -- The reserved bit is none of the flags'.
-protected_second : (d f : ℕ) → stored_second d ≡ d → stored_second (protected_word d f) ≡ protected_word d f
+protected_second :
+    (d f : ℕ) → stored_second d ≡ d → stored_second (protected_word d f) ≡ protected_word d f
 protected_second d f kept =
     mask_of_four (stays d) (first_bit f) (key_bits f) (low_bits f) 0xBFFFFFFFFFFFFFFF
-    ∙ four_parts (bit_and (stays d) 0xBFFFFFFFFFFFFFFF) (bit_and (first_bit f) 0xBFFFFFFFFFFFFFFF) (bit_and (key_bits f) 0xBFFFFFFFFFFFFFFF) (bit_and (low_bits f) 0xBFFFFFFFFFFFFFFF) (stays d) (first_bit f) (key_bits f) (low_bits f)
-    (masks_join d 0x4FFFFFFFFFFFF1F8 0xBFFFFFFFFFFFFFFF ∙ sym (masks_join d 0xBFFFFFFFFFFFFFFF 0x4FFFFFFFFFFFF1F8) ∙ ap (λ n. bit_and n 0x4FFFFFFFFFFFF1F8) kept)
+    ∙ four_parts (bit_and (stays d) 0xBFFFFFFFFFFFFFFF) (bit_and (first_bit f) 0xBFFFFFFFFFFFFFFF)
+    (bit_and (key_bits f) 0xBFFFFFFFFFFFFFFF) (bit_and (low_bits f) 0xBFFFFFFFFFFFFFFF)
+    (stays d) (first_bit f) (key_bits f) (low_bits f)
+    (masks_join d 0x4FFFFFFFFFFFF1F8 0xBFFFFFFFFFFFFFFF
+    ∙ sym (masks_join d 0xBFFFFFFFFFFFFFFF 0x4FFFFFFFFFFFF1F8)
+    ∙ ap (λ n. bit_and n 0x4FFFFFFFFFFFF1F8) kept)
     (shifted_in f 0x100 55 0x17F 0x7FFFFFFFFFFFFF (lit< tt) (lit< tt) refl)
     (shifted_in f 0x3000 48 0xBFFF 0xFFFFFFFFFFFF (lit< tt) (lit< tt) refl)
     (masks_join f 0xE07 0xBFFFFFFFFFFFFFFF)
 
 -- ---- words that are stored as they are
-without_rc_stored : (grants : List Grant) (dword0 dword1 : ℕ) → AreStored grants dword0 dword1 → AreStored grants dword0 (without_rc dword1)
+without_rc_stored :
+    (grants : List Grant) (dword0 dword1 : ℕ)
+    → AreStored grants dword0 dword1
+    → AreStored grants dword0 (without_rc dword1)
 without_rc_stored grants h l is =
-    let second : stored_second (without_rc l) ≡ without_rc l = masks_join l 0xFFFFFFFFFFFFFE7F 0xBFFFFFFFFFFFFFFF ∙ sym (masks_join l 0xBFFFFFFFFFFFFFFF 0xFFFFFFFFFFFFFE7F) ∙ ap without_rc is.second in
-    same_stored grants h l (without_rc l) (without_rc_page l) (masks_join l 0xFFFFFFFFFFFFFE7F 0x78) second is
+    let second : stored_second (without_rc l) ≡ without_rc l = masks_join l 0xFFFFFFFFFFFFFE7F
+    0xBFFFFFFFFFFFFFFF ∙ sym (masks_join l 0xBFFFFFFFFFFFFFFF 0xFFFFFFFFFFFFFE7F) ∙ ap
+    without_rc is.second in
+    same_stored grants h l (without_rc l) (without_rc_page l) (masks_join l 0xFFFFFFFFFFFFFE7F 0x78)
+    second is
 
-protected_stored : (grants : List Grant) (dword0 dword1 flags : ℕ) → AreStored grants dword0 dword1 → AreStored grants dword0 (protected_word dword1 flags)
-protected_stored grants h l flags is = same_stored grants h l (protected_word l flags) (protected_page l flags) (protected_control l flags) (protected_second l flags is.second) is
+protected_stored :
+    (grants : List Grant) (dword0 dword1 flags : ℕ)
+    → AreStored grants dword0 dword1
+    → AreStored grants dword0 (protected_word dword1 flags)
+protected_stored grants h l flags is =
+    same_stored grants h l (protected_word l flags) (protected_page l flags)
+    (protected_control l flags) (protected_second l flags is.second) is
 
 -- ---- operations
 -- An entry has such words, where it is valid.
 abbrev pub HasStored : List Grant → State → Type 0
 HasStored grants s = s.valid ≡ true → AreStored grants s.dword0 s.dword1
 
-either_stored : (b : Bool) (grants : List Grant) (p q : Answer × State) → HasStored grants p.1 → HasStored grants q.1 → HasStored grants (if◌then◌else◌ {A = Answer × State} b p q).1
+either_stored :
+    (b : Bool) (grants : List Grant) (p q : Answer × State)
+    → HasStored grants p.1
+    → HasStored grants q.1
+    → HasStored grants (if◌then◌else◌ {A = Answer × State} b p q).1
 either_stored true grants p q h k = h
 either_stored false grants p q h k = k
 
-changed_stored : (grants : List Grant) (s : State) (answer : Answer) (next : State) → HasStored grants s → HasStored grants next → HasStored grants (change_to s answer next).1
-changed_stored grants s answer next h k = either_stored (s.stamp == 0xFFFFFFFF) grants (answers.Worn, s) (answer, record next { stamp = s.stamp + 1 }) h k
+changed_stored :
+    (grants : List Grant) (s : State) (answer : Answer) (next : State)
+    → HasStored grants s
+    → HasStored grants next
+    → HasStored grants (change_to s answer next).1
+changed_stored grants s answer next h k =
+    either_stored (s.stamp == 0xFFFFFFFF) grants (answers.Worn, s)
+    (answer, record next { stamp = s.stamp + 1 }) h k
 
-where_stored : (found : Bool) (grants : List Grant) (s : State) (answer : Answer) (next : State) → HasStored grants s → HasStored grants next → HasStored grants (change_where found s answer next).1
-where_stored found grants s answer next h k = either_stored found grants (change_to s answer next) (answers.NotFound, s) (changed_stored grants s answer next h k) h
+where_stored :
+    (found : Bool) (grants : List Grant) (s : State) (answer : Answer) (next : State)
+    → HasStored grants s
+    → HasStored grants next
+    → HasStored grants (change_where found s answer next).1
+where_stored found grants s answer next h k =
+    either_stored found grants (change_to s answer next) (answers.NotFound, s)
+    (changed_stored grants s answer next h k) h
 
 pub empty_stored : (grants : List Grant) (stamp : ℕ) → HasStored grants (empty_state stamp)
 empty_stored grants stamp = λ e. absurd (let never : false ≡ true = e in cc)
 
-pub entered_stored : (grants : List Grant) (dword0 dword1 : ℕ) → AreStored grants dword0 dword1 → HasStored grants (entered_state dword0 dword1)
+pub entered_stored :
+    (grants : List Grant) (dword0 dword1 : ℕ)
+    → AreStored grants dword0 dword1
+    → HasStored grants (entered_state dword0 dword1)
 entered_stored grants dword0 dword1 is = λ e. without_rc_stored grants dword0 dword1 is
 
-pub reply_stored : (grants : List Grant) (s : State) (op : Op) → EntersOnly (AreStored grants) op → HasStored grants s → HasStored grants (reply_of s op).1
-reply_stored grants s (ops.Enter dword0 dword1) w h = either_stored s.valid grants (answers.Taken, s) (change_to s answers.Entered (entered_state dword0 dword1)) h (changed_stored grants s answers.Entered (entered_state dword0 dword1) h (entered_stored grants dword0 dword1 w))
-reply_stored grants s (ops.Remove test) w h = where_stored (is_found s test) grants s answers.Removed (empty_state 0) h (empty_stored grants 0)
-reply_stored grants s (ops.Protect test flags) w h = where_stored (is_found s test) grants s answers.Protected (record s { dword1 = protected_word s.dword1 flags }) h (λ e. protected_stored grants s.dword0 s.dword1 flags (h e))
+pub reply_stored :
+    (grants : List Grant) (s : State) (op : Op)
+    → EntersOnly (AreStored grants) op
+    → HasStored grants s
+    → HasStored grants (reply_of s op).1
+reply_stored grants s (ops.Enter dword0 dword1) w h =
+    either_stored s.valid grants (answers.Taken, s)
+    (change_to s answers.Entered (entered_state dword0 dword1)) h
+    (changed_stored grants s answers.Entered (entered_state dword0 dword1) h
+    (entered_stored grants dword0 dword1 w))
+reply_stored grants s (ops.Remove test) w h =
+    where_stored (is_found s test) grants s answers.Removed (empty_state 0) h
+    (empty_stored grants 0)
+reply_stored grants s (ops.Protect test flags) w h =
+    where_stored (is_found s test) grants s answers.Protected
+    (record s { dword1 = protected_word s.dword1 flags }) h
+    (λ e. protected_stored grants s.dword0 s.dword1 flags (h e))
 reply_stored grants s ops.Read w h = h
-reply_stored grants s ops.ClearRef w h = where_stored s.valid grants s answers.Was (record s { referenced = false }) h h
-reply_stored grants s ops.ClearMod w h = where_stored s.valid grants s answers.Was (record s { changed = false }) h h
-reply_stored grants s (ops.Access tag base key no_execute want masks) w h = either_stored (is_match s tag base) grants (answer_of_match s (access_mode key no_execute want masks)) (answers.NoMatch, s) (either_stored (is_allowed s (access_mode key no_execute want masks)) grants (answer_of_allowed s (access_mode key no_execute want masks)) (answers.Denied, s) (either_stored (masks_refuse s (access_mode key no_execute want masks)) grants (answers.Masked, s) (answers.At, touched_state s want) h h) h) h
+reply_stored grants s ops.ClearRef w h =
+    where_stored s.valid grants s answers.Was (record s { referenced = false }) h h
+reply_stored grants s ops.ClearMod w h =
+    where_stored s.valid grants s answers.Was (record s { changed = false }) h h
+reply_stored grants s (ops.Access tag base key no_execute want masks) w h =
+    either_stored (is_match s tag base) grants
+    (answer_of_match s (access_mode key no_execute want masks)) (answers.NoMatch, s)
+    (either_stored (is_allowed s (access_mode key no_execute want masks)) grants
+    (answer_of_allowed s (access_mode key no_execute want masks)) (answers.Denied, s)
+    (either_stored (masks_refuse s (access_mode key no_execute want masks)) grants
+    (answers.Masked, s) (answers.At, touched_state s want) h h) h) h

@@ -30,7 +30,8 @@ context_with w o = record { order = w.memory.table.order; grants = w.grants; win
 pub table_is : (w : Store) → IsTable w → context_of w ≡ table_context (access_of (context_of w))
 table_is w e = ap (context_with w) e
 
-resize_window : (w : Store) (call : Hcall) (args : List ℕ) → (run_resize w call args).1.window ≡ w.window
+resize_window :
+    (w : Store) (call : Hcall) (args : List ℕ) → (run_resize w call args).1.window ≡ w.window
 unfolding run_resize
 resize_window w calls.Prepare args = refl
 resize_window w calls.Commit args = refl
@@ -53,22 +54,33 @@ pub closed_window : (w : Store) (ts : List RepliedLine) → (section_end w ts).w
 unfolding section_end
 closed_window w ts = refl
 
-pub after_window : (s : Store) (quiet : Option RepliedLine) → (after_quiet s quiet).window ≡ s.window
+pub after_window :
+    (s : Store) (quiet : Option RepliedLine) → (after_quiet s quiet).window ≡ s.window
 after_window s None = refl
 after_window s (Some q) = quiet_window s q.line.act
 
 -- Each section is of the same store.
-pub sections_named : (on : Act → Bool) (o : Option BusWindow) (s : Store) (ts : List RepliedLine) (qs : List QuietPart) → s.window ≡ o → AllByRecursion (λ (x : Section). x.before.window ≡ o) (sections_from on s ts qs)
+pub sections_named :
+    (on : Act → Bool) (o : Option BusWindow) (s : Store) (ts : List RepliedLine)
+    (qs : List QuietPart)
+    → s.window ≡ o
+    → AllByRecursion (λ (x : Section). x.before.window ≡ o) (sections_from on s ts qs)
 sections_named on o s ts [] e = (e, tt)
 sections_named on o s ts (q ∷ qs) e =
-    let x = section_of on s ts (quiet_on on q.0) in
-    (e, sections_named on o (after_quiet (closing x) x.quiet) q.1 qs (after_window (closing x) x.quiet ∙ closed_window s x.replied_lines ∙ e))
+    let x = section_of on s ts (quiet_on on q.0) in (
+      e,
+      sections_named on o (after_quiet (closing x) x.quiet) q.1 qs
+          (after_window (closing x) x.quiet ∙ closed_window s x.replied_lines ∙ e),
+    )
 
 pub opening_table : (t : AcceptedTrace) → IsTable (page_table t.config)
 unfolding page_table
 opening_table t = refl
 
-pub all_table : (t : AcceptedTrace) (rs : List Reply) → AllByRecursion (λ (s : Section). IsTable s.before) (sections_of t rs)
+pub all_table :
+    (t : AcceptedTrace) (rs : List Reply)
+    → AllByRecursion (λ (s : Section). IsTable s.before) (sections_of t rs)
 all_table t rs =
     let c = cut (lines_with_replies t.lines rs) in
-    sections_named (is_on t.config.windows (page_table t.config).window) None (page_table t.config) c.0 c.1 (opening_table t)
+    sections_named (is_on t.config.windows (page_table t.config).window) None (page_table t.config)
+    c.0 c.1 (opening_table t)

@@ -12,15 +12,23 @@ use Rattle.run_model.specs.QuietLines.{run_quiet_line}
 use Rattle.hpt_resize.specs.TableMemory.{with_states}
 
 -- A line that isn't quiet, from these states to those.
-pub record IsUndisturbed (set : StoreContext) (processor : Processor) (a : List State) (t : RepliedLine) (b : List State) : Type 0 where
+pub record IsUndisturbed (set : StoreContext) (processor : Processor) (a : List State)
+    (t : RepliedLine) (b : List State) :
+    Type 0 where
   pub call : IsCallReply set t.line.act t.reply
   pub access : IsReplyToAccess (access_of set) processor t.line.act t.reply
-  pub gone : IfSome (gone_line_of processor t.line.act t.reply) (λ line. line.stamp < (state_at a line.entry).stamp)
+  pub gone :
+      IfSome (gone_line_of processor t.line.act t.reply)
+      (λ line. line.stamp < (state_at a line.entry).stamp)
   pub run : IsRun a (receipts_in t.reply) b
 
-abbrev pub AreUndisturbed : StoreContext → List Processor → List State → List RepliedLine → List State → Type 0
+abbrev pub AreUndisturbed :
+    StoreContext → List Processor → List State → List RepliedLine → List State → Type 0
 AreUndisturbed set processors a [] b = b ≡ a
-AreUndisturbed set processors a (t ∷ ts) b = (mid : List State) × IsUndisturbed set (processor_at processors t.line.cpu) a t mid × AreUndisturbed set (processors_after processors t) mid ts b
+AreUndisturbed set processors a (t ∷ ts) b =
+    (mid : List State)
+    × IsUndisturbed set (processor_at processors t.line.cpu) a t mid
+    × AreUndisturbed set (processors_after processors t) mid ts b
 
 abbrev pub processors_on : List Processor → List RepliedLine → List Processor
 processors_on processors [] = processors

@@ -68,7 +68,10 @@ putting = record {
       (record {
         rc = Success;
         words = [];
-        receipts = receipt_of 1 (empty_state 0) (ops.Remove no_test) ∷ receipt_of 1 (empty_state 0) (ops.Enter 0x09 0x3010) ∷ [];
+        receipts =
+            receipt_of 1 (empty_state 0) (ops.Remove no_test)
+            ∷ receipt_of 1 (empty_state 0) (ops.Enter 0x09 0x3010)
+            ∷ [];
       });
 }
 
@@ -82,32 +85,62 @@ unfolding put one other bus_of hcall_of row_of
 not_on_the_table = refl
 
 -- Its entry is emptied and entered, and the first window stays.
-put_on_the_second : run_line windows (table ∷ having one (empty_state 0) ∷ having other (empty_state 0) ∷ []) putting.line ≡ (putting.reply, table ∷ having one (empty_state 0) ∷ having other set_read ∷ [])
-unfolding table windows run_on is_quiet having one other put putting set_read grants bus_of hcall_of row_of line_result hcall_plan put_tce_plan plan_run trial_run is_ram machine_range
+put_on_the_second :
+    run_line windows (table ∷ having one (empty_state 0) ∷ having other (empty_state 0) ∷ [])
+    putting.line
+    ≡ (putting.reply, table ∷ having one (empty_state 0) ∷ having other set_read ∷ [])
+unfolding table windows run_on is_quiet having one other put putting set_read grants bus_of hcall_of
+    row_of line_result hcall_plan put_tce_plan plan_run trial_run is_ram machine_range
 put_on_the_second = refl
 
 -- A device of the window 2 reaches the page, one of the window 1 is denied, and the number 3 is none's.
 read_by : ℕ → TraceLine
 read_by number = record { number = 6; cpu = 0; act = Device false number 0x11008 }
 
-reached : run_line windows (table ∷ having one (empty_state 0) ∷ having other set_read ∷ []) (read_by 2) ≡ (replies.Device (record { outcome = At 0x2000003008; receipts = receipt_of 1 set_read ops.Read ∷ [] }), table ∷ having one (empty_state 0) ∷ having other set_read ∷ [])
-unfolding table windows run_on is_quiet having one other read_by set_read grants bus_of line_result trial_run is_ram machine_range
+reached :
+    run_line windows (table ∷ having one (empty_state 0) ∷ having other set_read ∷ []) (read_by 2)
+    ≡ (
+      replies.Device
+          (record { outcome = At 0x2000003008; receipts = receipt_of 1 set_read ops.Read ∷ [] }),
+      table ∷ having one (empty_state 0) ∷ having other set_read ∷ [],
+    )
+unfolding table windows run_on is_quiet having one other read_by set_read grants bus_of line_result
+    trial_run is_ram machine_range
 reached = refl
 
-none_of_three : run_line windows (table ∷ having one (empty_state 0) ∷ having other set_read ∷ []) (read_by 3) ≡ (replies.Device no_window_reply, table ∷ having one (empty_state 0) ∷ having other set_read ∷ [])
+none_of_three :
+    run_line windows (table ∷ having one (empty_state 0) ∷ having other set_read ∷ []) (read_by 3)
+    ≡ (
+      replies.Device no_window_reply,
+      table ∷ having one (empty_state 0) ∷ having other set_read ∷ [],
+    )
 unfolding table windows run_on is_quiet having one other read_by set_read grants bus_of line_result
 none_of_three = refl
 
 -- ---- sections
 -- A dump cuts the window's lines as it cuts the page table's, and the second section opens on what the first leaves.
 dumped : RepliedLine
-dumped = record { line = record { number = 6; cpu = 0; act = Dump }; reply = replies.Dump (record { number = 0; order = 18; place = 0; states = [] }) }
+dumped =
+    record {
+      line = record { number = 6; cpu = 0; act = Dump };
+      reply = replies.Dump (record { number = 0; order = 18; place = 0; states = [] });
+    }
 
-opens : map (λ (s : Section). s.before.memory.table.states) (let c = cut (putting ∷ dumped ∷ []) in sections_from (is_on windows (Some other)) (having other (empty_state 0)) c.0 c.1) ≡ (empty_state 0 ∷ empty_state 0 ∷ []) ∷ (empty_state 0 ∷ set_read ∷ []) ∷ []
-unfolding windows having grants one section_end other put putting dumped set_read bus_of hcall_of row_of is_quiet closing_states place pair_of state_eq
+opens :
+    map (λ (s : Section). s.before.memory.table.states)
+    (let c = cut (putting ∷ dumped ∷ []) in
+    sections_from (is_on windows (Some other)) (having other (empty_state 0)) c.0 c.1)
+    ≡ (empty_state 0 ∷ empty_state 0 ∷ []) ∷ (empty_state 0 ∷ set_read ∷ []) ∷ []
+unfolding windows having grants one section_end other put putting dumped set_read bus_of hcall_of
+    row_of is_quiet closing_states place pair_of state_eq
 opens = refl
 
 -- The other window has no line of these, so it opens twice as it was.
-stays : map (λ (s : Section). s.before.memory.table.states) (let c = cut (putting ∷ dumped ∷ []) in sections_from (is_on windows (Some one)) (having one (empty_state 0)) c.0 c.1) ≡ (empty_state 0 ∷ empty_state 0 ∷ []) ∷ (empty_state 0 ∷ empty_state 0 ∷ []) ∷ []
-unfolding windows having grants other section_end one put putting dumped bus_of hcall_of row_of is_quiet closing_states
+stays :
+    map (λ (s : Section). s.before.memory.table.states)
+    (let c = cut (putting ∷ dumped ∷ []) in
+    sections_from (is_on windows (Some one)) (having one (empty_state 0)) c.0 c.1)
+    ≡ (empty_state 0 ∷ empty_state 0 ∷ []) ∷ (empty_state 0 ∷ empty_state 0 ∷ []) ∷ []
+unfolding windows having grants other section_end one put putting dumped bus_of hcall_of row_of
+    is_quiet closing_states
 stays = refl

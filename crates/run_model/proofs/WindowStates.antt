@@ -55,32 +55,59 @@ pub record IsTceState (grants : List Grant) (n : ℕ) (s : State) : Type 0 where
 pub empty_tce : (grants : List Grant) (n : ℕ) → IsTceState grants n (empty_state 0)
 empty_tce grants n = record { low = omega arith; tce = λ valid. absurd (false≢true valid) }
 
-pub tce_more : (grants : List Grant) (n m : ℕ) (s : State) → n ≤ m → IsTceState grants n s → IsTceState grants m s
+pub tce_more :
+    (grants : List Grant) (n m : ℕ) (s : State)
+    → n ≤ m
+    → IsTceState grants n s
+    → IsTceState grants m s
 tce_more grants n m s more h = record { low = omega (arith, h.low); tce = h.tce }
 
 -- ---- operations
 -- The operation enters such a TCE, removes or reads.
 abbrev pub TceOp : List Grant → Op → Type 0
-TceOp grants (ops.Enter dword0 dword1) = is_ram grants (address_of (tce_of (entered_state dword0 dword1))) ≡ true
+TceOp grants (ops.Enter dword0 dword1) =
+    is_ram grants (address_of (tce_of (entered_state dword0 dword1))) ≡ true
 TceOp grants (ops.Remove test) = Unit {0}
 TceOp grants ops.Read = Unit {0}
 TceOp grants other = ⊥
 
-changed_tce : (grants : List Grant) (s : State) (answer : Answer) (next : State) → HasTce grants s → HasTce grants next → HasTce grants (change_to s answer next).1
-changed_tce grants s answer next h k = cond_both {A = Answer × State} (s.stamp == 0xFFFFFFFF) (answers.Worn, s) (answer, record next { stamp = s.stamp + 1 }) (λ x. HasTce grants x.1) (λ _. h) (λ _. k)
+changed_tce :
+    (grants : List Grant) (s : State) (answer : Answer) (next : State)
+    → HasTce grants s
+    → HasTce grants next
+    → HasTce grants (change_to s answer next).1
+changed_tce grants s answer next h k =
+    cond_both {A = Answer × State} (s.stamp == 0xFFFFFFFF) (answers.Worn, s)
+    (answer, record next { stamp = s.stamp + 1 }) (λ x. HasTce grants x.1) (λ _. h) (λ _. k)
 
-reply_tce : (grants : List Grant) (s : State) (op : Op) → TceOp grants op → HasTce grants s → HasTce grants (reply_of s op).1
+reply_tce :
+    (grants : List Grant) (s : State) (op : Op)
+    → TceOp grants op
+    → HasTce grants s
+    → HasTce grants (reply_of s op).1
 reply_tce grants s (ops.Enter dword0 dword1) page h =
-    cond_both {A = Answer × State} s.valid (answers.Taken, s) (change_to s answers.Entered (entered_state dword0 dword1)) (λ x. HasTce grants x.1) (λ _. h) (λ _. changed_tce grants s answers.Entered (entered_state dword0 dword1) h (λ _. page))
+    cond_both {A = Answer × State} s.valid (answers.Taken, s)
+    (change_to s answers.Entered (entered_state dword0 dword1)) (λ x. HasTce grants x.1)
+    (λ _. h)
+    (λ _. changed_tce grants s answers.Entered (entered_state dword0 dword1) h (λ _. page))
 reply_tce grants s (ops.Remove test) page h =
-    cond_both {A = Answer × State} (is_found s test) (change_to s answers.Removed (empty_state 0)) (answers.NotFound, s) (λ x. HasTce grants x.1) (λ _. changed_tce grants s answers.Removed (empty_state 0) h (λ valid. absurd (false≢true valid))) (λ _. h)
+    cond_both {A = Answer × State} (is_found s test) (change_to s answers.Removed (empty_state 0))
+    (answers.NotFound, s) (λ x. HasTce grants x.1)
+    (λ _.
+    changed_tce grants s answers.Removed (empty_state 0) h
+    (λ valid. absurd (false≢true valid))) (λ _. h)
 reply_tce grants s ops.Read page h = h
 reply_tce grants s other page h = absurd page
 
 -- Such operations keep such states.
 pub tce_kept : (grants : List Grant) → IsKeptBy (TceOp grants) (IsTceState grants)
 tce_kept grants = record {
-  step = λ n s op page h. record { low = (let low : height s ≤ n = h.low in omega (arith, reply_raises s op)); tce = reply_tce grants s op page h.tce };
+  step =
+      λ n s op page h.
+      record {
+        low = (let low : height s ≤ n = h.low in omega (arith, reply_raises s op));
+        tce = reply_tce grants s op page h.tce;
+      };
   more = tce_more grants;
 }
 
@@ -103,40 +130,68 @@ last_fine [] fine = λ e. cc
 last_fine (r ∷ []) fine = answer_fine r.answer fine.0
 last_fine (r ∷ x ∷ rs) fine = last_fine (x ∷ rs) fine.1
 
-put_tame : (permitted ram : Bool) (entry dword0 dword1 : ℕ) → IsTame AnyWords (if permitted then (if ram then replace_plan entry (ops.Enter dword0 dword1) else plan_of_code rc.Parameter) else clear_plan entry)
-put_tame true true entry dword0 dword1 = record { enters = (tt, (tt, tt)); few = omega arith; code = λ rs trial fine. last_fine rs fine }
+put_tame :
+    (permitted ram : Bool) (entry dword0 dword1 : ℕ)
+    → IsTame AnyWords
+    (if permitted then
+    (if ram then replace_plan entry (ops.Enter dword0 dword1) else plan_of_code
+    rc.Parameter) else clear_plan entry)
+put_tame true true entry dword0 dword1 =
+    record { enters = (tt, (tt, tt)); few = omega arith; code = λ rs trial fine. last_fine rs fine }
 put_tame true false entry dword0 dword1 = answered_tame AnyWords rc.Parameter (λ e. cc)
-put_tame false ram entry dword0 dword1 = record { enters = (tt, tt); few = omega arith; code = λ rs trial fine. last_fine rs fine }
+put_tame false ram entry dword0 dword1 =
+    record { enters = (tt, tt); few = omega arith; code = λ rs trial fine. last_fine rs fine }
 
-put_at_tame : (grants : List Grant) (tce : ℕ) (entry : Option ℕ) → IsTame AnyWords (option_map_or (put_plan_at grants tce) entry (plan_of_code rc.Parameter))
+put_at_tame :
+    (grants : List Grant) (tce : ℕ) (entry : Option ℕ)
+    → IsTame AnyWords (option_map_or (put_plan_at grants tce) entry (plan_of_code rc.Parameter))
 put_at_tame grants tce None = answered_tame AnyWords rc.Parameter (λ e. cc)
-put_at_tame grants tce (Some entry) = put_tame (permits tce false || permits tce true) (is_ram grants (address_of tce)) entry (first_word tce) (second_word tce)
+put_at_tame grants tce (Some entry) =
+    put_tame (permits tce false || permits tce true) (is_ram grants (address_of tce)) entry
+    (first_word tce) (second_word tce)
 
 -- What H_PUT_TCE makes is such an operation.
 made_tce : (grants : List Grant) (tce : ℕ) (op : Op) → IsTceCall grants tce op → TceOp grants op
 made_tce grants tce op (inl removal) = subst (TceOp grants) (sym removal) tt
-made_tce grants tce op (inr entering) = subst (TceOp grants) (sym entering.0) (ap (is_ram grants) (kept_words tce).address ∙ entering.1)
+made_tce grants tce op (inr entering) =
+    subst (TceOp grants) (sym entering.0) (ap (is_ram grants) (kept_words tce).address ∙ entering.1)
 
-each_made : (grants : List Grant) (tce : ℕ) (cs : List Call) → AllByRecursion (λ (c : Call). IsTceCall grants tce c.op) cs → AllByRecursion (λ (c : Call). TceOp grants c.op) cs
+each_made :
+    (grants : List Grant) (tce : ℕ) (cs : List Call)
+    → AllByRecursion (λ (c : Call). IsTceCall grants tce c.op) cs
+    → AllByRecursion (λ (c : Call). TceOp grants c.op) cs
 each_made grants tce [] h = tt
 each_made grants tce (c ∷ cs) h = (made_tce grants tce c.op h.0, each_made grants tce cs h.1)
 
-put_planned : (grants : List Grant) (w : BusWindow) (ioba tce : ℕ) → IsTcePlan grants (put_tce_plan grants w ioba tce)
+put_planned :
+    (grants : List Grant) (w : BusWindow) (ioba tce : ℕ)
+    → IsTcePlan grants (put_tce_plan grants w ioba tce)
 unfolding put_tce_plan
 put_planned grants w ioba tce = record {
   made = each_made grants tce (put_tce_plan grants w ioba tce).calls (tce_calls grants w ioba tce);
   tame = put_at_tame grants tce (entry_at w ioba);
 }
 
-get_at_planned : (grants : List Grant) (entry : Option ℕ) → IsTcePlan grants (option_map_or get_plan_at entry (plan_of_code rc.Parameter))
-get_at_planned grants None = record { made = tt; tame = answered_tame AnyWords rc.Parameter (λ e. cc) }
-get_at_planned grants (Some entry) = record { made = (tt, tt); tame = record { enters = (tt, tt); few = omega arith; code = λ rs trial fine e. cc } }
+get_at_planned :
+    (grants : List Grant) (entry : Option ℕ)
+    → IsTcePlan grants (option_map_or get_plan_at entry (plan_of_code rc.Parameter))
+get_at_planned grants None =
+    record { made = tt; tame = answered_tame AnyWords rc.Parameter (λ e. cc) }
+get_at_planned grants (Some entry) =
+    record {
+      made = (tt, tt);
+      tame = record { enters = (tt, tt); few = omega arith; code = λ rs trial fine e. cc };
+    }
 
-get_planned : (grants : List Grant) (w : BusWindow) (ioba : ℕ) → IsTcePlan grants (get_tce_plan w ioba)
+get_planned :
+    (grants : List Grant) (w : BusWindow) (ioba : ℕ) → IsTcePlan grants (get_tce_plan w ioba)
 unfolding get_tce_plan
 get_planned grants w ioba = get_at_planned grants (entry_at w ioba)
 
-call_planned : (grants : List Grant) (w : BusWindow) (call : Hcall) (args : List ℕ) → IsWindowCall call → IsTcePlan grants (hcall_plan (window_context grants w) call args)
+call_planned :
+    (grants : List Grant) (w : BusWindow) (call : Hcall) (args : List ℕ)
+    → IsWindowCall call
+    → IsTcePlan grants (hcall_plan (window_context grants w) call args)
 unfolding hcall_plan
 call_planned grants w calls.PutTce args is = put_planned grants w _ _
 call_planned grants w calls.GetTce args is = get_planned grants w _
@@ -149,23 +204,45 @@ pub record IsTceLine (grants : List Grant) (reply : Reply) : Type 0 where
   pub few : weight (receipts_in reply) ≤ 32
   pub safe : NoneWorn (receipts_in reply) → IsUnworn reply
 
-plan_line : (grants : List Grant) (plan : Plan) (h : HReply) → IsTcePlan grants plan → IsReplyOf plan h → IsTceLine grants (replies.Hcall h)
+plan_line :
+    (grants : List Grant) (plan : Plan) (h : HReply)
+    → IsTcePlan grants plan
+    → IsReplyOf plan h
+    → IsTceLine grants (replies.Hcall h)
 plan_line grants plan h planned is =
     let tame : IsTameReply AnyWords h = tame_reply AnyWords plan h planned.tame is in
-    record { made = trial_ops (TceOp grants) plan.goes_on plan.calls h.receipts planned.made is.trial; few = tame.few; safe = tame.code }
+    record {
+      made = trial_ops (TceOp grants) plan.goes_on plan.calls h.receipts planned.made is.trial;
+      few = tame.few;
+      safe = tame.code;
+    }
 
-device_line : (grants : List Grant) (ioba : ℕ) (write : Bool) (entry : Option ℕ) (d : DeviceReply) → IsDeviceReplyBy grants ioba write d entry → IsTceLine grants (replies.Device d)
-device_line grants ioba write None d is = subst (λ (x : DeviceReply). IsTceLine grants (replies.Device x)) (sym is) (record { made = tt; few = omega arith; safe = λ fine. tt })
+device_line :
+    (grants : List Grant) (ioba : ℕ) (write : Bool) (entry : Option ℕ) (d : DeviceReply)
+    → IsDeviceReplyBy grants ioba write d entry
+    → IsTceLine grants (replies.Device d)
+device_line grants ioba write None d is =
+    subst (λ (x : DeviceReply). IsTceLine grants (replies.Device x)) (sym is)
+    (record { made = tt; few = omega arith; safe = λ fine. tt })
 device_line grants ioba write (Some entry) d is = record {
-  made = trial_ops (TceOp grants) (λ answer. true) (call ops.Read entry ∷ []) d.receipts (tt, tt) is.trial;
+  made =
+      trial_ops (TceOp grants) (λ answer. true) (call ops.Read entry ∷ []) d.receipts (tt, tt)
+      is.trial;
   few = omega (arith, trial_weight (λ answer. true) (call ops.Read entry ∷ []) d.receipts is.trial);
   safe = λ fine. tt;
 }
 
 -- Such is each line on a window that has its call's reply.
-pub tce_line : (grants : List Grant) (w : BusWindow) (act : Act) (reply : Reply) → IsWindowAct act → IsCallReply (window_context grants w) act reply → IsTceLine grants reply
-tce_line grants w (acts.Call number args spelt) (replies.Hcall h) is told = plan_line grants (hcall_plan (window_context grants w) (hcall_of number) args) h (call_planned grants w (hcall_of number) args is) told
-tce_line grants w (acts.Device write liobn ioba) (replies.Device d) is told = device_line grants ioba write (entry_at w ioba) d told
+pub tce_line :
+    (grants : List Grant) (w : BusWindow) (act : Act) (reply : Reply)
+    → IsWindowAct act
+    → IsCallReply (window_context grants w) act reply
+    → IsTceLine grants reply
+tce_line grants w (acts.Call number args spelt) (replies.Hcall h) is told =
+    plan_line grants (hcall_plan (window_context grants w) (hcall_of number) args) h
+    (call_planned grants w (hcall_of number) args is) told
+tce_line grants w (acts.Device write liobn ioba) (replies.Device d) is told =
+    device_line grants ioba write (entry_at w ioba) d told
 tce_line grants w (acts.Access want ea user) reply is told = absurd is
 tce_line grants w (acts.SlbMte rb rs) reply is told = absurd is
 tce_line grants w acts.SlbClear reply is told = absurd is

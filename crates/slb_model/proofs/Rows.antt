@@ -46,16 +46,21 @@ not_valid = refl
 
 -- ---- segments
 page_at : Bool → ℕ → ℕ → ℕ → VirtualPage
-page_at one_tb vsid shift index = record { one_tb = one_tb; vsid = vsid; shift = shift; index = index }
+page_at one_tb vsid shift index =
+    record { one_tb = one_tb; vsid = vsid; shift = shift; index = index }
 
 after : ℕ → ℕ → List (Option Slot)
 after rb rs = slots_after no_slots rb rs
 
-small : segment_of (after 0x8000000 0x1000) 0x5000 ≡ Some (record { page = page_at false 1 12 5; ks = false; kp = false; no_execute = false })
+small :
+    segment_of (after 0x8000000 0x1000) 0x5000
+    ≡ Some (record { page = page_at false 1 12 5; ks = false; kp = false; no_execute = false })
 unfolding segment_of slots_after slot_of_words no_slots after page_at
 small = refl
 
-large : segment_of (after 0x8000000 0x4000000001000000) 0x5000 ≡ Some (record { page = page_at true 1 12 5; ks = false; kp = false; no_execute = false })
+large :
+    segment_of (after 0x8000000 0x4000000001000000) 0x5000
+    ≡ Some (record { page = page_at true 1 12 5; ks = false; kp = false; no_execute = false })
 unfolding segment_of slots_after slot_of_words no_slots after page_at
 large = refl
 
@@ -64,16 +69,22 @@ past_small : segment_of (after 0x8000000 0x1000) 0x10005000 ≡ None
 unfolding segment_of slots_after slot_of_words no_slots after
 past_small = refl
 
-within_large : segment_of (after 0x8000000 0x4000000001000000) 0x10005000 ≡ Some (record { page = page_at true 1 12 0x10005; ks = false; kp = false; no_execute = false })
+within_large :
+    segment_of (after 0x8000000 0x4000000001000000) 0x10005000
+    ≡ Some (record { page = page_at true 1 12 0x10005; ks = false; kp = false; no_execute = false })
 unfolding segment_of slots_after slot_of_words no_slots after page_at
 within_large = refl
 
-keys : segment_of (after 0x8000000 0x1900) 0x5000 ≡ Some (record { page = page_at false 1 24 0; ks = true; kp = false; no_execute = false })
+keys :
+    segment_of (after 0x8000000 0x1900) 0x5000
+    ≡ Some (record { page = page_at false 1 24 0; ks = true; kp = false; no_execute = false })
 unfolding segment_of slots_after slot_of_words no_slots after page_at
 keys = refl
 
 -- Of two slots for one address the lower counts, whichever was written first.
-lower : segment_of (slots_after (after 0x8000003 0x3000) 0x8000001 0x2600) 0x5000 ≡ Some (record { page = page_at false 2 12 5; ks = false; kp = true; no_execute = true })
+lower :
+    segment_of (slots_after (after 0x8000003 0x3000) 0x8000001 0x2600) 0x5000
+    ≡ Some (record { page = page_at false 2 12 5; ks = false; kp = true; no_execute = true })
 unfolding segment_of slots_after slot_of_words no_slots after page_at
 lower = refl
 

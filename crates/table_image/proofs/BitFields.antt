@@ -7,33 +7,43 @@ use Rattle.table_image.specs.Layouts.{unheld, segment_place, cleared_bit, left_o
 
 -- What is clear in a mask is clear in a part of it.
 clear_within : (x m part : ℕ) → bit_and m part ≡ part → bit_and x m ≡ 0 → bit_and x part ≡ 0
-clear_within x m part inside none = ap (bit_and x) (sym inside) ∙ sym (masks_join x m part) ∙ ap (λ y. bit_and y part) none
+clear_within x m part inside none =
+    ap (bit_and x) (sym inside) ∙ sym (masks_join x m part) ∙ ap (λ y. bit_and y part) none
 
 -- B, moved to its place, stands inside the place.
 within_place : (s : ℕ) → s < 4 → bit_and segment_place (s * 2 ^ 58) ≡ s * 2 ^ 58
 within_place s small =
     let moved : s * 2 ^ 58 + 0 ≡ s * 2 ^ 58 = omega arith in
     let kept : bit_and 3 s ≡ s = and_comm 3 s ∙ and_mask s 2 ∙ omega arith in
-    ap (bit_and segment_place) (sym moved) ∙ and_block 58 3 s 0 0 (lit< tt) (lit< tt) ∙ rw kept moved
+    ap (bit_and segment_place) (sym moved)
+    ∙ and_block 58 3 s 0 0 (lit< tt) (lit< tt)
+    ∙ rw kept moved
 
 -- Doubleword 1 and B at its place.
-pub place_joined : (l s : ℕ) → s < 4 → bit_and l segment_place ≡ 0 → bit_or l (s * 2 ^ 58) ≡ l + s * 2 ^ 58
-place_joined l s small none = or_disjoint l (s * 2 ^ 58) (clear_within l segment_place (s * 2 ^ 58) (within_place s small) none)
+pub place_joined :
+    (l s : ℕ) → s < 4 → bit_and l segment_place ≡ 0 → bit_or l (s * 2 ^ 58) ≡ l + s * 2 ^ 58
+place_joined l s small none =
+    or_disjoint l (s * 2 ^ 58)
+    (clear_within l segment_place (s * 2 ^ 58) (within_place s small) none)
 
 -- A field whose mask is clear is 0.
 place_clear : (l : ℕ) → bit_and l segment_place ≡ 0 → l / 2 ^ 58 % 2 ^ 2 ≡ 0
-place_clear l none = sym (and_mask (l / 2 ^ 58) 2) ∙ sym (and_shr l segment_place 58) ∙ ap (λ y. y / 2 ^ 58) none
+place_clear l none =
+    sym (and_mask (l / 2 ^ 58) 2) ∙ sym (and_shr l segment_place 58) ∙ ap (λ y. y / 2 ^ 58) none
 
 unheld_clear : (h : ℕ) → bit_and h unheld ≡ 0 → h / 2 ^ 52 % 2 ^ 10 ≡ 0
-unheld_clear h none = sym (and_mask (h / 2 ^ 52) 10) ∙ sym (and_shr h unheld 52) ∙ ap (λ y. y / 2 ^ 52) none
+unheld_clear h none =
+    sym (and_mask (h / 2 ^ 52) 10) ∙ sym (and_shr h unheld 52) ∙ ap (λ y. y / 2 ^ 52) none
 
 -- Doubleword 1 with B at its place is one of 64 bits.
-pub place_fits : (l s : ℕ) → l < 2 ^ 64 → s < 4 → bit_and l segment_place ≡ 0 → l + s * 2 ^ 58 < 2 ^ 64
+pub place_fits :
+    (l s : ℕ) → l < 2 ^ 64 → s < 4 → bit_and l segment_place ≡ 0 → l + s * 2 ^ 58 < 2 ^ 64
 place_fits l s fits small none = let clear = place_clear l none in omega arith
 
 -- ---- what is read back
 -- B is read where it was put.
-pub segment_back : (l s : ℕ) → s < 4 → bit_and l segment_place ≡ 0 → (l + s * 2 ^ 58) / 2 ^ 58 % 2 ^ 2 ≡ s
+pub segment_back :
+    (l s : ℕ) → s < 4 → bit_and l segment_place ≡ 0 → (l + s * 2 ^ 58) / 2 ^ 58 % 2 ^ 2 ≡ s
 segment_back l s small none = let clear = place_clear l none in omega arith
 
 -- Doubleword 0 is its 52 bits and B.
@@ -41,28 +51,49 @@ pub first_back : (h : ℕ) → h < 2 ^ 64 → bit_and h unheld ≡ 0 → h % 2 ^
 first_back h fits none = let clear = unheld_clear h none in omega arith
 
 -- The bit that H_ENTER clears stays clear.
-pub stays_cleared : (l s : ℕ) → s < 4 → bit_and l segment_place ≡ 0 → bit_and l cleared_bit ≡ 0 → bit_and (l + s * 2 ^ 58) cleared_bit ≡ 0
+pub stays_cleared :
+    (l s : ℕ)
+    → s < 4
+    → bit_and l segment_place ≡ 0
+    → bit_and l cleared_bit ≡ 0
+    → bit_and (l + s * 2 ^ 58) cleared_bit ≡ 0
 stays_cleared l s small none clear =
     let low : s * 2 ^ 58 < 2 ^ 62 = omega arith in
-    let apart : bit_and (s * 2 ^ 58) cleared_bit ≡ 0 = and_comm (s * 2 ^ 58) cleared_bit ∙ shifted_apart 1 62 (s * 2 ^ 58) (lit< tt) low in
-    ap (λ y. bit_and y cleared_bit) (sym (place_joined l s small none)) ∙ mask_of_or l (s * 2 ^ 58) cleared_bit ∙ rw (clear, apart) refl
+    let apart : bit_and (s * 2 ^ 58) cleared_bit ≡ 0 = and_comm (s * 2 ^ 58) cleared_bit ∙
+    shifted_apart 1 62 (s * 2 ^ 58) (lit< tt) low in
+    ap (λ y. bit_and y cleared_bit) (sym (place_joined l s small none))
+    ∙ mask_of_or l (s * 2 ^ 58) cleared_bit
+    ∙ rw (clear, apart) refl
 
 -- None of the twelve bits that the newer layout leaves out is set.
 pub none_left : (h : ℕ) → bit_and (h % 2 ^ 52) left_out ≡ 0
-none_left h = and_comm (h % 2 ^ 52) left_out ∙ shifted_apart 0xFFF 52 (h % 2 ^ 52) (lit< tt) (omega arith)
+none_left h =
+    and_comm (h % 2 ^ 52) left_out ∙ shifted_apart 0xFFF 52 (h % 2 ^ 52) (lit< tt) (omega arith)
 
 -- Doubleword 1 without B is itself.
-without_place : (l : ℕ) → l < 2 ^ 64 → bit_and l segment_place ≡ 0 → bit_and l 0xF3FFFFFFFFFFFFFF ≡ l
+without_place :
+    (l : ℕ) → l < 2 ^ 64 → bit_and l segment_place ≡ 0 → bit_and l 0xF3FFFFFFFFFFFFFF ≡ l
 without_place l fits none =
     let whole : bit_and l 0xFFFFFFFFFFFFFFFF ≡ l = and_mask l 64 ∙ omega arith in
-    let halves : bit_and 0xFFFFFFFFFFFFFFFF l ≡ bit_or (bit_and 0xF3FFFFFFFFFFFFFF l) (bit_and segment_place l) = mask_of_or 0xF3FFFFFFFFFFFFFF segment_place l in
+    let halves : bit_and 0xFFFFFFFFFFFFFFFF l ≡ bit_or (bit_and 0xF3FFFFFFFFFFFFFF l)
+    (bit_and segment_place l) = mask_of_or 0xF3FFFFFFFFFFFFFF segment_place l in
     sym (or_zero_r (bit_and l 0xF3FFFFFFFFFFFFFF))
-    ∙ rw (and_comm l 0xF3FFFFFFFFFFFFFF) (ap (bit_or (bit_and 0xF3FFFFFFFFFFFFFF l)) (sym none ∙ and_comm l segment_place) ∙ sym halves ∙ and_comm 0xFFFFFFFFFFFFFFFF l ∙ whole)
+    ∙ rw (and_comm l 0xF3FFFFFFFFFFFFFF)
+    (ap (bit_or (bit_and 0xF3FFFFFFFFFFFFFF l)) (sym none ∙ and_comm l segment_place)
+    ∙ sym halves
+    ∙ and_comm 0xFFFFFFFFFFFFFFFF l
+    ∙ whole)
 
-pub second_back : (l s : ℕ) → l < 2 ^ 64 → s < 4 → bit_and l segment_place ≡ 0 → bit_and (l + s * 2 ^ 58) 0xF3FFFFFFFFFFFFFF ≡ l
+pub second_back :
+    (l s : ℕ)
+    → l < 2 ^ 64
+    → s < 4
+    → bit_and l segment_place ≡ 0
+    → bit_and (l + s * 2 ^ 58) 0xF3FFFFFFFFFFFFFF ≡ l
 second_back l s fits small none =
     let moved : bit_and (s * 2 ^ 58) 0xF3FFFFFFFFFFFFFF ≡ 0 =
-    ap (λ y. bit_and y 0xF3FFFFFFFFFFFFFF) (sym (within_place s small) ∙ and_comm segment_place (s * 2 ^ 58))
+    ap (λ y. bit_and y 0xF3FFFFFFFFFFFFFF)
+    (sym (within_place s small) ∙ and_comm segment_place (s * 2 ^ 58))
     ∙ masks_join (s * 2 ^ 58) segment_place 0xF3FFFFFFFFFFFFFF
     ∙ and_zero_r (s * 2 ^ 58) in
     ap (λ y. bit_and y 0xF3FFFFFFFFFFFFFF) (sym (place_joined l s small none))

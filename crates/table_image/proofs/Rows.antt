@@ -13,16 +13,21 @@ unfolding entry_digits hex_on_literals
 old_digits = refl
 
 -- B is 1: it moves to doubleword 1.
-new_digits : entry_digits New (0x4000000001000001, 0x3012) ≡ Some (codes "00000000010000010400000000003012")
+new_digits :
+    entry_digits New (0x4000000001000001, 0x3012) ≡ Some (codes "00000000010000010400000000003012")
 unfolding entry_digits hex_on_literals
 new_digits = refl
 
 -- Every bit that the older layout has, and every one that the newer can hold.
-old_digits_full : entry_digits Old (0xFFFFFFFFFFFFFFFF, 0xFEDCBA9876543210) ≡ Some (codes "fffffffffffffffffedcba9876543210")
+old_digits_full :
+    entry_digits Old (0xFFFFFFFFFFFFFFFF, 0xFEDCBA9876543210)
+    ≡ Some (codes "fffffffffffffffffedcba9876543210")
 unfolding entry_digits hex_on_literals
 old_digits_full = refl
 
-new_digits_full : entry_digits New (0xC00FFFFFFFFFFFFF, 0xF3FFFFFFFFFFFFFF) ≡ Some (codes "000fffffffffffffffffffffffffffff")
+new_digits_full :
+    entry_digits New (0xC00FFFFFFFFFFFFF, 0xF3FFFFFFFFFFFFFF)
+    ≡ Some (codes "000fffffffffffffffffffffffffffff")
 unfolding entry_digits hex_on_literals
 new_digits_full = refl
 
@@ -44,7 +49,9 @@ unfolding entry_digits
 past_place_high = refl
 
 -- The older layout holds them.
-old_holds : entry_digits Old (0x3FF0000000001001, 0x0C00000000003012) ≡ Some (codes "3ff00000000010010c00000000003012")
+old_holds :
+    entry_digits Old (0x3FF0000000001001, 0x0C00000000003012)
+    ≡ Some (codes "3ff00000000010010c00000000003012")
 unfolding entry_digits hex_on_literals
 old_holds = refl
 
@@ -53,11 +60,14 @@ old_words : entry_words Old (codes "00000000000010010000000000003012") ≡ Some 
 unfolding entry_words hex_on_literals
 old_words = refl
 
-new_words : entry_words New (codes "00000000010000010400000000003012") ≡ Some (0x4000000001000001, 0x3012)
+new_words :
+    entry_words New (codes "00000000010000010400000000003012") ≡ Some (0x4000000001000001, 0x3012)
 unfolding entry_words hex_on_literals
 new_words = refl
 
-new_words_full : entry_words New (codes "000fffffffffffffbfffffffffffffff") ≡ Some (0xC00FFFFFFFFFFFFF, 0xB3FFFFFFFFFFFFFF)
+new_words_full :
+    entry_words New (codes "000fffffffffffffbfffffffffffffff")
+    ≡ Some (0xC00FFFFFFFFFFFFF, 0xB3FFFFFFFFFFFFFF)
 unfolding entry_words hex_on_literals
 new_words_full = refl
 
@@ -93,7 +103,9 @@ new_past_high : entry_words New (codes "80000000000010010000000000003012") ≡ N
 unfolding entry_words hex_on_literals
 new_past_high = refl
 
-old_past_high : entry_words Old (codes "fff00000000010010c00000000003012") ≡ Some (0xFFF0000000001001, 0x0C00000000003012)
+old_past_high :
+    entry_words Old (codes "fff00000000010010c00000000003012")
+    ≡ Some (0xFFF0000000001001, 0x0C00000000003012)
 unfolding entry_words hex_on_literals
 old_past_high = refl
 
@@ -105,15 +117,27 @@ image_of_none : image_of New 46 [] ≡ Ok (codes "image new order 46 entries 0\n
 unfolding image_of image_head digits
 image_of_none = refl
 
-image_of_one : image_of Old 18 (entry 0x20 0x1001 0x3012 ∷ []) ≡ Ok (codes "image old order 18 entries 1\n0x20 00000000000010010000000000003012\n")
+image_of_one :
+    image_of Old 18 (entry 0x20 0x1001 0x3012 ∷ [])
+    ≡ Ok (codes "image old order 18 entries 1\n0x20 00000000000010010000000000003012\n")
 unfolding image_of image_head digits entry entry_digits hex_on_literals
 image_of_one = refl
 
-image_of_two : image_of New 18 (entry 0 0x4000000001000001 0x3112 ∷ entry 0x3FFF 0x1001 0x3012 ∷ []) ≡ Ok (codes "image new order 18 entries 2\n0x0 00000000010000010400000000003112\n0x3fff 00000000000010010000000000003012\n")
+image_of_two :
+    image_of New 18 (entry 0 0x4000000001000001 0x3112 ∷ entry 0x3FFF 0x1001 0x3012 ∷ [])
+    ≡ Ok
+    (codes
+    "image new order 18 entries 2\n0x0 00000000010000010400000000003112\n0x3fff 00000000000010010000000000003012\n")
 unfolding image_of image_head digits entry entry_digits hex_on_literals
 image_of_two = refl
 
 -- The first of two that the layout can't hold, behind one that it can.
-image_past : image_of New 18 (entry 1 0x1001 0x3012 ∷ entry 5 0x0010000000001001 0x3012 ∷ entry 9 0x1001 0x0400000000003012 ∷ []) ≡ Err 5
+image_past :
+    image_of New 18
+    (entry 1 0x1001 0x3012
+    ∷ entry 5 0x0010000000001001 0x3012
+    ∷ entry 9 0x1001 0x0400000000003012
+    ∷ [])
+    ≡ Err 5
 unfolding image_of entry entry_digits hex_on_literals
 image_past = refl

@@ -7,72 +7,203 @@ use Rattle.tlb_model.specs.Cache.{is_of, set_of, set_number, line_of_page, cache
 use Rattle.power_addr.proofs.SamePages.{page_same}
 
 -- ---- one set
-pub all_find : (P : Line → Type 0) (p : Line → Bool) (lines : List Line) → AllInSet P lines → IfSome (find p lines) P
+pub all_find :
+    (P : Line → Type 0) (p : Line → Bool) (lines : List Line)
+    → AllInSet P lines
+    → IfSome (find p lines) P
 all_find P p [] all = tt
-all_find P p (l ∷ ls) all = cond_both (p l) (Some l) (find p ls) (λ found. IfSome found P) (λ _. all.0) (λ _. all_find P p ls all.1)
+all_find P p (l ∷ ls) all =
+    cond_both (p l) (Some l) (find p ls) (λ found. IfSome found P) (λ _. all.0)
+    (λ _. all_find P p ls all.1)
 
-pub all_filter : (P : Line → Type 0) (p : Line → Bool) (lines : List Line) → AllInSet P lines → AllInSet P (filter p lines)
+pub all_filter :
+    (P : Line → Type 0) (p : Line → Bool) (lines : List Line)
+    → AllInSet P lines
+    → AllInSet P (filter p lines)
 all_filter P p [] all = tt
-all_filter P p (l ∷ ls) all = cond_both (p l) (l ∷ filter p ls) (filter p ls) (AllInSet P) (λ _. (all.0, all_filter P p ls all.1)) (λ _. all_filter P p ls all.1)
+all_filter P p (l ∷ ls) all =
+    cond_both (p l) (l ∷ filter p ls) (filter p ls) (AllInSet P)
+    (λ _. (all.0, all_filter P p ls all.1)) (λ _. all_filter P p ls all.1)
 
-pub all_append : (P : Line → Type 0) (lines : List Line) (line : Line) → AllInSet P lines → P line → AllInSet P (lines ++ line ∷ [])
+pub all_append :
+    (P : Line → Type 0) (lines : List Line) (line : Line)
+    → AllInSet P lines
+    → P line
+    → AllInSet P (lines ++ line ∷ [])
 all_append P [] line all fact = (fact, tt)
 all_append P (l ∷ ls) line all fact = (all.0, all_append P ls line all.1 fact)
 
-pub all_drop : (P : Line → Type 0) (lines : List Line) → AllInSet P lines → AllInSet P (drop 1 lines)
+pub all_drop :
+    (P : Line → Type 0) (lines : List Line) → AllInSet P lines → AllInSet P (drop 1 lines)
 all_drop P [] all = tt
 all_drop P (l ∷ ls) all = all.1
 
-pub all_put_last : (P : Line → Type 0) (lines : List Line) (line : Line) → AllInSet P lines → P line → AllInSet P (put_last line lines)
+pub all_put_last :
+    (P : Line → Type 0) (lines : List Line) (line : Line)
+    → AllInSet P lines
+    → P line
+    → AllInSet P (put_last line lines)
 all_put_last P lines line all fact =
     let more = all_append P lines line all fact in
-    cond_both (nat_lt 4 (length (lines ++ line ∷ []))) (drop 1 (lines ++ line ∷ [])) (lines ++ line ∷ []) (AllInSet P) (λ _. all_drop P _ more) (λ _. more)
+    cond_both (nat_lt 4 (length (lines ++ line ∷ []))) (drop 1 (lines ++ line ∷ []))
+    (lines ++ line ∷ []) (AllInSet P) (λ _. all_drop P _ more) (λ _. more)
 
 -- What holds of each line may be another fact.
-pub all_weaker : (P Q : Line → Type 0) → ((line : Line) → P line → Q line) → (lines : List Line) → AllInSet P lines → AllInSet Q lines
+pub all_weaker :
+    (P Q : Line → Type 0)
+    → ((line : Line) → P line → Q line)
+    → (lines : List Line)
+    → AllInSet P lines
+    → AllInSet Q lines
 all_weaker P Q law [] all = tt
 all_weaker P Q law (l ∷ ls) all = (law l all.0, all_weaker P Q law ls all.1)
 
 -- ---- all sets
-pub all_set : (P : Line → Type 0) (cache : List (List Line)) (k : ℕ) → AllCached P cache → AllInSet P (get_or cache k [])
+pub all_set :
+    (P : Line → Type 0) (cache : List (List Line)) (k : ℕ)
+    → AllCached P cache
+    → AllInSet P (get_or cache k [])
 all_set P [] k all = tt
 all_set P (s ∷ ss) zero all = all.0
 all_set P (s ∷ ss) (suc k) all = all_set P ss k all.1
 
-pub all_in_set_of : (P : Line → Type 0) (cache : List (List Line)) (page : VirtualPage) → AllCached P cache → AllInSet P (set_of cache page)
+pub all_in_set_of :
+    (P : Line → Type 0) (cache : List (List Line)) (page : VirtualPage)
+    → AllCached P cache
+    → AllInSet P (set_of cache page)
 all_in_set_of P cache page all = all_set P cache (set_number page) all
 
-pub all_written : (P : Line → Type 0) (cache : List (List Line)) (k : ℕ) (lines : List Line) → AllCached P cache → AllInSet P lines → AllCached P (slice_set cache k lines)
+pub all_written :
+    (P : Line → Type 0) (cache : List (List Line)) (k : ℕ) (lines : List Line)
+    → AllCached P cache
+    → AllInSet P lines
+    → AllCached P (slice_set cache k lines)
 all_written P [] k lines all fact = tt
 all_written P (s ∷ ss) zero lines all fact = (fact, all.1)
 all_written P (s ∷ ss) (suc k) lines all fact = (all.0, all_written P ss k lines all.1 fact)
 
-pub all_cached : (P : Line → Type 0) (cache : List (List Line)) (page : VirtualPage) → AllCached P cache → IfSome (cached_line cache page) P
+pub all_cached :
+    (P : Line → Type 0) (cache : List (List Line)) (page : VirtualPage)
+    → AllCached P cache
+    → IfSome (cached_line cache page) P
 unfolding cached_line
-all_cached P cache page all = all_find P (is_of page) (set_of cache page) (all_in_set_of P cache page all)
+all_cached P cache page all =
+    all_find P (is_of page) (set_of cache page) (all_in_set_of P cache page all)
 
-pub all_cached_weaker : (P Q : Line → Type 0) → ((line : Line) → P line → Q line) → (cache : List (List Line)) → AllCached P cache → AllCached Q cache
+pub all_cached_weaker :
+    (P Q : Line → Type 0)
+    → ((line : Line) → P line → Q line)
+    → (cache : List (List Line))
+    → AllCached P cache
+    → AllCached Q cache
 all_cached_weaker P Q law [] all = tt
-all_cached_weaker P Q law (s ∷ ss) all = (all_weaker P Q law s all.0, all_cached_weaker P Q law ss all.1)
+all_cached_weaker P Q law (s ∷ ss) all =
+    (all_weaker P Q law s all.0, all_cached_weaker P Q law ss all.1)
 
 pub all_empty : (P : Line → Type 0) → AllCached P empty_cache
 unfolding empty_cache
-all_empty P = (tt, (tt, (tt, (tt, (tt, (tt, (tt, (tt, (tt, (tt, (tt, (tt, (tt, (tt, (tt, (tt, (tt, (tt, (tt, (tt, (tt, (tt, (tt, (tt, (tt, (tt, (tt, (tt, (tt, (tt, (tt, (tt, tt))))))))))))))))))))))))))))))))
+all_empty P = (
+  tt,
+  (
+    tt,
+    (
+      tt,
+      (
+        tt,
+        (
+          tt,
+          (
+            tt,
+            (
+              tt,
+              (
+                tt,
+                (
+                  tt,
+                  (
+                    tt,
+                    (
+                      tt,
+                      (
+                        tt,
+                        (
+                          tt,
+                          (
+                            tt,
+                            (
+                              tt,
+                              (
+                                tt,
+                                (
+                                  tt,
+                                  (
+                                    tt,
+                                    (
+                                      tt,
+                                      (
+                                        tt,
+                                        (
+                                          tt,
+                                          (
+                                            tt,
+                                            (
+                                              tt,
+                                              (
+                                                tt,
+                                                (
+                                                  tt,
+                                                  (tt, (tt, (tt, (tt, (tt, (tt, (tt, tt))))))),
+                                                ),
+                                              ),
+                                            ),
+                                          ),
+                                        ),
+                                      ),
+                                    ),
+                                  ),
+                                ),
+                              ),
+                            ),
+                          ),
+                        ),
+                      ),
+                    ),
+                  ),
+                ),
+              ),
+            ),
+          ),
+        ),
+      ),
+    ),
+  ),
+)
 
 -- ---- the line that is found
 -- It is of the page.
-pub found_is_of : (page : VirtualPage) (lines : List Line) → IfSome (line_of_page page lines) (λ line. line.page ≡ page)
+pub found_is_of :
+    (page : VirtualPage) (lines : List Line)
+    → IfSome (line_of_page page lines) (λ line. line.page ≡ page)
 found_is_of page [] = tt
-found_is_of page (l ∷ ls) = cond_both (is_of page l) (Some l) (line_of_page page ls) (λ found. IfSome found (λ line. line.page ≡ page)) (λ here. page_same l.page page here) (λ _. found_is_of page ls)
+found_is_of page (l ∷ ls) =
+    cond_both (is_of page l) (Some l) (line_of_page page ls)
+    (λ found. IfSome found (λ line. line.page ≡ page)) (λ here. page_same l.page page here)
+    (λ _. found_is_of page ls)
 
-pub cached_is_of : (cache : List (List Line)) (page : VirtualPage) → IfSome (cached_line cache page) (λ line. line.page ≡ page)
+pub cached_is_of :
+    (cache : List (List Line)) (page : VirtualPage)
+    → IfSome (cached_line cache page) (λ line. line.page ≡ page)
 unfolding cached_line
 cached_is_of cache page = found_is_of page (set_of cache page)
 
 -- None is left where those of the page are taken out.
-pub none_without : (page : VirtualPage) (lines : List Line) → line_of_page page (without_page page lines) ≡ None
+pub none_without :
+    (page : VirtualPage) (lines : List Line) → line_of_page page (without_page page lines) ≡ None
 none_without page [] = refl
 none_without page (l ∷ ls) = at (cases_Bool (is_of page l)) (none_without page ls) where
-  at : (is_of page l ≡ true) ⊎ (is_of page l ≡ false) → line_of_page page (without_page page ls) ≡ None → line_of_page page (without_page page (l ∷ ls)) ≡ None
+  at :
+      (is_of page l ≡ true) ⊎ (is_of page l ≡ false)
+      → line_of_page page (without_page page ls) ≡ None
+      → line_of_page page (without_page page (l ∷ ls)) ≡ None
   at (inl here) rest = rw here rest
   at (inr there) rest = rw (there, there) rest

@@ -10,7 +10,8 @@ abbrev small_page : ℕ → VirtualPage
 small_page index = virtual_page false 1 12 index
 
 abbrev line_by : ℕ → ℕ → Line
-line_by index entry = record { page = small_page index; entry = entry; stamp = 1; dword0 = 0x1001; dword1 = 0x3012 }
+line_by index entry =
+    record { page = small_page index; entry = entry; stamp = 1; dword0 = 0x1001; dword1 = 0x3012 }
 
 -- ---- pages
 one_page : same_page (small_page 5) (small_page 5) ≡ true
@@ -42,13 +43,20 @@ unfolding empty_cache
 count_of_sets = refl
 
 -- The first that was filled goes.
-five_lines : put_last (line_by 0x85 5) (line_by 0x5 1 ∷ line_by 0x25 2 ∷ line_by 0x45 3 ∷ line_by 0x65 4 ∷ []) ≡ line_by 0x25 2 ∷ line_by 0x45 3 ∷ line_by 0x65 4 ∷ line_by 0x85 5 ∷ []
+five_lines :
+    put_last (line_by 0x85 5)
+    (line_by 0x5 1 ∷ line_by 0x25 2 ∷ line_by 0x45 3 ∷ line_by 0x65 4 ∷ [])
+    ≡ line_by 0x25 2 ∷ line_by 0x45 3 ∷ line_by 0x65 4 ∷ line_by 0x85 5 ∷ []
 five_lines = refl
 
-four_lines : put_last (line_by 0x65 4) (line_by 0x5 1 ∷ line_by 0x25 2 ∷ line_by 0x45 3 ∷ []) ≡ line_by 0x5 1 ∷ line_by 0x25 2 ∷ line_by 0x45 3 ∷ line_by 0x65 4 ∷ []
+four_lines :
+    put_last (line_by 0x65 4) (line_by 0x5 1 ∷ line_by 0x25 2 ∷ line_by 0x45 3 ∷ [])
+    ≡ line_by 0x5 1 ∷ line_by 0x25 2 ∷ line_by 0x45 3 ∷ line_by 0x65 4 ∷ []
 four_lines = refl
 
-one_goes : without_page (small_page 0x25) (line_by 0x5 1 ∷ line_by 0x25 2 ∷ line_by 0x45 3 ∷ []) ≡ line_by 0x5 1 ∷ line_by 0x45 3 ∷ []
+one_goes :
+    without_page (small_page 0x25) (line_by 0x5 1 ∷ line_by 0x25 2 ∷ line_by 0x45 3 ∷ [])
+    ≡ line_by 0x5 1 ∷ line_by 0x45 3 ∷ []
 unfolding same_page
 one_goes = refl
 
@@ -65,6 +73,8 @@ unfolding cached_line same_page empty_cache one_line
 not_of_the_page = refl
 
 -- The last of the 32 sets is there.
-last_set : cached_line (with_set (small_page 31) (line_by 31 1 ∷ []) empty_cache) (small_page 31) ≡ Some (line_by 31 1)
+last_set :
+    cached_line (with_set (small_page 31) (line_by 31 1 ∷ []) empty_cache) (small_page 31)
+    ≡ Some (line_by 31 1)
 unfolding cached_line same_page empty_cache
 last_set = refl

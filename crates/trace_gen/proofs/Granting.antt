@@ -13,21 +13,43 @@ not_refused : add_refusal (no_grants 0x1000000000 24) whole_ram ≡ None
 unfolding add_refusal refusals
 not_refused = refl
 
-pub accepted : {T : Type 0} (r : Result T GrantError) (old : GrantedMemory) → old ≡ no_grants 0x1000000000 24 → MatchResult r (λ x. add_refusal old whole_ram ≡ None) (λ e. add_refusal old whole_ram ≡ Some e) → IsOk r
+pub accepted :
+    {T : Type 0} (r : Result T GrantError) (old : GrantedMemory)
+    → old ≡ no_grants 0x1000000000 24
+    → MatchResult r (λ x. add_refusal old whole_ram ≡ None)
+    (λ e. add_refusal old whole_ram ≡ Some e)
+    → IsOk r
 accepted (Ok x) old is told = refl
 accepted (Err e) old is told =
-    let none : add_refusal old whole_ram ≡ None = ap (λ (g : GrantedMemory). add_refusal g whole_ram) is ∙ not_refused in
+    let none : add_refusal old whole_ram ≡ None = ap
+    (λ (g : GrantedMemory). add_refusal g whole_ram) is ∙ not_refused in
     absurd (cc)
 
-pub granted_is : {T : Type 0} (r : Result T GrantError) (old new : GrantedMemory) → old ≡ no_grants 0x1000000000 24 → IsOk r → OnOk r (new ≡ with_grant old whole_ram) → new ≡ generated_config.granted
+pub granted_is :
+    {T : Type 0} (r : Result T GrantError) (old new : GrantedMemory)
+    → old ≡ no_grants 0x1000000000 24
+    → IsOk r
+    → OnOk r (new ≡ with_grant old whole_ram)
+    → new ≡ generated_config.granted
 unfolding generated_config with_grant
 granted_is (Ok x) old new is ok made = made ∙ ap (λ (g : GrantedMemory). with_grant g whole_ram) is
 granted_is (Err e) old new is ok made = absurd (cc)
 
 abbrev pub config_with : GrantedMemory → List ImageEntry → List BusWindow → Configuration
-config_with granted entries windows = record { order = 18; limit = 22; cpus = 4; granted = granted; entries = entries; windows = windows }
+config_with granted entries windows =
+    record {
+      order = 18;
+      limit = 22;
+      cpus = 4;
+      granted = granted;
+      entries = entries;
+      windows = windows;
+    }
 
-pub configured : (granted : GrantedMemory) → granted ≡ generated_config.granted → IsConfigured 18 22 4 0x1000000000 24 granted
+pub configured :
+    (granted : GrantedMemory)
+    → granted ≡ generated_config.granted
+    → IsConfigured 18 22 4 0x1000000000 24 granted
 unfolding generated_config
 configured granted is = record {
   settings = record {
@@ -43,10 +65,19 @@ configured granted is = record {
 }
 
 -- No entry is named.
-pub none_named : (grants : List Grant) (entries : List ImageEntry) → entries ≡ [] → AreOpeningEntries 18 grants entries
-none_named grants entries is = subst (AreOpeningEntries 18 grants) (sym is) (record { each = tt; rising = tt })
+pub none_named :
+    (grants : List Grant) (entries : List ImageEntry)
+    → entries ≡ []
+    → AreOpeningEntries 18 grants entries
+none_named grants entries is =
+    subst (AreOpeningEntries 18 grants) (sym is) (record { each = tt; rising = tt })
 
-pub config_is : (granted : GrantedMemory) (entries : List ImageEntry) (windows : List BusWindow) → granted ≡ generated_config.granted → entries ≡ [] → windows ≡ [] → config_with granted entries windows ≡ generated_config
+pub config_is :
+    (granted : GrantedMemory) (entries : List ImageEntry) (windows : List BusWindow)
+    → granted ≡ generated_config.granted
+    → entries ≡ []
+    → windows ≡ []
+    → config_with granted entries windows ≡ generated_config
 unfolding generated_config
 config_is granted entries windows is no_entry no_window =
     ap (λ (ws : List BusWindow). config_with granted entries ws) no_window

@@ -11,7 +11,9 @@ a_protect : act_of 0xcfc5d07f6f03c29b ≡ acts.Call 0x18 (3 ∷ 23 ∷ 0 ∷ 0 �
 unfolding act_of
 a_protect = refl
 
-an_enter : act_of 0xbf424132963fe08d ≡ acts.Call 0x08 (0 ∷ 496 ∷ 0x1001 ∷ 0x24132012 ∷ 0 ∷ 0 ∷ 0 ∷ 0 ∷ []) true
+an_enter :
+    act_of 0xbf424132963fe08d
+    ≡ acts.Call 0x08 (0 ∷ 496 ∷ 0x1001 ∷ 0x24132012 ∷ 0 ∷ 0 ∷ 0 ∷ 0 ∷ []) true
 unfolding act_of
 an_enter = refl
 
@@ -33,8 +35,16 @@ unfolding words_of_seed first_words fill_bytes stream_of word_bytes u32_at
 two_words = refl
 
 first_lines : lines_from 5 (words_of_seed 1 2)
-    ≡ record { number = 5; cpu = 3; act = acts.Call 0x18 (3 ∷ 23 ∷ 0 ∷ 0 ∷ 0 ∷ 0 ∷ 0 ∷ 0 ∷ []) true }
-    ∷ record { number = 6; cpu = 1; act = acts.Call 0x08 (0 ∷ 496 ∷ 0x1001 ∷ 0x24132012 ∷ 0 ∷ 0 ∷ 0 ∷ 0 ∷ []) true }
+    ≡ record {
+      number = 5;
+      cpu = 3;
+      act = acts.Call 0x18 (3 ∷ 23 ∷ 0 ∷ 0 ∷ 0 ∷ 0 ∷ 0 ∷ 0 ∷ []) true;
+    }
+    ∷ record {
+      number = 6;
+      cpu = 1;
+      act = acts.Call 0x08 (0 ∷ 496 ∷ 0x1001 ∷ 0x24132012 ∷ 0 ∷ 0 ∷ 0 ∷ 0 ∷ []) true;
+    }
     ∷ []
 unfolding act_of lines_from words_of_seed first_words fill_bytes stream_of word_bytes u32_at
 first_lines = refl

@@ -40,7 +40,8 @@ first_read_gives_a_piece = refl
 little_room_gives_less : read_count (new_source (7 ∷ 8 ∷ 9 ∷ []) 2 (2 ∷ [])) 1 ≡ Some 1
 little_room_gives_less = refl
 
-second_read_fails : read_count (after_read (new_source (7 ∷ 8 ∷ 9 ∷ []) 2 (2 ∷ [])) (Some 2)) 10 ≡ None
+second_read_fails :
+    read_count (after_read (new_source (7 ∷ 8 ∷ 9 ∷ []) 2 (2 ∷ [])) (Some 2)) 10 ≡ None
 second_read_fails = refl
 
 failed_read_keeps_the_bytes : (after_read (new_source (7 ∷ 8 ∷ []) 1 []) None).left ≡ 7 ∷ 8 ∷ []
@@ -62,11 +63,13 @@ no_call_has_number_zero = refl
 sink_takes_a_piece : write_count (new_sink 2 [] 8) 5 ≡ Some 2
 sink_takes_a_piece = refl
 
-sink_tells_what_fits : told (after_write (new_sink 4 [] 2) (7 ∷ 8 ∷ 9 ∷ []) (Some 2)) ≡ Some (7 ∷ 8 ∷ [])
+sink_tells_what_fits :
+    told (after_write (new_sink 4 [] 2) (7 ∷ 8 ∷ 9 ∷ []) (Some 2)) ≡ Some (7 ∷ 8 ∷ [])
 sink_tells_what_fits = refl
 
 full_sink_tells_nothing : told (after_write (new_sink 4 [] 2) (7 ∷ 8 ∷ 9 ∷ []) (Some 3)) ≡ None
 full_sink_tells_nothing = refl
 
-full_sink_keeps_its_room : (after_write (new_sink 4 [] 2) (7 ∷ 8 ∷ 9 ∷ []) (Some 3)).kept ≡ 7 ∷ 8 ∷ []
+full_sink_keeps_its_room :
+    (after_write (new_sink 4 [] 2) (7 ∷ 8 ∷ 9 ∷ []) (Some 3)).kept ≡ 7 ∷ 8 ∷ []
 full_sink_keeps_its_room = refl

@@ -24,7 +24,9 @@ AreReadFrom-none ws i args eight =
     record { eight = eight; rest = rw first refl }
 
 pub AreReadFrom-more : (ws : List (List ℕ)) (i k : ℕ) (args : List ℕ) (a : ℕ) → k < 8
-    → number_at ws (i + k) ≡ Ok a → AreReadFrom ws i k args → AreReadFrom ws i (k + 1) (set args k a)
+    → number_at ws (i + k) ≡ Ok a
+    → AreReadFrom ws i k args
+    → AreReadFrom ws i (k + 1) (set args k a)
 AreReadFrom-more ws i k args a more is read =
     let left : 8 - k ≡ suc (8 - (k + 1)) = omega arith in
     let within : k < length args = omega (arith, read.eight) in

@@ -32,7 +32,10 @@ next_small v base i d h k =
 
 -- One digit more.
 pub AreRead-more : (base : ℕ) (word : List ℕ) (i value d : ℕ) → i < length word
-    → d ≡ digit_value (get_or word i 0) → d < base → AreRead base word i value → AreRead base word (i + 1) (value * base + d)
+    → d ≡ digit_value (get_or word i 0)
+    → d < base
+    → AreRead base word i value
+    → AreRead base word (i + 1) (value * base + d)
 AreRead-more base word i value d within is low read = record {
   digits = list_all_more _ word i 0 within ∙ and_from _ _ read.digits (rw (← is) (lt-ltb _ _ low));
   value_is = rw (read.value_is, is) (sym (digits_value_more base word i within));
@@ -40,5 +43,9 @@ AreRead-more base word i value d within is low read = record {
 }
 
 -- a list without an element that passes is one part
-pub slice_split_whole : {X : Type 0} (p : X → Bool) (xs : List X) → length xs ≤ position_or_len p xs → slice_split p xs ≡ xs ∷ []
-slice_split_whole p xs h = slice_split_none p xs (λ k d within. fails_before_first p xs k d (omega arith))
+pub slice_split_whole :
+    {X : Type 0} (p : X → Bool) (xs : List X)
+    → length xs ≤ position_or_len p xs
+    → slice_split p xs ≡ xs ∷ []
+slice_split_whole p xs h =
+    slice_split_none p xs (λ k d within. fails_before_first p xs k d (omega arith))

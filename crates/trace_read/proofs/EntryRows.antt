@@ -20,7 +20,10 @@ use Rattle.trace_read.specs.Trace.{AcceptedTrace}
 
 -- What is opened to read configuration lines.
 unfoldable config_on_literals : ⊤
-unfolding trace_of after_lines after_line after_text after_words after_form form_of form_named number_within with_order pool_named with_pool grant_named with_granted with_begin with_entry entry_named entry_words number_at number_of range_refusal add_refusal grant_refusals with_grant suits_grants machine_range hex_on_literals
+unfolding trace_of after_lines after_line after_text after_words after_form form_of form_named
+    number_within with_order pool_named with_pool grant_named with_granted with_begin with_entry
+    entry_named entry_words number_at number_of range_refusal add_refusal grant_refusals with_grant
+    suits_grants machine_range hex_on_literals
 config_on_literals = tt
 
 -- Lines behind an order and 1 GB of memory: the first of them is the third.
@@ -41,7 +44,8 @@ opening entries =
         granted = record {
           pool_base = 0x1000000000;
           pool_order = 24;
-          grants = record { logical = 0; machine = 0x2000000000; length = 0x40000000; kind = Ram } ∷ [];
+          grants =
+              record { logical = 0; machine = 0x2000000000; length = 0x40000000; kind = Ram } ∷ [];
         };
         entries = entries;
         windows = [];
@@ -51,120 +55,184 @@ opening entries =
 
 -- ---- accepted
 -- R and C are the entry's.
-old_layout : trace_of (granted (codes "entry old 0x20 00000000000010010000000000003192\nbegin\n")) ≡ opening (entry_of 0x20 0x1001 0x3192 ∷ [])
+old_layout :
+    trace_of (granted (codes "entry old 0x20 00000000000010010000000000003192\nbegin\n"))
+    ≡ opening (entry_of 0x20 0x1001 0x3192 ∷ [])
 unfolding config_on_literals entry_of
 old_layout = refl
 
 -- The newer layout has B in doubleword 1; here C alone is set.
-new_layout : trace_of (granted (codes "entry new 0x20 00000000000010010400000000003092\nbegin\n")) ≡ opening (entry_of 0x20 0x4000000000001001 0x3092 ∷ [])
+new_layout :
+    trace_of (granted (codes "entry new 0x20 00000000000010010400000000003092\nbegin\n"))
+    ≡ opening (entry_of 0x20 0x4000000000001001 0x3092 ∷ [])
 unfolding config_on_literals entry_of
 new_layout = refl
 
 -- Digits of either case; the first entry of the table.
-upper_case : trace_of (granted (codes "entry old 0 00000000ABCDEF01000000000000A012\nbegin\n")) ≡ opening (entry_of 0 0xABCDEF01 0xA012 ∷ [])
+upper_case :
+    trace_of (granted (codes "entry old 0 00000000ABCDEF01000000000000A012\nbegin\n"))
+    ≡ opening (entry_of 0 0xABCDEF01 0xA012 ∷ [])
 unfolding config_on_literals entry_of
 upper_case = refl
 
 -- The last one.
-mixed_case : trace_of (granted (codes "entry old 0x3FFF 00000000AbCdEf01000000000000a012\nbegin\n")) ≡ opening (entry_of 0x3FFF 0xABCDEF01 0xA012 ∷ [])
+mixed_case :
+    trace_of (granted (codes "entry old 0x3FFF 00000000AbCdEf01000000000000a012\nbegin\n"))
+    ≡ opening (entry_of 0x3FFF 0xABCDEF01 0xA012 ∷ [])
 unfolding config_on_literals entry_of
 mixed_case = refl
 
 -- In rising index, each in its layout.
-two_entries : trace_of (granted (codes "entry old 31 00000000000010010000000000003012\n# remark\nentry new 32 00000000000010030000000000004012\nbegin\n")) ≡ opening (entry_of 31 0x1001 0x3012 ∷ entry_of 32 0x1003 0x4012 ∷ [])
+two_entries :
+    trace_of
+    (granted
+    (codes
+    "entry old 31 00000000000010010000000000003012\n# remark\nentry new 32 00000000000010030000000000004012\nbegin\n"))
+    ≡ opening (entry_of 31 0x1001 0x3012 ∷ entry_of 32 0x1003 0x4012 ∷ [])
 unfolding config_on_literals entry_of
 two_entries = refl
 
 -- A page of 64 KB.
-large_page : trace_of (granted (codes "entry old 8 00000000000010050000000000001012\nbegin\n")) ≡ opening (entry_of 8 0x1005 0x1012 ∷ [])
+large_page :
+    trace_of (granted (codes "entry old 8 00000000000010050000000000001012\nbegin\n"))
+    ≡ opening (entry_of 8 0x1005 0x1012 ∷ [])
 unfolding config_on_literals entry_of
 large_page = refl
 
 -- ---- refused: each cause
 -- No such layout.
-refused_layout : trace_of (granted (codes "entry older 0x20 00000000000010010000000000003012")) ≡ Err (3, whys.Entry)
+refused_layout :
+    trace_of (granted (codes "entry older 0x20 00000000000010010000000000003012"))
+    ≡ Err (3, whys.Entry)
 unfolding config_on_literals entry_of
 refused_layout = refl
 
 -- An index past the table.
-refused_past : trace_of (granted (codes "entry old 0x4000 00000000000010010000000000003012")) ≡ Err (3, whys.Entry)
+refused_past :
+    trace_of (granted (codes "entry old 0x4000 00000000000010010000000000003012"))
+    ≡ Err (3, whys.Entry)
 unfolding config_on_literals entry_of
 refused_past = refl
 
 -- An index that is not above the one before: equal, and lower.
-refused_equal : trace_of (granted (codes "entry old 32 00000000000010010000000000003012\nentry old 32 00000000000010010000000000003012")) ≡ Err (4, whys.Entry)
+refused_equal :
+    trace_of
+    (granted
+    (codes
+    "entry old 32 00000000000010010000000000003012\nentry old 32 00000000000010010000000000003012"))
+    ≡ Err (4, whys.Entry)
 unfolding config_on_literals entry_of
 refused_equal = refl
 
-refused_falling : trace_of (granted (codes "entry old 32 00000000000010010000000000003012\nentry old 31 00000000000010010000000000003012")) ≡ Err (4, whys.Entry)
+refused_falling :
+    trace_of
+    (granted
+    (codes
+    "entry old 32 00000000000010010000000000003012\nentry old 31 00000000000010010000000000003012"))
+    ≡ Err (4, whys.Entry)
 unfolding config_on_literals entry_of
 refused_falling = refl
 
-refused_between : trace_of (granted (codes "entry old 30 00000000000010010000000000003012\nentry old 32 00000000000010010000000000003012\nentry old 31 00000000000010010000000000003012")) ≡ Err (5, whys.Entry)
+refused_between :
+    trace_of
+    (granted
+    (codes
+    "entry old 30 00000000000010010000000000003012\nentry old 32 00000000000010010000000000003012\nentry old 31 00000000000010010000000000003012"))
+    ≡ Err (5, whys.Entry)
 unfolding config_on_literals entry_of
 refused_between = refl
 
 -- 31 digits, 33, and a byte that is no digit.
-refused_short : trace_of (granted (codes "entry old 0x20 0000000000001001000000000000301")) ≡ Err (3, whys.Entry)
+refused_short :
+    trace_of (granted (codes "entry old 0x20 0000000000001001000000000000301"))
+    ≡ Err (3, whys.Entry)
 unfolding config_on_literals entry_of
 refused_short = refl
 
-refused_long : trace_of (granted (codes "entry old 0x20 000000000000100100000000000030120")) ≡ Err (3, whys.Entry)
+refused_long :
+    trace_of (granted (codes "entry old 0x20 000000000000100100000000000030120"))
+    ≡ Err (3, whys.Entry)
 unfolding config_on_literals entry_of
 refused_long = refl
 
-refused_digit : trace_of (granted (codes "entry old 0x20 000000000000100100000000000030g2")) ≡ Err (3, whys.Entry)
+refused_digit :
+    trace_of (granted (codes "entry old 0x20 000000000000100100000000000030g2"))
+    ≡ Err (3, whys.Entry)
 unfolding config_on_literals entry_of
 refused_digit = refl
 
 -- V is clear; a bit is set that H_ENTER clears, in doubleword 0 and in doubleword 1.
-refused_no_v : trace_of (granted (codes "entry old 0x20 00000000000010000000000000003012")) ≡ Err (3, whys.Entry)
+refused_no_v :
+    trace_of (granted (codes "entry old 0x20 00000000000010000000000000003012"))
+    ≡ Err (3, whys.Entry)
 unfolding config_on_literals entry_of
 refused_no_v = refl
 
-refused_low_bit : trace_of (granted (codes "entry old 0x20 00000000000010210000000000003012")) ≡ Err (3, whys.Entry)
+refused_low_bit :
+    trace_of (granted (codes "entry old 0x20 00000000000010210000000000003012"))
+    ≡ Err (3, whys.Entry)
 unfolding config_on_literals entry_of
 refused_low_bit = refl
 
-refused_high_bit : trace_of (granted (codes "entry old 0x20 00000000000010410000000000003012")) ≡ Err (3, whys.Entry)
+refused_high_bit :
+    trace_of (granted (codes "entry old 0x20 00000000000010410000000000003012"))
+    ≡ Err (3, whys.Entry)
 unfolding config_on_literals entry_of
 refused_high_bit = refl
 
-refused_second_old : trace_of (granted (codes "entry old 0x20 00000000000010014000000000003012")) ≡ Err (3, whys.Entry)
+refused_second_old :
+    trace_of (granted (codes "entry old 0x20 00000000000010014000000000003012"))
+    ≡ Err (3, whys.Entry)
 unfolding config_on_literals entry_of
 refused_second_old = refl
 
-refused_second_new : trace_of (granted (codes "entry new 0x20 00000000000010014000000000003012")) ≡ Err (3, whys.Entry)
+refused_second_new :
+    trace_of (granted (codes "entry new 0x20 00000000000010014000000000003012"))
+    ≡ Err (3, whys.Entry)
 unfolding config_on_literals entry_of
 refused_second_new = refl
 
 -- The lowest and the highest bit that the newer layout leaves out.
-refused_left_out_low : trace_of (granted (codes "entry new 0x20 00100000000010010000000000003012")) ≡ Err (3, whys.Entry)
+refused_left_out_low :
+    trace_of (granted (codes "entry new 0x20 00100000000010010000000000003012"))
+    ≡ Err (3, whys.Entry)
 unfolding config_on_literals entry_of
 refused_left_out_low = refl
 
-refused_left_out_high : trace_of (granted (codes "entry new 0x20 80000000000010010000000000003012")) ≡ Err (3, whys.Entry)
+refused_left_out_high :
+    trace_of (granted (codes "entry new 0x20 80000000000010010000000000003012"))
+    ≡ Err (3, whys.Entry)
 unfolding config_on_literals entry_of
 refused_left_out_high = refl
 
 -- What H_ENTER refuses: B, of either layout; the page size; memory that no grant holds; the storage control bits.
-refused_segment : trace_of (granted (codes "entry old 0x20 80000000000010010000000000003012")) ≡ Err (3, whys.Entry)
+refused_segment :
+    trace_of (granted (codes "entry old 0x20 80000000000010010000000000003012"))
+    ≡ Err (3, whys.Entry)
 unfolding config_on_literals entry_of
 refused_segment = refl
 
-refused_segment_new : trace_of (granted (codes "entry new 0x20 00000000000010010800000000003012")) ≡ Err (3, whys.Entry)
+refused_segment_new :
+    trace_of (granted (codes "entry new 0x20 00000000000010010800000000003012"))
+    ≡ Err (3, whys.Entry)
 unfolding config_on_literals entry_of
 refused_segment_new = refl
 
-refused_size : trace_of (granted (codes "entry old 0x20 00000000000010050000000000002012")) ≡ Err (3, whys.Entry)
+refused_size :
+    trace_of (granted (codes "entry old 0x20 00000000000010050000000000002012"))
+    ≡ Err (3, whys.Entry)
 unfolding config_on_literals entry_of
 refused_size = refl
 
-refused_ungranted : trace_of (granted (codes "entry old 0x20 00000000000010010000000040000012")) ≡ Err (3, whys.Entry)
+refused_ungranted :
+    trace_of (granted (codes "entry old 0x20 00000000000010010000000040000012"))
+    ≡ Err (3, whys.Entry)
 unfolding config_on_literals entry_of
 refused_ungranted = refl
 
-refused_storage : trace_of (granted (codes "entry old 0x20 00000000000010010000000000003022")) ≡ Err (3, whys.Entry)
+refused_storage :
+    trace_of (granted (codes "entry old 0x20 00000000000010010000000000003022"))
+    ≡ Err (3, whys.Entry)
 unfolding config_on_literals entry_of
 refused_storage = refl
 
@@ -174,7 +242,9 @@ refused_few : trace_of (granted (codes "entry old 0x20")) ≡ Err (3, whys.Count
 unfolding config_on_literals entry_of
 refused_few = refl
 
-refused_many : trace_of (granted (codes "entry old 0x20 00000000000010010000000000003012 0")) ≡ Err (3, whys.Count)
+refused_many :
+    trace_of (granted (codes "entry old 0x20 00000000000010010000000000003012 0"))
+    ≡ Err (3, whys.Count)
 unfolding config_on_literals entry_of
 refused_many = refl
 
@@ -184,23 +254,39 @@ unfolding config_on_literals entry_of
 refused_number = refl
 
 -- Behind an entry comes no grant and no other setting; behind `begin` comes no entry.
-refused_ram_behind : trace_of (granted (codes "entry old 0x20 00000000000010010000000000003012\nram 0x40000000 0x3000000000 0x1000")) ≡ Err (4, whys.Place)
+refused_ram_behind :
+    trace_of
+    (granted
+    (codes
+    "entry old 0x20 00000000000010010000000000003012\nram 0x40000000 0x3000000000 0x1000"))
+    ≡ Err (4, whys.Place)
 unfolding config_on_literals entry_of
 refused_ram_behind = refl
 
-refused_io_behind : trace_of (granted (codes "entry old 0x20 00000000000010010000000000003012\nio 0x40000000 0x3000000000 0x1000")) ≡ Err (4, whys.Place)
+refused_io_behind :
+    trace_of
+    (granted
+    (codes
+    "entry old 0x20 00000000000010010000000000003012\nio 0x40000000 0x3000000000 0x1000"))
+    ≡ Err (4, whys.Place)
 unfolding config_on_literals entry_of
 refused_io_behind = refl
 
-refused_pool_behind : trace_of (granted (codes "entry old 0x20 00000000000010010000000000003012\npool 0x1000000000 24")) ≡ Err (4, whys.Place)
+refused_pool_behind :
+    trace_of
+    (granted (codes "entry old 0x20 00000000000010010000000000003012\npool 0x1000000000 24"))
+    ≡ Err (4, whys.Place)
 unfolding config_on_literals entry_of
 refused_pool_behind = refl
 
-refused_behind_begin : trace_of (granted (codes "begin\nentry old 0x20 00000000000010010000000000003012")) ≡ Err (4, whys.Place)
+refused_behind_begin :
+    trace_of (granted (codes "begin\nentry old 0x20 00000000000010010000000000003012"))
+    ≡ Err (4, whys.Place)
 unfolding config_on_literals entry_of
 refused_behind_begin = refl
 
 -- No grant holds the page where there is none.
-refused_without_grants : trace_of (codes "entry old 0x20 00000000000010010000000000003012") ≡ Err (1, whys.Entry)
+refused_without_grants :
+    trace_of (codes "entry old 0x20 00000000000010010000000000003012") ≡ Err (1, whys.Entry)
 unfolding config_on_literals entry_of
 refused_without_grants = refl

@@ -17,18 +17,22 @@ next_line r number line next =
     rw before refl
 
 -- Behind the most lines there are, each is refused.
-pub past_lines : (r : Reading) (line : List ℕ) → 2 ^ 17 ≤ r.taken → after_line r line ≡ Err whys.Lines
+pub past_lines :
+    (r : Reading) (line : List ℕ) → 2 ^ 17 ≤ r.taken → after_line r line ≡ Err whys.Lines
 unfolding after_line
 past_lines r line past = rw (le-ltb r.taken (2 ^ 17) past) refl
 
 -- The first line that is refused.
-pub refused_next : (r : Reading) (line : List ℕ) (rest : List (List ℕ)) (why : Why) → after_line r line ≡ Err why
+pub refused_next :
+    (r : Reading) (line : List ℕ) (rest : List (List ℕ)) (why : Why) → after_line r line ≡ Err why
     → after_lines r (line ∷ rest) ≡ Err (r.taken + 1, why)
 unfolding after_lines
 refused_next r line rest why refused = rw refused refl
 
 -- A refusal of the next line is that of the lines from there on.
-pub refused_lines : (r new : Reading) (number : ℕ) (line : List ℕ) (ws rest : List (List ℕ)) (refused : LineRefused) → number ≡ r.taken + 1
+pub refused_lines :
+    (r new : Reading) (number : ℕ) (line : List ℕ) (ws rest : List (List ℕ)) (refused : LineRefused)
+    → number ≡ r.taken + 1
     → Reads (after_numbered number r line) ws (Err refused) r new
     → IsParsed (Err (error_of number refused)) (after_lines r (line ∷ rest))
 refused_lines r new number line ws rest refusals.Memory next reads = tt

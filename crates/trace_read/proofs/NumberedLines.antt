@@ -10,25 +10,33 @@ use Rattle.trace_read.specs.Whys.{◌>>=◌}
 use Rattle.trace_read.proofs.TakenLines.{line_taken}
 
 -- A remark adds nothing but its number.
-remark_taken : (r : Reading) → r.taken < 2 ^ 17 → after_line r (35 ∷ []) ≡ Ok (record r { taken = r.taken + 1 })
+remark_taken :
+    (r : Reading)
+    → r.taken < 2 ^ 17
+    → after_line r (35 ∷ []) ≡ Ok (record r { taken = r.taken + 1 })
 unfolding after_line after_text
 remark_taken r few = rw (lt-ltb r.taken (2 ^ 17) few) refl
 
 -- So many remarks are read.
 remarks_taken : (count : ℕ) (r : Reading) (rest : List (List ℕ)) → r.taken + count ≤ 2 ^ 17
-    → after_lines r (remarks count ++ rest) ≡ after_lines (record r { taken = r.taken + count }) rest
+    → after_lines r (remarks count ++ rest)
+    ≡ after_lines (record r { taken = r.taken + count }) rest
 unfolding after_lines
 remarks_taken zero r rest few =
     let none : r.taken + zero ≡ r.taken = omega arith in
     rw none refl
 remarks_taken (suc n) r rest few =
     let seam : r.taken + 1 + n ≡ r.taken + suc n = omega arith in
-    ap (λ said. go_on (r.taken + 1) said (λ s. after_lines s (remarks n ++ rest))) (remark_taken r (omega arith))
+    ap (λ said. go_on (r.taken + 1) said (λ s. after_lines s (remarks n ++ rest)))
+    (remark_taken r (omega arith))
     ∙ remarks_taken n (record r { taken = r.taken + 1 }) rest (omega arith)
     ∙ ap (λ t. after_lines (record r { taken = t }) rest) seam
 
 -- A line at its number, behind remarks.
-line_reached : (r : Reading) (number : ℕ) (line : List ℕ) (rest : List (List ℕ)) → r.taken < number → number ≤ 2 ^ 17
+line_reached :
+    (r : Reading) (number : ℕ) (line : List ℕ) (rest : List (List ℕ))
+    → r.taken < number
+    → number ≤ 2 ^ 17
     → after_lines r (remarks (number - (r.taken + 1)) ++ line ∷ rest)
     ≡ go_on number (after_numbered number r line) (λ s. after_lines s rest)
 unfolding after_lines
@@ -65,17 +73,22 @@ read_from (x ∷ xs) r rise =
     ap (λ n. after_lines s (numbered n xs)) (sym here) ∙ read_from xs s (rw here rise.2))
 
 pub reads_as_the_input : ReadsAsTheInput
-reads_as_the_input pool_base pool_order lines rise = read_from lines (reading_beside pool_base pool_order) rise
+reads_as_the_input pool_base pool_order lines rise =
+    read_from lines (reading_beside pool_base pool_order) rise
 
 -- A further line behind accepted ones.
-behind : (n : ℕ) (said : Result Reading Why) (f : Reading → Result Reading Why) (g : Reading → Result AcceptedTrace (ℕ × Why))
+behind :
+    (n : ℕ) (said : Result Reading Why) (f : Reading → Result Reading Why)
+    (g : Reading → Result AcceptedTrace (ℕ × Why))
     (end : Result AcceptedTrace (ℕ × Why)) (r : Reading) → ((s : Reading) → f s ≡ Ok r → g s ≡ end)
     → (said >>= f) ≡ Ok r → go_on n said g ≡ end
 behind n (Ok s) f g end r each e = each s e
 behind n (Err why) f g end r each e = cc
 
-further : (xs : List (ℕ × List ℕ)) (number : ℕ) (line : List ℕ) (q r : Reading) → after_each q xs ≡ Ok r
-    → trace_given q (xs ++ (number, line) ∷ []) ≡ go_on number (after_numbered number r line) trace_at_end
+further :
+    (xs : List (ℕ × List ℕ)) (number : ℕ) (line : List ℕ) (q r : Reading) → after_each q xs ≡ Ok r
+    → trace_given q (xs ++ (number, line) ∷ [])
+    ≡ go_on number (after_numbered number r line) trace_at_end
 further [] number line q r e =
     let one : q ≡ r = cc in
     ap (λ (p : Reading). go_on number (after_numbered number p line) trace_at_end) one

@@ -33,13 +33,21 @@ is_apart other = false
 pub record IsPlain {A : Type 0} (said : Result A Why) : Type 0 where
   pub reasons : (why : Why) → said ≡ Err why → is_apart why ≡ false
 
-ok_refused : {A : Type 0} (said : Result A Why) (x : A) (why : Why) → said ≡ Ok x → said ≡ Err why → is_apart why ≡ false
+ok_refused :
+    {A : Type 0} (said : Result A Why) (x : A) (why : Why)
+    → said ≡ Ok x
+    → said ≡ Err why
+    → is_apart why ≡ false
 ok_refused said x why is e = cc
 
 pub plain_ok : {A : Type 0} (x : A) → IsPlain (Ok x)
 plain_ok x = record { reasons = λ why e. ok_refused (Ok x) x why refl e }
 
-plain_err : {A : Type 0} (said : Result A Why) (why : Why) → said ≡ Err why → is_apart why ≡ false → IsPlain said
+plain_err :
+    {A : Type 0} (said : Result A Why) (why : Why)
+    → said ≡ Err why
+    → is_apart why ≡ false
+    → IsPlain said
 plain_err said why is plain = record { reasons = λ other e. other_plain other e } where
   other_plain : (other : Why) → said ≡ Err other → is_apart other ≡ false
   other_plain other e =
@@ -47,7 +55,11 @@ plain_err said why is plain = record { reasons = λ other e. other_plain other e
       rw one at plain
 
 -- ---- steps
-pub plain_steps : {A B : Type 0} (said : Result A Why) (f : A → Result B Why) → IsPlain said → ((x : A) → IsPlain (f x)) → IsPlain (said >>= f)
+pub plain_steps :
+    {A B : Type 0} (said : Result A Why) (f : A → Result B Why)
+    → IsPlain said
+    → ((x : A) → IsPlain (f x))
+    → IsPlain (said >>= f)
 plain_steps (Ok x) f first each = each x
 plain_steps (Err why) f first each = plain_err _ why refl (first.reasons why refl)
 
@@ -55,11 +67,16 @@ pub plain_guard : (test : Bool) (why : Why) → is_apart why ≡ false → IsPla
 plain_guard true why plain = plain_ok tt
 plain_guard false why plain = plain_err _ why refl plain
 
-plain_required : {A : Type 0} (o : Option A) (why : Why) → is_apart why ≡ false → IsPlain (required o why)
+plain_required :
+    {A : Type 0} (o : Option A) (why : Why) → is_apart why ≡ false → IsPlain (required o why)
 plain_required (Some x) why plain = plain_ok x
 plain_required None why plain = plain_err _ why refl plain
 
-plain_if : {A : Type 0} (test : Bool) (a b : Result A Why) → IsPlain a → IsPlain b → IsPlain (if test then a else b)
+plain_if :
+    {A : Type 0} (test : Bool) (a b : Result A Why)
+    → IsPlain a
+    → IsPlain b
+    → IsPlain (if test then a else b)
 plain_if true a b first second = first
 plain_if false a b first second = second
 
@@ -67,7 +84,8 @@ plain_if false a b first second = second
 plain_number : (ws : List (List ℕ)) (i : ℕ) → IsPlain (number_at ws i)
 unfolding number_at
 plain_number ws i =
-    plain_if (ltb i (length ws)) _ _ (plain_required (number_of (slice_index_or ws i [])) whys.Number refl) (plain_ok 0)
+    plain_if (ltb i (length ws)) _ _
+    (plain_required (number_of (slice_index_or ws i [])) whys.Number refl) (plain_ok 0)
 
 plain_within : (ws : List (List ℕ)) (low high : ℕ) → IsPlain (number_within ws low high)
 unfolding number_within
@@ -92,19 +110,22 @@ plain_mode : (ws : List (List ℕ)) (i : ℕ) → IsPlain (mode_at ws i)
 unfolding mode_at
 plain_mode ws i =
     plain_if (bytes_eq (codes "user") (slice_index_or ws i [])) _ _ (plain_ok true)
-    (plain_if (bytes_eq (codes "priv") (slice_index_or ws i [])) _ _ (plain_ok false) (plain_err _ whys.Mode refl refl))
+    (plain_if (bytes_eq (codes "priv") (slice_index_or ws i [])) _ _ (plain_ok false)
+    (plain_err _ whys.Mode refl refl))
 
 -- ---- the form
 plain_run_form : (ws : List (List ℕ)) → IsPlain (run_form ws)
 unfolding run_form
 plain_run_form [] = plain_ok _
-plain_run_form (w ∷ ws) = plain_steps _ _ (plain_required (verb_of w) whys.Word refl) (λ verb. plain_ok _)
+plain_run_form (w ∷ ws) =
+    plain_steps _ _ (plain_required (verb_of w) whys.Word refl) (λ verb. plain_ok _)
 
 pub plain_form : (ws : List (List ℕ)) → IsPlain (form_of ws)
 unfolding form_of
 plain_form [] = plain_err _ whys.Word refl refl
 plain_form (w ∷ ws) =
-    plain_if (begins_with_digit w) _ _ (plain_run_form ws) (plain_required (form_named w) whys.Word refl)
+    plain_if (begins_with_digit w) _ _ (plain_run_form ws)
+    (plain_required (form_named w) whys.Word refl)
 
 -- ---- configuration lines
 pub plain_order : (c : Configuration) (ws : List (List ℕ)) → IsPlain (with_order c ws)
@@ -145,11 +166,15 @@ unfolding entry_named
 plain_named c ws =
     plain_steps _ _ (plain_guard (eqb (length ws) 4) whys.Count refl)
     (λ counted. plain_steps _ _ (plain_number ws 2)
-    (λ index. plain_steps _ _ (plain_required (layout_named (slice_index_or ws 1 [])) whys.Entry refl)
+    (λ index.
+    plain_steps _ _ (plain_required (layout_named (slice_index_or ws 1 [])) whys.Entry refl)
     (λ layout. plain_steps _ _ (plain_guard (ltb index (entry_count c.order)) whys.Entry refl)
     (λ inside. plain_steps _ _ (plain_guard (is_above c.entries index) whys.Entry refl)
-    (λ rises. plain_steps _ _ (plain_required (entry_words layout (slice_index_or ws 3 [])) whys.Entry refl)
-    (λ words. plain_steps _ _ (plain_guard (is_stored c.granted.grants words) whys.Entry refl) (λ stored. plain_ok _)))))))
+    (λ rises.
+    plain_steps _ _ (plain_required (entry_words layout (slice_index_or ws 3 [])) whys.Entry refl)
+    (λ words.
+    plain_steps _ _ (plain_guard (is_stored c.granted.grants words) whys.Entry refl)
+    (λ stored. plain_ok _)))))))
 
 pub plain_entry : (c : Configuration) (ws : List (List ℕ)) → IsPlain (with_entry c ws)
 unfolding with_entry
@@ -163,8 +188,11 @@ plain_named_window c ws =
     (λ liobn. plain_steps _ _ (plain_number ws 2)
     (λ base. plain_steps _ _ (plain_number ws 3)
     (λ pages. plain_steps _ _ (plain_required (window_of_parts liobn base pages) whys.Window refl)
-    (λ window. plain_steps _ _ (plain_guard (not (has_number c.windows window.liobn)) whys.Window refl)
-    (λ fresh. plain_steps _ _ (plain_guard (ltb (length c.windows) 4) whys.Window refl) (λ room. plain_ok _)))))))
+    (λ window.
+    plain_steps _ _ (plain_guard (not (has_number c.windows window.liobn)) whys.Window refl)
+    (λ fresh.
+    plain_steps _ _ (plain_guard (ltb (length c.windows) 4) whys.Window refl)
+    (λ room. plain_ok _)))))))
 
 pub plain_window : (c : Configuration) (ws : List (List ℕ)) → IsPlain (with_window c ws)
 unfolding with_window
@@ -174,24 +202,31 @@ pub plain_begin : (c : Configuration) (ws : List (List ℕ)) → IsPlain (with_b
 unfolding with_begin
 plain_begin c ws =
     plain_steps _ _ (plain_guard (eqb (length ws) 1) whys.Count refl)
-    (λ counted. plain_steps _ _ (plain_guard (leb c.order c.granted.pool_order) whys.Small refl) (λ room. plain_ok c))
+    (λ counted.
+    plain_steps _ _ (plain_guard (leb c.order c.granted.pool_order) whys.Small refl)
+    (λ room. plain_ok c))
 
 -- ---- run lines
 plain_act : (verb : Verb) (ws : List (List ℕ)) → IsPlain (act_by verb ws)
 unfolding act_by
 plain_act (verbs.Named hcall count) ws = plain_steps _ _ (plain_arguments ws 2) (λ args. plain_ok _)
 plain_act verbs.Numbered ws =
-    plain_steps _ _ (plain_number ws 2) (λ number. plain_steps _ _ (plain_arguments ws 3) (λ args. plain_ok _))
+    plain_steps _ _ (plain_number ws 2)
+    (λ number. plain_steps _ _ (plain_arguments ws 3) (λ args. plain_ok _))
 plain_act (verbs.Access want) ws =
-    plain_steps _ _ (plain_number ws 2) (λ ea. plain_steps _ _ (plain_mode ws 3) (λ user. plain_ok _))
+    plain_steps _ _ (plain_number ws 2)
+    (λ ea. plain_steps _ _ (plain_mode ws 3) (λ user. plain_ok _))
 plain_act (verbs.Device write) ws =
-    plain_steps _ _ (plain_number ws 2) (λ liobn. plain_steps _ _ (plain_number ws 3) (λ ioba. plain_ok _))
+    plain_steps _ _ (plain_number ws 2)
+    (λ liobn. plain_steps _ _ (plain_number ws 3) (λ ioba. plain_ok _))
 plain_act verbs.SlbMte ws =
-    plain_steps _ _ (plain_number ws 2) (λ rb. plain_steps _ _ (plain_number ws 3) (λ rs. plain_ok _))
+    plain_steps _ _ (plain_number ws 2)
+    (λ rb. plain_steps _ _ (plain_number ws 3) (λ rs. plain_ok _))
 plain_act verbs.SlbClear ws = plain_ok _
 plain_act (verbs.SetMask name) ws = plain_steps _ _ (plain_number ws 2) (λ value. plain_ok _)
 
-pub plain_run : (cpus : ℕ) (verb : Option Verb) (ws : List (List ℕ)) → IsPlain (run_act cpus verb ws)
+pub plain_run :
+    (cpus : ℕ) (verb : Option Verb) (ws : List (List ℕ)) → IsPlain (run_act cpus verb ws)
 unfolding run_act
 plain_run cpus verb ws =
     plain_steps _ _ (plain_required verb whys.Count refl)

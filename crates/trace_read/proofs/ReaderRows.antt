@@ -23,7 +23,11 @@ use Rattle.trace_read.specs.TextLines.{words_of}
 
 -- What is opened to read lines.
 unfoldable lines_on_literals : ⊤
-unfolding after_lines after_line after_text after_words after_form form_of form_named run_form verb_of call_named other_verb number_within with_order with_limit with_cpus pool_named with_pool grant_named with_granted with_begin number_at number_of range_refusal add_refusal grant_refusals with_grant run_act dump_act act_by arguments_from mode_at after_act may_add is_quiet hcall_of row_of
+unfolding after_lines after_line after_text after_words after_form form_of form_named run_form
+    verb_of call_named other_verb number_within with_order with_limit with_cpus pool_named with_pool
+    grant_named with_granted with_begin number_at number_of range_refusal add_refusal grant_refusals
+    with_grant run_act dump_act act_by arguments_from mode_at after_act may_add is_quiet hcall_of
+    row_of
 lines_on_literals = tt
 
 -- A grant of 4 KB.
@@ -43,20 +47,27 @@ gives_order : given_of default_settings (words_of (codes "order 18")) ≡ givens
 unfolding lines_on_literals
 gives_order = refl
 
-gives_entry : given_of default_settings (words_of (codes "entry old 0 00000000ABCDEF01000000000000A012")) ≡ givens.Setting
+gives_entry :
+    given_of default_settings (words_of (codes "entry old 0 00000000ABCDEF01000000000000A012"))
+    ≡ givens.Setting
 unfolding lines_on_literals
 gives_entry = refl
 
-gives_memory : given_of default_settings (words_of (codes "ram 0x1000 0x2000 0x1000")) ≡ givens.Grant (page 0x1000 0x2000)
+gives_memory :
+    given_of default_settings (words_of (codes "ram 0x1000 0x2000 0x1000"))
+    ≡ givens.Grant (page 0x1000 0x2000)
 unfolding lines_on_literals page
 gives_memory = refl
 
-gives_device : given_of default_settings (words_of (codes "io 0x1000 0x2000 0x1000")) ≡ givens.Grant (record (page 0x1000 0x2000) { kind = Io })
+gives_device :
+    given_of default_settings (words_of (codes "io 0x1000 0x2000 0x1000"))
+    ≡ givens.Grant (record (page 0x1000 0x2000) { kind = Io })
 unfolding lines_on_literals page
 gives_device = refl
 
 -- The order is the one that stands by then.
-gives_begin : given_of (record default_settings { order = 20 }) (words_of (codes "begin")) ≡ givens.Begin 20
+gives_begin :
+    given_of (record default_settings { order = 20 }) (words_of (codes "begin")) ≡ givens.Begin 20
 unfolding lines_on_literals
 gives_begin = refl
 
@@ -91,7 +102,23 @@ of_no_form = refl
 
 -- ---- the pool that stands
 -- A grant may lie where the pool of a trace that names none would.
-beside_another : after_numbered 1 (reading_beside 0x2000000000 20) (codes "ram 0 0x1000000000 0x1000") ≡ Ok (record { taken = 1; stage = stages.Grants; config = record (settings_beside 0x2000000000 20) { granted = record { pool_base = 0x2000000000; pool_order = 20; grants = page 0 0x1000000000 ∷ [] } }; lines = [] })
+beside_another :
+    after_numbered 1 (reading_beside 0x2000000000 20) (codes "ram 0 0x1000000000 0x1000")
+    ≡ Ok
+    (record {
+      taken = 1;
+      stage = stages.Grants;
+      config =
+          record (settings_beside 0x2000000000 20) {
+            granted =
+                record {
+                  pool_base = 0x2000000000;
+                  pool_order = 20;
+                  grants = page 0 0x1000000000 ∷ [];
+                };
+          };
+      lines = [];
+    })
 unfolding lines_on_literals page
 beside_another = refl
 
@@ -117,7 +144,9 @@ meets_pool : after_numbered 3 opening_reading (codes "ram 0 0x1000000000 0x1000"
 unfolding lines_on_literals
 meets_pool = refl
 
-tells_grant : refused_grant whys.Tables (words_of (codes "ram 0 0x1000000000 0x1000")) ≡ Some (page 0 0x1000000000)
+tells_grant :
+    refused_grant whys.Tables (words_of (codes "ram 0 0x1000000000 0x1000"))
+    ≡ Some (page 0 0x1000000000)
 unfolding lines_on_literals page
 tells_grant = refl
 
@@ -128,24 +157,44 @@ tells_no_grant = refl
 
 -- ---- numbers
 -- A remark at a higher number.
-remark_at : after_numbered 7 opening_reading (codes "# begin") ≡ Ok (record opening_reading { taken = 7 })
+remark_at :
+    after_numbered 7 opening_reading (codes "# begin") ≡ Ok (record opening_reading { taken = 7 })
 unfolding lines_on_literals
 remark_at = refl
 
 -- A run line has its number.
-line_at : after_each opening_reading ((2, codes "begin") ∷ (5, codes "0 slbclear") ∷ []) ≡ Ok (record { taken = 5; stage = stages.Lines; config = default_settings; lines = record { number = 5; cpu = 0; act = SlbClear } ∷ [] })
+line_at :
+    after_each opening_reading ((2, codes "begin") ∷ (5, codes "0 slbclear") ∷ [])
+    ≡ Ok
+    (record {
+      taken = 5;
+      stage = stages.Lines;
+      config = default_settings;
+      lines = record { number = 5; cpu = 0; act = SlbClear } ∷ [];
+    })
 unfolding lines_on_literals
 line_at = refl
 
 -- The whole input: a remark at each number between.
-whole_input : numbered 0 ((2, codes "begin") ∷ (5, codes "dump") ∷ []) ≡ codes "#" ∷ codes "begin" ∷ codes "#" ∷ codes "#" ∷ codes "dump" ∷ []
+whole_input :
+    numbered 0 ((2, codes "begin") ∷ (5, codes "dump") ∷ [])
+    ≡ codes "#" ∷ codes "begin" ∷ codes "#" ∷ codes "#" ∷ codes "dump" ∷ []
 whole_input = refl
 
-read_whole : after_lines opening_reading (numbered 0 ((2, codes "begin") ∷ (5, codes "dump") ∷ [])) ≡ Ok (record { config = default_settings; lines = record { number = 5; cpu = 0; act = Dump } ∷ [] })
+read_whole :
+    after_lines opening_reading (numbered 0 ((2, codes "begin") ∷ (5, codes "dump") ∷ []))
+    ≡ Ok
+    (record {
+      config = default_settings;
+      lines = record { number = 5; cpu = 0; act = Dump } ∷ [];
+    })
 unfolding lines_on_literals
 read_whole = refl
 
-refused_at : trace_given opening_reading ((2, codes "begin") ∷ (5, codes "1 slbclear") ∷ (6, codes "dump") ∷ []) ≡ Err (5, whys.Cpu)
+refused_at :
+    trace_given opening_reading
+    ((2, codes "begin") ∷ (5, codes "1 slbclear") ∷ (6, codes "dump") ∷ [])
+    ≡ Err (5, whys.Cpu)
 unfolding lines_on_literals
 refused_at = refl
 

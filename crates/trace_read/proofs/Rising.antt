@@ -25,7 +25,8 @@ rising_push (d ∷ ds) e rising above =
     let parts = and_parts (ltb d.index e.index) (is_above ds e.index) above in
     (all_push _ ds e rising.0 (ltb-true _ _ parts.0), rising_push ds e rising.1 parts.1)
 
-pub AreOpeningEntries-push : (order : ℕ) (grants : List Grant) (es : List ImageEntry) (e : ImageEntry)
+pub AreOpeningEntries-push :
+    (order : ℕ) (grants : List Grant) (es : List ImageEntry) (e : ImageEntry)
     → AreOpeningEntries order grants es → IsOpeningEntry order grants e → is_above es e.index ≡ true
     → AreOpeningEntries order grants (es ++ e ∷ [])
 AreOpeningEntries-push order grants es e opening here above = record {

@@ -27,7 +27,12 @@ kept n (Ok x) f s each e = each x e
 kept n (Err why) f s each e = cc
 
 -- A reading that is told is the one that is accepted.
-same : (n : ℕ) (said : Result Reading Why) (t s : Reading) → said ≡ Ok t → t.taken ≡ n → said ≡ Ok s → s.taken ≡ n
+same :
+    (n : ℕ) (said : Result Reading Why) (t s : Reading)
+    → said ≡ Ok t
+    → t.taken ≡ n
+    → said ≡ Ok s
+    → s.taken ≡ n
 same n said t s is here e =
     let one : t ≡ s = cc in
     ap (λ (x : Reading). x.taken) (sym one) ∙ here
@@ -41,7 +46,8 @@ act_taken : (r : Reading) (said : Result (ℕ × Act) Why) (s : Reading)
 unfolding after_act
 act_taken r said s e =
     kept r.taken said _ s
-    (λ x added. kept r.taken (may_add r.lines x.1) _ s (λ room is. same r.taken _ _ s refl refl is) added) e
+    (λ x added.
+    kept r.taken (may_add r.lines x.1) _ s (λ room is. same r.taken _ _ s refl refl is) added) e
 
 form_taken : (form : Form) (r : Reading) (ws : List (List ℕ)) (s : Reading)
     → after_form form r ws ≡ Ok s → s.taken ≡ r.taken
@@ -50,7 +56,8 @@ form_taken forms.Order r ws s e = set_taken r stages.Limit (with_order r.config 
 form_taken forms.Limit r ws s e = set_taken r stages.Cpus (with_limit r.config ws) s e
 form_taken forms.Cpus r ws s e = set_taken r stages.Pool (with_cpus r.config ws) s e
 form_taken forms.Pool r ws s e = set_taken r stages.Grants (with_pool r.config ws) s e
-form_taken (forms.Grant kind) r ws s e = set_taken r stages.Grants (with_granted r.config kind ws) s e
+form_taken (forms.Grant kind) r ws s e =
+    set_taken r stages.Grants (with_granted r.config kind ws) s e
 form_taken forms.Entry r ws s e = set_taken r stages.Entries (with_entry r.config ws) s e
 form_taken forms.Window r ws s e = set_taken r stages.Windows (with_window r.config ws) s e
 form_taken forms.Begin r ws s e = set_taken r stages.Lines (with_begin r.config ws) s e
@@ -80,5 +87,7 @@ pub line_taken : (r : Reading) (line : List ℕ) (s : Reading)
 unfolding after_line
 line_taken r line s e =
     kept (r.taken + 1) (guard (ltb r.taken (2 ^ 17)) whys.Lines) _ s
-    (λ few tried. kept (r.taken + 1) (guard (list_all is_printable (without_cr line)) whys.Ascii) _ s
-    (λ text is. text_taken (record r { taken = r.taken + 1 }) (words_of (without_cr line)) s is) tried) e
+    (λ few tried.
+    kept (r.taken + 1) (guard (list_all is_printable (without_cr line)) whys.Ascii) _ s
+    (λ text is. text_taken (record r { taken = r.taken + 1 }) (words_of (without_cr line)) s is)
+    tried) e

@@ -24,7 +24,10 @@ use Rattle.trace_read.specs.Windows.{window_named, with_window}
 
 -- What is opened to read configuration lines.
 unfoldable windows_on_literals : ⊤
-unfolding trace_of after_lines after_line after_text after_words after_form form_of form_named number_within with_order pool_named with_pool grant_named with_granted with_begin with_entry entry_named entry_words with_window window_named number_at number_of range_refusal add_refusal grant_refusals with_grant suits_grants machine_range hex_on_literals
+unfolding trace_of after_lines after_line after_text after_words after_form form_of form_named
+    number_within with_order pool_named with_pool grant_named with_granted with_begin with_entry
+    entry_named entry_words with_window window_named number_at number_of range_refusal add_refusal
+    grant_refusals with_grant suits_grants machine_range hex_on_literals
 windows_on_literals = tt
 
 -- The trace that has these windows, no other setting, and no run line.
@@ -33,27 +36,64 @@ has_windows windows =
     Ok (record { config = record default_settings { windows = windows }; lines = [] })
 
 -- ---- accepted
-one_window : trace_of (codes "window 1 0x10000 2\nbegin\n") ≡ has_windows (bus_window 1 0x10000 2 ∷ [])
+one_window :
+    trace_of (codes "window 1 0x10000 2\nbegin\n") ≡ has_windows (bus_window 1 0x10000 2 ∷ [])
 unfolding windows_on_literals
 one_window = refl
 
 -- The largest number, and the most pages.
-widest : trace_of (codes "window 0xFFFFFFFF 0 16384\nbegin\n") ≡ has_windows (bus_window 0xFFFFFFFF 0 0x4000 ∷ [])
+widest :
+    trace_of (codes "window 0xFFFFFFFF 0 16384\nbegin\n")
+    ≡ has_windows (bus_window 0xFFFFFFFF 0 0x4000 ∷ [])
 unfolding windows_on_literals
 widest = refl
 
 -- The last page below 2 ^ 60, and the number 0.
-highest : trace_of (codes "window 0 0xFFFFFFFFFFFF000 1\nbegin\n") ≡ has_windows (bus_window 0 0xFFFFFFFFFFFF000 1 ∷ [])
+highest :
+    trace_of (codes "window 0 0xFFFFFFFFFFFF000 1\nbegin\n")
+    ≡ has_windows (bus_window 0 0xFFFFFFFFFFFF000 1 ∷ [])
 unfolding windows_on_literals
 highest = refl
 
 -- Four, in the order of their lines. Their addresses may meet.
-four_windows : trace_of (codes "window 9 0 1\nwindow 3 0 1\n# remark\nwindow 7 0x1000 1\nwindow 4 0 2\nbegin\n") ≡ has_windows (bus_window 9 0 1 ∷ bus_window 3 0 1 ∷ bus_window 7 0x1000 1 ∷ bus_window 4 0 2 ∷ [])
+four_windows :
+    trace_of
+    (codes "window 9 0 1\nwindow 3 0 1\n# remark\nwindow 7 0x1000 1\nwindow 4 0 2\nbegin\n")
+    ≡ has_windows
+    (bus_window 9 0 1 ∷ bus_window 3 0 1 ∷ bus_window 7 0x1000 1 ∷ bus_window 4 0 2 ∷ [])
 unfolding windows_on_literals
 four_windows = refl
 
 -- Behind a grant and an entry.
-behind_an_entry : trace_of (codes "ram 0x0 0x2000000000 0x40000000\nentry old 0x20 00000000000010010000000000003192\nwindow 1 0x10000 2\nbegin\n") ≡ Ok (record { config = record { order = 18; limit = 22; cpus = 1; granted = record { pool_base = 0x1000000000; pool_order = 24; grants = record { logical = 0; machine = 0x2000000000; length = 0x40000000; kind = Ram } ∷ [] }; entries = record { index = 0x20; dword0 = 0x1001; dword1 = 0x3192 } ∷ []; windows = bus_window 1 0x10000 2 ∷ [] }; lines = [] })
+behind_an_entry :
+    trace_of
+    (codes
+    "ram 0x0 0x2000000000 0x40000000\nentry old 0x20 00000000000010010000000000003192\nwindow 1 0x10000 2\nbegin\n")
+    ≡ Ok
+    (record {
+      config =
+          record {
+            order = 18;
+            limit = 22;
+            cpus = 1;
+            granted =
+                record {
+                  pool_base = 0x1000000000;
+                  pool_order = 24;
+                  grants =
+                      record {
+                        logical = 0;
+                        machine = 0x2000000000;
+                        length = 0x40000000;
+                        kind = Ram;
+                      }
+                      ∷ [];
+                };
+            entries = record { index = 0x20; dword0 = 0x1001; dword1 = 0x3192 } ∷ [];
+            windows = bus_window 1 0x10000 2 ∷ [];
+          };
+      lines = [];
+    })
 unfolding windows_on_literals
 behind_an_entry = refl
 
@@ -92,12 +132,15 @@ unfolding windows_on_literals
 refused_past = refl
 
 -- A number of an earlier window.
-refused_twice : trace_of (codes "window 1 0 1\nwindow 2 0 1\nwindow 1 0x1000 1\n") ≡ Err (3, whys.Window)
+refused_twice :
+    trace_of (codes "window 1 0 1\nwindow 2 0 1\nwindow 1 0x1000 1\n") ≡ Err (3, whys.Window)
 unfolding windows_on_literals
 refused_twice = refl
 
 -- A fifth window.
-refused_fifth : trace_of (codes "window 1 0 1\nwindow 2 0 1\nwindow 3 0 1\nwindow 4 0 1\nwindow 5 0 1\n") ≡ Err (5, whys.Window)
+refused_fifth :
+    trace_of (codes "window 1 0 1\nwindow 2 0 1\nwindow 3 0 1\nwindow 4 0 1\nwindow 5 0 1\n")
+    ≡ Err (5, whys.Window)
 unfolding windows_on_literals
 refused_fifth = refl
 
@@ -125,15 +168,21 @@ unfolding windows_on_literals
 refused_pages_word = refl
 
 -- Behind a window comes no entry, no grant and no other setting; behind `begin` comes no window.
-refused_entry_behind : trace_of (codes "ram 0x0 0x2000000000 0x40000000\nwindow 1 0 1\nentry old 0x20 00000000000010010000000000003192\n") ≡ Err (3, whys.Place)
+refused_entry_behind :
+    trace_of
+    (codes
+    "ram 0x0 0x2000000000 0x40000000\nwindow 1 0 1\nentry old 0x20 00000000000010010000000000003192\n")
+    ≡ Err (3, whys.Place)
 unfolding windows_on_literals
 refused_entry_behind = refl
 
-refused_ram_behind : trace_of (codes "window 1 0 1\nram 0x0 0x2000000000 0x40000000\n") ≡ Err (2, whys.Place)
+refused_ram_behind :
+    trace_of (codes "window 1 0 1\nram 0x0 0x2000000000 0x40000000\n") ≡ Err (2, whys.Place)
 unfolding windows_on_literals
 refused_ram_behind = refl
 
-refused_io_behind : trace_of (codes "window 1 0 1\nio 0x0 0x2000000000 0x1000\n") ≡ Err (2, whys.Place)
+refused_io_behind :
+    trace_of (codes "window 1 0 1\nio 0x0 0x2000000000 0x1000\n") ≡ Err (2, whys.Place)
 unfolding windows_on_literals
 refused_io_behind = refl
 

@@ -57,7 +57,8 @@ words_of_word line low high some within clear blank =
     (omega (arith, length-drop low line))
     (λ k h. rw get_or-drop (clear (low + k) (omega arith) (omega arith)))
     (λ h. rw (get_or-drop, seam) blank) in
-    let first = slice_split_first is_blank (drop low line) 0 (omega (arith, length-drop low line)) in
+    let first = slice_split_first is_blank (drop low line) 0 (omega (arith, length-drop low line))
+    in
     let parts : slice_split is_blank (drop low line)
     ≡ take (high - low) (drop low line) ∷ slice_split is_blank (drop (high + 1) line) =
     first ∙ rw (place, drop-drop, past) refl in
@@ -72,7 +73,8 @@ words_of_last line low some clear =
     ap (filter (λ w. not (eqb (length w) 0)))
     (slice_split_none is_blank (drop low line) (λ k d h.
     let within : low + k < length line = omega (arith, length-drop low line) in
-    rw (get_or-drop, get_or_default line (low + k) d 0 within) (clear (low + k) (omega arith) within)))
+    rw (get_or-drop, get_or_default line (low + k) d 0 within)
+    (clear (low + k) (omega arith) within)))
     ∙ words_of_part _ [] (omega (arith, length-drop low line))
 
 -- ---- the steps of the loop
@@ -89,14 +91,18 @@ AreReadTo-other line words start i read high = record {
 
 pub AreReadTo-blank : (line : List ℕ) (words : List (List ℕ)) (start i : ℕ)
     → AreReadTo line words start i → i ≤ start → i < length line
-    → list_all is_printable line ≡ true → get_or line i 0 ≤ 32 → AreReadTo line words (i + 1) (i + 1)
+    → list_all is_printable line ≡ true
+    → get_or line i 0 ≤ 32
+    → AreReadTo line words (i + 1) (i + 1)
 AreReadTo-blank line words start i read none within text low =
     let here : start ≡ i = omega arith in
     record {
       ordered = omega arith;
       clear = λ k from to. absurd (omega arith);
       rest = read.rest
-          ∙ rw here (ap (λ ws. words ++ ws) (words_of_blank line i within (blank_at line i within text low)));
+          ∙ rw here
+          (ap (λ ws. words ++ ws)
+          (words_of_blank line i within (blank_at line i within text low)));
     }
 
 pub AreReadTo-word : (line : List ℕ) (words : List (List ℕ)) (start i : ℕ)
@@ -107,12 +113,17 @@ AreReadTo-word line words start i read some within text low = record {
   ordered = omega arith;
   clear = λ k from to. absurd (omega arith);
   rest = read.rest
-      ∙ ap (λ ws. words ++ ws) (words_of_word line start i some within read.clear (blank_at line i within text low))
+      ∙ ap (λ ws. words ++ ws)
+      (words_of_word line start i some within read.clear (blank_at line i within text low))
       ∙ simp append_assoc;
 }
 
 pub AreReadTo-last : (line : List ℕ) (words : List (List ℕ)) (start i : ℕ)
-    → AreReadTo line words start i → start < length line → length line ≤ i → words ++ drop start line ∷ [] ≡ words_of line
+    → AreReadTo line words start i
+    → start < length line
+    → length line ≤ i
+    → words ++ drop start line ∷ [] ≡ words_of line
 AreReadTo-last line words start i read some end =
     sym (read.rest
-    ∙ ap (λ ws. words ++ ws) (words_of_last line start some (λ k from to. read.clear k from (omega arith))))
+    ∙ ap (λ ws. words ++ ws)
+    (words_of_last line start some (λ k from to. read.clear k from (omega arith))))

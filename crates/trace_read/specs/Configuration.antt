@@ -49,7 +49,8 @@ pub record IsOpeningEntry (order : ℕ) (grants : List Grant) (e : ImageEntry) :
 -- Each index is above those before it.
 abbrev pub AreRising : List ImageEntry → Type 0
 AreRising [] = Unit {0}
-AreRising (e ∷ es) = AllByRecursion (λ (later : ImageEntry). e.index < later.index) es × AreRising es
+AreRising (e ∷ es) =
+    AllByRecursion (λ (later : ImageEntry). e.index < later.index) es × AreRising es
 
 -- Each may lie in the opening table, and their indices rise.
 pub record AreOpeningEntries (order : ℕ) (grants : List Grant) (entries : List ImageEntry) : Type 0

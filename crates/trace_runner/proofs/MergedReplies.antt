@@ -19,43 +19,102 @@ use Rattle.trace_runner.proofs.Numbered.{all_at, all_set}
 use Rattle.trace_runner.proofs.WorkSteps.{replied_lines_more, kinds_more, not_eqb}
 
 -- ---- the line at an index
-line_yes : (c : ℕ) (l : TraceLine) (ls : List TraceLine) → eqb l.cpu c ≡ true → lines_of_cpu c (l ∷ ls) ≡ l ∷ lines_of_cpu c ls
+line_yes :
+    (c : ℕ) (l : TraceLine) (ls : List TraceLine)
+    → eqb l.cpu c ≡ true
+    → lines_of_cpu c (l ∷ ls) ≡ l ∷ lines_of_cpu c ls
 line_yes c l ls e = rw e refl
 
-line_no : (c : ℕ) (l : TraceLine) (ls : List TraceLine) → eqb l.cpu c ≡ false → lines_of_cpu c (l ∷ ls) ≡ lines_of_cpu c ls
+line_no :
+    (c : ℕ) (l : TraceLine) (ls : List TraceLine)
+    → eqb l.cpu c ≡ false
+    → lines_of_cpu c (l ∷ ls) ≡ lines_of_cpu c ls
 line_no c l ls e = rw e refl
 
-own_end : (c : ℕ) (ts : List RepliedLine) (t : RepliedLine) → lines_of_processor c (ts ++ t ∷ []) ≡ lines_of_processor c ts ++ lines_of_processor c (t ∷ [])
+own_end :
+    (c : ℕ) (ts : List RepliedLine) (t : RepliedLine)
+    → lines_of_processor c (ts ++ t ∷ []) ≡ lines_of_processor c ts ++ lines_of_processor c (t ∷ [])
 own_end c ts t = filter-append (λ (u : RepliedLine). eqb u.line.cpu c) ts (t ∷ [])
 
-step_own : (c : ℕ) (ts : List RepliedLine) (l : TraceLine) (x : Reply) (rest : List TraceLine) (ss : List Reply) → eqb l.cpu c ≡ true → lines_of_processor c (ts ++ replied_line l x ∷ []) ++ lines_with_replies (lines_of_cpu c rest) ss ≡ lines_of_processor c ts ++ lines_with_replies (lines_of_cpu c (l ∷ rest)) (x ∷ ss)
+step_own :
+    (c : ℕ) (ts : List RepliedLine) (l : TraceLine) (x : Reply) (rest : List TraceLine)
+    (ss : List Reply)
+    → eqb l.cpu c ≡ true
+    → lines_of_processor c (ts ++ replied_line l x ∷ [])
+    ++ lines_with_replies (lines_of_cpu c rest) ss
+    ≡ lines_of_processor c ts ++ lines_with_replies (lines_of_cpu c (l ∷ rest)) (x ∷ ss)
 step_own c ts l x rest ss e =
-    ap (λ us. us ++ lines_with_replies (lines_of_cpu c rest) ss) (own_end c ts (replied_line l x) ∙ ap (λ us. lines_of_processor c ts ++ us) (own_yes c (replied_line l x) [] (eqb-true l.cpu c e)))
-    ∙ append_assoc (lines_of_processor c ts) (replied_line l x ∷ []) (lines_with_replies (lines_of_cpu c rest) ss)
-    ∙ ap (λ ls. lines_of_processor c ts ++ lines_with_replies ls (x ∷ ss)) (sym (line_yes c l rest e))
+    ap (λ us. us ++ lines_with_replies (lines_of_cpu c rest) ss)
+    (own_end c ts (replied_line l x)
+    ∙ ap (λ us. lines_of_processor c ts ++ us)
+    (own_yes c (replied_line l x) [] (eqb-true l.cpu c e)))
+    ∙ append_assoc (lines_of_processor c ts) (replied_line l x ∷ [])
+    (lines_with_replies (lines_of_cpu c rest) ss)
+    ∙ ap (λ ls. lines_of_processor c ts ++ lines_with_replies ls (x ∷ ss))
+    (sym (line_yes c l rest e))
 
-step_other : (c : ℕ) (ts : List RepliedLine) (l : TraceLine) (x : Reply) (rest : List TraceLine) (ss : List Reply) → eqb l.cpu c ≡ false → lines_of_processor c (ts ++ replied_line l x ∷ []) ++ lines_with_replies (lines_of_cpu c rest) ss ≡ lines_of_processor c ts ++ lines_with_replies (lines_of_cpu c (l ∷ rest)) ss
+step_other :
+    (c : ℕ) (ts : List RepliedLine) (l : TraceLine) (x : Reply) (rest : List TraceLine)
+    (ss : List Reply)
+    → eqb l.cpu c ≡ false
+    → lines_of_processor c (ts ++ replied_line l x ∷ [])
+    ++ lines_with_replies (lines_of_cpu c rest) ss
+    ≡ lines_of_processor c ts ++ lines_with_replies (lines_of_cpu c (l ∷ rest)) ss
 step_other c ts l x rest ss e =
-    ap (λ us. us ++ lines_with_replies (lines_of_cpu c rest) ss) (own_end c ts (replied_line l x) ∙ ap (λ us. lines_of_processor c ts ++ us) (own_no c (replied_line l x) [] e) ∙ append-nil (lines_of_processor c ts))
+    ap (λ us. us ++ lines_with_replies (lines_of_cpu c rest) ss)
+    (own_end c ts (replied_line l x)
+    ∙ ap (λ us. lines_of_processor c ts ++ us) (own_no c (replied_line l x) [] e)
+    ∙ append-nil (lines_of_processor c ts))
     ∙ ap (λ ls. lines_of_processor c ts ++ lines_with_replies ls ss) (sym (line_no c l rest e))
 
 -- ---- the lines on a store
-pub on_yes : (ws : List BusWindow) (store : ℕ) (l : TraceLine) (ls : List TraceLine) → eqb (store_of ws l.act) store ≡ true → lines_on_store ws store (l ∷ ls) ≡ l ∷ lines_on_store ws store ls
+pub on_yes :
+    (ws : List BusWindow) (store : ℕ) (l : TraceLine) (ls : List TraceLine)
+    → eqb (store_of ws l.act) store ≡ true
+    → lines_on_store ws store (l ∷ ls) ≡ l ∷ lines_on_store ws store ls
 on_yes ws store l ls e = rw e refl
 
-pub on_no : (ws : List BusWindow) (store : ℕ) (l : TraceLine) (ls : List TraceLine) → eqb (store_of ws l.act) store ≡ false → lines_on_store ws store (l ∷ ls) ≡ lines_on_store ws store ls
+pub on_no :
+    (ws : List BusWindow) (store : ℕ) (l : TraceLine) (ls : List TraceLine)
+    → eqb (store_of ws l.act) store ≡ false
+    → lines_on_store ws store (l ∷ ls) ≡ lines_on_store ws store ls
 on_no ws store l ls e = rw e refl
 
-end_yes : (ws : List BusWindow) (store : ℕ) (ts : List RepliedLine) (l : TraceLine) (x : Reply) → eqb (store_of ws l.act) store ≡ true → replied_on_store ws store (ts ++ replied_line l x ∷ []) ≡ replied_on_store ws store ts ++ replied_line l x ∷ []
-end_yes ws store ts l x e = filter-append (λ (u : RepliedLine). eqb (store_of ws u.line.act) store) ts (replied_line l x ∷ []) ∙ ap (λ us. replied_on_store ws store ts ++ us) (rw e refl)
+end_yes :
+    (ws : List BusWindow) (store : ℕ) (ts : List RepliedLine) (l : TraceLine) (x : Reply)
+    → eqb (store_of ws l.act) store ≡ true
+    → replied_on_store ws store (ts ++ replied_line l x ∷ [])
+    ≡ replied_on_store ws store ts ++ replied_line l x ∷ []
+end_yes ws store ts l x e =
+    filter-append (λ (u : RepliedLine). eqb (store_of ws u.line.act) store) ts
+    (replied_line l x ∷ [])
+    ∙ ap (λ us. replied_on_store ws store ts ++ us) (rw e refl)
 
-end_no : (ws : List BusWindow) (store : ℕ) (ts : List RepliedLine) (l : TraceLine) (x : Reply) → eqb (store_of ws l.act) store ≡ false → replied_on_store ws store (ts ++ replied_line l x ∷ []) ≡ replied_on_store ws store ts
-end_no ws store ts l x e = filter-append (λ (u : RepliedLine). eqb (store_of ws u.line.act) store) ts (replied_line l x ∷ []) ∙ ap (λ us. replied_on_store ws store ts ++ us) (rw e refl) ∙ append-nil (replied_on_store ws store ts)
+end_no :
+    (ws : List BusWindow) (store : ℕ) (ts : List RepliedLine) (l : TraceLine) (x : Reply)
+    → eqb (store_of ws l.act) store ≡ false
+    → replied_on_store ws store (ts ++ replied_line l x ∷ []) ≡ replied_on_store ws store ts
+end_no ws store ts l x e =
+    filter-append (λ (u : RepliedLine). eqb (store_of ws u.line.act) store) ts
+    (replied_line l x ∷ [])
+    ∙ ap (λ us. replied_on_store ws store ts ++ us) (rw e refl)
+    ∙ append-nil (replied_on_store ws store ts)
 
 -- ---- one processor on one store
 -- Its replies so far and those to its lines that are left are all of its replies.
-abbrev Told : List BusWindow → ℕ → ℕ → List RepliedLine → List TraceLine → List Reply → List RepliedLine → Type 0
-Told ws store cpu ts rest rs all = lines_of_processor cpu (replied_on_store ws store ts) ++ lines_with_replies (lines_of_cpu cpu (lines_on_store ws store rest)) rs ≡ all
+abbrev Told :
+    List BusWindow
+    → ℕ
+    → ℕ
+    → List RepliedLine
+    → List TraceLine
+    → List Reply
+    → List RepliedLine
+    → Type 0
+Told ws store cpu ts rest rs all =
+    lines_of_processor cpu (replied_on_store ws store ts)
+    ++ lines_with_replies (lines_of_cpu cpu (lines_on_store ws store rest)) rs
+    ≡ all
 
 -- What is left of each processor's replies behind the line.
 abbrev rest_after : ℕ → List Reply → (ℕ → List Reply) → ℕ → List Reply
@@ -65,70 +124,168 @@ rest_after at ss rs cpu = cond (eqb at cpu) ss (rs cpu)
 abbrev stores_after : ℕ → ℕ → List Reply → (ℕ → ℕ → List Reply) → ℕ → ℕ → List Reply
 stores_after at cpu ss rs store = cond (eqb at store) (rest_after cpu ss (rs store)) (rs store)
 
-told_own : (ws : List BusWindow) (store cpu : ℕ) (ts : List RepliedLine) (l : TraceLine) (x : Reply) (rest : List TraceLine) (ss : List Reply) (rs : ℕ → List Reply) (all : List RepliedLine) → eqb (store_of ws l.act) store ≡ true → rs l.cpu ≡ x ∷ ss → Told ws store cpu ts (l ∷ rest) (rs cpu) all → Told ws store cpu (ts ++ replied_line l x ∷ []) rest (rest_after l.cpu ss rs cpu) all
-told_own ws store cpu ts l x rest ss rs all here first h = ap (λ us. lines_of_processor cpu us ++ lines_with_replies (lines_of_cpu cpu (lines_on_store ws store rest)) (rest_after l.cpu ss rs cpu)) (end_yes ws store ts l x here) ∙ at (eqb l.cpu cpu) refl where
-  past : List RepliedLine
-  past = replied_on_store ws store ts
+told_own :
+    (ws : List BusWindow) (store cpu : ℕ) (ts : List RepliedLine) (l : TraceLine) (x : Reply)
+    (rest : List TraceLine) (ss : List Reply) (rs : ℕ → List Reply) (all : List RepliedLine)
+    → eqb (store_of ws l.act) store ≡ true
+    → rs l.cpu ≡ x ∷ ss
+    → Told ws store cpu ts (l ∷ rest) (rs cpu) all
+    → Told ws store cpu (ts ++ replied_line l x ∷ []) rest (rest_after l.cpu ss rs cpu) all
+told_own ws store cpu ts l x rest ss rs all here first h =
+    ap
+    (λ us.
+    lines_of_processor cpu us
+    ++ lines_with_replies (lines_of_cpu cpu (lines_on_store ws store rest))
+    (rest_after l.cpu ss rs cpu)) (end_yes ws store ts l x here)
+    ∙ at (eqb l.cpu cpu) refl where
+      past : List RepliedLine
+      past = replied_on_store ws store ts
 
-  left : List TraceLine
-  left = lines_on_store ws store rest
+      left : List TraceLine
+      left = lines_on_store ws store rest
 
-  told : lines_of_processor cpu past ++ lines_with_replies (lines_of_cpu cpu (l ∷ left)) (rs cpu) ≡ all
-  told = ap (λ ls. lines_of_processor cpu past ++ lines_with_replies (lines_of_cpu cpu ls) (rs cpu)) (sym (on_yes ws store l rest here)) ∙ h
+      told :
+          lines_of_processor cpu past ++ lines_with_replies (lines_of_cpu cpu (l ∷ left)) (rs cpu)
+          ≡ all
+      told =
+          ap
+          (λ ls.
+          lines_of_processor cpu past ++ lines_with_replies (lines_of_cpu cpu ls) (rs cpu))
+          (sym (on_yes ws store l rest here))
+          ∙ h
 
-  at : (b : Bool) → eqb l.cpu cpu ≡ b → lines_of_processor cpu (past ++ replied_line l x ∷ []) ++ lines_with_replies (lines_of_cpu cpu left) (cond b ss (rs cpu)) ≡ all
-  at true own = step_own cpu past l x left ss own ∙ ap (λ zs. lines_of_processor cpu past ++ lines_with_replies (lines_of_cpu cpu (l ∷ left)) zs) (sym first ∙ ap rs (eqb-true l.cpu cpu own)) ∙ told
-  at false off = step_other cpu past l x left (rs cpu) off ∙ told
+      at :
+          (b : Bool)
+          → eqb l.cpu cpu ≡ b
+          → lines_of_processor cpu (past ++ replied_line l x ∷ [])
+          ++ lines_with_replies (lines_of_cpu cpu left) (cond b ss (rs cpu))
+          ≡ all
+      at true own =
+          step_own cpu past l x left ss own
+          ∙ ap
+          (λ zs. lines_of_processor cpu past ++ lines_with_replies (lines_of_cpu cpu (l ∷ left)) zs)
+          (sym first ∙ ap rs (eqb-true l.cpu cpu own))
+          ∙ told
+      at false off = step_other cpu past l x left (rs cpu) off ∙ told
 
-told_after : (ws : List BusWindow) (store cpu : ℕ) (ts : List RepliedLine) (l : TraceLine) (x : Reply) (rest : List TraceLine) (ss : List Reply) (rs : ℕ → ℕ → List Reply) (all : List RepliedLine) → rs (store_of ws l.act) l.cpu ≡ x ∷ ss → Told ws store cpu ts (l ∷ rest) (rs store cpu) all → Told ws store cpu (ts ++ replied_line l x ∷ []) rest (stores_after (store_of ws l.act) l.cpu ss rs store cpu) all
-told_after ws store cpu ts l x rest ss rs all first h = at (eqb (store_of ws l.act) store) refl where
-  at : (b : Bool) → eqb (store_of ws l.act) store ≡ b → Told ws store cpu (ts ++ replied_line l x ∷ []) rest (cond b (rest_after l.cpu ss (rs store)) (rs store) cpu) all
-  at true here = told_own ws store cpu ts l x rest ss (rs store) all here (ap (λ n. rs n l.cpu) (sym (eqb-true (store_of ws l.act) store here)) ∙ first) h
-  at false off =
-      ap (λ us. lines_of_processor cpu us ++ lines_with_replies (lines_of_cpu cpu (lines_on_store ws store rest)) (rs store cpu)) (end_no ws store ts l x off)
-      ∙ ap (λ ls. lines_of_processor cpu (replied_on_store ws store ts) ++ lines_with_replies (lines_of_cpu cpu ls) (rs store cpu)) (sym (on_no ws store l rest off))
-      ∙ h
+told_after :
+    (ws : List BusWindow) (store cpu : ℕ) (ts : List RepliedLine) (l : TraceLine) (x : Reply)
+    (rest : List TraceLine) (ss : List Reply) (rs : ℕ → ℕ → List Reply) (all : List RepliedLine)
+    → rs (store_of ws l.act) l.cpu ≡ x ∷ ss
+    → Told ws store cpu ts (l ∷ rest) (rs store cpu) all
+    → Told ws store cpu (ts ++ replied_line l x ∷ []) rest
+    (stores_after (store_of ws l.act) l.cpu ss rs store cpu) all
+told_after ws store cpu ts l x rest ss rs all first h =
+    at (eqb (store_of ws l.act) store) refl where
+      at :
+          (b : Bool)
+          → eqb (store_of ws l.act) store ≡ b
+          → Told ws store cpu (ts ++ replied_line l x ∷ []) rest
+          (cond b (rest_after l.cpu ss (rs store)) (rs store) cpu) all
+      at true here =
+          told_own ws store cpu ts l x rest ss (rs store) all here
+          (ap (λ n. rs n l.cpu) (sym (eqb-true (store_of ws l.act) store here)) ∙ first) h
+      at false off =
+          ap
+          (λ us.
+          lines_of_processor cpu us
+          ++ lines_with_replies (lines_of_cpu cpu (lines_on_store ws store rest)) (rs store cpu))
+          (end_no ws store ts l x off)
+          ∙ ap
+          (λ ls.
+          lines_of_processor cpu (replied_on_store ws store ts)
+          ++ lines_with_replies (lines_of_cpu cpu ls) (rs store cpu))
+          (sym (on_no ws store l rest off))
+          ∙ h
 
 -- ---- the logs of one store
-kinds_after : (cpu : ℕ) (l : TraceLine) (rest : List TraceLine) (x : Reply) (ss : List Reply) (rs : ℕ → List Reply) → rs l.cpu ≡ x ∷ ss → AreReplies (lines_of_cpu cpu (l ∷ rest)) (rs cpu) → AreReplies (lines_of_cpu cpu rest) (rest_after l.cpu ss rs cpu)
+kinds_after :
+    (cpu : ℕ) (l : TraceLine) (rest : List TraceLine) (x : Reply) (ss : List Reply)
+    (rs : ℕ → List Reply)
+    → rs l.cpu ≡ x ∷ ss
+    → AreReplies (lines_of_cpu cpu (l ∷ rest)) (rs cpu)
+    → AreReplies (lines_of_cpu cpu rest) (rest_after l.cpu ss rs cpu)
 kinds_after cpu l rest x ss rs first h = at (eqb l.cpu cpu) refl where
   at : (b : Bool) → eqb l.cpu cpu ≡ b → AreReplies (lines_of_cpu cpu rest) (cond b ss (rs cpu))
-  at true here = (subst (λ zs. AreReplies (l ∷ lines_of_cpu cpu rest) zs) (ap rs (sym (eqb-true l.cpu cpu here)) ∙ first) (subst (λ ls. AreReplies ls (rs cpu)) (line_yes cpu l rest here) h)).1
+  at true here =
+      (subst (λ zs. AreReplies (l ∷ lines_of_cpu cpu rest) zs)
+      (ap rs (sym (eqb-true l.cpu cpu here)) ∙ first)
+      (subst (λ ls. AreReplies ls (rs cpu)) (line_yes cpu l rest here) h)).1
   at false off = subst (λ ls. AreReplies ls (rs cpu)) (line_no cpu l rest off) h
 
-kept_after : {L : Type 0} (keeps : Keeping L) (logs : List L) (after e : L) (cpu : ℕ) (l : TraceLine) (rest : List TraceLine) (ss : List Reply) (rs : ℕ → List Reply) → l.cpu < length logs → keeps after (lines_of_cpu l.cpu rest) ss → keeps (get_or logs cpu e) (lines_of_cpu cpu (l ∷ rest)) (rs cpu) → keeps (get_or (set logs l.cpu after) cpu e) (lines_of_cpu cpu rest) (rest_after l.cpu ss rs cpu)
-kept_after {L = L} keeps logs after e cpu l rest ss rs inside new old = at (eqb l.cpu cpu) refl where
-  at : (b : Bool) → eqb l.cpu cpu ≡ b → keeps (get_or (set logs l.cpu after) cpu e) (lines_of_cpu cpu rest) (cond b ss (rs cpu))
-  at true here =
-      let is : l.cpu ≡ cpu = eqb-true l.cpu cpu here in
-      let same : after ≡ get_or (set logs l.cpu after) cpu e = sym (get_or-set_same logs l.cpu after e inside) ∙ ap (λ n. get_or (set logs l.cpu after) n e) is in
-      subst (λ (z : L). keeps z (lines_of_cpu cpu rest) ss) same (subst (λ n. keeps after (lines_of_cpu n rest) ss) is new)
-  at false off =
-      let other : get_or logs cpu e ≡ get_or (set logs l.cpu after) cpu e = sym (get_or-set_other logs l.cpu cpu after e (λ is. eqb-false l.cpu cpu off (sym is))) in
-      subst (λ (z : L). keeps z (lines_of_cpu cpu rest) (rs cpu)) other (subst (λ ls. keeps (get_or logs cpu e) ls (rs cpu)) (line_no cpu l rest off) old)
+kept_after :
+    {L : Type 0} (keeps : Keeping L) (logs : List L) (after e : L) (cpu : ℕ) (l : TraceLine)
+    (rest : List TraceLine) (ss : List Reply) (rs : ℕ → List Reply)
+    → l.cpu < length logs
+    → keeps after (lines_of_cpu l.cpu rest) ss
+    → keeps (get_or logs cpu e) (lines_of_cpu cpu (l ∷ rest)) (rs cpu)
+    → keeps (get_or (set logs l.cpu after) cpu e) (lines_of_cpu cpu rest)
+    (rest_after l.cpu ss rs cpu)
+kept_after {L = L} keeps logs after e cpu l rest ss rs inside new old =
+    at (eqb l.cpu cpu) refl where
+      at :
+          (b : Bool)
+          → eqb l.cpu cpu ≡ b
+          → keeps (get_or (set logs l.cpu after) cpu e) (lines_of_cpu cpu rest) (cond b ss (rs cpu))
+      at true here =
+          let is : l.cpu ≡ cpu = eqb-true l.cpu cpu here in
+          let same : after ≡ get_or (set logs l.cpu after) cpu e = sym
+          (get_or-set_same logs l.cpu after e inside) ∙ ap (λ n. get_or (set logs l.cpu after) n e)
+          is in
+          subst (λ (z : L). keeps z (lines_of_cpu cpu rest) ss) same
+          (subst (λ n. keeps after (lines_of_cpu n rest) ss) is new)
+      at false off =
+          let other : get_or logs cpu e ≡ get_or (set logs l.cpu after) cpu e = sym
+          (get_or-set_other logs l.cpu cpu after e (λ is. eqb-false l.cpu cpu off (sym is))) in
+          subst (λ (z : L). keeps z (lines_of_cpu cpu rest) (rs cpu)) other
+          (subst (λ ls. keeps (get_or logs cpu e) ls (rs cpu)) (line_no cpu l rest off) old)
 
-keep_after : {L : Type 0} (keeps : Keeping L) (logs : List L) (after : L) (l : TraceLine) (rest : List TraceLine) (x : Reply) (ss : List Reply) (rs : ℕ → List Reply) → rs l.cpu ≡ x ∷ ss → keeps after (lines_of_cpu l.cpu rest) ss → AllKeep keeps (l ∷ rest) rs logs → AllKeep keeps rest (rest_after l.cpu ss rs) (set logs l.cpu after)
+keep_after :
+    {L : Type 0} (keeps : Keeping L) (logs : List L) (after : L) (l : TraceLine)
+    (rest : List TraceLine) (x : Reply) (ss : List Reply) (rs : ℕ → List Reply)
+    → rs l.cpu ≡ x ∷ ss
+    → keeps after (lines_of_cpu l.cpu rest) ss
+    → AllKeep keeps (l ∷ rest) rs logs
+    → AllKeep keeps rest (rest_after l.cpu ss rs) (set logs l.cpu after)
 keep_after keeps logs after l rest x ss rs first new h =
     let size : length (set logs l.cpu after) ≡ length logs = length-set logs l.cpu after in
     record {
       cpus = subst (λ n. AllByRecursion (λ (k : TraceLine). k.cpu < n) rest) (sym size) h.cpus.1;
-      kinds = λ cpu low. kinds_after cpu l rest x ss rs first (h.kinds cpu (subst (λ n. cpu < n) size low));
-      kept = λ cpu e low. kept_after keeps logs after e cpu l rest ss rs h.cpus.0 new (h.kept cpu e (subst (λ n. cpu < n) size low));
+      kinds =
+          λ cpu low.
+          kinds_after cpu l rest x ss rs first (h.kinds cpu (subst (λ n. cpu < n) size low));
+      kept =
+          λ cpu e low.
+          kept_after keeps logs after e cpu l rest ss rs h.cpus.0 new
+          (h.kept cpu e (subst (λ n. cpu < n) size low));
     }
 
 -- ---- so far
-pub record Merging {L O Z : Type 0} (keeps : Keeping L) (has : Keeping O) (ws : List BusWindow) (lines : List TraceLine) (k : ℕ) (picks : ℕ → ℕ → List Reply) (logs : List (Vec L Z)) (old new : O) : Type 0 where
+pub record Merging {L O Z : Type 0} (keeps : Keeping L) (has : Keeping O) (ws : List BusWindow)
+    (lines : List TraceLine) (k : ℕ) (picks : ℕ → ℕ → List Reply) (logs : List (Vec L Z))
+    (old new : O) :
+    Type 0 where
   pub news : List Reply
   pub grown : HasGrown has (take k lines) news old new
   pub kinds : AreReplies (take k lines) news
   pub rest : ℕ → ℕ → List Reply
-  pub told : (store cpu : ℕ) → Told ws store cpu (lines_with_replies (take k lines) news) (drop k lines) (rest store cpu) (replied_lines_of_cpu cpu (lines_on_store ws store lines) (picks store cpu))
+  pub told :
+      (store cpu : ℕ)
+      → Told ws store cpu (lines_with_replies (take k lines) news) (drop k lines) (rest store cpu)
+      (replied_lines_of_cpu cpu (lines_on_store ws store lines) (picks store cpu))
   pub keep : StoresKeep keeps ws (drop k lines) rest logs
 
-pub merging_none : {L O Z : Type 0} (keeps : Keeping L) (has : Keeping O) (ws : List BusWindow) (lines : List TraceLine) (picks : ℕ → ℕ → List Reply) (logs : List (Vec L Z)) (old : O) → StoresKeep keeps ws lines picks logs → Merging keeps has ws lines 0 picks logs old old
+pub merging_none :
+    {L O Z : Type 0} (keeps : Keeping L) (has : Keeping O) (ws : List BusWindow)
+    (lines : List TraceLine) (picks : ℕ → ℕ → List Reply) (logs : List (Vec L Z)) (old : O)
+    → StoresKeep keeps ws lines picks logs
+    → Merging keeps has ws lines 0 picks logs old old
 merging_none keeps has ws lines picks logs old h = record {
   news = [];
-  grown = λ ks qs g. subst (λ ls. has old ls (qs ++ [])) (sym (append-nil ks)) (subst (λ rs. has old ks rs) (sym (append-nil qs)) g);
+  grown =
+      λ ks qs g.
+      subst (λ ls. has old ls (qs ++ [])) (sym (append-nil ks))
+      (subst (λ rs. has old ks rs) (sym (append-nil qs)) g);
   kinds = tt;
   rest = picks;
   told = λ store cpu. refl;
@@ -136,18 +293,28 @@ merging_none keeps has ws lines picks logs old h = record {
 }
 
 -- The first reply that is left to the line's processor, and the others.
-pub record First {L : Type 0} (keeps : Keeping L) (l : TraceLine) (rest : List TraceLine) (log : L) (rs : List Reply) : Type 0 where
+pub record First {L : Type 0} (keeps : Keeping L) (l : TraceLine) (rest : List TraceLine) (log : L)
+    (rs : List Reply) :
+    Type 0 where
   pub x : Reply
   pub ss : List Reply
   pub is : rs ≡ x ∷ ss
   pub kind : IsOfKind l.act x
   pub kept : keeps log (l ∷ lines_of_cpu l.cpu rest) (x ∷ ss)
 
-first_of : {L : Type 0} (keeps : Keeping L) (l : TraceLine) (rest : List TraceLine) (log : L) (rs : List Reply) → AreReplies (l ∷ lines_of_cpu l.cpu rest) rs → keeps log (l ∷ lines_of_cpu l.cpu rest) rs → First keeps l rest log rs
+first_of :
+    {L : Type 0} (keeps : Keeping L) (l : TraceLine) (rest : List TraceLine) (log : L)
+    (rs : List Reply)
+    → AreReplies (l ∷ lines_of_cpu l.cpu rest) rs
+    → keeps log (l ∷ lines_of_cpu l.cpu rest) rs
+    → First keeps l rest log rs
 first_of keeps l rest log [] h kept = absurd h
-first_of keeps l rest log (x ∷ ss) h kept = record { x = x; ss = ss; is = refl; kind = h.0; kept = kept }
+first_of keeps l rest log (x ∷ ss) h kept =
+    record { x = x; ss = ss; is = refl; kind = h.0; kept = kept }
 
-module _ {L O Z : Type 0} (keeps : Keeping L) (has : Keeping O) (ws : List BusWindow) (lines : List TraceLine) (k : ℕ) (d : TraceLine) (picks : ℕ → ℕ → List Reply) (logs : List (Vec L Z)) (own : Vec L Z) (old mid : O) where
+module _ {L O Z : Type 0} (keeps : Keeping L) (has : Keeping O) (ws : List BusWindow)
+    (lines : List TraceLine) (k : ℕ) (d : TraceLine) (picks : ℕ → ℕ → List Reply)
+    (logs : List (Vec L Z)) (own : Vec L Z) (old mid : O) where
   abbrev l : TraceLine
   l = get_or lines k d
 
@@ -158,35 +325,86 @@ module _ {L O Z : Type 0} (keeps : Keeping L) (has : Keeping O) (ws : List BusWi
   left = lines_on_store ws at (drop (k + 1) lines)
 
   on_store : k < length lines → lines_on_store ws at (drop k lines) ≡ l ∷ left
-  on_store within = ap (lines_on_store ws at) (drop_more lines k d within) ∙ on_yes ws at l (drop (k + 1) lines) (eq-eqb at at refl)
+  on_store within =
+      ap (lines_on_store ws at) (drop_more lines k d within)
+      ∙ on_yes ws at l (drop (k + 1) lines) (eq-eqb at at refl)
 
   -- The logs of the line's store.
-  pub merging_store : k < length lines → at < length logs → own ≡ get_or logs at own → (m : Merging keeps has ws lines k picks logs old mid) → AllKeep keeps (l ∷ left) (m.rest at) own.items
-  merging_store within low is m = subst (λ ls. AllKeep keeps ls (m.rest at) own.items) (on_store within) (all_at (λ store (v : Vec L Z). AllKeep keeps (lines_on_store ws store (drop k lines)) (m.rest store) v.items) 0 at at logs own (omega arith) low is m.keep)
+  pub merging_store :
+      k < length lines
+      → at < length logs
+      → own ≡ get_or logs at own
+      → (m : Merging keeps has ws lines k picks logs old mid)
+      → AllKeep keeps (l ∷ left) (m.rest at) own.items
+  merging_store within low is m =
+      subst (λ ls. AllKeep keeps ls (m.rest at) own.items) (on_store within)
+      (all_at
+      (λ store (v : Vec L Z).
+      AllKeep keeps (lines_on_store ws store (drop k lines)) (m.rest store) v.items) 0 at
+      at logs own (omega arith) low is m.keep)
 
-  pub merging_first : (log : L) → k < length lines → at < length logs → own ≡ get_or logs at own → log ≡ get_or own.items l.cpu log → (m : Merging keeps has ws lines k picks logs old mid) → First keeps l left log (m.rest at l.cpu)
+  pub merging_first :
+      (log : L)
+      → k < length lines
+      → at < length logs
+      → own ≡ get_or logs at own
+      → log ≡ get_or own.items l.cpu log
+      → (m : Merging keeps has ws lines k picks logs old mid)
+      → First keeps l left log (m.rest at l.cpu)
   merging_first log within low is read m =
       let rs = m.rest at l.cpu in
       let h = merging_store within low is m in
-      let same : lines_of_cpu l.cpu (l ∷ left) ≡ l ∷ lines_of_cpu l.cpu left = line_yes l.cpu l left (eq-eqb l.cpu l.cpu refl) in
-      first_of keeps l left log rs (subst (λ ls. AreReplies ls rs) same (h.kinds l.cpu h.cpus.0)) (subst (λ ls. keeps log ls rs) same (subst (λ (z : L). keeps z (lines_of_cpu l.cpu (l ∷ left)) rs) (sym read) (h.kept l.cpu log h.cpus.0)))
+      let same : lines_of_cpu l.cpu (l ∷ left) ≡ l ∷ lines_of_cpu l.cpu left = line_yes l.cpu l left
+      (eq-eqb l.cpu l.cpu refl) in
+      first_of keeps l left log rs (subst (λ ls. AreReplies ls rs) same (h.kinds l.cpu h.cpus.0))
+      (subst (λ ls. keeps log ls rs) same
+      (subst (λ (z : L). keeps z (lines_of_cpu l.cpu (l ∷ left)) rs) (sym read)
+      (h.kept l.cpu log h.cpus.0)))
 
   pub merging_more : (log after : L) (new_own : Vec L Z) (new : O)
-      → k < length lines → at < length logs → own ≡ get_or logs at own → log ≡ get_or own.items l.cpu log → new_own.items ≡ set own.items l.cpu after
-      → ((l : TraceLine) (r : Reply) (ls : List TraceLine) (rs : List Reply) → keeps log (l ∷ ls) (r ∷ rs) → keeps after ls rs)
-      → ((l : TraceLine) (r : Reply) (ls : List TraceLine) (rs : List Reply) (ks : List TraceLine) (qs : List Reply) → keeps log (l ∷ ls) (r ∷ rs) → has mid ks qs → has new (ks ++ l ∷ []) (qs ++ r ∷ []))
-      → Merging keeps has ws lines k picks logs old mid → Merging keeps has ws lines (k + 1) picks (set logs at new_own) old new
+      → k < length lines
+      → at < length logs
+      → own ≡ get_or logs at own
+      → log ≡ get_or own.items l.cpu log
+      → new_own.items ≡ set own.items l.cpu after
+      →
+      ((l : TraceLine) (r : Reply) (ls : List TraceLine) (rs : List Reply)
+      → keeps log (l ∷ ls) (r ∷ rs)
+      → keeps after ls rs)
+      →
+      ((l : TraceLine) (r : Reply) (ls : List TraceLine) (rs : List Reply) (ks : List TraceLine)
+      (qs : List Reply)
+      → keeps log (l ∷ ls) (r ∷ rs)
+      → has mid ks qs
+      → has new (ks ++ l ∷ []) (qs ++ r ∷ []))
+      → Merging keeps has ws lines k picks logs old mid
+      → Merging keeps has ws lines (k + 1) picks (set logs at new_own) old new
   merging_more log after new_own new within low is read put left_to moved m = record {
     news = m.news ++ x ∷ [];
     grown = λ ks qs g.
-        let ls : (ks ++ take k lines) ++ l ∷ [] ≡ ks ++ take (k + 1) lines = append_assoc ks (take k lines) (l ∷ []) ∙ ap (λ z. ks ++ z) (sym front) in
-        let rs : (qs ++ m.news) ++ x ∷ [] ≡ qs ++ (m.news ++ x ∷ []) = append_assoc qs m.news (x ∷ []) in
-        subst (λ z. has new z (qs ++ (m.news ++ x ∷ []))) ls (subst (λ z. has new ((ks ++ take k lines) ++ l ∷ []) z) rs (moved l x (lines_of_cpu l.cpu left) first.ss (ks ++ take k lines) (qs ++ m.news) first.kept (m.grown ks qs g)));
-    kinds = subst (λ ls. AreReplies ls (m.news ++ x ∷ [])) (sym front) (kinds_more (take k lines) (l ∷ []) m.news (x ∷ []) m.kinds (first.kind, tt));
+        let ls : (ks ++ take k lines) ++ l ∷ [] ≡ ks ++ take (k + 1) lines = append_assoc ks
+        (take k lines) (l ∷ []) ∙ ap (λ z. ks ++ z) (sym front) in
+        let rs : (qs ++ m.news) ++ x ∷ [] ≡ qs ++ (m.news ++ x ∷ []) = append_assoc qs m.news
+        (x ∷ []) in
+        subst (λ z. has new z (qs ++ (m.news ++ x ∷ []))) ls
+        (subst (λ z. has new ((ks ++ take k lines) ++ l ∷ []) z) rs
+        (moved l x (lines_of_cpu l.cpu left) first.ss (ks ++ take k lines) (qs ++ m.news)
+        first.kept (m.grown ks qs g)));
+    kinds =
+        subst (λ ls. AreReplies ls (m.news ++ x ∷ [])) (sym front)
+        (kinds_more (take k lines) (l ∷ []) m.news (x ∷ []) m.kinds (first.kind, tt));
     rest = rest;
-    told = λ store cpu. subst (λ us. Told ws store cpu us (drop (k + 1) lines) (rest store cpu) (all store cpu)) told
-        (told_after ws store cpu ts l x (drop (k + 1) lines) first.ss m.rest (all store cpu) first.is (subst (λ ls. Told ws store cpu ts ls (m.rest store cpu) (all store cpu)) (drop_more lines k d within) (m.told store cpu)));
-    keep = all_set (IsKept k m.rest) (IsKept (k + 1) rest) 0 at at logs own new_own (omega arith) low is other here m.keep;
+    told =
+        λ store cpu.
+        subst (λ us. Told ws store cpu us (drop (k + 1) lines) (rest store cpu) (all store cpu))
+        told
+        (told_after ws store cpu ts l x (drop (k + 1) lines) first.ss m.rest (all store cpu)
+        first.is
+        (subst (λ ls. Told ws store cpu ts ls (m.rest store cpu) (all store cpu))
+        (drop_more lines k d within) (m.told store cpu)));
+    keep =
+        all_set (IsKept k m.rest) (IsKept (k + 1) rest) 0 at at logs own new_own (omega arith) low
+        is other here m.keep;
   } where
     first : First keeps l left log (m.rest at l.cpu)
     first = merging_first log within low is read m
@@ -207,24 +425,51 @@ module _ {L O Z : Type 0} (keeps : Keeping L) (has : Keeping O) (ws : List BusWi
     all store cpu = replied_lines_of_cpu cpu (lines_on_store ws store lines) (picks store cpu)
 
     told : ts ++ replied_line l x ∷ [] ≡ lines_with_replies (take (k + 1) lines) (m.news ++ x ∷ [])
-    told = sym (ap (λ ls. lines_with_replies ls (m.news ++ x ∷ [])) front ∙ replied_lines_more (take k lines) (l ∷ []) m.news (x ∷ []) m.kinds)
+    told =
+        sym
+        (ap (λ ls. lines_with_replies ls (m.news ++ x ∷ [])) front
+        ∙ replied_lines_more (take k lines) (l ∷ []) m.news (x ∷ []) m.kinds)
 
     IsKept : ℕ → (ℕ → ℕ → List Reply) → ℕ → Vec L Z → Type 0
     IsKept j rs store v = AllKeep keeps (lines_on_store ws store (drop j lines)) (rs store) v.items
 
-    other : (store : ℕ) (v : Vec L Z) → store ≢ at → IsKept k m.rest store v → IsKept (k + 1) rest store v
+    other :
+        (store : ℕ) (v : Vec L Z)
+        → store ≢ at
+        → IsKept k m.rest store v
+        → IsKept (k + 1) rest store v
     other store v differ h =
         let off : eqb at store ≡ false = not_eqb at store (λ e. differ (sym e)) in
-        let lines_stay : lines_on_store ws store (drop k lines) ≡ lines_on_store ws store (drop (k + 1) lines) = ap (lines_on_store ws store) (drop_more lines k d within) ∙ on_no ws store l (drop (k + 1) lines) off in
-        subst (λ b. AllKeep keeps (lines_on_store ws store (drop (k + 1) lines)) (cond b (rest_after l.cpu first.ss (m.rest store)) (m.rest store)) v.items) (sym off) (subst (λ ls. AllKeep keeps ls (m.rest store) v.items) lines_stay h)
+        let lines_stay : lines_on_store ws store (drop k lines) ≡ lines_on_store ws store
+        (drop (k + 1) lines) = ap (lines_on_store ws store) (drop_more lines k d within) ∙ on_no
+        ws store l (drop (k + 1) lines) off in
+        subst
+        (λ b.
+        AllKeep keeps (lines_on_store ws store (drop (k + 1) lines))
+        (cond b (rest_after l.cpu first.ss (m.rest store)) (m.rest store)) v.items)
+        (sym off) (subst (λ ls. AllKeep keeps ls (m.rest store) v.items) lines_stay h)
 
     here : IsKept k m.rest at own → IsKept (k + 1) rest at new_own
     here h =
         let yes : eqb at at ≡ true = eq-eqb at at refl in
-        let more : AllKeep keeps left (rest_after l.cpu first.ss (m.rest at)) (set own.items l.cpu after) = keep_after keeps own.items after l left x first.ss (m.rest at) first.is (left_to l x (lines_of_cpu l.cpu left) first.ss first.kept) (merging_store within low is m) in
-        subst (λ b. AllKeep keeps left (cond b (rest_after l.cpu first.ss (m.rest at)) (m.rest at)) new_own.items) (sym yes) (subst (λ (ls : List L). AllKeep keeps left (rest_after l.cpu first.ss (m.rest at)) ls) (sym put) more)
+        let more : AllKeep keeps left (rest_after l.cpu first.ss (m.rest at))
+        (set own.items l.cpu after) = keep_after keeps own.items after l left x first.ss
+        (m.rest at) first.is (left_to l x (lines_of_cpu l.cpu left) first.ss first.kept)
+        (merging_store within low is m) in
+        subst
+        (λ b.
+        AllKeep keeps left (cond b (rest_after l.cpu first.ss (m.rest at)) (m.rest at))
+        new_own.items) (sym yes)
+        (subst (λ (ls : List L). AllKeep keeps left (rest_after l.cpu first.ss (m.rest at)) ls)
+        (sym put) more)
 
-pub merging_all : {L O Z : Type 0} (keeps : Keeping L) (has : Keeping O) (ws : List BusWindow) (lines : List TraceLine) (k : ℕ) (picks : ℕ → ℕ → List Reply) (logs : List (Vec L Z)) (old new : O) → length lines ≤ k → Merging keeps has ws lines k picks logs old new → AddsReplies has ws lines picks old new
+pub merging_all :
+    {L O Z : Type 0} (keeps : Keeping L) (has : Keeping O) (ws : List BusWindow)
+    (lines : List TraceLine) (k : ℕ) (picks : ℕ → ℕ → List Reply) (logs : List (Vec L Z))
+    (old new : O)
+    → length lines ≤ k
+    → Merging keeps has ws lines k picks logs old new
+    → AddsReplies has ws lines picks old new
 merging_all keeps has ws lines k picks logs old new end m =
     let all : take k lines ≡ lines = take_all k lines end in
     let none : drop k lines ≡ [] = drop_all k lines end in
@@ -235,12 +480,30 @@ merging_all keeps has ws lines k picks logs old new end m =
         kinds = subst (λ ls. AreReplies ls m.news) all m.kinds;
         own = λ store cpu.
             let to = replied_lines_of_cpu cpu (lines_on_store ws store lines) (picks store cpu) in
-            sym (append-nil (lines_of_processor cpu (replied_on_store ws store (lines_with_replies lines m.news)))) ∙ (subst (λ ls. lines_of_processor cpu (replied_on_store ws store (lines_with_replies ls m.news)) ++ [] ≡ to) all (subst (λ ls. Told ws store cpu (lines_with_replies (take k lines) m.news) ls (m.rest store cpu) to) none (m.told store cpu)));
+            sym
+            (append-nil
+            (lines_of_processor cpu
+            (replied_on_store ws store (lines_with_replies lines m.news))))
+            ∙
+            (subst
+            (λ ls.
+            lines_of_processor cpu
+            (replied_on_store ws store (lines_with_replies ls m.news))
+            ++ []
+            ≡ to) all
+            (subst
+            (λ ls.
+            Told ws store cpu (lines_with_replies (take k lines) m.news) ls
+            (m.rest store cpu) to) none (m.told store cpu)));
       };
     }
 
 -- What each of a list has, the one at an index has.
-pub each_at : {A : Type 0} (P : A → Type 0) (xs : List A) (i : ℕ) (d : A) → AllByRecursion P xs → i < length xs → P (get_or xs i d)
+pub each_at :
+    {A : Type 0} (P : A → Type 0) (xs : List A) (i : ℕ) (d : A)
+    → AllByRecursion P xs
+    → i < length xs
+    → P (get_or xs i d)
 each_at P [] i d h k = absurd (omega arith)
 each_at P (x ∷ xs) zero d h k = h.0
 each_at P (x ∷ xs) (suc i) d h k = each_at P xs i d h.1 (omega arith)

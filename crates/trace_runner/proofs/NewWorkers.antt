@@ -33,40 +33,74 @@ pub nil_of : {A : Type 0} (xs : List A) → length xs ≡ 0 → xs ≡ []
 nil_of [] e = refl
 nil_of (x ∷ xs) e = absurd (omega (arith, e))
 
-pub worker_starts : {L : Type 0} (keeps : Keeping L) (room_in : L → ℕ) (set : StoreContext) (table : LockTable) (n : ℕ) (lines : List TraceLine) (w : Worker L) (pass : Pass) (cpu : Processor)
-    → length table.opening.items ≡ 2 ^ (table.order - 4) → AllCached (Holding table.opening.items) cpu.cache → IsFresh table 1 pass
-    → (w.cpu ≡ cpu) × (w.before.value ≡ cpu) → w.pass ≡ Some pass → AreOwn lines n w.own.items → keeps w.log [] [] → 0 < length (lines_of_cpu n lines) → length (lines_of_cpu n lines) ≤ room_in w.log
+pub worker_starts :
+    {L : Type 0} (keeps : Keeping L) (room_in : L → ℕ) (set : StoreContext) (table : LockTable)
+    (n : ℕ) (lines : List TraceLine) (w : Worker L) (pass : Pass) (cpu : Processor)
+    → length table.opening.items ≡ 2 ^ (table.order - 4)
+    → AllCached (Holding table.opening.items) cpu.cache
+    → IsFresh table 1 pass
+    → (w.cpu ≡ cpu) × (w.before.value ≡ cpu)
+    → w.pass ≡ Some pass
+    → AreOwn lines n w.own.items
+    → keeps w.log [] []
+    → 0 < length (lines_of_cpu n lines)
+    → length (lines_of_cpu n lines) ≤ room_in w.log
     → IsReady keeps room_in set table n lines w
-worker_starts keeps room_in set table n lines w pass cpu size holds first processors is own none some room = inr (record {
-  some = λ e. absurd (let zero_count = ap length e in omega (arith, some, zero_count));
-  fresh = subst (λ (o : Option Pass). IsSomeAnd o (HasRun set table n [] [] w)) (sym is) (record {
-    of = first.of;
-    share = first.count;
-    made = first.made;
-    kinds = tt;
-    works = first.fronts;
-    size = ap length first.fronts ∙ length-map table.opening.items pair_of ∙ size;
-    processor = processors.0 ∙ sym processors.1;
-    seen = subst (λ (s : Processor). AllCached (IsSeenBy table pass) s.cache) (sym processors.0) (all_cached_weaker (Holding table.opening.items) (IsSeenBy table pass) (λ line h. record { inside = subst (λ m. line.entry < m) size (holds_inside table.opening.items line h); seen = inr h }) cpu.cache holds);
-  });
-  own = own;
-  none = none;
-  room = room;
-})
+worker_starts keeps room_in set table n lines w pass cpu size holds first processors is own none
+    some room =
+    inr (record {
+      some = λ e. absurd (let zero_count = ap length e in omega (arith, some, zero_count));
+      fresh =
+          subst (λ (o : Option Pass). IsSomeAnd o (HasRun set table n [] [] w)) (sym is) (record {
+            of = first.of;
+            share = first.count;
+            made = first.made;
+            kinds = tt;
+            works = first.fronts;
+            size = ap length first.fronts ∙ length-map table.opening.items pair_of ∙ size;
+            processor = processors.0 ∙ sym processors.1;
+            seen =
+                subst (λ (s : Processor). AllCached (IsSeenBy table pass) s.cache)
+                (sym processors.0)
+                (all_cached_weaker (Holding table.opening.items) (IsSeenBy table pass)
+                (λ line h.
+                record {
+                  inside =
+                      subst (λ m. line.entry < m) size
+                      (holds_inside table.opening.items line h);
+                  seen = inr h;
+                }) cpu.cache holds);
+          });
+      own = own;
+      none = none;
+      room = room;
+    })
 
-pub worker_idles : {L : Type 0} (keeps : Keeping L) (room_in : L → ℕ) (set : StoreContext) (table : LockTable) (n : ℕ) (lines : List TraceLine) (w : Worker L) (cpu : Processor)
-    → AllCached (Holding table.opening.items) cpu.cache → (w.cpu ≡ cpu) × (w.before.value ≡ cpu) → w.pass ≡ None → keeps w.log [] [] → length (lines_of_cpu n lines) ≡ 0
+pub worker_idles :
+    {L : Type 0} (keeps : Keeping L) (room_in : L → ℕ) (set : StoreContext) (table : LockTable)
+    (n : ℕ) (lines : List TraceLine) (w : Worker L) (cpu : Processor)
+    → AllCached (Holding table.opening.items) cpu.cache
+    → (w.cpu ≡ cpu) × (w.before.value ≡ cpu)
+    → w.pass ≡ None
+    → keeps w.log [] []
+    → length (lines_of_cpu n lines) ≡ 0
     → IsReady keeps room_in set table n lines w
 worker_idles keeps room_in set table n lines w cpu holds processors is none no_line = inl (record {
   no_line = nil_of (lines_of_cpu n lines) no_line;
   no_pass = is;
   none = none;
   processor = processors.0 ∙ sym processors.1;
-  hold = subst (λ (s : Processor). AllCached (Holding table.opening.items) s.cache) (sym processors.0) holds;
+  hold =
+      subst (λ (s : Processor). AllCached (Holding table.opening.items) s.cache) (sym processors.0)
+      holds;
 })
 
 -- The opening pass is all of the shares.
-pub first_rest : (table : LockTable) (n : ℕ) (pass : Pass) → 0 < n → IsFresh table n pass → IsRest table n (Some pass)
+pub first_rest :
+    (table : LockTable) (n : ℕ) (pass : Pass)
+    → 0 < n
+    → IsFresh table n pass
+    → IsRest table n (Some pass)
 first_rest table zero pass some h = absurd (omega (arith, some))
 first_rest table (suc n) pass some h = h
 
@@ -76,11 +110,16 @@ size_push [] x = omega arith
 size_push (y ∷ ys) x = let e = size_push ys x in omega (arith, e)
 
 -- What holds of all holds of the last one.
-pub hold_last : {A : Type 0} (P : A → Type 0) (xs : List A) (x : A) → AllByRecursion P (xs ++ x ∷ []) → AllByRecursion P xs × P x
+pub hold_last :
+    {A : Type 0} (P : A → Type 0) (xs : List A) (x : A)
+    → AllByRecursion P (xs ++ x ∷ [])
+    → AllByRecursion P xs × P x
 hold_last P [] x h = (tt, h.0)
 hold_last P (y ∷ ys) x h = let r = hold_last P ys x h.1 in ((h.0, r.0), r.1)
 
 -- The last list counts as the first does.
-pub count_last : {Z : Type 0} (lists : List (Vec ℕ Z)) (own : Vec ℕ Z) → count_with_own (lists ++ own ∷ []) ≡ min 1 (length own.items) + count_with_own lists
+pub count_last :
+    {Z : Type 0} (lists : List (Vec ℕ Z)) (own : Vec ℕ Z)
+    → count_with_own (lists ++ own ∷ []) ≡ min 1 (length own.items) + count_with_own lists
 count_last [] own = omega arith
 count_last (x ∷ xs) own = let e = count_last xs own in omega (arith, e)

@@ -19,7 +19,8 @@ use Rattle.run_model.specs.Stores.{Store, context_of, states_of, window_store}
 use Rattle.run_model.proofs.LinesByProcessor.{processors_size}
 use Rattle.run_model.proofs.SectionGood.{quiet_size}
 
-resize_grants : (w : Store) (hcall : Hcall) (args : List ℕ) → (run_resize w hcall args).1.grants ≡ w.grants
+resize_grants :
+    (w : Store) (hcall : Hcall) (args : List ℕ) → (run_resize w hcall args).1.grants ≡ w.grants
 unfolding run_resize
 resize_grants w calls.Prepare args = refl
 resize_grants w calls.Commit args = refl
@@ -32,22 +33,37 @@ quiet_grants w other = refl
 
 line_grants : (w : Store) (l : TraceLine) → (run_on w l).1.grants ≡ w.grants
 unfolding run_on
-line_grants w l = cond_both (is_quiet l.act) (run_quiet_line w l.act) (with_result w l (line_result (context_of w) (processor_at w.processors l.cpu) (states_of w) l.act)) (λ (y : Reply × Store). y.1.grants ≡ w.grants) (λ q. quiet_grants w l.act) (λ q. refl)
+line_grants w l =
+    cond_both (is_quiet l.act) (run_quiet_line w l.act)
+    (with_result w l
+    (line_result (context_of w) (processor_at w.processors l.cpu) (states_of w) l.act))
+    (λ (y : Reply × Store). y.1.grants ≡ w.grants) (λ q. quiet_grants w l.act) (λ q. refl)
 
 line_size : (w : Store) (l : TraceLine) → length (run_on w l).1.processors ≡ length w.processors
 unfolding run_on
 line_size w l =
     let x = line_result (context_of w) (processor_at w.processors l.cpu) (states_of w) l.act in
-    cond_both (is_quiet l.act) (run_quiet_line w l.act) (with_result w l x) (λ (y : Reply × Store). length y.1.processors ≡ length w.processors) (λ q. quiet_size w l.act) (λ q. processors_size w.processors (record { line = l; reply = x.0 }))
+    cond_both (is_quiet l.act) (run_quiet_line w l.act) (with_result w l x)
+    (λ (y : Reply × Store). length y.1.processors ≡ length w.processors)
+    (λ q. quiet_size w l.act)
+    (λ q. processors_size w.processors (record { line = l; reply = x.0 }))
 
 -- The windows beside the page table, where its grants and the count of its processors stay.
-pub windows_beside : (v w : Store) (vs : List WindowState) → v.grants ≡ w.grants → length v.processors ≡ length w.processors → map (as_store v) vs ≡ map (as_store w) vs
-windows_beside v w vs granted size = λ i. map (λ (u : WindowState). window_store (granted i) (size i) u.states u.window) vs
+pub windows_beside :
+    (v w : Store) (vs : List WindowState)
+    → v.grants ≡ w.grants
+    → length v.processors ≡ length w.processors
+    → map (as_store v) vs ≡ map (as_store w) vs
+windows_beside v w vs granted size =
+    λ i. map (λ (u : WindowState). window_store (granted i) (size i) u.states u.window) vs
 
 -- So behind a line on the page table.
-pub line_beside : (w : Store) (l : TraceLine) (vs : List WindowState) → map (as_store (run_on w l).1) vs ≡ map (as_store w) vs
+pub line_beside :
+    (w : Store) (l : TraceLine) (vs : List WindowState)
+    → map (as_store (run_on w l).1) vs ≡ map (as_store w) vs
 line_beside w l vs = windows_beside (run_on w l).1 w vs (line_grants w l) (line_size w l)
 
-pub quiet_is : (w : Store) (l : TraceLine) → is_quiet l.act ≡ true → run_on w l ≡ run_quiet_line w l.act
+pub quiet_is :
+    (w : Store) (l : TraceLine) → is_quiet l.act ≡ true → run_on w l ≡ run_quiet_line w l.act
 unfolding run_on
 quiet_is w l q = rw q refl

@@ -22,22 +22,40 @@ on_map (Ok x) P Q f h = f h
 on_map (Err e) P Q f h = tt
 
 -- ---- one more
-ends_more : (front bytes more ends : List ℕ) (ls : List TraceLine) (rs : List Reply) (l : TraceLine) (r : Reply) → more ≡ bytes ++ reply_text l r → IsUtf8 more → EndsBehind front bytes ends ls rs → EndsBehind front more (ends ++ length more ∷ []) (ls ++ l ∷ []) (rs ++ r ∷ [])
+ends_more :
+    (front bytes more ends : List ℕ) (ls : List TraceLine) (rs : List Reply) (l : TraceLine)
+    (r : Reply)
+    → more ≡ bytes ++ reply_text l r
+    → IsUtf8 more
+    → EndsBehind front bytes ends ls rs
+    → EndsBehind front more (ends ++ length more ∷ []) (ls ++ l ∷ []) (rs ++ r ∷ [])
 ends_more front bytes more [] [] [] l r put utf8 h =
     let e : more ≡ front ++ reply_text l r = put ∙ ap (λ z. z ++ reply_text l r) h in
     (ap length e, (subst IsUtf8 e utf8, e))
-ends_more front bytes more (end ∷ ends) (k ∷ ks) (q ∷ qs) l r put utf8 h = (h.0, (h.1.0, ends_more (front ++ reply_text k q) bytes more ends ks qs l r put utf8 h.1.1))
+ends_more front bytes more (end ∷ ends) (k ∷ ks) (q ∷ qs) l r put utf8 h =
+    (h.0, (h.1.0, ends_more (front ++ reply_text k q) bytes more ends ks qs l r put utf8 h.1.1))
 ends_more front bytes more [] [] (q ∷ qs) l r put utf8 h = absurd h
 ends_more front bytes more [] (k ∷ ks) rs l r put utf8 h = absurd h
 ends_more front bytes more (end ∷ ends) [] rs l r put utf8 h = absurd h
 ends_more front bytes more (end ∷ ends) (k ∷ ks) [] l r put utf8 h = absurd h
 
-pub keeps_more : (bytes more ends next : List ℕ) (start end : ℕ) (ls : List TraceLine) (rs : List Reply) (l : TraceLine) (r : Reply) → more ≡ bytes ++ reply_text l r → IsUtf8 more → end ≡ length more → next ≡ ends ++ end ∷ [] → KeepsText bytes ends start ls rs → KeepsText more next start (ls ++ l ∷ []) (rs ++ r ∷ [])
+pub keeps_more :
+    (bytes more ends next : List ℕ) (start end : ℕ) (ls : List TraceLine) (rs : List Reply)
+    (l : TraceLine) (r : Reply)
+    → more ≡ bytes ++ reply_text l r
+    → IsUtf8 more
+    → end ≡ length more
+    → next ≡ ends ++ end ∷ []
+    → KeepsText bytes ends start ls rs
+    → KeepsText more next start (ls ++ l ∷ []) (rs ++ r ∷ [])
 keeps_more bytes more ends next start end ls rs l r put utf8 at pushed h = record {
   front = h.front;
   begins = h.begins;
   cut = h.cut;
-  texts = subst (λ es. EndsBehind h.front more es (ls ++ l ∷ []) (rs ++ r ∷ [])) (ap (λ n. ends ++ n ∷ []) (sym at) ∙ sym pushed) (ends_more h.front bytes more ends ls rs l r put utf8 h.texts);
+  texts =
+      subst (λ es. EndsBehind h.front more es (ls ++ l ∷ []) (rs ++ r ∷ []))
+      (ap (λ n. ends ++ n ∷ []) (sym at) ∙ sym pushed)
+      (ends_more h.front bytes more ends ls rs l r put utf8 h.texts);
 }
 
 pub keeps_none : (start : ℕ) → start ≡ 0 → KeepsText [] [] start [] []
@@ -45,7 +63,10 @@ keeps_none start e = record { front = []; begins = e; cut = IsUtf8-nil; texts = 
 
 -- ---- the first one
 -- The texts stand behind the front.
-pub behind : (front bytes ends : List ℕ) (ls : List TraceLine) (rs : List Reply) → EndsBehind front bytes ends ls rs → (rest : List ℕ) × (bytes ≡ front ++ rest)
+pub behind :
+    (front bytes ends : List ℕ) (ls : List TraceLine) (rs : List Reply)
+    → EndsBehind front bytes ends ls rs
+    → (rest : List ℕ) × (bytes ≡ front ++ rest)
 behind front bytes [] [] [] h = ([], h ∙ sym (append-nil front))
 behind front bytes (end ∷ ends) (l ∷ ls) (r ∷ rs) h =
     let more = behind (front ++ reply_text l r) bytes ends ls rs h.1.1 in
@@ -64,7 +85,9 @@ drop_front [] ys = refl
 drop_front (x ∷ xs) ys = drop_front xs ys
 
 -- Where the first of some replies stands, and what is kept behind it.
-pub record FirstText (bytes others : List ℕ) (start end : ℕ) (l : TraceLine) (r : Reply) (ls : List TraceLine) (rs : List Reply) : Type 0 where
+pub record FirstText (bytes others : List ℕ) (start end : ℕ) (l : TraceLine) (r : Reply)
+    (ls : List TraceLine) (rs : List Reply) :
+    Type 0 where
   pub low : start ≤ end
   pub high : end ≤ length bytes
   pub from : IsCharBoundary bytes start
@@ -72,7 +95,12 @@ pub record FirstText (bytes others : List ℕ) (start end : ℕ) (l : TraceLine)
   pub text : take (end - start) (drop start bytes) ≡ reply_text l r
   pub rest : KeepsText bytes others end ls rs
 
-pub first_text : (bytes others : List ℕ) (start end : ℕ) (l : TraceLine) (r : Reply) (ls : List TraceLine) (rs : List Reply) → IsUtf8 bytes → KeepsText bytes (end ∷ others) start (l ∷ ls) (r ∷ rs) → FirstText bytes others start end l r ls rs
+pub first_text :
+    (bytes others : List ℕ) (start end : ℕ) (l : TraceLine) (r : Reply) (ls : List TraceLine)
+    (rs : List Reply)
+    → IsUtf8 bytes
+    → KeepsText bytes (end ∷ others) start (l ∷ ls) (r ∷ rs)
+    → FirstText bytes others start end l r ls rs
 first_text bytes others start end l r ls rs utf8 h =
     let text = reply_text l r in
     let next = h.front ++ text in
@@ -80,22 +108,35 @@ first_text bytes others start end l r ls rs utf8 h =
     let whole : bytes ≡ h.front ++ (text ++ more.0) = more.1 ∙ append_assoc h.front text more.0 in
     let size = length-append h.front text in
     let all = ap length more.1 ∙ length-append next more.0 in
-    let at : end ≡ start + length text = h.texts.0 ∙ size ∙ ap (λ n. n + length text) (sym h.begins) in
+    let at : end ≡ start + length text = h.texts.0 ∙ size ∙ ap (λ n. n + length text) (sym h.begins)
+    in
     let high : end ≤ length bytes = omega (arith, h.texts.0, all) in
     let span : end - start ≡ length text = omega (arith, at) in
-    let tail : drop start bytes ≡ text ++ more.0 = ap (λ n. drop n bytes) h.begins ∙ ap (drop (length h.front)) whole ∙ drop_front h.front (text ++ more.0) in
-    let up_to : take start bytes ≡ h.front = ap (λ n. take n bytes) h.begins ∙ ap (take (length h.front)) whole ∙ take_front h.front (text ++ more.0) in
-    let up_to_next : take end bytes ≡ next = ap (λ n. take n bytes) h.texts.0 ∙ ap (take (length next)) more.1 ∙ take_front next more.0 in
+    let tail : drop start bytes ≡ text ++ more.0 = ap (λ n. drop n bytes) h.begins ∙ ap
+    (drop (length h.front)) whole ∙ drop_front h.front (text ++ more.0) in
+    let up_to : take start bytes ≡ h.front = ap (λ n. take n bytes) h.begins ∙ ap
+    (take (length h.front)) whole ∙ take_front h.front (text ++ more.0) in
+    let up_to_next : take end bytes ≡ next = ap (λ n. take n bytes) h.texts.0 ∙ ap
+    (take (length next)) more.1 ∙ take_front next more.0 in
     record {
       low = omega (arith, at);
       high = high;
-      from = IsCharBoundary-from_take bytes start utf8 (omega (arith, at, high)) (subst IsUtf8 (sym up_to) h.cut);
+      from =
+          IsCharBoundary-from_take bytes start utf8 (omega (arith, at, high))
+          (subst IsUtf8 (sym up_to) h.cut);
       to = IsCharBoundary-from_take bytes end utf8 high (subst IsUtf8 (sym up_to_next) h.texts.1.0);
-      text = ap (λ n. take n (drop start bytes)) span ∙ ap (take (length text)) tail ∙ take_front text more.0;
+      text =
+          ap (λ n. take n (drop start bytes)) span
+          ∙ ap (take (length text)) tail
+          ∙ take_front text more.0;
       rest = record { front = next; begins = h.texts.0; cut = h.texts.1.0; texts = h.texts.1.1 };
     }
 
-pub some_end : (bytes ends : List ℕ) (start : ℕ) (l : TraceLine) (r : Reply) (ls : List TraceLine) (rs : List Reply) → KeepsText bytes ends start (l ∷ ls) (r ∷ rs) → 0 < length ends
+pub some_end :
+    (bytes ends : List ℕ) (start : ℕ) (l : TraceLine) (r : Reply) (ls : List TraceLine)
+    (rs : List Reply)
+    → KeepsText bytes ends start (l ∷ ls) (r ∷ rs)
+    → 0 < length ends
 some_end bytes [] start l r ls rs h = absurd h.texts
 some_end bytes (end ∷ ends) start l r ls rs h = omega arith
 
@@ -122,21 +163,39 @@ room_text cap len d h = omega (arith, h)
 pub room_end : (cap len d : ℕ) → 0 < min ((cap - len) / 1024) d → 0 < d
 room_end cap len d h = omega (arith, h)
 
-pub room_after : (cap len more size d e : ℕ) → cap ≤ more → size ≤ len + 1024 → d ≤ 1 + e → min ((cap - len) / 1024) d ≤ 1 + min ((more - size) / 1024) e
+pub room_after :
+    (cap len more size d e : ℕ)
+    → cap ≤ more
+    → size ≤ len + 1024
+    → d ≤ 1 + e
+    → min ((cap - len) / 1024) d ≤ 1 + min ((more - size) / 1024) e
 room_after cap len more size d e a b c = omega (arith, a, b, c)
 
-pub room_made : (lines cap len d : ℕ) → lines * 1024 + len ≤ cap → lines ≤ d → lines ≤ min ((cap - len) / 1024) d
+pub room_made :
+    (lines cap len d : ℕ)
+    → lines * 1024 + len ≤ cap
+    → lines ≤ d
+    → lines ≤ min ((cap - len) / 1024) d
 room_made lines cap len d a b = omega (arith, a, b)
 
 -- ---- texts of many
-text_more : (ls : List TraceLine) (rs : List Reply) (l : TraceLine) (r : Reply) → length ls ≡ length rs → text_from (ls ++ l ∷ []) (rs ++ r ∷ []) ≡ text_from ls rs ++ reply_text l r
+text_more :
+    (ls : List TraceLine) (rs : List Reply) (l : TraceLine) (r : Reply)
+    → length ls ≡ length rs
+    → text_from (ls ++ l ∷ []) (rs ++ r ∷ []) ≡ text_from ls rs ++ reply_text l r
 unfolding text_from
 text_more [] [] l r h = append-nil (reply_text l r)
 text_more [] (q ∷ qs) l r h = absurd (omega (arith, h))
 text_more (k ∷ ks) [] l r h = absurd (omega (arith, h))
-text_more (k ∷ ks) (q ∷ qs) l r h = ap (λ z. reply_text k q ++ z) (text_more ks qs l r (omega (arith, h))) ∙ sym (append_assoc (reply_text k q) (text_from ks qs) (reply_text l r))
+text_more (k ∷ ks) (q ∷ qs) l r h =
+    ap (λ z. reply_text k q ++ z) (text_more ks qs l r (omega (arith, h)))
+    ∙ sym (append_assoc (reply_text k q) (text_from ks qs) (reply_text l r))
 
-pub has_more : (old new : List ℕ) (ls : List TraceLine) (rs : List Reply) (l : TraceLine) (r : Reply) → new ≡ old ++ reply_text l r → HasText old ls rs → HasText new (ls ++ l ∷ []) (rs ++ r ∷ [])
+pub has_more :
+    (old new : List ℕ) (ls : List TraceLine) (rs : List Reply) (l : TraceLine) (r : Reply)
+    → new ≡ old ++ reply_text l r
+    → HasText old ls rs
+    → HasText new (ls ++ l ∷ []) (rs ++ r ∷ [])
 has_more old new ls rs l r put h = record {
   count = length-append ls (l ∷ []) ∙ ap (λ n. n + 1) h.count ∙ sym (length-append rs (r ∷ []));
   text = put ∙ ap (λ z. z ++ reply_text l r) h.text ∙ sym (text_more ls rs l r h.count);

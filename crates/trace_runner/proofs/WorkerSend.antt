@@ -15,4 +15,19 @@ use Rattle.entry_lock.specs.contracts.table.Pass as pass_of
 use Rattle.trace_runner.specs.contracts.worker.Worker as worker
 
 pub worker_send : (L : RattleType) → IsSend L → IsSend (worker.the_row L)
-worker_send L log = declared_send (worker.the_type L) (search (sendable, cpu.the_send), (search rules, (as_row_send (option.the_field pass_of.the_row) (search (sendable, crosses, pass.the_field_send) depth 9), (as_row_send (vec.the_field usize global.the_row ghosts) (search (sendable, crosses) depth 9), (search sendable depth 9, tt)))))
+worker_send L log =
+    declared_send (worker.the_type L) (
+      search (sendable, cpu.the_send),
+      (
+        search rules,
+        (
+          as_row_send (option.the_field pass_of.the_row)
+              (search (sendable, crosses, pass.the_field_send) depth 9),
+          (
+            as_row_send (vec.the_field usize global.the_row ghosts)
+                (search (sendable, crosses) depth 9),
+            (search sendable depth 9, tt),
+          ),
+        ),
+      ),
+    )

@@ -36,7 +36,8 @@ abbrev pub lines_of_cpu : ℕ → List TraceLine → List TraceLine
 lines_of_cpu cpu lines = filter (λ (l : TraceLine). l.cpu == cpu) lines
 
 -- Read at these indices, the lines are just these, in this order.
-pub record IsReadAt (lines : List TraceLine) (indices : List ℕ) (own : List TraceLine) : Type 0 where
+pub record IsReadAt (lines : List TraceLine) (indices : List ℕ) (own : List TraceLine) :
+    Type 0 where
   pub inside : AllByRecursion (λ i. i < length lines) indices
   pub read : (d : TraceLine) → map (λ i. slice_index_or lines i d) indices ≡ own
 

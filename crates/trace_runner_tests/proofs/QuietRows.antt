@@ -56,14 +56,32 @@ shown =
     ∷ reaches 10 wants.Store 0x1000 false
     ∷ []
 
-dumped : text_from shown (replies_from [] ((small 1) ∷ []) shown) ≡ codes "4 0 slbmte ok\n5 dump table 0 order 18 place 0x1000000000 entries 0\n6 0 H_ENTER 0 0x1 | 0x1.0.0.entered\n7 0 H_ENTER 0 0xe | 0xe.0.0.entered\n8 0 store at 0x2000003000 walk | 0x0.0.0.nomatch 0x1.1.0.at\n9 dump table 0 order 18 place 0x1000000000 entries 2\n 0x1 0x1001 0x3192 1\n 0xe 0x5011 0x6092 1\n10 0 store at 0x2000003000 hit | 0x1.1.3.at\n"
-unfolding digits shown text_from head_text code_text entry_text dump_head table_text run_on line_result run_quiet_line shown_of hcall_plan is_quiet hcall_of row_of plan_run trial_run candidates suits_grants h_enter_plan machine_range mte_refusal tests_of_words no_slots slots_after slot_of_words segment_of new_processor empty_cache cached_line same_page after_walk walk_calls group_of tag_of has_base permission rows row_says key_rows outcome_of
+dumped :
+    text_from shown (replies_from [] ((small 1) ∷ []) shown)
+    ≡ codes
+    "4 0 slbmte ok\n5 dump table 0 order 18 place 0x1000000000 entries 0\n6 0 H_ENTER 0 0x1 | 0x1.0.0.entered\n7 0 H_ENTER 0 0xe | 0xe.0.0.entered\n8 0 store at 0x2000003000 walk | 0x0.0.0.nomatch 0x1.1.0.at\n9 dump table 0 order 18 place 0x1000000000 entries 2\n 0x1 0x1001 0x3192 1\n 0xe 0x5011 0x6092 1\n10 0 store at 0x2000003000 hit | 0x1.1.3.at\n"
+unfolding digits shown text_from head_text code_text entry_text dump_head table_text run_on
+    line_result run_quiet_line shown_of hcall_plan is_quiet hcall_of row_of plan_run trial_run
+    candidates suits_grants h_enter_plan machine_range mte_refusal tests_of_words no_slots
+    slots_after slot_of_words segment_of new_processor empty_cache cached_line same_page after_walk
+    walk_calls group_of tag_of has_base permission rows row_says key_rows outcome_of
 dumped = refl
 
 -- ---- the codes of the two calls
 -- In a pool of two blocks, where the table has one.
 tight : Store
-tight = record (small 1) { memory = record (memory_of []) { pool = record { base = 0x1000000000; order = 19; taken = record { place = 0x1000000000; order = 18 } ∷ [] } } }
+tight =
+    record (small 1) {
+      memory =
+          record (memory_of []) {
+            pool =
+                record {
+                  base = 0x1000000000;
+                  order = 19;
+                  taken = record { place = 0x1000000000; order = 18 } ∷ [];
+                };
+          };
+    }
 
 asked : List TraceLine
 asked =
@@ -77,8 +95,13 @@ asked =
     ∷ calls 12 0x370 (0x1 ∷ 18 ∷ [])
     ∷ []
 
-resizes_refused : text_from asked (replies_from [] (tight ∷ []) asked) ≡ codes "5 0 H_RESIZE_HPT_COMMIT 2\n6 0 H_RESIZE_HPT_PREPARE -4\n7 0 H_RESIZE_HPT_PREPARE -16\n8 0 H_RESIZE_HPT_PREPARE -9\n9 0 H_RESIZE_HPT_PREPARE 0\n10 0 H_RESIZE_HPT_PREPARE 0\n11 0 H_RESIZE_HPT_COMMIT 2\n12 0 H_RESIZE_HPT_COMMIT -4\n"
-unfolding digits tight asked text_from head_text code_text run_on run_quiet_line run_resize is_quiet hcall_of row_of prepare_result commit_result outcome_of_prepare outcome_of_commit lowest_place multiples taken_with taken_without
+resizes_refused :
+    text_from asked (replies_from [] (tight ∷ []) asked)
+    ≡ codes
+    "5 0 H_RESIZE_HPT_COMMIT 2\n6 0 H_RESIZE_HPT_PREPARE -4\n7 0 H_RESIZE_HPT_PREPARE -16\n8 0 H_RESIZE_HPT_PREPARE -9\n9 0 H_RESIZE_HPT_PREPARE 0\n10 0 H_RESIZE_HPT_PREPARE 0\n11 0 H_RESIZE_HPT_COMMIT 2\n12 0 H_RESIZE_HPT_COMMIT -4\n"
+unfolding digits tight asked text_from head_text code_text run_on run_quiet_line run_resize is_quiet
+    hcall_of row_of prepare_result commit_result outcome_of_prepare outcome_of_commit lowest_place
+    multiples taken_with taken_without
 resizes_refused = refl
 
 -- ---- a resize
@@ -97,74 +120,184 @@ resized =
     ∷ dumps 13
     ∷ []
 
-resizes_in_two_calls : text_from resized (replies_from [] ((small 1) ∷ []) resized) ≡ codes "4 0 H_ENTER 0 0x0 | 0x0.0.0.entered\n5 0 H_ENTER 0 0x8 | 0x8.0.0.entered\n6 0 H_ENTER 0 0x1 | 0x1.0.0.entered\n7 0 H_RESIZE_HPT_PREPARE 9900\n8 0 H_RESIZE_HPT_COMMIT 1\n9 0 H_RESIZE_HPT_PREPARE 0\n10 0 H_RESIZE_HPT_COMMIT 0\n11 0 H_RESIZE_HPT_COMMIT 2\n12 0 H_READ -4\n13 dump table 1 order 19 place 0x1000080000 entries 1\n 0x4000 0x801011 0x3192 0\n"
-unfolding digits resized dump_head table_text entry_text shown_of rehashed_states entry_at text_from head_text code_text run_on line_result run_quiet_line run_resize hcall_plan is_quiet hcall_of row_of plan_run trial_run candidates suits_grants h_enter_plan h_read_plan machine_range prepare_result commit_result outcome_of_prepare outcome_of_commit lowest_place multiples taken_with taken_without collision_of collision_at first_with target_of carried_page page_at group_of tag_of
+resizes_in_two_calls :
+    text_from resized (replies_from [] ((small 1) ∷ []) resized)
+    ≡ codes
+    "4 0 H_ENTER 0 0x0 | 0x0.0.0.entered\n5 0 H_ENTER 0 0x8 | 0x8.0.0.entered\n6 0 H_ENTER 0 0x1 | 0x1.0.0.entered\n7 0 H_RESIZE_HPT_PREPARE 9900\n8 0 H_RESIZE_HPT_COMMIT 1\n9 0 H_RESIZE_HPT_PREPARE 0\n10 0 H_RESIZE_HPT_COMMIT 0\n11 0 H_RESIZE_HPT_COMMIT 2\n12 0 H_READ -4\n13 dump table 1 order 19 place 0x1000080000 entries 1\n 0x4000 0x801011 0x3192 0\n"
+unfolding digits resized dump_head table_text entry_text shown_of rehashed_states entry_at text_from
+    head_text code_text run_on line_result run_quiet_line run_resize hcall_plan is_quiet hcall_of
+    row_of plan_run trial_run candidates suits_grants h_enter_plan h_read_plan machine_range
+    prepare_result commit_result outcome_of_prepare outcome_of_commit lowest_place multiples
+    taken_with taken_without collision_of collision_at first_with target_of carried_page page_at
+    group_of tag_of
 resizes_in_two_calls = refl
 
 -- The entries before the commit.
 old : List State
 old =
-    record { valid = true; dword0 = 0x801011; dword1 = 0x3012; referenced = true; changed = true; stamp = 1 }
-    ∷ record { valid = true; dword0 = 0x1001; dword1 = 0x4012; referenced = false; changed = false; stamp = 1 }
+    record {
+      valid = true;
+      dword0 = 0x801011;
+      dword1 = 0x3012;
+      referenced = true;
+      changed = true;
+      stamp = 1;
+    }
+    ∷ record {
+      valid = true;
+      dword0 = 0x1001;
+      dword1 = 0x4012;
+      referenced = false;
+      changed = false;
+      stamp = 1;
+    }
     ∷ empty_state 0
     ∷ empty_state 0
     ∷ empty_state 0
     ∷ empty_state 0
     ∷ empty_state 0
     ∷ empty_state 0
-    ∷ record { valid = true; dword0 = 0x81015; dword1 = 0x11012; referenced = false; changed = false; stamp = 1 }
+    ∷ record {
+      valid = true;
+      dword0 = 0x81015;
+      dword1 = 0x11012;
+      referenced = false;
+      changed = false;
+      stamp = 1;
+    }
     ∷ []
 
 -- The first goes to the first entry of the group 0x800 with its doublewords, R and C; no other goes to where one of the three stood.
-carried : map (entry_at 18 19 old) (0x4000 ∷ 0 ∷ 0x1 ∷ 0x8 ∷ []) ≡ record { valid = true; dword0 = 0x801011; dword1 = 0x3012; referenced = true; changed = true; stamp = 0 } ∷ empty_state 0 ∷ empty_state 0 ∷ empty_state 0 ∷ []
+carried :
+    map (entry_at 18 19 old) (0x4000 ∷ 0 ∷ 0x1 ∷ 0x8 ∷ [])
+    ≡ record {
+      valid = true;
+      dword0 = 0x801011;
+      dword1 = 0x3012;
+      referenced = true;
+      changed = true;
+      stamp = 0;
+    }
+    ∷ empty_state 0
+    ∷ empty_state 0
+    ∷ empty_state 0
+    ∷ []
 unfolding old entry_at first_with target_of carried_page page_at group_of tag_of
 carried = refl
 
 -- In a table of 0x8000 entries the bolted ones of VSID 1 and of VSID 0x801, each of the page with index 1, which meet in one of 0x4000.
 at_1 : ℕ → State
-at_1 dword0 = record { valid = true; dword0 = dword0; dword1 = 0x3012; referenced = false; changed = false; stamp = 1 }
+at_1 dword0 =
+    record {
+      valid = true;
+      dword0 = dword0;
+      dword1 = 0x3012;
+      referenced = false;
+      changed = false;
+      stamp = 1;
+    }
 
-they_meet : collision_at 19 18 (at_1 0x1011 ∷ replicate 0x3FFF (empty_state 0) ++ at_1 0x801011 ∷ []) 0x4000 ≡ Some (record { first = 0; second = 0x4000; target = 0 })
+they_meet :
+    collision_at 19 18 (at_1 0x1011 ∷ replicate 0x3FFF (empty_state 0) ++ at_1 0x801011 ∷ []) 0x4000
+    ≡ Some (record { first = 0; second = 0x4000; target = 0 })
 unfolding at_1 collision_at first_with target_of carried_page page_at group_of tag_of
 they_meet = refl
 
 -- ---- after a commit
 -- The table of the next number at the place that was prepared; the old block is free again, and no table is pending.
 ready : TableMemory
-ready = record (memory_of old) { pool = record { base = 0x1000000000; order = 20; taken = record { place = 0x1000000000; order = 18 } ∷ record { place = 0x1000080000; order = 19 } ∷ [] }; pending = Some (record { order = 19; place = 0x1000080000; ready = 0x8000 }) }
+ready =
+    record (memory_of old) {
+      pool =
+          record {
+            base = 0x1000000000;
+            order = 20;
+            taken =
+                record { place = 0x1000000000; order = 18 }
+                ∷ record { place = 0x1000080000; order = 19 }
+                ∷ [];
+          };
+      pending = Some (record { order = 19; place = 0x1000080000; ready = 0x8000 });
+    }
 
 -- The same without the entries, which are too many to write out.
 abbrev bare : TableMemory → TableMemory
 bare memory = with_states memory []
 
-new_memory : bare (commit_result ready 0 19).1 ≡ record { limit = 20; pool = record { base = 0x1000000000; order = 20; taken = record { place = 0x1000080000; order = 19 } ∷ [] }; pending = None; table = record { order = 19; place = 0x1000080000; number = 1; states = [] } }
-unfolding ready old commit_result outcome_of_commit taken_without collision_of collision_at first_with target_of carried_page page_at group_of tag_of
+new_memory :
+    bare (commit_result ready 0 19).1
+    ≡ record {
+      limit = 20;
+      pool =
+          record {
+            base = 0x1000000000;
+            order = 20;
+            taken = record { place = 0x1000080000; order = 19 } ∷ [];
+          };
+      pending = None;
+      table = record { order = 19; place = 0x1000080000; number = 1; states = [] };
+    }
+unfolding ready old commit_result outcome_of_commit taken_without collision_of collision_at
+    first_with target_of carried_page page_at group_of tag_of
 new_memory = refl
 
 -- Of the 0x8000 entries of the new table the one that was carried is valid.
-new_table : (shown_of (commit_result ready 0 19).1).states ≡ (0x4000, record { valid = true; dword0 = 0x801011; dword1 = 0x3012; referenced = true; changed = true; stamp = 0 }) ∷ []
-unfolding shown_of ready old commit_result outcome_of_commit taken_without collision_of collision_at first_with target_of carried_page page_at group_of tag_of rehashed_states entry_at
+new_table :
+    (shown_of (commit_result ready 0 19).1).states
+    ≡ (
+      0x4000,
+      record {
+        valid = true;
+        dword0 = 0x801011;
+        dword1 = 0x3012;
+        referenced = true;
+        changed = true;
+        stamp = 0;
+      },
+    )
+    ∷ []
+unfolding shown_of ready old commit_result outcome_of_commit taken_without collision_of collision_at
+    first_with target_of carried_page page_at group_of tag_of rehashed_states entry_at
 new_table = refl
 
 -- A line of the entry 0, in the set of the index 1.
 filled : Processor
 unfolding empty_cache
-filled = record new_processor { cache = slice_set empty_cache 1 (record { page = virtual_page false 0x801 12 1; entry = 0; stamp = 1; dword0 = 0x801011; dword1 = 0x3012 } ∷ []) }
+filled =
+    record new_processor {
+      cache =
+          slice_set empty_cache 1
+          (record {
+            page = virtual_page false 0x801 12 1;
+            entry = 0;
+            stamp = 1;
+            dword0 = 0x801011;
+            dword1 = 0x3012;
+          }
+          ∷ []);
+    }
 
 cached_then : Store
 cached_then = record (small 2) { memory = ready; processors = filled ∷ filled ∷ [] }
 
 -- Each processor's cache is cleared, and no other part of it.
-caches_are_cleared : (run_on cached_then (calls 5 0x370 (0 ∷ 19 ∷ []))).1.processors ≡ new_processor ∷ new_processor ∷ []
-unfolding cached_then ready filled old run_on run_quiet_line run_resize is_quiet hcall_of row_of commit_result outcome_of_commit collision_of collision_at first_with target_of carried_page page_at group_of tag_of new_processor empty_cache
+caches_are_cleared :
+    (run_on cached_then (calls 5 0x370 (0 ∷ 19 ∷ []))).1.processors
+    ≡ new_processor ∷ new_processor ∷ []
+unfolding cached_then ready filled old run_on run_quiet_line run_resize is_quiet hcall_of row_of
+    commit_result outcome_of_commit collision_of collision_at first_with target_of carried_page
+    page_at group_of tag_of new_processor empty_cache
 caches_are_cleared = refl
 
 -- By a commit that is refused they aren't, nor by a prepare.
-caches_are_kept : (run_on cached_then (calls 5 0x370 (0 ∷ 18 ∷ []))).1.processors ≡ filled ∷ filled ∷ []
-unfolding cached_then ready run_on run_quiet_line run_resize is_quiet hcall_of row_of commit_result outcome_of_commit
+caches_are_kept :
+    (run_on cached_then (calls 5 0x370 (0 ∷ 18 ∷ []))).1.processors ≡ filled ∷ filled ∷ []
+unfolding cached_then ready run_on run_quiet_line run_resize is_quiet hcall_of row_of commit_result
+    outcome_of_commit
 caches_are_kept = refl
 
-prepare_keeps_caches : (run_on cached_then (calls 5 0x36C (0 ∷ 0 ∷ []))).1.processors ≡ filled ∷ filled ∷ []
+prepare_keeps_caches :
+    (run_on cached_then (calls 5 0x36C (0 ∷ 0 ∷ []))).1.processors ≡ filled ∷ filled ∷ []
 unfolding cached_then run_on run_quiet_line run_resize is_quiet hcall_of row_of prepare_result
 prepare_keeps_caches = refl
 
@@ -172,7 +305,16 @@ prepare_keeps_caches = refl
 -- Two processors without segments, and a table at the lowest place of the pool.
 opened : Store
 unfolding page_table
-opened = page_table (record { order = 18; limit = 20; cpus = 2; granted = record { pool_base = 0x1000000000; pool_order = 20; grants = [] }; entries = []; windows = [] })
+opened =
+    page_table
+    (record {
+      order = 18;
+      limit = 20;
+      cpus = 2;
+      granted = record { pool_base = 0x1000000000; pool_order = 20; grants = [] };
+      entries = [];
+      windows = [];
+    })
 
 opens_without_segments : opened.processors ≡ new_processor ∷ new_processor ∷ []
 unfolding opened page_table

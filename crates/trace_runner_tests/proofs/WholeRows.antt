@@ -38,7 +38,27 @@ use Rattle.authority_mask.specs.Authority.{row_says, key_rows}
 
 whole : AcceptedTrace
 whole = record {
-  config = record { order = 18; limit = 22; cpus = 1; granted = record { pool_base = 0x1000000000; pool_order = 24; grants = record { logical = 0; machine = 0x2000000000; length = 0x40000000; kind = Ram } ∷ [] }; entries = []; windows = [] };
+  config =
+      record {
+        order = 18;
+        limit = 22;
+        cpus = 1;
+        granted =
+            record {
+              pool_base = 0x1000000000;
+              pool_order = 24;
+              grants =
+                  record {
+                    logical = 0;
+                    machine = 0x2000000000;
+                    length = 0x40000000;
+                    kind = Ram;
+                  }
+                  ∷ [];
+            };
+        entries = [];
+        windows = [];
+      };
   lines =
       mte 4 0x8000000 0x1000
       ∷ calls 5 0x08 (0 ∷ 0x20 ∷ 0x1001 ∷ 0x3013 ∷ [])
@@ -48,8 +68,16 @@ whole = record {
       ∷ [];
 }
 
-a_whole_trace : text_of whole (serial_replies whole) ≡ codes "4 0 slbmte ok\n5 0 H_ENTER 0 0x20 | 0x20.0.0.entered\n6 0 store denied walk | 0x20.1.0.denied\n7 0 H_PROTECT 0 | 0x20.1.0.protected\n8 0 store at 0x2000003000 walk | 0x20.2.0.at\n"
-unfolding digits whole page_table opening_memory empty_states lowest_place multiples taken_with text_from head_text code_text run_on line_result hcall_plan is_quiet hcall_of row_of plan_run trial_run candidates suits_grants h_enter_plan h_remove_plan h_protect_plan h_clear_mod_plan machine_range mte_refusal tests_of_words no_slots slots_after slot_of_words segment_of new_processor empty_cache cached_line same_page after_walk walk_calls group_of tag_of has_base permission rows row_says key_rows outcome_of
+a_whole_trace :
+    text_of whole (serial_replies whole)
+    ≡ codes
+    "4 0 slbmte ok\n5 0 H_ENTER 0 0x20 | 0x20.0.0.entered\n6 0 store denied walk | 0x20.1.0.denied\n7 0 H_PROTECT 0 | 0x20.1.0.protected\n8 0 store at 0x2000003000 walk | 0x20.2.0.at\n"
+unfolding digits whole page_table opening_memory empty_states lowest_place multiples taken_with
+    text_from head_text code_text run_on line_result hcall_plan is_quiet hcall_of row_of plan_run
+    trial_run candidates suits_grants h_enter_plan h_remove_plan h_protect_plan h_clear_mod_plan
+    machine_range mte_refusal tests_of_words no_slots slots_after slot_of_words segment_of
+    new_processor empty_cache cached_line same_page after_walk walk_calls group_of tag_of has_base
+    permission rows row_says key_rows outcome_of
 a_whole_trace = refl
 
 -- A walk to the secondary group, and a dump of the whole table.
@@ -63,14 +91,26 @@ far = record whole {
       ∷ [];
 }
 
-the_last_group : text_of far (serial_replies far) ≡ codes "4 0 slbmte ok\n5 0 H_ENTER 0 0x3fd8 | 0x3fd8.0.0.entered\n6 0 load at 0x2000003000 walk | 0x20.0.0.nomatch 0x21.0.0.nomatch 0x22.0.0.nomatch 0x23.0.0.nomatch 0x24.0.0.nomatch 0x25.0.0.nomatch 0x26.0.0.nomatch 0x27.0.0.nomatch 0x3fd8.1.0.at\n7 dump table 0 order 18 place 0x1000000000 entries 1\n 0x3fd8 0x1003 0x3112 1\n"
-unfolding digits far whole dump_head table_text entry_text shown_of run_quiet_line page_table opening_memory empty_states lowest_place multiples taken_with text_from head_text code_text run_on line_result hcall_plan is_quiet hcall_of row_of plan_run trial_run candidates suits_grants h_enter_plan h_remove_plan h_protect_plan h_clear_mod_plan machine_range mte_refusal tests_of_words no_slots slots_after slot_of_words segment_of new_processor empty_cache cached_line same_page after_walk walk_calls group_of tag_of has_base permission rows row_says key_rows outcome_of
+the_last_group :
+    text_of far (serial_replies far)
+    ≡ codes
+    "4 0 slbmte ok\n5 0 H_ENTER 0 0x3fd8 | 0x3fd8.0.0.entered\n6 0 load at 0x2000003000 walk | 0x20.0.0.nomatch 0x21.0.0.nomatch 0x22.0.0.nomatch 0x23.0.0.nomatch 0x24.0.0.nomatch 0x25.0.0.nomatch 0x26.0.0.nomatch 0x27.0.0.nomatch 0x3fd8.1.0.at\n7 dump table 0 order 18 place 0x1000000000 entries 1\n 0x3fd8 0x1003 0x3112 1\n"
+unfolding digits far whole dump_head table_text entry_text shown_of run_quiet_line page_table
+    opening_memory empty_states lowest_place multiples taken_with text_from head_text code_text
+    run_on line_result hcall_plan is_quiet hcall_of row_of plan_run trial_run candidates
+    suits_grants h_enter_plan h_remove_plan h_protect_plan h_clear_mod_plan machine_range
+    mte_refusal tests_of_words no_slots slots_after slot_of_words segment_of new_processor
+    empty_cache cached_line same_page after_walk walk_calls group_of tag_of has_base permission rows
+    row_says key_rows outcome_of
 the_last_group = refl
 
 -- An entry that is valid at first, with R and C: a load uses it, and a dump shows it with its words.
 opened : AcceptedTrace
 opened = record whole {
-  config = record (whole.config) { entries = record { index = 0x20; dword0 = 0x1001; dword1 = 0x3192 } ∷ [] };
+  config =
+      record (whole.config) {
+        entries = record { index = 0x20; dword0 = 0x1001; dword1 = 0x3192 } ∷ [];
+      };
   lines =
       mte 5 0x8000000 0x1000
       ∷ reaches 6 Load 0x5000 false
@@ -78,6 +118,15 @@ opened = record whole {
       ∷ [];
 }
 
-an_opening_entry : text_of opened (serial_replies opened) ≡ codes "5 0 slbmte ok\n6 0 load at 0x2000003000 walk | 0x20.0.3.at\n7 dump table 0 order 18 place 0x1000000000 entries 1\n 0x20 0x1001 0x3192 0\n"
-unfolding digits opened whole dump_head table_text entry_text shown_of run_quiet_line page_table opening_memory empty_states lowest_place multiples taken_with text_from head_text code_text run_on line_result hcall_plan is_quiet hcall_of row_of plan_run trial_run candidates suits_grants h_enter_plan h_remove_plan h_protect_plan h_clear_mod_plan machine_range mte_refusal tests_of_words no_slots slots_after slot_of_words segment_of new_processor empty_cache cached_line same_page after_walk walk_calls group_of tag_of has_base permission rows row_says key_rows outcome_of
+an_opening_entry :
+    text_of opened (serial_replies opened)
+    ≡ codes
+    "5 0 slbmte ok\n6 0 load at 0x2000003000 walk | 0x20.0.3.at\n7 dump table 0 order 18 place 0x1000000000 entries 1\n 0x20 0x1001 0x3192 0\n"
+unfolding digits opened whole dump_head table_text entry_text shown_of run_quiet_line page_table
+    opening_memory empty_states lowest_place multiples taken_with text_from head_text code_text
+    run_on line_result hcall_plan is_quiet hcall_of row_of plan_run trial_run candidates
+    suits_grants h_enter_plan h_remove_plan h_protect_plan h_clear_mod_plan machine_range
+    mte_refusal tests_of_words no_slots slots_after slot_of_words segment_of new_processor
+    empty_cache cached_line same_page after_walk walk_calls group_of tag_of has_base permission rows
+    row_says key_rows outcome_of
 an_opening_entry = refl

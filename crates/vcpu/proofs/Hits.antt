@@ -20,9 +20,15 @@ use Rattle.hpt_walk.specs.Access.{AccessContext, IsHit, outcome_by, outcome_of, 
 use Rattle.hpt_walk.specs.declared.request.Request.{Request}
 
 -- The access of a line's own page, with H as the line has it, is one that the line's words match.
-pub is_access_of : (line : Line) (page : VirtualPage) (mode : AccessMode) → line.page ≡ page → TranslatesItsPage line → IsAccessOf line (access_op page mode (is_secondary line.dword0))
-is_access_of line page mode of fits =
-    ((λ i. tag_of (sym of i) + h_bit (is_secondary line.dword0) + 1) ∙ fits.tag, (λ i. has_base line.dword0 line.dword1 (sym of i).shift) ∙ fits.size)
+pub is_access_of :
+    (line : Line) (page : VirtualPage) (mode : AccessMode)
+    → line.page ≡ page
+    → TranslatesItsPage line
+    → IsAccessOf line (access_op page mode (is_secondary line.dword0))
+is_access_of line page mode of fits = (
+  (λ i. tag_of (sym of i) + h_bit (is_secondary line.dword0) + 1) ∙ fits.tag,
+  (λ i. has_base line.dword0 line.dword1 (sym of i).shift) ∙ fits.size,
+)
 
 decided_is_found : (answer : Answer) → is_decided answer ≡ true → not (is_no_match answer) ≡ true
 decided_is_found At h = refl
@@ -34,7 +40,9 @@ at_end : (goes : Bool) → MatchBool goes (Unit {0}) (let none : List Receipt = 
 at_end true = tt
 at_end false = refl
 
-pub hit_is : (set : AccessContext) (seg : Segment) (a : Request) (line : Line) (r : Receipt) (outcome : Outcome) (by : Option By)
+pub hit_is :
+    (set : AccessContext) (seg : Segment) (a : Request) (line : Line) (r : Receipt)
+    (outcome : Outcome) (by : Option By)
     → IsReceiptOf line.entry (access_op seg.page (mode_for seg a) (is_secondary line.dword0)) r
     → line.page ≡ seg.page → TranslatesItsPage line → IsCurrent line r.before
     → outcome ≡ outcome_by set.grants a.ea (Some r)
@@ -42,7 +50,9 @@ pub hit_is : (set : AccessContext) (seg : Segment) (a : Request) (line : Line) (
 unfolding outcome_of
 hit_is set seg a line r outcome by receipt of fits current ends =
     let asked = is_access_of line seg.page (mode_for seg a) of fits in
-    let decided : is_decided r.answer ≡ true = ap is_decided r.lawful ∙ ap (λ o. is_decided (reply_of r.before o).0) receipt.op ∙ known_is_decided line r.before (access_op seg.page (mode_for seg a) (is_secondary line.dword0)) asked current in
+    let decided : is_decided r.answer ≡ true = ap is_decided r.lawful ∙ ap
+    (λ o. is_decided (reply_of r.before o).0) receipt.op ∙ known_is_decided line r.before
+    (access_op seg.page (mode_for seg a) (is_secondary line.dword0)) asked current in
     let found : found_of (r ∷ []) ≡ Some r = rw (decided_is_found r.answer decided) refl in
     record {
       trial = (receipt, at_end (is_no_match r.answer));

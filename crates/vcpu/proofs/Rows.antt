@@ -10,7 +10,15 @@ use Rattle.hpt_walk.specs.Walk.{access_op}
 use Rattle.authority_mask.specs.Authority.{no_masks}
 
 state_of : ℕ → ℕ → State
-state_of dword0 dword1 = record { valid = true; dword0 = dword0; dword1 = dword1; referenced = false; changed = false; stamp = 1 }
+state_of dword0 dword1 =
+    record {
+      valid = true;
+      dword0 = dword0;
+      dword1 = dword1;
+      referenced = false;
+      changed = false;
+      stamp = 1;
+    }
 
 -- ---- addresses: a page of 4 KB, of 64 KB, of 16 MB and of 16 GB
 in_4_kb : logical_of 0x5123 (state_of 0x1001 0x3012) ≡ 0x3123
@@ -30,10 +38,14 @@ unfolding state_of
 in_16_gb = refl
 
 -- ---- the operation: page 5 of 4 KB in the segment 1 of 256 MB
-primary : access_op (virtual_page false 1 12 5) (access_mode true false Load no_masks) false ≡ Access 0x1001 12 true false Load no_masks
+primary :
+    access_op (virtual_page false 1 12 5) (access_mode true false Load no_masks) false
+    ≡ Access 0x1001 12 true false Load no_masks
 unfolding tag_of
 primary = refl
 
-secondary : access_op (virtual_page false 1 12 5) (access_mode true false Load no_masks) true ≡ Access 0x1003 12 true false Load no_masks
+secondary :
+    access_op (virtual_page false 1 12 5) (access_mode true false Load no_masks) true
+    ≡ Access 0x1003 12 true false Load no_masks
 unfolding tag_of
 secondary = refl

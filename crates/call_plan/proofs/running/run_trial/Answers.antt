@@ -6,4 +6,5 @@ make_trial-ending-requires g c = trial_in _ c.args.trial.now c.requires.fits
 
 pub told_registers-requires-clause-few : goal.told_registers-requires-clause-few
 told_registers-requires-clause-few g c =
-    rw c.as_slice.ensures.value (trial_few _ c.args.trial.now _ c.requires.fits c.make_trial-ending.ensures.trial)
+    rw c.as_slice.ensures.value
+    (trial_few _ c.args.trial.now _ c.requires.fits c.make_trial-ending.ensures.trial)

@@ -21,21 +21,29 @@ returns-in_default-clause-trial g c =
 pub returns-in_default-clause-ending : goal.returns-in_default-clause-ending
 returns-in_default-clause-ending g c =
     let goes = g.C.CallList.goes_on c.args.calls.now in
-    sym (ap (ending_of goes) (sym (append-nil c.loop-i.receipts)) ∙ begun_on goes _ c.loop-i.receipts [] c.loop-i.invariant.begun)
+    sym
+    (ap (ending_of goes) (sym (append-nil c.loop-i.receipts))
+    ∙ begun_on goes _ c.loop-i.receipts [] c.loop-i.invariant.begun)
 
 pub apply-made-requires-clause-in_table : goal.apply-made-requires-clause-in_table
 apply-made-requires-clause-in_table g c =
     rw c.loop-i.invariant.order
-    (at_has (λ (d : Call). d.entry < entry_count (g.S.EntryStore.table_order c.args.store.now)) _ c.loop-i.i c.in-Some.entry c.in-Some.op c.requires.in_table (sym c.call_at.ensures ∙ c.in-Some.is))
+    (at_has (λ (d : Call). d.entry < entry_count (g.S.EntryStore.table_order c.args.store.now)) _
+    c.loop-i.i c.in-Some.entry c.in-Some.op c.requires.in_table
+    (sym c.call_at.ensures ∙ c.in-Some.is))
 
 pub apply-made-requires-clause-normal : goal.apply-made-requires-clause-normal
 apply-made-requires-clause-normal g c =
-    at_has (λ (d : Call). IsNormal d.op) _ c.loop-i.i c.in-Some.entry c.in-Some.op c.requires.normal (sym c.call_at.ensures ∙ c.in-Some.is)
+    at_has (λ (d : Call). IsNormal d.op) _ c.loop-i.i c.in-Some.entry c.in-Some.op c.requires.normal
+    (sym c.call_at.ensures ∙ c.in-Some.is)
 
 pub returns-then-not-goes_on_after-clause-trial : goal.returns-then-not-goes_on_after-clause-trial
 returns-then-not-goes_on_after-clause-trial g c =
     let r : Receipt = c.apply-made.result in
-    let off : g.C.CallList.goes_on c.args.calls.now r.answer ≡ false = let e = c.if-not-goes_on_after.ensures in let f = c.goes_on_after.ensures in cc in
+    let off : g.C.CallList.goes_on c.args.calls.now r.answer ≡ false = let e =
+    c.if-not-goes_on_after.ensures in
+    let f = c.goes_on_after.ensures in
+    cc in
     rw c.push.ensures
     (begun_ends _ _ c.loop-i.receipts c.in-Some.entry c.in-Some.op r c.loop-i.invariant.begun
     (rw c.loop-i.invariant.count (sym c.call_at.ensures ∙ c.in-Some.is))
@@ -45,19 +53,31 @@ pub returns-then-not-goes_on_after-clause-ending : goal.returns-then-not-goes_on
 returns-then-not-goes_on_after-clause-ending g c =
     let goes = g.C.CallList.goes_on c.args.calls.now in
     let r : Receipt = c.apply-made.result in
-    let off : goes r.answer ≡ false = let e = c.if-not-goes_on_after.ensures in let f = c.goes_on_after.ensures in cc in
-    sym (ap (ending_of goes) c.push.ensures ∙ begun_on goes _ c.loop-i.receipts (r ∷ []) c.loop-i.invariant.begun ∙ ending-off goes r [] off)
+    let off : goes r.answer ≡ false = let e = c.if-not-goes_on_after.ensures in
+    let f = c.goes_on_after.ensures in
+    cc in
+    sym
+    (ap (ending_of goes) c.push.ensures
+    ∙ begun_on goes _ c.loop-i.receipts (r ∷ []) c.loop-i.invariant.begun
+    ∙ ending-off goes r [] off)
 
 pub loop-i-preserved : goal.loop-i-preserved
 loop-i-preserved g c =
     let goes = g.C.CallList.goes_on c.args.calls.now in
     let r : Receipt = c.apply-made.result in
     let rs : List Receipt = c.loop-i.receipts in
-    let on : goes r.answer ≡ true = let e = c.if-not-goes_on_after.ensures in let f = c.goes_on_after.ensures in cc in
+    let on : goes r.answer ≡ true = let e = c.if-not-goes_on_after.ensures in
+    let f = c.goes_on_after.ensures in
+    cc in
     record {
       count = grind (arith, common_steps);
-      made = rw c.push.ensures (g.met.S.EntryStore.made_more _ _ _ rs (r ∷ []) c.loop-i.invariant.made c.apply-made.ensures.made);
-      order = g.met.S.EntryStore.order_stays _ _ (r ∷ []) c.apply-made.ensures.made ∙ c.loop-i.invariant.order;
+      made =
+          rw c.push.ensures
+          (g.met.S.EntryStore.made_more _ _ _ rs (r ∷ []) c.loop-i.invariant.made
+          c.apply-made.ensures.made);
+      order =
+          g.met.S.EntryStore.order_stays _ _ (r ∷ []) c.apply-made.ensures.made
+          ∙ c.loop-i.invariant.order;
       begun = rw c.push.ensures
           (begun_next goes _ rs c.in-Some.entry c.in-Some.op r c.loop-i.invariant.begun
           (rw c.loop-i.invariant.count (sym c.call_at.ensures ∙ c.in-Some.is))
@@ -66,10 +86,13 @@ loop-i-preserved g c =
 
 pub returns-clause-trial : goal.returns-clause-trial
 returns-clause-trial g c =
-    let past : length (g.C.CallList.calls c.args.calls.now) ≤ length c.loop-i.receipts = omega (arith, c.requires.few, c.loop-i.invariant.count) in
+    let past : length (g.C.CallList.calls c.args.calls.now) ≤ length c.loop-i.receipts = omega
+    (arith, c.requires.few, c.loop-i.invariant.count) in
     begun_whole _ _ _ c.loop-i.invariant.begun (at_end _ _ past)
 
 pub returns-clause-ending : goal.returns-clause-ending
 returns-clause-ending g c =
     let goes = g.C.CallList.goes_on c.args.calls.now in
-    sym (ap (ending_of goes) (sym (append-nil c.loop-i.receipts)) ∙ begun_on goes _ c.loop-i.receipts [] c.loop-i.invariant.begun)
+    sym
+    (ap (ending_of goes) (sym (append-nil c.loop-i.receipts))
+    ∙ begun_on goes _ c.loop-i.receipts [] c.loop-i.invariant.begun)

@@ -11,4 +11,5 @@ in_least entry order small low =
 
 pub apply-made-requires-clause-in_table : goal.apply-made-requires-clause-in_table
 apply-made-requires-clause-in_table g c =
-    subst (λ n. c.args.entry < entry_count n) c.order-order.ensures.value (in_least _ _ c.requires.in_window c.order-order.ensures.low)
+    subst (λ n. c.args.entry < entry_count n) c.order-order.ensures.value
+    (in_least _ _ c.requires.in_window c.order-order.ensures.low)

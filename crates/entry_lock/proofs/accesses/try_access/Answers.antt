@@ -10,8 +10,12 @@ returns-then-known-clause-busy c =
     let d = c.in_ok-looked.looked in
     let same = c.load_words-doing.ensures.doing in
     let k = c.raise_bits.ensures in
-    if_err c.raise_bits.result _ _ (λ b two. busy_second c.args.entry c.args.op d.noted Mark b c.args.seat.now.me.0 c.look_first.new.seat.me.0 c.load_words-doing.new.seat.me.0 c.raise_bits.new.seat.me.0
-    c.requires.op c.in_ok-looked.ensures.ok.low (inr refl) (two.0 ∙ ap word_of same.noted, two.1) c.look_first.ensures.steps c.load_words-doing.ensures.steps k.steps) k.two_words
+    if_err c.raise_bits.result _ _
+    (λ b two.
+    busy_second c.args.entry c.args.op d.noted Mark b c.args.seat.now.me.0
+    c.look_first.new.seat.me.0 c.load_words-doing.new.seat.me.0 c.raise_bits.new.seat.me.0
+    c.requires.op c.in_ok-looked.ensures.ok.low (inr refl) (two.0 ∙ ap word_of same.noted, two.1)
+    c.look_first.ensures.steps c.load_words-doing.ensures.steps k.steps) k.two_words
 
 pub returns-else-known-clause-busy : goal.returns-else-known-clause-busy
 returns-else-known-clause-busy c =
@@ -21,5 +25,12 @@ returns-else-known-clause-busy c =
     let k = c.decide.ensures in
     let entry = same.entry ∙ ap (λ (z : Doing). z.entry) begun in
     let op = same.op ∙ ap (λ (z : Doing). z.op) begun in
-    if_err c.decide.result _ _ (λ b two. busy_second c.args.entry c.args.op d.noted (Look c.load_words-doing.result.entry c.load_words-doing.result.op) b c.args.seat.now.me.0 c.look_first.new.seat.me.0 c.load_words-doing.new.seat.me.0 c.decide.new.seat.me.0
-    c.requires.op c.in_ok-looked.ensures.ok.low (inl (λ i. Look (entry i) (op i))) (two.0 ∙ ap word_of same.noted, two.1) c.look_first.ensures.steps c.load_words-doing.ensures.steps k.steps) k.two_words
+    if_err c.decide.result _ _
+    (λ b two.
+    busy_second c.args.entry c.args.op d.noted
+    (Look c.load_words-doing.result.entry c.load_words-doing.result.op) b
+    c.args.seat.now.me.0 c.look_first.new.seat.me.0 c.load_words-doing.new.seat.me.0
+    c.decide.new.seat.me.0
+    c.requires.op c.in_ok-looked.ensures.ok.low (inl (λ i. Look (entry i) (op i)))
+    (two.0 ∙ ap word_of same.noted, two.1) c.look_first.ensures.steps
+    c.load_words-doing.ensures.steps k.steps) k.two_words

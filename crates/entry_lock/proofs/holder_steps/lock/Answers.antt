@@ -6,8 +6,17 @@ use Rattle.entry_lock.proofs.holder_steps.lock.Goals as goal
 
 pub fetch_or-requires : goal.fetch_or-requires
 fetch_or-requires g c =
-    let t = c.requires.table in let words = t.words in let inside = c.requires.entry in
-    (t.same, (omega arith), lock_allowed c.args.table.now.key c.args.table.now.table_id.slots c.args.seat.now.id c.args.seat.now.me c.args.entry g.W.ForOperation.op c.requires.acting inside c.requires.idle (ap is_access c.requires.said ∙ c.requires.op))
+    let t = c.requires.table in let words = t.words in let inside = c.requires.entry in (
+      t.same,
+      (omega arith),
+      lock_allowed c.args.table.now.key c.args.table.now.table_id.slots c.args.seat.now.id
+          c.args.seat.now.me c.args.entry g.W.ForOperation.op c.requires.acting inside
+          c.requires.idle (ap is_access c.requires.said ∙ c.requires.op),
+    )
 
 pub returns-clause-told : goal.returns-clause-told
-returns-clause-told g c = subst (λ o. LockTells o c.args.entry c.args.seat.now.me.0 c.fetch_or.result c.fetch_or.new.seat.me.0) c.requires.said (c.fetch_or.ensures.2.0 c.args.entry refl)
+returns-clause-told g c =
+    subst
+    (λ o.
+    LockTells o c.args.entry c.args.seat.now.me.0 c.fetch_or.result c.fetch_or.new.seat.me.0)
+    c.requires.said (c.fetch_or.ensures.2.0 c.args.entry refl)

@@ -9,9 +9,21 @@ use Rattle.entry_lock.proofs.holder_steps.store_data.Goals as goal
 
 pub store-requires : goal.store-requires
 store-requires c =
-    let t = c.requires.table in let words = t.words in let inside = c.requires.entry in let b = data_before c.args.second c.args.doing.now.entry in let e = c.data_index.ensures in (
+    let t = c.requires.table in
+    let words = t.words in
+    let inside = c.requires.entry in
+    let b = data_before c.args.second c.args.doing.now.entry in
+    let e = c.data_index.ensures in (
       t.same,
       (omega arith),
-      subst (λ i. Allows (ShowsRun c.args.table.now.key) c.args.table.now.table_id.slots c.args.seat.now.id c.args.seat.now.me i (λ _. c.args.new) (λ _. ShutDataPlay (step c.args.table.now.table_id.slots i c.args.new 0 none) c.args.seat.now.me c.args.new)) (sym e)
-          (store_allowed c.args.table.now.key c.args.table.now.table_id.slots c.args.seat.now.id c.args.seat.now.me c.requires.acting c.args.doing.now inside c.args.second c.args.new c.requires.shut c.requires.new),
+      subst
+          (λ i.
+          Allows (ShowsRun c.args.table.now.key) c.args.table.now.table_id.slots c.args.seat.now.id
+          c.args.seat.now.me i (λ _. c.args.new)
+          (λ _.
+          ShutDataPlay (step c.args.table.now.table_id.slots i c.args.new 0 none)
+          c.args.seat.now.me c.args.new)) (sym e)
+          (store_allowed c.args.table.now.key c.args.table.now.table_id.slots c.args.seat.now.id
+          c.args.seat.now.me c.requires.acting c.args.doing.now inside c.args.second c.args.new
+          c.requires.shut c.requires.new),
     )

@@ -10,20 +10,26 @@ use Rattle.entry_lock.proofs.line_accesses.decide.Goals as goal
 
 pub returns-then-found-word_from-clause-receipt : goal.returns-then-found-word_from-clause-receipt
 returns-then-found-word_from-clause-receipt c = let l = c.requires.looked in
-    receipt_by c.args.doing.now _ _ c.args.told.receipt c.requires.told (ap (λ (d : Doing). d.entry) l.begun_at) (ap (λ (d : Doing). d.op) l.begun_at)
+    receipt_by c.args.doing.now _ _ c.args.told.receipt c.requires.told
+    (ap (λ (d : Doing). d.entry) l.begun_at) (ap (λ (d : Doing). d.op) l.begun_at)
 
 pub returns-then-found-word_from-clause-current : goal.returns-then-found-word_from-clause-current
 returns-then-found-word_from-clause-current c = let l = c.requires.looked in
-    current_receipt c.args.known.now c.args.op c.args.doing.now c.args.told.receipt l.begun_at l.valid l.stamp l.clear c.requires.told
+    current_receipt c.args.known.now c.args.op c.args.doing.now c.args.told.receipt l.begun_at
+    l.valid l.stamp l.clear c.requires.told
 
 pub returns-then-is_still-clause-receipt : goal.returns-then-is_still-clause-receipt
 returns-then-is_still-clause-receipt c = let l = c.requires.looked in
-    receipt_by (with_noted c.args.doing.now c.control_of-control.result) _ _ c.receipt.result (c.receipt.ensures ∙ ap (λ (d : Doing). receipt d) c.with_noted.ensures)
+    receipt_by (with_noted c.args.doing.now c.control_of-control.result) _ _ c.receipt.result
+    (c.receipt.ensures ∙ ap (λ (d : Doing). receipt d) c.with_noted.ensures)
     (ap (λ (d : Doing). d.entry) l.begun_at) (ap (λ (d : Doing). d.op) l.begun_at)
 
 pub returns-then-is_still-clause-current : goal.returns-then-is_still-clause-current
 returns-then-is_still-clause-current c = let l = c.requires.looked in
-    later_receipt_current c.args.known.now c.args.op c.args.doing.now c.control_of-control.result c.receipt.result l.begun_at l.stamp l.clear (sym c.is_still.ensures ∙ c.if-is_still.true) (c.receipt.ensures ∙ ap (λ (d : Doing). receipt d) c.with_noted.ensures)
+    later_receipt_current c.args.known.now c.args.op c.args.doing.now c.control_of-control.result
+    c.receipt.result l.begun_at l.stamp l.clear (sym c.is_still.ensures ∙ c.if-is_still.true)
+    (c.receipt.ensures ∙ ap (λ (d : Doing). receipt d) c.with_noted.ensures)
 
 pub returns-then-found-word_from-clause-leaves : goal.returns-then-found-word_from-clause-leaves
-returns-then-found-word_from-clause-leaves c = ap leaves_state c.requires.told ∙ leaves_if c.args.doing.now c.requires.may
+returns-then-found-word_from-clause-leaves c =
+    ap leaves_state c.requires.told ∙ leaves_if c.args.doing.now c.requires.may

@@ -14,8 +14,15 @@ pub of_words-requires : goal.of_words-requires
 of_words-requires c =
     let key : Opening = record { states = c.of.result; passes = c.args.passes } in
     let items : states_of key ≡ c.args.states.now.items = ap (λ v. v.items) c.of.ensures in
-    let words : c.as_slice-2.result.now ≡ 0 ∷ entry_words (states_of key) = c.as_slice-2.ensures.value ∙ c.in_ok-words.ensures.words ∙ ap (λ (l : List State). 0 ∷ entry_words l) (c.as_slice.ensures.value ∙ sym items) in
-    subst (λ l. ShowsRun key (opening l [] (first_view key))) (sym words) ([], opens key (subst (λ (l : List State). All IsFair l) (c.as_slice.ensures.value ∙ sym items) c.in_ok-words.ensures.fair) c.requires)
+    let words : c.as_slice-2.result.now ≡ 0 ∷ entry_words (states_of key) =
+    c.as_slice-2.ensures.value ∙ c.in_ok-words.ensures.words ∙ ap
+    (λ (l : List State). 0 ∷ entry_words l) (c.as_slice.ensures.value ∙ sym items) in
+    subst (λ l. ShowsRun key (opening l [] (first_view key))) (sym words) (
+      [],
+      opens key
+          (subst (λ (l : List State). All IsFair l) (c.as_slice.ensures.value ∙ sym items)
+          c.in_ok-words.ensures.fair) c.requires,
+    )
 
 pub returns-clause-words : goal.returns-clause-words
 returns-clause-words c =

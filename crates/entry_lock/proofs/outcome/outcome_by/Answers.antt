@@ -13,9 +13,13 @@ same_bits false false h = refl
 pub returns-then-found-doing-2-clause-receipt : goal.returns-then-found-doing-2-clause-receipt
 returns-then-found-doing-2-clause-receipt c =
     c.requires.receipt
-    ∙ sym (again_receipt c.args.doing.now c.args.found c.requires.valid c.requires.stamp (same_bits _ _ c.if-found-doing.true) (same_bits _ _ c.if-found-doing-2.true))
+    ∙ sym
+    (again_receipt c.args.doing.now c.args.found c.requires.valid c.requires.stamp
+    (same_bits _ _ c.if-found-doing.true) (same_bits _ _ c.if-found-doing-2.true))
 
 pub returns-then-found-doing-2-clause-after : goal.returns-then-found-doing-2-clause-after
 returns-then-found-doing-2-clause-after c =
     c.requires.after
-    ∙ sym (again_next c.args.doing.now c.args.found c.requires.valid c.requires.stamp (same_bits _ _ c.if-found-doing.true) (same_bits _ _ c.if-found-doing-2.true))
+    ∙ sym
+    (again_next c.args.doing.now c.args.found c.requires.valid c.requires.stamp
+    (same_bits _ _ c.if-found-doing.true) (same_bits _ _ c.if-found-doing-2.true))

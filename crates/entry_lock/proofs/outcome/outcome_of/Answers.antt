@@ -5,4 +5,6 @@ use Rattle.entry_lock.proofs.outcome.outcome_of.Goals as goal
 
 pub returns-clause-receipt : goal.returns-clause-receipt
 unfolding receipt
-returns-clause-receipt c = same _ c.args.doing.now.entry (noted_state c.args.doing.now) c.args.doing.now.op refl c.noted_state-before.ensures refl
+returns-clause-receipt c =
+    same _ c.args.doing.now.entry (noted_state c.args.doing.now) c.args.doing.now.op refl
+    c.noted_state-before.ensures refl

@@ -11,6 +11,13 @@ invariant-loop-i g l = record {
   count : length l.receipts ≡ length l.fn.receipts + l.i;
   made : g.T.EntryStore.made l.fn.store l.store (receipts_added l.fn.receipts l.receipts);
   order : g.T.EntryStore.table_order l.store ≡ g.T.EntryStore.table_order l.fn.store;
-  trial : (rs : List Receipt) → IsTrial (goes_after l.goes_on) (calls_from l.op (l.first + l.i) (l.count - l.i)) rs → IsTrial (goes_after l.goes_on) (calls_from l.op l.first l.count) (receipts_added l.fn.receipts l.receipts ++ rs);
-  ending : (rs : List Receipt) → ending_of (goes_after l.goes_on) (receipts_added l.fn.receipts l.receipts ++ rs) ≡ ending_of (goes_after l.goes_on) rs;
+  trial :
+      (rs : List Receipt)
+      → IsTrial (goes_after l.goes_on) (calls_from l.op (l.first + l.i) (l.count - l.i)) rs
+      → IsTrial (goes_after l.goes_on) (calls_from l.op l.first l.count)
+      (receipts_added l.fn.receipts l.receipts ++ rs);
+  ending :
+      (rs : List Receipt)
+      → ending_of (goes_after l.goes_on) (receipts_added l.fn.receipts l.receipts ++ rs)
+      ≡ ending_of (goes_after l.goes_on) rs;
 }

@@ -7,5 +7,6 @@ use Rattle.h_enter.proofs.words.search.Goals as goal
 
 pub returns-clause-told : goal.returns-clause-told
 returns-clause-told g c =
-    let ending : c.try_entries-ending.result ≡ ending_of is_taken c.try_entries-ending.new.receipts = rw c.requires.empty at c.try_entries-ending.ensures.ending in
+    let ending : c.try_entries-ending.result ≡ ending_of is_taken c.try_entries-ending.new.receipts
+    = rw c.requires.empty at c.try_entries-ending.ensures.ending in
     c.registers.ensures ∙ ap told_by_ending ending ∙ told_is c.try_entries-ending.new.receipts

@@ -7,4 +7,7 @@ use Rattle.history_check.proofs.judged_run.is_on_any.Given as goal
 
 -- whether one of those that are left has it decides
 abbrev pub invariant-loop-entries : goal.invariant-loop-entries
-invariant-loop-entries l = list_any (λ (w : BusWindow). is_on_window w l.act) (windows_in l.windows) ≡ list_any (λ (w : BusWindow). is_on_window w l.act) (windows_in (drop l.entries-index l.windows))
+invariant-loop-entries l =
+    list_any (λ (w : BusWindow). is_on_window w l.act) (windows_in l.windows)
+    ≡ list_any (λ (w : BusWindow). is_on_window w l.act)
+    (windows_in (drop l.entries-index l.windows))

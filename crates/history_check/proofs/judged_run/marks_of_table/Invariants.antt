@@ -6,4 +6,6 @@ use Rattle.history_check.specs.FoundStores.{windows_in}
 use Rattle.history_check.proofs.judged_run.marks_of_table.Given as goal
 
 abbrev pub invariant-loop-line : goal.invariant-loop-line
-invariant-loop-line l = l.marks.items ≡ map (λ (x : TraceLine). is_on (windows_in l.windows) None x.act) (take l.line-index l.lines)
+invariant-loop-line l =
+    l.marks.items
+    ≡ map (λ (x : TraceLine). is_on (windows_in l.windows) None x.act) (take l.line-index l.lines)

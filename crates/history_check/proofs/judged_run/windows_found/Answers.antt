@@ -3,18 +3,44 @@ use Rattle.history_check.proofs.WindowLoops.{left_more, windows_stay, parts_more
 use Rattle.history_check.proofs.judged_run.windows_found.Goals as goal
 
 pub returns-in_err-section-clause-windows : goal.returns-in_err-section-clause-windows
-returns-in_err-section-clause-windows c = windows_stay c.loop-i.windows.items c.loop-i.i c.index_mut.result.now c.section.new.self (omega (arith, c.loop-i-test.true, c.loop-i.invariant.size, c.len-i-end.ensures)) c.index_mut.ensures.value c.section.ensures.window ∙ c.loop-i.invariant.windows
+returns-in_err-section-clause-windows c =
+    windows_stay c.loop-i.windows.items c.loop-i.i c.index_mut.result.now c.section.new.self
+    (omega (arith, c.loop-i-test.true, c.loop-i.invariant.size, c.len-i-end.ensures))
+    c.index_mut.ensures.value c.section.ensures.window
+    ∙ c.loop-i.invariant.windows
 
 pub returns-then-not-branch-clause-none : goal.returns-then-not-branch-clause-none
-returns-then-not-branch-clause-none c = λ same. none_at c.args.grants.now.grants c.args.cpus c.args.lines.now c.args.text.now c.args.windows.now.items c.loop-i.windows.items c.loop-i.i c.index_mut.result.now (omega (arith, c.loop-i-test.true, c.loop-i.invariant.size, c.len-i-end.ensures)) c.loop-i.invariant.size c.index_mut.ensures.value c.loop-i.invariant.left (c.in_ok-section.ensures.none c.if-not-branch.true)
+returns-then-not-branch-clause-none c =
+    λ same.
+    none_at c.args.grants.now.grants c.args.cpus c.args.lines.now c.args.text.now
+    c.args.windows.now.items c.loop-i.windows.items c.loop-i.i c.index_mut.result.now
+    (omega (arith, c.loop-i-test.true, c.loop-i.invariant.size, c.len-i-end.ensures))
+    c.loop-i.invariant.size c.index_mut.ensures.value c.loop-i.invariant.left
+    (c.in_ok-section.ensures.none c.if-not-branch.true)
 
 pub returns-then-not-branch-clause-windows : goal.returns-then-not-branch-clause-windows
-returns-then-not-branch-clause-windows c = windows_stay c.loop-i.windows.items c.loop-i.i c.index_mut.result.now c.section.new.self (omega (arith, c.loop-i-test.true, c.loop-i.invariant.size, c.len-i-end.ensures)) c.index_mut.ensures.value c.section.ensures.window ∙ c.loop-i.invariant.windows
+returns-then-not-branch-clause-windows c =
+    windows_stay c.loop-i.windows.items c.loop-i.i c.index_mut.result.now c.section.new.self
+    (omega (arith, c.loop-i-test.true, c.loop-i.invariant.size, c.len-i-end.ensures))
+    c.index_mut.ensures.value c.section.ensures.window
+    ∙ c.loop-i.invariant.windows
 
 pub loop-i-preserved : goal.loop-i-preserved
 loop-i-preserved c = record {
-  have = parts_more c.args.grants.now.grants c.args.cpus c.args.lines.now c.args.text.now c.args.windows.now.items c.loop-i.windows.items c.loop-i.i c.index_mut.result.now c.section.new.self (omega (arith, c.loop-i-test.true, c.loop-i.invariant.size, c.len-i-end.ensures)) c.loop-i.invariant.size c.index_mut.ensures.value c.loop-i.invariant.left (c.in_ok-section.ensures.some c.if-not-branch.false) c.loop-i.invariant.have;
-  left = left_more c.args.windows.now.items c.loop-i.windows.items c.loop-i.i c.section.new.self c.loop-i.invariant.left;
+  have =
+      parts_more c.args.grants.now.grants c.args.cpus c.args.lines.now c.args.text.now
+      c.args.windows.now.items c.loop-i.windows.items c.loop-i.i c.index_mut.result.now
+      c.section.new.self
+      (omega (arith, c.loop-i-test.true, c.loop-i.invariant.size, c.len-i-end.ensures))
+      c.loop-i.invariant.size c.index_mut.ensures.value c.loop-i.invariant.left
+      (c.in_ok-section.ensures.some c.if-not-branch.false) c.loop-i.invariant.have;
+  left =
+      left_more c.args.windows.now.items c.loop-i.windows.items c.loop-i.i c.section.new.self
+      c.loop-i.invariant.left;
   size = length-set c.loop-i.windows.items c.loop-i.i c.section.new.self ∙ c.loop-i.invariant.size;
-  windows = windows_stay c.loop-i.windows.items c.loop-i.i c.index_mut.result.now c.section.new.self (omega (arith, c.loop-i-test.true, c.loop-i.invariant.size, c.len-i-end.ensures)) c.index_mut.ensures.value c.section.ensures.window ∙ c.loop-i.invariant.windows;
+  windows =
+      windows_stay c.loop-i.windows.items c.loop-i.i c.index_mut.result.now c.section.new.self
+      (omega (arith, c.loop-i-test.true, c.loop-i.invariant.size, c.len-i-end.ensures))
+      c.index_mut.ensures.value c.section.ensures.window
+      ∙ c.loop-i.invariant.windows;
 }

@@ -7,5 +7,9 @@ use Rattle.history_check.proofs.judging_lines.opening_fronts.Goals as goal
 pub loop-preserved : goal.loop-preserved
 loop-preserved c = record {
   size = grind (arith, common_steps);
-  fronts = λ cpu e. ap (λ l. fronts_of l c.args.opening.now cpu e) c.in_ok-push.ensures.items ∙ more_fronts c.loop.fronts.items _ c.args.opening.now cpu e c.in_ok-new.ensures (λ k. c.loop.invariant.fronts k e);
+  fronts =
+      λ cpu e.
+      ap (λ l. fronts_of l c.args.opening.now cpu e) c.in_ok-push.ensures.items
+      ∙ more_fronts c.loop.fronts.items _ c.args.opening.now cpu e c.in_ok-new.ensures
+      (λ k. c.loop.invariant.fronts k e);
 }

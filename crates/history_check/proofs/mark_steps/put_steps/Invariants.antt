@@ -5,6 +5,8 @@ use Rattle.history_check.proofs.mark_steps.put_steps.Given as goal
 -- The steps so far, and those of the marks that are left.
 abbrev pub invariant-loop-mark : goal.invariant-loop-mark
 invariant-loop-mark l = record {
-  told : l.steps.items ++ mark_steps l.line (length l.steps.items) l.act (drop l.mark-index l.marks) ≡ l.fn.steps.items ++ mark_steps l.line (length l.fn.steps.items) l.act l.marks;
+  told :
+      l.steps.items ++ mark_steps l.line (length l.steps.items) l.act (drop l.mark-index l.marks)
+      ≡ l.fn.steps.items ++ mark_steps l.line (length l.fn.steps.items) l.act l.marks;
   size : length l.steps.items ≡ length l.fn.steps.items + l.mark-index;
 }

@@ -6,5 +6,10 @@ use Rattle.history_check.proofs.processor.new_processors.Goals as goal
 pub loop-preserved : goal.loop-preserved
 unfolding new_processor
 loop-preserved c =
-    let fresh : c.new.result ≡ new_processor = λ i. record { slots = c.new.ensures.slots i; masks = c.new.ensures.masks i; cache = c.new.ensures.cache i } in
-    rw c.in_ok-push.ensures.items (empty_more c.loop.processors.items c.loop.counter c.new.result c.loop.invariant fresh)
+    let fresh : c.new.result ≡ new_processor = λ i. record {
+      slots = c.new.ensures.slots i;
+      masks = c.new.ensures.masks i;
+      cache = c.new.ensures.cache i;
+    } in
+    rw c.in_ok-push.ensures.items
+    (empty_more c.loop.processors.items c.loop.counter c.new.result c.loop.invariant fresh)

@@ -9,5 +9,9 @@ returns-clause-page c =
     let a = c.args in
     let held = c.held_offset_bits-held in
     c.of_address.ensures.page
-    ∙ ap (page_of_address a.one_tb (a.number / 2 ^ held.result) a.shift) (rebuilt_offset-computed a.one_tb a.number a.shift a.low held.result held.ensures)
-    ∙ ap (λ h. page_of_address a.one_tb (a.number / 2 ^ h) a.shift (rebuilt_offset a.one_tb a.number a.shift a.low)) held.ensures
+    ∙ ap (page_of_address a.one_tb (a.number / 2 ^ held.result) a.shift)
+    (rebuilt_offset-computed a.one_tb a.number a.shift a.low held.result held.ensures)
+    ∙ ap
+    (λ h.
+    page_of_address a.one_tb (a.number / 2 ^ h) a.shift
+    (rebuilt_offset a.one_tb a.number a.shift a.low)) held.ensures

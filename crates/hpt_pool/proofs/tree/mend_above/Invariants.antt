@@ -10,7 +10,11 @@ invariant-loop-spot l = record {
   low : l.spot.height ≤ l.height;
   way : IsWay (l.height - l.spot.height) l.spot.height l.spot.index l.spot.turns;
   said : l.largest ≡ largest_of (node_at l.nodes l.spot.index);
-  rest : (after : List Node) → AreMended (l.height - l.spot.height) l.spot.height l.spot.index l.spot.turns l.nodes after → AreMended (l.height - l.fn.from.height) l.fn.from.height l.fn.from.index l.fn.from.turns l.fn.nodes after;
+  rest :
+      (after : List Node)
+      → AreMended (l.height - l.spot.height) l.spot.height l.spot.index l.spot.turns l.nodes after
+      → AreMended (l.height - l.fn.from.height) l.fn.from.height l.fn.from.index l.fn.from.turns
+      l.fn.nodes after;
 }
 
 abbrev pub decreases-loop-spot : goal.decreases-loop-spot

@@ -5,4 +5,6 @@ use Rattle.lock_core.proofs.words.receipt.Goals as goal
 
 pub returns : goal.returns
 unfolding receipt
-returns c = same _ c.args.doing.now.entry (noted_state c.args.doing.now) c.args.doing.now.op refl c.noted_state-before.ensures refl
+returns c =
+    same _ c.args.doing.now.entry (noted_state c.args.doing.now) c.args.doing.now.op refl
+    c.noted_state-before.ensures refl

@@ -9,7 +9,8 @@ pub returns-clause-reply : goal.returns-clause-reply
 returns-clause-reply c =
     let e = c.apply_act.ensures in
     let context = table_context (access_context c.args.table.now.order c.args.grants.now.grants) in
-    alone context c.args.cpu.now c.args.act.now (reply_in c.apply_act.new.place) c.args.table.now c.apply_act.new.table c.requires.not_quiet e.made e.call e.access e.comes_later e.gone
+    alone context c.args.cpu.now c.args.act.now (reply_in c.apply_act.new.place) c.args.table.now
+    c.apply_act.new.table c.requires.not_quiet e.made e.call e.access e.comes_later e.gone
 
 pub returns-clause-size : goal.returns-clause-size
 returns-clause-size c = run-length _ _ _ c.apply_act.ensures.made.run

@@ -7,9 +7,13 @@ use Rattle.lpar_set.proofs.set_end.partition_read.Goals as goal
 
 pub unreachable-requires : goal.unreachable-requires
 unreachable-requires c =
-    false≢true (subst (λ (o : Option Reading). is_running (unwrap_or o opening_reading).stage ≡ true) c.in-None.is (c.requires opening_reading))
+    false≢true
+    (subst (λ (o : Option Reading). is_running (unwrap_or o opening_reading).stage ≡ true)
+    c.in-None.is (c.requires opening_reading))
 
 pub unreachable-requires-in-Err : goal.unreachable-requires-in-Err
 unreachable-requires-in-Err c =
-    let running : is_running c.in-Some.reader.stage ≡ true = subst (λ (o : Option Reading). is_running (unwrap_or o opening_reading).stage ≡ true) c.in-Some.is (c.requires opening_reading) in
+    let running : is_running c.in-Some.reader.stage ≡ true = subst
+    (λ (o : Option Reading). is_running (unwrap_or o opening_reading).stage ≡ true) c.in-Some.is
+    (c.requires opening_reading) in
     false≢true (sym (c.in-Err.ensures.ends).0 ∙ running)

@@ -8,5 +8,8 @@ use Rattle.lpar_set.proofs.strangers.meets_stranger.Goals as goal
 pub returns : goal.returns
 returns c =
     let others : List (Option Reading) = slice_set c.args.readings.now c.args.number None in
-    sym (list_any_none (meets_any c.args.grant.now) others (All-from_get_or (λ o. meets_any c.args.grant.now o ≡ false) others None (λ k inside.
-    c.loop-i.invariant k (omega (arith, inside, length-set c.args.readings.now c.args.number None)))))
+    sym
+    (list_any_none (meets_any c.args.grant.now) others
+    (All-from_get_or (λ o. meets_any c.args.grant.now o ≡ false) others None (λ k inside.
+    c.loop-i.invariant k
+    (omega (arith, inside, length-set c.args.readings.now c.args.number None)))))

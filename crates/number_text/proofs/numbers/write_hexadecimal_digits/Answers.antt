@@ -19,21 +19,34 @@ loop-start-init c =
 pub loop-start-preserved : goal.loop-start-preserved
 loop-start-preserved c =
     let l = c.loop-start in
-    let one : l.start - (c.args.end - 16) + 48 ≡ l.start - 1 - (c.args.end - 16) + 48 + 1 = omega arith in
+    let one : l.start - (c.args.end - 16) + 48 ≡ l.start - 1 - (c.args.end - 16) + 48 + 1 = omega
+    arith in
     let two : l.start - (c.args.end - 16) ≡ l.start - 1 - (c.args.end - 16) + 1 = omega arith in
     let three : l.start - 1 + 1 ≡ l.start = omega arith in
     record {
       places = l.invariant.places;
       low = omega arith;
       high = omega arith;
-      small = fewer 16 l.rest (l.start - 1 - (c.args.end - 16)) (omega arith) (rw two at l.invariant.small);
+      small =
+          fewer 16 l.rest (l.start - 1 - (c.args.end - 16)) (omega arith)
+          (rw two at l.invariant.small);
       begun = λ h. omega (arith, c.if-rest-eq0.false);
-      told = rw (drop-set l.text (l.start - 1) _ (omega arith), three, c.digit_of.ensures) (sym (digits_onto_step l.rest (drop l.start l.text) (l.start - 1 - (c.args.end - 16) + 48) c.if-rest-eq0.false) ∙ (rw one at l.invariant.told));
+      told =
+          rw (drop-set l.text (l.start - 1) _ (omega arith), three, c.digit_of.ensures)
+          (sym
+          (digits_onto_step l.rest (drop l.start l.text)
+          (l.start - 1 - (c.args.end - 16) + 48) c.if-rest-eq0.false)
+          ∙ (rw one at l.invariant.told));
     }
 
 pub returns-then-rest-eq0-clause-written : goal.returns-then-rest-eq0-clause-written
 returns-then-rest-eq0-clause-written c =
     let l = c.loop-start in
-    let one : l.start - (c.args.end - 16) + 48 ≡ l.start - 1 - (c.args.end - 16) + 48 + 1 = omega arith in
+    let one : l.start - (c.args.end - 16) + 48 ≡ l.start - 1 - (c.args.end - 16) + 48 + 1 = omega
+    arith in
     let three : l.start - 1 + 1 ≡ l.start = omega arith in
-    rw (drop-set l.text (l.start - 1) _ (omega arith), three, c.digit_of.ensures) (sym (digits_onto_last l.rest (drop l.start l.text) (l.start - 1 - (c.args.end - 16) + 48) c.if-rest-eq0.true) ∙ (rw one at l.invariant.told))
+    rw (drop-set l.text (l.start - 1) _ (omega arith), three, c.digit_of.ensures)
+    (sym
+    (digits_onto_last l.rest (drop l.start l.text) (l.start - 1 - (c.args.end - 16) + 48)
+    c.if-rest-eq0.true)
+    ∙ (rw one at l.invariant.told))

@@ -10,7 +10,9 @@ invariant-loop-start l = record {
   high : l.start ≤ l.end;
   small : l.rest < 16 ^ (l.start - l.first);
   begun : l.start < l.end → 0 < l.rest;
-  told : digits_onto (l.start - l.first + 48) 16 false l.rest (drop l.start l.text) ≡ digits 16 false l.number ++ drop l.end l.fn.text;
+  told :
+      digits_onto (l.start - l.first + 48) 16 false l.rest (drop l.start l.text)
+      ≡ digits 16 false l.number ++ drop l.end l.fn.text;
 }
 
 abbrev pub decreases-loop-start : goal.decreases-loop-start

@@ -13,5 +13,11 @@ returns-in-Some-Par-clause-ends g c =
     let asked : command_of c.args.words.now ≡ Some commands.Par = cc in
     let left = g.S.Source.left in
     let taken = g.K.Sink.taken in
-    let said = ends_said trace_input _ (WithDone IsParallelText) (record { left = left c.args.source.now; left_after = left c.answer_input.new.source; taken = taken c.args.sink.now; taken_after = taken c.answer_input.new.sink }) c.answer_input.result (λ x answer made. search rules) c.answer_input.ensures.outcome in
+    let said = ends_said trace_input _ (WithDone IsParallelText)
+    (record {
+      left = left c.args.source.now;
+      left_after = left c.answer_input.new.source;
+      taken = taken c.args.sink.now;
+      taken_after = taken c.answer_input.new.sink;
+    }) c.answer_input.result (λ x answer made. search rules) c.answer_input.ensures.outcome in
     rw asked (par_ends _ c.answer_input.result said (search rules))

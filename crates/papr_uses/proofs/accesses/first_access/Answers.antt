@@ -7,10 +7,18 @@ pub access-requires : goal.access-requires
 access-requires c = record { seen = rw c.new.ensures.cache (all_cached _) }
 
 pub returns-clause-outcome : goal.returns-clause-outcome
-returns-clause-outcome c = ap (λ (r : AccessReply). r.outcome) (replied _ _ _ _ _ _ c.new.ensures.slots c.access.ensures.reply)
+returns-clause-outcome c =
+    ap (λ (r : AccessReply). r.outcome)
+    (replied _ _ _ _ _ _ c.new.ensures.slots c.access.ensures.reply)
 
 pub returns-clause-receipts : goal.returns-clause-receipts
-returns-clause-receipts c = ap (λ (r : AccessReply). r.receipts) (replied _ _ _ _ _ _ c.new.ensures.slots c.access.ensures.reply)
+returns-clause-receipts c =
+    ap (λ (r : AccessReply). r.receipts)
+    (replied _ _ _ _ _ _ c.new.ensures.slots c.access.ensures.reply)
 
 pub returns-clause-same : goal.returns-clause-same
-returns-clause-same c = nothing_made _ _ _ (ap (λ (r : AccessReply). r.receipts) (replied _ _ _ _ _ _ c.new.ensures.slots c.access.ensures.reply)) c.access.ensures.made.run
+returns-clause-same c =
+    nothing_made _ _ _
+    (ap (λ (r : AccessReply). r.receipts)
+    (replied _ _ _ _ _ _ c.new.ensures.slots c.access.ensures.reply))
+    c.access.ensures.made.run

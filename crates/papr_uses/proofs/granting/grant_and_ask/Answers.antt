@@ -12,5 +12,9 @@ overflow_add-grant c =
 pub returns-clause-at : goal.returns-clause-at
 returns-clause-at c =
     c.machine_of.ensures
-    ∙ ap (λ (granted : GrantedMemory). machine_range granted.grants (c.args.grant.logical + c.args.offset) 1) c.in_ok-add.ensures.ok
-    ∙ byte_of c.args.grants.now c.args.grant c.args.offset c.requires (accepted _ _ c.in_ok-add.ensures.told)
+    ∙ ap
+    (λ (granted : GrantedMemory).
+    machine_range granted.grants (c.args.grant.logical + c.args.offset) 1)
+    c.in_ok-add.ensures.ok
+    ∙ byte_of c.args.grants.now c.args.grant c.args.offset c.requires
+    (accepted _ _ c.in_ok-add.ensures.told)

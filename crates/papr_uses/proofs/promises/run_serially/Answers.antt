@@ -10,7 +10,17 @@ use Rattle.papr_uses.proofs.promises.run_serially.Goals as goal
 
 pub returns : goal.returns
 returns c = λ done.
-    let word : command_of (c.in-Ok.word ∷ []) ≡ Some commands.Run = run_word c.in-Ok.word c.in-Ok.ensures.ok in
-    let ran : Run = record { left = Some c.new-source.result.left; left_after = Some c.papr_serial.new.source.left; taken = told c.args.sink.now; taken_after = told c.papr_serial.new.sink } in
-    let ends : EndsReading trace_input (WithDone IsSerialText) ran c.papr_serial.result = rw word at c.papr_serial.ensures.ends.outcome in
-    serially c.args.input.items ran (wrote IsSerialText c.args.input.items c.papr_serial.new.source.left ran (ap (λ (s : SourceState). Some s.left) c.new-source.ensures) refl (subst (EndsReading trace_input (WithDone IsSerialText) ran) done ends))
+    let word : command_of (c.in-Ok.word ∷ []) ≡ Some commands.Run = run_word c.in-Ok.word
+    c.in-Ok.ensures.ok in
+    let ran : Run = record {
+      left = Some c.new-source.result.left;
+      left_after = Some c.papr_serial.new.source.left;
+      taken = told c.args.sink.now;
+      taken_after = told c.papr_serial.new.sink;
+    } in
+    let ends : EndsReading trace_input (WithDone IsSerialText) ran c.papr_serial.result = rw word at
+    c.papr_serial.ensures.ends.outcome in
+    serially c.args.input.items ran
+    (wrote IsSerialText c.args.input.items c.papr_serial.new.source.left ran
+    (ap (λ (s : SourceState). Some s.left) c.new-source.ensures) refl
+    (subst (EndsReading trace_input (WithDone IsSerialText) ran) done ends))

@@ -10,7 +10,17 @@ use Rattle.papr_uses.proofs.promises.run_threads.Goals as goal
 
 pub returns : goal.returns
 returns g c = λ done.
-    let word : command_of (c.in-Ok.word ∷ []) ≡ Some commands.Par = par_word c.in-Ok.word c.in-Ok.ensures.ok in
-    let ran : Run = record { left = Some c.new-source.result.left; left_after = Some c.papr.new.source.left; taken = told c.args.sink.now; taken_after = told c.papr.new.sink } in
-    let ends : EndsReading trace_input (WithDone IsParallelText) ran c.papr.result = rw word at c.papr.ensures.ends.outcome in
-    by_threads c.args.input.items ran (wrote IsParallelText c.args.input.items c.papr.new.source.left ran (ap (λ (s : SourceState). Some s.left) c.new-source.ensures) refl (subst (EndsReading trace_input (WithDone IsParallelText) ran) done ends))
+    let word : command_of (c.in-Ok.word ∷ []) ≡ Some commands.Par = par_word c.in-Ok.word
+    c.in-Ok.ensures.ok in
+    let ran : Run = record {
+      left = Some c.new-source.result.left;
+      left_after = Some c.papr.new.source.left;
+      taken = told c.args.sink.now;
+      taken_after = told c.papr.new.sink;
+    } in
+    let ends : EndsReading trace_input (WithDone IsParallelText) ran c.papr.result = rw word at
+    c.papr.ensures.ends.outcome in
+    by_threads c.args.input.items ran
+    (wrote IsParallelText c.args.input.items c.papr.new.source.left ran
+    (ap (λ (s : SourceState). Some s.left) c.new-source.ensures) refl
+    (subst (EndsReading trace_input (WithDone IsParallelText) ran) done ends))

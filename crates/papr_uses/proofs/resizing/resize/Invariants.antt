@@ -4,4 +4,5 @@ use Rattle.papr_uses.proofs.resizing.resize.Given as goal
 
 -- the partition has its table still
 abbrev pub invariant-loop-call : goal.invariant-loop-call
-invariant-loop-call l = HasStates l.partition × (l.partition.memory.table ≡ l.initial.partition.memory.table)
+invariant-loop-call l =
+    HasStates l.partition × (l.partition.memory.table ≡ l.initial.partition.memory.table)

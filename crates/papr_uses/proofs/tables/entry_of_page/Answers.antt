@@ -10,10 +10,12 @@ returns-in-Some c =
     let low : 18 ≤ c.args.table.now.order = omega arith in
     ap (λ (r : Receipt). Some r.entry) c.in-Some.receipt-is
     ∙ sym (ap entry_in (sym c.walk-answer.ensures.found ∙ c.in-Some.is))
-    ∙ c.walk_finds_first.ensures _ _ _ _ _ _ low c.vsid-vsid.ensures.in_range c.requires c.walk-answer.ensures.trial c.walk-answer.ensures.made.run
+    ∙ c.walk_finds_first.ensures _ _ _ _ _ _ low c.vsid-vsid.ensures.in_range c.requires
+    c.walk-answer.ensures.trial c.walk-answer.ensures.made.run
 
 pub returns-in-None : goal.returns-in-None
 returns-in-None c =
     let low : 18 ≤ c.args.table.now.order = omega arith in
     sym (ap entry_in (sym c.walk-answer.ensures.found ∙ c.in-None.is))
-    ∙ c.walk_finds_first.ensures _ _ _ _ _ _ low c.vsid-vsid.ensures.in_range c.requires c.walk-answer.ensures.trial c.walk-answer.ensures.made.run
+    ∙ c.walk_finds_first.ensures _ _ _ _ _ _ low c.vsid-vsid.ensures.in_range c.requires
+    c.walk-answer.ensures.trial c.walk-answer.ensures.made.run

@@ -6,4 +6,5 @@ pub returns-clause-size : goal.returns-clause-size
 returns-clause-size c = shifted c.args.order c.requires
 
 pub returns-clause-most : goal.returns-clause-most
-returns-clause-most c = let most = size_most c.args.order c.requires in omega (arith, shifted c.args.order c.requires)
+returns-clause-most c =
+    let most = size_most c.args.order c.requires in omega (arith, shifted c.args.order c.requires)

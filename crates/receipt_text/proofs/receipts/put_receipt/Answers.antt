@@ -9,10 +9,19 @@ use Rattle.receipt_text.proofs.receipts.put_receipt.Goals as goal
 pub from_utf8_unchecked-requires : goal.from_utf8_unchecked-requires
 from_utf8_unchecked-requires c =
     let w = c.write_receipt-start in
-    IsUtf8-from_ascii _ (rw (take_all (64 - w.result) (drop w.result w.new.text) (omega (arith, length-drop w.result w.new.text)), w.ensures.written) (IsAscii-receipt_text c.args.receipt.now))
+    IsUtf8-from_ascii _
+    (rw (
+      take_all (64 - w.result) (drop w.result w.new.text)
+          (omega (arith, length-drop w.result w.new.text)),
+      w.ensures.written,
+    ) (IsAscii-receipt_text c.args.receipt.now))
 
 pub returns-clause-text : goal.returns-clause-text
 returns-clause-text c =
     let w = c.write_receipt-start in
-    let same : c.from_utf8_unchecked.result.now ≡ receipt_text c.args.receipt.now = c.from_utf8_unchecked.ensures ∙ take_all (64 - w.result) (drop w.result w.new.text) (omega (arith, length-drop w.result w.new.text)) ∙ w.ensures.written in
-    OnOk-push_str c.push_str.result (string_bytes c.args.out.now) c.from_utf8_unchecked.result.now (string_bytes c.push_str.new.self) (receipt_text c.args.receipt.now) c.push_str.ensures.bytes same
+    let same : c.from_utf8_unchecked.result.now ≡ receipt_text c.args.receipt.now =
+    c.from_utf8_unchecked.ensures ∙ take_all (64 - w.result) (drop w.result w.new.text)
+    (omega (arith, length-drop w.result w.new.text)) ∙ w.ensures.written in
+    OnOk-push_str c.push_str.result (string_bytes c.args.out.now) c.from_utf8_unchecked.result.now
+    (string_bytes c.push_str.new.self) (receipt_text c.args.receipt.now)
+    c.push_str.ensures.bytes same

@@ -27,9 +27,26 @@ write_piece-requires-clause-room c =
 
 pub returns-clause-written : goal.returns-clause-written
 returns-clause-written c =
-    let stamp : c.from.result ≡ c.args.receipt.now.before.stamp = c.from.ensures ∙ ap (λ (r : Receipt). r.before.stamp) c.receipt.view_is in
-    let entry : c.from-2.result ≡ c.args.receipt.now.entry = c.from-2.ensures ∙ ap (λ (r : Receipt). r.entry) c.receipt.view_is in
-    rw (c.write_piece.ensures.written, c.write_hexadecimal-entry.ensures.written, c.write_piece-point.ensures.written, c.write_digits-stamp.ensures.written, c.write_piece-bits.ensures.written, c.write_piece-word.ensures.written, drop_all 64 c.args.text.now (omega arith), append-nil, c.word_of.ensures.value, c.bits.ensures.value, stamp, entry) (simp append_assoc)
+    let stamp : c.from.result ≡ c.args.receipt.now.before.stamp = c.from.ensures ∙ ap
+    (λ (r : Receipt). r.before.stamp) c.receipt.view_is in
+    let entry : c.from-2.result ≡ c.args.receipt.now.entry = c.from-2.ensures ∙ ap
+    (λ (r : Receipt). r.entry) c.receipt.view_is in
+    rw (
+      c.write_piece.ensures.written,
+      c.write_hexadecimal-entry.ensures.written,
+      c.write_piece-point.ensures.written,
+      c.write_digits-stamp.ensures.written,
+      c.write_piece-bits.ensures.written,
+      c.write_piece-word.ensures.written,
+      drop_all 64 c.args.text.now (omega arith),
+      append-nil,
+      c.word_of.ensures.value,
+      c.bits.ensures.value,
+      stamp,
+      entry,
+    ) (simp append_assoc)
 
 pub returns-clause-short : goal.returns-clause-short
-returns-clause-short c = omega (arith, decimal_short c.from.result (omega arith), hex_short c.from-2.result (omega arith))
+returns-clause-short c =
+    omega
+    (arith, decimal_short c.from.result (omega arith), hex_short c.from-2.result (omega arith))

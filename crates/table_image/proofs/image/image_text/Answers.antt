@@ -10,7 +10,13 @@ put_line-requires c = entry_digits_ascii c.args.layout _ c.in-Some.digits c.in-S
 pub returns-in_default-clause-refused : goal.returns-in_default-clause-refused
 unfolding image_of
 returns-in_default-clause-refused c =
-    rw (c.loop-entry.invariant.held, drop_more c.args.table.now c.loop-entry.entry-index (record { index = 0; dword0 = 0; dword1 = 0 }) c.loop-entry-test.true, sym c.digits_of.ensures, c.in_default.is) refl
+    rw (
+      c.loop-entry.invariant.held,
+      drop_more c.args.table.now c.loop-entry.entry-index
+          (record { index = 0; dword0 = 0; dword1 = 0 }) c.loop-entry-test.true,
+      sym c.digits_of.ensures,
+      c.in_default.is,
+    ) refl
 
 pub returns-clause-text : goal.returns-clause-text
 unfolding image_of
@@ -18,5 +24,6 @@ returns-clause-text c =
     let table = c.args.table.now in
     let i = c.loop-entry.entry-index in
     let whole : take i table ≡ table = take_all i table c.loop-entry-test.false in
-    let none : find (is_unheld c.args.layout) table ≡ None = c.loop-entry.invariant.held ∙ ap (find (is_unheld c.args.layout)) (drop_all i table c.loop-entry-test.false) in
+    let none : find (is_unheld c.args.layout) table ≡ None = c.loop-entry.invariant.held ∙ ap
+    (find (is_unheld c.args.layout)) (drop_all i table c.loop-entry-test.false) in
     rw none (ap Ok (sym (rw whole at c.loop-entry.invariant.told)))

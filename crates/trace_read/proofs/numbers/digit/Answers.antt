@@ -10,7 +10,9 @@ table_is : DIGITS ≡ map digit_value (range_with_len 0 256)
 table_is = refl
 
 table_at : (c : ℕ) → c < 256 → get_or DIGITS c 0 ≡ digit_value c
-table_at c byte = ap (λ (t : List ℕ). get_or t c 0) table_is ∙ get_or-map-range_with_len digit_value 0 256 c c 0 byte (omega arith)
+table_at c byte =
+    ap (λ (t : List ℕ). get_or t c 0) table_is
+    ∙ get_or-map-range_with_len digit_value 0 256 c c 0 byte (omega arith)
 
 pub returns : goal.returns
 returns c = rw c.from.ensures (table_at c.args.c (omega arith))

@@ -13,4 +13,6 @@ overflow_add-value c =
     omega arith
 
 pub loop-c-preserved : goal.loop-c-preserved
-loop-c-preserved c = AreRead-more _ _ _ _ _ (omega arith) (c.from.ensures ∙ c.digit-d.ensures) (omega arith) c.loop-c.invariant
+loop-c-preserved c =
+    AreRead-more _ _ _ _ _ (omega arith) (c.from.ensures ∙ c.digit-d.ensures) (omega arith)
+    c.loop-c.invariant

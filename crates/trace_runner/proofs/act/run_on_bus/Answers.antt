@@ -14,7 +14,8 @@ returns-in-Call-clause-reply c = λ p.
     let made = c.make_call-registers in
     let r : Reply = replies.Hcall (reply_with made.result made.new.receipts) in
     let call : IsCallReply context c.args.act.now r = search rules in
-    alone_on_bus context p c.args.act.now r c.args.table.now made.new.store c.requires.on_bus made.ensures.made call
+    alone_on_bus context p c.args.act.now r c.args.table.now made.new.store c.requires.on_bus
+    made.ensures.made call
 
 pub returns-in-Call-clause-size : goal.returns-in-Call-clause-size
 returns-in-Call-clause-size c = run-length _ _ _ c.make_call-registers.ensures.made.run
@@ -25,4 +26,5 @@ returns-in-Device-clause-reply c = λ p.
     let made = c.make_device_access-outcome in
     let r : Reply = replies.Device (device_reply_with made.result made.new.receipts) in
     let call : IsCallReply context c.args.act.now r = search rules in
-    alone_on_bus context p c.args.act.now r c.args.table.now made.new.store c.requires.on_bus made.ensures.made call
+    alone_on_bus context p c.args.act.now r c.args.table.now made.new.store c.requires.on_bus
+    made.ensures.made call

@@ -12,10 +12,16 @@ loop-line-preserved c =
     let r = reply_in c.line.new.place in
     record {
       seen = i.seen ++ r ∷ [];
-      counted = counted_more c.loop-line.counts c.add_place.new.self i.seen r i.counted c.add_place.ensures;
+      counted =
+          counted_more c.loop-line.counts c.add_place.new.self i.seen r i.counted
+          c.add_place.ensures;
       count = length-append i.seen (r ∷ []) ∙ ap (λ n. n + 1) i.count;
-      told = goes_on c.loop-line.machine c.line.new.self c.args.lines.now c.loop-line.line-index _ r i.seen _ c.loop-line-test.true k.reply i.told;
-      run_state = run_state_goes_on c.loop-line.machine c.line.new.self _ c.args.lines.now c.loop-line.line-index _ r c.loop-line-test.true k.reply i.run_state;
+      told =
+          goes_on c.loop-line.machine c.line.new.self c.args.lines.now c.loop-line.line-index _ r
+          i.seen _ c.loop-line-test.true k.reply i.told;
+      run_state =
+          run_state_goes_on c.loop-line.machine c.line.new.self _ c.args.lines.now
+          c.loop-line.line-index _ r c.loop-line-test.true k.reply i.run_state;
       cpus = k.cpus ∙ i.cpus;
       number = omega (arith, k.number, i.number);
     }

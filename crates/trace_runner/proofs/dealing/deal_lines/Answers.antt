@@ -18,11 +18,17 @@ loop-i-preserved c =
     let k = c.loop-i.i in
     let l = get_or lines k past in
     let dealt = c.loop-i.dealt.items in
-    let inside : l.cpu < length dealt = subst (λ n. l.cpu < n) (sym i.size) (each_at (λ (l : TraceLine). l.cpu < c.args.cpus) lines k past c.requires.on_cpus c.loop-i-test.true) in
+    let inside : l.cpu < length dealt = subst (λ n. l.cpu < n) (sym i.size)
+    (each_at (λ (l : TraceLine). l.cpu < c.args.cpus) lines k past c.requires.on_cpus
+    c.loop-i-test.true) in
     record {
       size = length-set dealt l.cpu c.push.new.self ∙ i.size;
-      dealt = dealt_more lines k past dealt c.index_mut.result.now c.push.new.self c.loop-i-test.true inside c.index_mut.ensures.value c.in_ok-push.ensures.items i.dealt;
+      dealt =
+          dealt_more lines k past dealt c.index_mut.result.now c.push.new.self c.loop-i-test.true
+          inside c.index_mut.ensures.value c.in_ok-push.ensures.items i.dealt;
     }
 
 pub returns-clause-dealt : goal.returns-clause-dealt
-returns-clause-dealt c = dealt_all c.args.lines.now c.loop-i.i c.loop-i.dealt.items (omega (arith, c.loop-i-test.false)) c.loop-i.invariant.dealt
+returns-clause-dealt c =
+    dealt_all c.args.lines.now c.loop-i.i c.loop-i.dealt.items (omega (arith, c.loop-i-test.false))
+    c.loop-i.invariant.dealt

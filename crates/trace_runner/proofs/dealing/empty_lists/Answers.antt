@@ -12,6 +12,12 @@ loop-init g c = record {
 
 pub loop-preserved : goal.loop-preserved
 loop-preserved g c = record {
-  size = ap length c.in_ok-push.ensures.items ∙ size_push c.loop.lists.items c.new.result ∙ ap (λ n. n + 1) c.loop.invariant.size;
-  empty = subst AllEmpty (sym c.in_ok-push.ensures.items) (all_push (λ k own. own.items ≡ []) 0 c.loop.lists.items c.new.result c.loop.invariant.empty c.new.ensures.items);
+  size =
+      ap length c.in_ok-push.ensures.items
+      ∙ size_push c.loop.lists.items c.new.result
+      ∙ ap (λ n. n + 1) c.loop.invariant.size;
+  empty =
+      subst AllEmpty (sym c.in_ok-push.ensures.items)
+      (all_push (λ k own. own.items ≡ []) 0 c.loop.lists.items c.new.result
+      c.loop.invariant.empty c.new.ensures.items);
 }

@@ -18,5 +18,6 @@ invariant-loop g l = record {
   ready : (set : StoreContext) (lines : List TraceLine)
       → AreDealt lines l.fn.dealt.items
       → AllNumbered (λ cpu own. AreOwn lines cpu own.items) 0 l.left.items
-      × AllNumbered (λ j w. IsReady g.L.ReplyLog.keeps g.L.ReplyLog.room set l.table j lines w) (length l.left.items) (reverse l.workers.items);
+      × AllNumbered (λ j w. IsReady g.L.ReplyLog.keeps g.L.ReplyLog.room set l.table j lines w)
+      (length l.left.items) (reverse l.workers.items);
 }

@@ -10,7 +10,9 @@ invariant-loop-i g l = record {
   count : length l.worker.own.items ≡ length l.fn.worker.own.items;
   replies : List Reply;
   kept : g.L.ReplyLog.keeps l.worker.log (take l.i (lines_of_cpu l.number l.lines)) replies;
-  run : HasRun (context_on l.table.order l.around) l.table l.number (take l.i (lines_of_cpu l.number l.lines)) replies l.worker l.pass;
+  run :
+      HasRun (context_on l.table.order l.around) l.table l.number
+      (take l.i (lines_of_cpu l.number l.lines)) replies l.worker l.pass;
   room : length (lines_of_cpu l.number l.lines) ≤ l.i + g.L.ReplyLog.room l.worker.log;
   before : l.worker.before.value ≡ l.fn.worker.before.value;
 }

@@ -9,7 +9,12 @@ returns-clause-fits c =
     let order = c.args.order in
     let primary = c.groups-primary.result.0 * 8 in
     let secondary = c.groups-primary.result.1 * 8 in
-    both_in order (calls_from c.access_op.result primary 8) (calls_from c.access_op-2.result secondary 8)
-    (row_in order c.access_op.result primary 8 (group_in_table order _ c.requires.low c.groups-primary.ensures.primary_in_table) c.access_op.ensures.normal (omega arith))
-    (row_in order c.access_op-2.result secondary 8 (group_in_table order _ c.requires.low c.groups-primary.ensures.secondary_in_table) c.access_op-2.ensures.normal (omega arith))
+    both_in order (calls_from c.access_op.result primary 8)
+    (calls_from c.access_op-2.result secondary 8)
+    (row_in order c.access_op.result primary 8
+    (group_in_table order _ c.requires.low c.groups-primary.ensures.primary_in_table)
+    c.access_op.ensures.normal (omega arith))
+    (row_in order c.access_op-2.result secondary 8
+    (group_in_table order _ c.requires.low c.groups-primary.ensures.secondary_in_table)
+    c.access_op-2.ensures.normal (omega arith))
     (omega arith)

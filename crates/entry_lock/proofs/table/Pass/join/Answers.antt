@@ -13,8 +13,15 @@ join_seat-requires c =
       c.requires.other_table.0,
       b.bare,
       (let w = t.words in omega arith),
-      joins_seats c.args.table.now.table.shared.key c.args.self.now.seat.id c.args.other.seat.id c.args.self.now.seat.me.0 c.args.other.seat.me.0 a.acting a.idle b.acting b.idle,
+      joins_seats c.args.table.now.table.shared.key c.args.self.now.seat.id c.args.other.seat.id
+          c.args.self.now.seat.me.0 c.args.other.seat.me.0 a.acting a.idle b.acting b.idle,
     )
 
 pub returns-clause-gone : goal.returns-clause-gone
-returns-clause-gone c = λ line h. subst (λ f. IsGone f line) (sym (ap (λ (m : Me ℕ View). m.0.fronts) (c.bound_shares.ensures.table.1 ∙ c.join_seat.ensures.2))) (gone_joined c.args.self.now.seat.me.0.fronts c.args.other.seat.me.0.fronts line h)
+returns-clause-gone c =
+    λ line h.
+    subst (λ f. IsGone f line)
+    (sym
+    (ap (λ (m : Me ℕ View). m.0.fronts)
+    (c.bound_shares.ensures.table.1 ∙ c.join_seat.ensures.2)))
+    (gone_joined c.args.self.now.seat.me.0.fronts c.args.other.seat.me.0.fronts line h)

@@ -12,4 +12,15 @@ none_weaker (Some x) P Q f h = tt
 pub returns-in-Ok-clause-nothing : goal.returns-in-Ok-clause-nothing
 returns-in-Ok-clause-nothing g c =
     let i = c.loop.invariant in
-    none_weaker c.in-Ok.answer _ _ (λ l. (record { made = receipts_from c.args.self.now.pass.seat.me.0 c.loop.self.pass.seat.me.0 c.try_known.new.self.seat.me.0 [] i.receipts i.lines i.fronts i.numbers (receipts_gone c.loop.self.pass.seat.me.0 c.try_known.new.self.seat.me.0 c.args.known.now l); inside = All-nil (IsInTable c.args.self.now.table.now.order) }, i.table)) c.in-Ok.ensures.gone
+    none_weaker c.in-Ok.answer _ _
+    (λ l. (
+      record {
+        made =
+            receipts_from c.args.self.now.pass.seat.me.0 c.loop.self.pass.seat.me.0
+            c.try_known.new.self.seat.me.0 [] i.receipts i.lines i.fronts i.numbers
+            (receipts_gone c.loop.self.pass.seat.me.0 c.try_known.new.self.seat.me.0
+            c.args.known.now l);
+        inside = All-nil (IsInTable c.args.self.now.table.now.order);
+      },
+      i.table,
+    )) c.in-Ok.ensures.gone

@@ -13,11 +13,24 @@ abbrev at_first : BusWindow → WindowState
 at_first w = record { window = w; states = opening_window }
 
 pub invariant_of-result : goal.invariant_of-result
-invariant_of-result c = (c.in_ok-partition.ensures.has_states, subst NumbersDiffer (sym (opened_windows c.as_slice.result.now c.in_ok-windows.windows.items c.in_ok-windows.ensures)) (subst NumbersDiffer (sym c.as_slice.ensures.items) c.as_slice.ensures.windows.differ))
+invariant_of-result c = (
+  c.in_ok-partition.ensures.has_states,
+  subst NumbersDiffer
+      (sym
+      (opened_windows c.as_slice.result.now c.in_ok-windows.windows.items
+      c.in_ok-windows.ensures))
+      (subst NumbersDiffer (sym c.as_slice.ensures.items) c.as_slice.ensures.windows.differ),
+)
 
 pub returns : goal.returns
 unfolding page_table opening_partition
 returns c =
-    let processors = c.in_ok-processors.ensures ∙ ap (λ n. replicate n new_processor) (ap (λ config. config.cpus) c.config.view_is) in
-    let windows = c.in_ok-windows.ensures ∙ ap (map at_first) (c.as_slice.ensures.items ∙ ap (λ config. config.windows) c.config.view_is) in
-    λ i. record { table = run_state_of (c.in_ok-partition.ensures.ok i) (processors i); windows = windows i }
+    let processors = c.in_ok-processors.ensures ∙ ap (λ n. replicate n new_processor)
+    (ap (λ config. config.cpus) c.config.view_is) in
+    let windows = c.in_ok-windows.ensures ∙ ap (map at_first)
+    (c.as_slice.ensures.items ∙ ap (λ config. config.windows) c.config.view_is) in
+    λ i.
+    record {
+      table = run_state_of (c.in_ok-partition.ensures.ok i) (processors i);
+      windows = windows i;
+    }

@@ -12,31 +12,51 @@ use Rattle.history_check.proofs.WindowLoops.{each_marked, marked_few, part_is, p
 use Rattle.history_check.proofs.window_entries.WindowEntries.section.Goals as goal
 
 pub part_found-requires-clause-plain : goal.part_found-requires-clause-plain
-part_found-requires-clause-plain c = subst ArePlain (sym c.in_ok-part.ensures.lines) (each_marked (λ (l : TraceLine). is_quiet l.act ≡ false) c.as_slice.result.now c.args.lines.now c.requires.plain)
+part_found-requires-clause-plain c =
+    subst ArePlain (sym c.in_ok-part.ensures.lines)
+    (each_marked (λ (l : TraceLine). is_quiet l.act ≡ false) c.as_slice.result.now
+    c.args.lines.now c.requires.plain)
 
 pub part_found-requires-clause-cpus : goal.part_found-requires-clause-cpus
-part_found-requires-clause-cpus c = subst (AreOnProcessors c.args.cpus) (sym c.in_ok-part.ensures.lines) (each_marked (λ (l : TraceLine). l.cpu < c.args.cpus) c.as_slice.result.now c.args.lines.now c.requires.cpus)
+part_found-requires-clause-cpus c =
+    subst (AreOnProcessors c.args.cpus) (sym c.in_ok-part.ensures.lines)
+    (each_marked (λ (l : TraceLine). l.cpu < c.args.cpus) c.as_slice.result.now c.args.lines.now
+    c.requires.cpus)
 
 pub part_found-requires-clause-few_lines : goal.part_found-requires-clause-few_lines
-part_found-requires-clause-few_lines c = subst (λ (z : List TraceLine). length z ≤ 131072) (sym c.in_ok-part.ensures.lines) (omega (arith, c.requires.few, marked_few c.as_slice.result.now c.args.lines.now))
+part_found-requires-clause-few_lines c =
+    subst (λ (z : List TraceLine). length z ≤ 131072) (sym c.in_ok-part.ensures.lines)
+    (omega (arith, c.requires.few, marked_few c.as_slice.result.now c.args.lines.now))
 
 pub returns-clause-some : goal.returns-clause-some
 returns-clause-some c = λ found.
     let w = c.self.inside.window in
     let marks = c.as_slice.ensures.value ∙ c.in_ok-marks.ensures in
-    let lines = c.in_ok-part.ensures.lines ∙ ap (λ z. marked_lines z c.args.lines.now) marks ∙ marked_is (is_on_window w) c.args.lines.now in
+    let lines = c.in_ok-part.ensures.lines ∙ ap (λ z. marked_lines z c.args.lines.now) marks ∙
+    marked_is (is_on_window w) c.args.lines.now in
     let text = c.in_ok-part.ensures.text ∙ ap (λ z. marked_text z c.args.text.now) marks in
-    part_is c.args.grants.now.grants c.args.cpus c.args.lines.now c.args.text.now (record { window = w; states = c.self.inside.states.items }) c.args.self.now c.in_ok-part.part.lines.items c.in_ok-part.part.text.items c.part_found.new.states.items c.self.view_is lines text (c.in_ok-found.ensures.some found)
+    part_is c.args.grants.now.grants c.args.cpus c.args.lines.now c.args.text.now
+    (record { window = w; states = c.self.inside.states.items }) c.args.self.now
+    c.in_ok-part.part.lines.items c.in_ok-part.part.text.items c.part_found.new.states.items
+    c.self.view_is lines text (c.in_ok-found.ensures.some found)
 
 pub returns-clause-none : goal.returns-clause-none
 returns-clause-none c = λ none.
     let w = c.self.inside.window in
     let marks = c.as_slice.ensures.value ∙ c.in_ok-marks.ensures in
-    let lines = c.in_ok-part.ensures.lines ∙ ap (λ z. marked_lines z c.args.lines.now) marks ∙ marked_is (is_on_window w) c.args.lines.now in
+    let lines = c.in_ok-part.ensures.lines ∙ ap (λ z. marked_lines z c.args.lines.now) marks ∙
+    marked_is (is_on_window w) c.args.lines.now in
     let text = c.in_ok-part.ensures.text ∙ ap (λ z. marked_text z c.args.text.now) marks in
-    part_is_not c.args.grants.now.grants c.args.cpus c.args.lines.now c.args.text.now (record { window = w; states = c.self.inside.states.items }) c.args.self.now c.in_ok-part.part.lines.items c.in_ok-part.part.text.items c.self.view_is lines text (c.in_ok-found.ensures.none none)
+    part_is_not c.args.grants.now.grants c.args.cpus c.args.lines.now c.args.text.now
+    (record { window = w; states = c.self.inside.states.items }) c.args.self.now
+    c.in_ok-part.part.lines.items c.in_ok-part.part.text.items c.self.view_is lines text
+    (c.in_ok-found.ensures.none none)
 
 pub returns-then-not-is_named-clause-some : goal.returns-then-not-is_named-clause-some
 returns-then-not-is_named-clause-some c = λ found.
-    let none = subst (λ w. list_any (λ (l : TraceLine). is_on_window w l.act) c.args.lines.now ≡ false) (ap (λ (v : WindowState). v.window) c.self.view_is) (sym c.is_named.ensures ∙ c.if-not-is_named.true) in
-    unnamed_part c.args.grants.now.grants c.args.cpus c.args.lines.now c.args.text.now c.args.self.now none
+    let none = subst
+    (λ w. list_any (λ (l : TraceLine). is_on_window w l.act) c.args.lines.now ≡ false)
+    (ap (λ (v : WindowState). v.window) c.self.view_is)
+    (sym c.is_named.ensures ∙ c.if-not-is_named.true) in
+    unnamed_part c.args.grants.now.grants c.args.cpus c.args.lines.now c.args.text.now
+    c.args.self.now none

@@ -9,8 +9,10 @@ bounds-lines-turn c =
     let s = c.args.self.now in
     let t = c.args.turn.now in
     let is = subst IsAcceptedSet c.self.view_is c.self.invariant in
-    let read = c.index.ensures ∙ ap (λ (v : AcceptedSet). get_or v.partitions t.partition c.index.result.now) c.self.view_is in
-    let lines = lines_read s t c.index.result.now c.lines-lines.result.now is c.requires read c.lines-lines.ensures in
+    let read = c.index.ensures ∙ ap
+    (λ (v : AcceptedSet). get_or v.partitions t.partition c.index.result.now) c.self.view_is in
+    let lines = lines_read s t c.index.result.now c.lines-lines.result.now is c.requires read
+    c.lines-lines.ensures in
     subst (λ (ls : List TraceLine). t.line < length ls) (sym lines) (line_inside s t is c.requires)
 
 pub returns : goal.returns
@@ -18,5 +20,8 @@ returns c =
     let s = c.args.self.now in
     let t = c.args.turn.now in
     let is = subst IsAcceptedSet c.self.view_is c.self.invariant in
-    let read = c.index.ensures ∙ ap (λ (v : AcceptedSet). get_or v.partitions t.partition c.index.result.now) c.self.view_is in
-    line_read s t c.lines-lines.result.now _ is c.requires (lines_read s t c.index.result.now c.lines-lines.result.now is c.requires read c.lines-lines.ensures)
+    let read = c.index.ensures ∙ ap
+    (λ (v : AcceptedSet). get_or v.partitions t.partition c.index.result.now) c.self.view_is in
+    line_read s t c.lines-lines.result.now _ is c.requires
+    (lines_read s t c.index.result.now c.lines-lines.result.now is c.requires read
+    c.lines-lines.ensures)

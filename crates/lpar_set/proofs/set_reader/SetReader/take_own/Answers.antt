@@ -7,13 +7,38 @@ use Rattle.lpar_set.proofs.set_reader.SetReader.take_own.Goals as goal
 pub add-requires : goal.add-requires
 add-requires c =
     let v : SetReading = fields_read c.self.inside in
-    let at : IsAt v c.args.self.now c.args.number c.from.result c.index_mut.result.now c.in-Some.reader = record { view = c.self.view_is; placed = c.from.ensures; inside = c.self.invariant; below = c.requires.number; value = c.index_mut.ensures.value; is = c.in-Some.is } in
-    let low : 18 ≤ c.in-Some.reader.config.order = omega (arith, c.order-order.ensures.value, c.order-order.ensures.at_least) in
-    let high : c.in-Some.reader.config.order ≤ 22 = omega (arith, c.order-order.ensures.value, c.order-order.ensures.at_most) in
-    record { may = own_may v c.args.self.now c.args.number c.from.result c.index_mut.result.now c.in-Some.reader c.words.new.self _ c.in-Ok.given at c.requires.place c.requires.allowed low high c.in-Ok.ensures.0 c.in-Ok.ensures.1 }
+    let at : IsAt v c.args.self.now c.args.number c.from.result c.index_mut.result.now
+    c.in-Some.reader = record {
+      view = c.self.view_is;
+      placed = c.from.ensures;
+      inside = c.self.invariant;
+      below = c.requires.number;
+      value = c.index_mut.ensures.value;
+      is = c.in-Some.is;
+    } in
+    let low : 18 ≤ c.in-Some.reader.config.order = omega
+    (arith, c.order-order.ensures.value, c.order-order.ensures.at_least) in
+    let high : c.in-Some.reader.config.order ≤ 22 = omega
+    (arith, c.order-order.ensures.value, c.order-order.ensures.at_most) in
+    record {
+      may =
+          own_may v c.args.self.now c.args.number c.from.result c.index_mut.result.now
+          c.in-Some.reader c.words.new.self _ c.in-Ok.given at c.requires.place
+          c.requires.allowed low high c.in-Ok.ensures.0 c.in-Ok.ensures.1;
+    }
 
 pub returns-in-Ok : goal.returns-in-Ok
 returns-in-Ok c =
     let v : SetReading = fields_read c.self.inside in
-    let at : IsAt v c.args.self.now c.args.number c.from.result c.index_mut.result.now c.in-Some.reader = record { view = c.self.view_is; placed = c.from.ensures; inside = c.self.invariant; below = c.requires.number; value = c.index_mut.ensures.value; is = c.in-Some.is } in
-    own_adds v c.args.self.now c.add.new.self c.args.number c.from.result c.lines-line.result c.index_mut.result.now c.in-Some.reader c.words.new.self _ c.in-Ok.given c.add.result at c.lines-line.ensures.count c.in-Ok.ensures.0 c.in-Ok.ensures.1 c.add.ensures
+    let at : IsAt v c.args.self.now c.args.number c.from.result c.index_mut.result.now
+    c.in-Some.reader = record {
+      view = c.self.view_is;
+      placed = c.from.ensures;
+      inside = c.self.invariant;
+      below = c.requires.number;
+      value = c.index_mut.ensures.value;
+      is = c.in-Some.is;
+    } in
+    own_adds v c.args.self.now c.add.new.self c.args.number c.from.result c.lines-line.result
+    c.index_mut.result.now c.in-Some.reader c.words.new.self _ c.in-Ok.given c.add.result at
+    c.lines-line.ensures.count c.in-Ok.ensures.0 c.in-Ok.ensures.1 c.add.ensures

@@ -9,4 +9,6 @@ returns-clause-kept c = c.from_bits_truncate.ensures tt
 
 pub returns-clause-same_tests : goal.returns-clause-same_tests
 unfolding bitflags_on_literals
-returns-clause-same_tests c = λ one inside. rw (c.from_bits_truncate.ensures tt) (mask_keeps_test c.args.word known_flags one inside)
+returns-clause-same_tests c =
+    λ one inside.
+    rw (c.from_bits_truncate.ensures tt) (mask_keeps_test c.args.word known_flags one inside)

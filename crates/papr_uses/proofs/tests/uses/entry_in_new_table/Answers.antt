@@ -22,4 +22,5 @@ all_fair zero = tt
 all_fair (suc n) = (fair, all_fair n)
 
 pub entry_of_page-requires : goal.entry_of_page-requires
-entry_of_page-requires c = rw (c.open-table.ensures.states, c.in_ok-states.ensures.empty) (all_fair _)
+entry_of_page-requires c =
+    rw (c.open-table.ensures.states, c.in_ok-states.ensures.empty) (all_fair _)

@@ -7,6 +7,9 @@ use Rattle.slb_model.proofs.slb.Slb.mte.Goals as goal
 pub invariant_of-self : goal.invariant_of-self
 invariant_of-self c =
     elim c.if-rb-eq-VALID.branch [
-      | then-rb-eq-VALID+in_ok-of_words w ↦ rw (w.self-is) (written_sound c.self.inside.slots (bit_and c.args.rb 4095) _ c.self.invariant w.in_ok-of_words.ensures.in_range)
-      | else-rb-eq-VALID w ↦ rw (w.self-is) (written_sound c.self.inside.slots (bit_and c.args.rb 4095) None c.self.invariant tt)
+      | then-rb-eq-VALID+in_ok-of_words w ↦ rw (w.self-is)
+          (written_sound c.self.inside.slots (bit_and c.args.rb 4095) _ c.self.invariant
+          w.in_ok-of_words.ensures.in_range)
+      | else-rb-eq-VALID w ↦ rw (w.self-is)
+          (written_sound c.self.inside.slots (bit_and c.args.rb 4095) None c.self.invariant tt)
     ]

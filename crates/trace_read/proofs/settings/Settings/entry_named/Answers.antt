@@ -6,5 +6,8 @@ pub returns-clause-opening : goal.returns-clause-opening
 returns-clause-opening c =
     rw (← c.self.view_is) (AreOpeningEntries-push _ _ _ _
     c.self.invariant.1
-    (record { in_table = omega arith; stored = stored_words _ _ _ (sym c.is_stored.ensures ∙ c.if-not-is_stored.false) })
+    (record {
+      in_table = omega arith;
+      stored = stored_words _ _ _ (sym c.is_stored.ensures ∙ c.if-not-is_stored.false);
+    })
     (rw (← c.as_slice.ensures) (sym c.is_above.ensures ∙ c.if-not-is_above.false)))

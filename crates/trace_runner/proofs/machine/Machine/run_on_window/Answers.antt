@@ -16,7 +16,9 @@ pub index_mut-requires : goal.index_mut-requires
 index_mut-requires c =
     let m = c.self.inside in
     let s = stores_of m.partition m.cpus.items m.windows.items in
-    let first = subst (λ (s : AllStores). place_from 0 s.windows c.args.line.now.act ≡ Some c.args.at) (sym c.self.view_is) c.requires.first in
+    let first = subst
+    (λ (s : AllStores). place_from 0 s.windows c.args.line.now.act ≡ Some c.args.at)
+    (sym c.self.view_is) c.requires.first in
     let at = placed (windows_of s.windows) s.table c.args.line.now s.windows c.args.at first in
     omega (arith, at.inside, c.self.inside.windows.ok.0)
 
@@ -24,18 +26,27 @@ pub line-requires : goal.line-requires
 line-requires c =
     let m = c.self.inside in
     let s = stores_of m.partition m.cpus.items m.windows.items in
-    let first = subst (λ (s : AllStores). place_from 0 s.windows c.args.line.now.act ≡ Some c.args.at) (sym c.self.view_is) c.requires.first in
+    let first = subst
+    (λ (s : AllStores). place_from 0 s.windows c.args.line.now.act ≡ Some c.args.at)
+    (sym c.self.view_is) c.requires.first in
     let at = placed (windows_of s.windows) s.table c.args.line.now s.windows c.args.at first in
-    record { named = subst (λ (v : WindowState). is_on_window v.window c.args.line.now.act ≡ true) (sym c.index_mut.ensures.value) (at.named c.index_mut.result.now) }
+    record {
+      named =
+          subst (λ (v : WindowState). is_on_window v.window c.args.line.now.act ≡ true)
+          (sym c.index_mut.ensures.value) (at.named c.index_mut.result.now);
+    }
 
 pub invariant_of-self : goal.invariant_of-self
 invariant_of-self c =
     let m = c.self.inside in
     let s = stores_of m.partition m.cpus.items m.windows.items in
-    let first = subst (λ (s : AllStores). place_from 0 s.windows c.args.line.now.act ≡ Some c.args.at) (sym c.self.view_is) c.requires.first in
+    let first = subst
+    (λ (s : AllStores). place_from 0 s.windows c.args.line.now.act ≡ Some c.args.at)
+    (sym c.self.view_is) c.requires.first in
     let v = c.index_mut.result.now in
     let at = placed (windows_of s.windows) s.table c.args.line.now s.windows c.args.at first in
-    let stay = windows_stay s.windows c.args.at c.line.new.self v at.inside (c.line.ensures.window ∙ ap (λ (z : WindowState). z.window) c.index_mut.ensures.value) in
+    let stay = windows_stay s.windows c.args.at c.line.new.self v at.inside
+    (c.line.ensures.window ∙ ap (λ (z : WindowState). z.window) c.index_mut.ensures.value) in
     record {
       has_states = c.self.invariant.has_states;
       hold = c.self.invariant.hold;
@@ -49,17 +60,31 @@ returns-clause-reply c =
     let act = c.args.line.now.act in
     let v = c.index_mut.result.now in
     let u = c.line.new.self in
-    let first = subst (λ (s : AllStores). place_from 0 s.windows act ≡ Some c.args.at) (sym c.self.view_is) c.requires.first in
-    let ran : (reply_in c.line.new.place, u.states) ≡ line_result (window_context m.partition.granted.grants v.window) new_processor v.states act = c.line.ensures.reply ∙ ap (λ (granted : GrantedMemory). line_result (window_context granted.grants v.window) new_processor v.states act) c.grants.ensures in
-    let steps = steps_on_window s (record s { windows = set s.windows c.args.at u }) c.args.line.now (reply_in c.line.new.place) c.args.at v u refl first c.index_mut.ensures.value ran c.line.ensures.window refl in
-    subst (λ (z : AllStores). RunsLine z c.args.line.now (reply_in c.line.new.place) (record s { windows = set s.windows c.args.at u })) c.self.view_is steps
+    let first = subst (λ (s : AllStores). place_from 0 s.windows act ≡ Some c.args.at)
+    (sym c.self.view_is) c.requires.first in
+    let ran : (reply_in c.line.new.place, u.states) ≡ line_result
+    (window_context m.partition.granted.grants v.window) new_processor v.states act =
+    c.line.ensures.reply ∙ ap
+    (λ (granted : GrantedMemory).
+    line_result (window_context granted.grants v.window) new_processor v.states act)
+    c.grants.ensures in
+    let steps = steps_on_window s (record s { windows = set s.windows c.args.at u }) c.args.line.now
+    (reply_in c.line.new.place) c.args.at v u refl first c.index_mut.ensures.value ran
+    c.line.ensures.window refl in
+    subst
+    (λ (z : AllStores).
+    RunsLine z c.args.line.now (reply_in c.line.new.place)
+    (record s { windows = set s.windows c.args.at u })) c.self.view_is steps
 
 pub returns-clause-windows : goal.returns-clause-windows
 returns-clause-windows c =
     let m = c.self.inside in
     let s = stores_of m.partition m.cpus.items m.windows.items in
-    let first = subst (λ (s : AllStores). place_from 0 s.windows c.args.line.now.act ≡ Some c.args.at) (sym c.self.view_is) c.requires.first in
+    let first = subst
+    (λ (s : AllStores). place_from 0 s.windows c.args.line.now.act ≡ Some c.args.at)
+    (sym c.self.view_is) c.requires.first in
     let v = c.index_mut.result.now in
     let at = placed (windows_of s.windows) s.table c.args.line.now s.windows c.args.at first in
-    windows_stay s.windows c.args.at c.line.new.self v at.inside (c.line.ensures.window ∙ ap (λ (z : WindowState). z.window) c.index_mut.ensures.value)
+    windows_stay s.windows c.args.at c.line.new.self v at.inside
+    (c.line.ensures.window ∙ ap (λ (z : WindowState). z.window) c.index_mut.ensures.value)
     ∙ ap (λ (s : AllStores). windows_of s.windows) c.self.view_is

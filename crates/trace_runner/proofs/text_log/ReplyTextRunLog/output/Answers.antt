@@ -6,4 +6,7 @@ use Rattle.trace_runner.proofs.TextLogs.{has_none}
 use Rattle.trace_runner.proofs.text_log.ReplyTextRunLog.output.Goals as goal
 
 pub returns : goal.returns
-returns c = IfOk-weaker c.with_capacity.result (λ (text : String Global). string_bytes text ≡ []) _ (λ text empty. subst (λ bs. HasText bs [] []) (sym empty) has_none) c.with_capacity.ensures.bytes
+returns c =
+    IfOk-weaker c.with_capacity.result (λ (text : String Global). string_bytes text ≡ []) _
+    (λ text empty. subst (λ bs. HasText bs [] []) (sym empty) has_none)
+    c.with_capacity.ensures.bytes

@@ -7,5 +7,7 @@ use Rattle.trace_runner.proofs.windows.WindowEntries.open.Goals as goal
 pub returns : goal.returns
 unfolding opening_window
 returns c =
-    let states : c.in_ok-states.states.items ≡ replicate (entry_count 18) (empty_state 0) = c.in_ok-states.ensures.items_if_clones_equal (λ y h. h) ∙ ap (λ (s : State). replicate (entry_count 18) s) c.empty.ensures in
+    let states : c.in_ok-states.states.items ≡ replicate (entry_count 18) (empty_state 0) =
+    c.in_ok-states.ensures.items_if_clones_equal (λ y h. h) ∙ ap
+    (λ (s : State). replicate (entry_count 18) s) c.empty.ensures in
     λ i. record { window = c.args.window; states = states i }

@@ -1,7 +1,6 @@
 """The columns of definitions and proofs: at most 100, as tools/lay-out-antt wraps them.
 
-Crates that were written before that wait for their next change, and are listed here. Fails where a file of another
-crate has wider lines, or where a crate that is listed has none.
+Fails where the tool would change a file.
 """
 
 import argparse
@@ -13,15 +12,6 @@ from checks.running import Failed
 from crates import CRATES, TOP, lines_of
 
 TOOL = TOP / "tools" / "lay-out-antt"
-WAITING = frozenset(
-    """
-    authority_mask basics bus_window call_plan call_trials dma_window entry_lock entry_model frame_grants h_enter
-    h_update history_check hpt_hash hpt_pool hpt_resize hpt_resize_tests hpt_walk hpte_fields lock_core lock_machine
-    lock_machine_tests lock_uses lpar_set number_text papr_bytes papr_codes papr_edge papr_top papr_uses
-    partition pass_calls pool_bench pool_range power_addr receipt_text reply_text run_model slb_model storage_prot
-    store_tests table_image tlb_model trace_gen trace_io trace_read trace_runner trace_runner_tests vcpu vcpu_tests
-    """.split()
-)
 
 
 def files_of(crate: str) -> list[Path]:
@@ -41,11 +31,9 @@ def add_options(_: argparse.ArgumentParser) -> None:
 
 
 def check(_: argparse.Namespace) -> str:
-    """Compares the crates with the list."""
+    """Asks the tool about each crate."""
     crates = [*lines_of(TOP / "crates.txt")]
-    wide = {crate for crate in crates if not is_laid_out(crate)}
-    if wide - WAITING:
-        raise Failed(f"wide lines, which tools/lay-out-antt wraps, in {', '.join(sorted(wide - WAITING))}")
-    if WAITING - wide:
-        raise Failed(f"no wide lines any more, so take them from the list: {', '.join(sorted(WAITING - wide))}")
-    return f"the lines of {len(crates) - len(wide)} of {len(crates)} crates; {len(wide)} wait for their next change"
+    wide = [crate for crate in crates if not is_laid_out(crate)]
+    if wide:
+        raise Failed(f"wide lines, which tools/lay-out-antt wraps, in {', '.join(sorted(wide))}")
+    return f"the lines of {len(crates)} crates"

@@ -49,6 +49,7 @@ is_mask Amr (Some Amr) = true
 is_mask Iamr (Some Iamr) = true
 is_mask name other = false
 
+-- The mask of this name refuses such an access through the entry.
 abbrev pub mask_refuses : MaskName → State → AccessMode → Bool
 mask_refuses name s mode = is_mask name (mask_against s mode.masks mode.want)
 

@@ -55,6 +55,7 @@ refusal_number (Some Iamr) = 5
 abbrev pub base_shift_of : State → ℕ
 base_shift_of s = option_map_or (λ (size : PageSize). size.base) (size_of s.dword0 s.dword1) 0
 
+-- The actual page shift that an entry's doublewords encode, or 0.
 abbrev pub actual_shift_of : State → ℕ
 actual_shift_of s = option_map_or (λ (size : PageSize). size.actual) (size_of s.dword0 s.dword1) 0
 

@@ -1,5 +1,5 @@
 -- When a pass has locked its entry and done nothing else with it.
-use Rattle.std.specs.Prelude.{◌≡◌, Bool, true, false, List, [], ◌∷◌}
+use Rattle.std.specs.Prelude.{◌≡◌, Bool, true, false, List, ◌∷◌}
 use Rattle.lock_core.specs.declared.phase.Phase.{Phase}
 use Rattle.lock_core.specs.declared.phase.Phase.TheVariants.{Held}
 use Rattle.lock_core.specs.declared.step.Step.{Step}

@@ -25,6 +25,7 @@ use lock_core::{Control, Doing, is_still, receipt};
 use std::marker::Brand;
 
 /// The noted control word with the R and C of the state after.
+#[inline(always)]
 pub fn marked_control(doing: &Doing, after: &EntryState) -> Control
     requires { after.now ≡ next_of doing.now }
     ensures { result ≡ record doing.now.noted {
@@ -39,6 +40,7 @@ pub fn marked_control(doing: &Doing, after: &EntryState) -> Control
 }
 
 /// Notes the control word. An entry that is shut is left.
+#[inline(always)]
 fn look_first(table: &Words, seat: &mut PassSeat, entry: u32, op: Op) -> Result<Doing, Busy>
     requires table { IsAt table.now.table_id seat.old.table_id table.now.key seat.old.me }
     requires entry { entry < length (states_of table.now.key) }
@@ -69,6 +71,7 @@ fn look_first(table: &Words, seat: &mut PassSeat, entry: u32, op: Op) -> Result<
 }
 
 /// Loads the data words of an entry that was looked at. An empty entry's say nothing.
+#[inline(always)]
 fn load_words(table: &Words, seat: &mut PassSeat, doing: &Doing) -> Doing
     requires table { IsAt table.now.table_id seat.old.table_id table.now.key seat.old.me }
     requires entry { doing.now.entry < length (states_of table.now.key) }
@@ -95,6 +98,7 @@ fn load_words(table: &Words, seat: &mut PassSeat, doing: &Doing) -> Doing
 
 /// The second look, for an access that raises no bit: what was read holds where the word is still
 /// the one noted.
+#[inline(always)]
 fn decide(
     table: &Words,
     seat: &mut PassSeat,
@@ -141,6 +145,7 @@ fn decide(
 }
 
 /// The mark, for an access that raises a bit.
+#[inline(always)]
 fn raise_bits(
     table: &Words,
     seat: &mut PassSeat,
@@ -189,6 +194,7 @@ fn raise_bits(
 }
 
 /// Tries an access.
+#[inline(always)]
 pub fn try_access(table: &Words, seat: &mut PassSeat, entry: u32, op: Op) -> Result<Receipt, Busy>
     requires table { IsAt table.now.table_id seat.old.table_id table.now.key seat.old.me }
     requires entry { entry < length (states_of table.now.key) }

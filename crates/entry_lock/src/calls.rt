@@ -24,6 +24,7 @@ use lock_core::{Doing, settled_word};
 use std::marker::Brand;
 
 /// Takes the entry's lock.
+#[inline(always)]
 fn take_entry(table: &Words, seat: &mut PassSeat, entry: u32, op: Op) -> Result<Doing, Busy>
     requires table { IsAt table.now.table_id seat.old.table_id table.now.key seat.old.me }
     requires entry { entry < length (states_of table.now.key) }
@@ -53,6 +54,7 @@ fn take_entry(table: &Words, seat: &mut PassSeat, entry: u32, op: Op) -> Result<
 }
 
 /// Loads the data words of an entry that is held. An empty entry's say nothing.
+#[inline(always)]
 fn load_held(table: &Words, seat: &mut PassSeat, doing: &Doing) -> Doing
     requires table { IsAt table.now.table_id seat.old.table_id table.now.key seat.old.me }
     requires entry { doing.now.entry < length (states_of table.now.key) }
@@ -78,6 +80,7 @@ fn load_held(table: &Words, seat: &mut PassSeat, doing: &Doing) -> Doing
 
 /// Lets the entry go, which the operation doesn't change. The receipt has the R and C that the
 /// release found: accesses may have raised them since the lock step.
+#[inline(always)]
 fn release_unchanged(table: &Words, seat: &mut PassSeat, doing: &Doing, known: Outcome) -> Receipt
     requires table { IsAt table.now.table_id seat.old.table_id table.now.key seat.old.me }
     requires entry { doing.now.entry < length (states_of table.now.key) }
@@ -99,6 +102,7 @@ fn release_unchanged(table: &Words, seat: &mut PassSeat, doing: &Doing, known: O
 }
 
 /// Shuts the entry, stores its words and settles it.
+#[inline(always)]
 fn change_entry(table: &Words, seat: &mut PassSeat, doing: &Doing, known: Outcome) -> Receipt
     requires table { IsAt table.now.table_id seat.old.table_id table.now.key seat.old.me }
     requires entry { doing.now.entry < length (states_of table.now.key) }
@@ -139,6 +143,7 @@ fn change_entry(table: &Words, seat: &mut PassSeat, doing: &Doing, known: Outcom
 }
 
 /// Tries an operation other than an access.
+#[inline(always)]
 pub fn try_call<P: Pause>(
     table: &Words,
     seat: &mut PassSeat,

@@ -25,6 +25,7 @@ pub const CHANGED: u64 = 1 << 59;
 pub const STAMP: u64 = 0xffff_ffff;
 
 /// The control word of a number.
+#[inline(always)]
 pub fn control_of(word: u64) -> Control
     ensures means { (k : Control) → Means word k → result ≡ k }
     ensures exact { result ≡ control_of_word word }
@@ -40,6 +41,7 @@ pub fn control_of(word: u64) -> Control
 }
 
 /// The weight of a bit that is set.
+#[inline(always)]
 fn weight_if(one: bool, weight: u64) -> u64
     ensures { result ≡ (if one then weight else 0) }
 {
@@ -47,6 +49,7 @@ fn weight_if(one: bool, weight: u64) -> u64
 }
 
 /// The number of a control word.
+#[inline(always)]
 pub fn word_from(control: &Control) -> u64
     ensures { result ≡ word_of control.now }
 {

@@ -45,6 +45,7 @@ pub fn outcome_of(doing: &Doing) -> Outcome
 
 /// The same by the control word that was found, which has valid and stamp of the noted one. Where
 /// it has its R and C too, nothing is computed again.
+#[inline(always)]
 pub fn outcome_by(doing: &Doing, known: Outcome, found: Control) -> Outcome
     requires receipt { known.receipt ≡ receipt_of doing.now }
     requires after { known.after ≡ next_of doing.now }

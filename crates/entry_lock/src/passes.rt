@@ -23,6 +23,7 @@ use crate::plays::{JoinIn, SplitOff};
 use crate::table::{LockTable, Pass};
 use entry_model::{Line, Op, Receipt};
 
+#[inline(always)]
 fn is_access(op: &Op) -> bool
     ensures { result ≡ is_access_of op.now }
 {
@@ -39,6 +40,7 @@ impl Pass {
     }
 
     /// As `try_apply`, with a pause for tests: no clause says that it is called.
+    #[inline(always)]
     pub fn try_with<P: Pause>(
         &mut self,
         table: &LockTable,
@@ -77,6 +79,7 @@ impl Pass {
     /// # Errors
     /// Busy where another pass was at the entry: it held the lock, or, for an access, it was
     /// changing the control word. Then nothing was made. A pass with all shares is never busy.
+    #[inline(always)]
     pub fn try_apply(&mut self, table: &LockTable, entry: u32, op: Op) -> Result<Receipt, Busy>
         requires table { IsOf table.now self.old }
         requires in_table { entry < entry_count table.now.order }

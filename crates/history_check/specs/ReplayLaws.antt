@@ -8,6 +8,7 @@ use Rattle.entry_model.specs.Receipt.{is_decided}
 use Rattle.entry_model.specs.CachedLines.{ShowsLine}
 use Rattle.history_check.specs.Replay.{ReplayState, after_receipt, IsReplayed, IsSeen}
 
+-- Receipts replayed one list after the other are replayed as one list.
 pub made_more :
     (a b c : ReplayState) (xs ys : List Receipt)
     → IsReplayed a b xs
@@ -16,6 +17,7 @@ pub made_more :
 made_more a b c [] ys h k = subst (λ s. IsReplayed s c ys) h k
 made_more a b c (x ∷ xs) ys h k = (h.0, h.1, made_more (after_receipt a x) b c xs ys h.2 k)
 
+-- A replay keeps the table's order.
 pub order_stays : (a b : ReplayState) (xs : List Receipt) → IsReplayed a b xs → b.order ≡ a.order
 order_stays a b [] h = ap (λ s. s.order) h
 order_stays a b (x ∷ xs) h = order_stays (after_receipt a x) b xs h.2
@@ -38,6 +40,7 @@ decided_stays a b [] h d = ap (λ s. s.decided) h ∙ d
 decided_stays a b (x ∷ xs) h d =
     decided_stays (after_receipt a x) b xs h.2 (or_left a.decided (is_decided x.answer) d)
 
+-- A line that was seen is seen after more receipts too.
 pub seen_stays :
     (a b : ReplayState) (xs : List Receipt) (line : Line)
     → IsReplayed a b xs
@@ -45,6 +48,7 @@ pub seen_stays :
     → IsSeen b line
 seen_stays a b xs line h seen = (decided_stays a b xs h seen.0, seen.1)
 
+-- A line that a receipt shows is seen when the receipts are replayed.
 pub shown_is_seen :
     (a b : ReplayState) (xs : List Receipt) (line : Line)
     → IsReplayed a b xs

@@ -141,7 +141,8 @@ module _ (opening : List State) (m : Machine) (log : List Receipt) (k : Kept ope
       let parts = and_parts _ _ may in
       let other = and_parts _ _ parts.1 in
       let idle = and_parts _ _ fit in
-      let apart : from ≢ i = λ e. false≢true (sym (not_is (from == i) other.1) ∙ eq-eqb from i e) in (
+      let apart : from ≢ i =
+      λ e. false≢true (sym (not_is (from == i) other.1) ∙ eq-eqb from i e) in (
         log,
         join_kept opening m log k i from (actor_at m i) (actor_at m from)
             (live_there m.actors i parts.0) parts.0 (idle_is (actor_at m i).phase idle.0)

@@ -94,6 +94,7 @@ page_at_tag b n base =
     virtual_page b (n / 2 ^ (offset_bits b - 23)) base
     (n % 2 ^ (offset_bits b - 23) * 2 ^ 23 / 2 ^ base)
 
+-- The page of a tag's number and a base page shift is a page, and has this number.
 pub record IsAtTag (b : Bool) (n base : ℕ) : Type 0 where
   pub is : IsPage (page_at_tag b n base)
   pub number : virtual_address (page_at_tag b n base) / 2 ^ 23 ≡ n

@@ -6,6 +6,7 @@ use Rattle.papr_edge.specs.Inputs.{with_reason}
 use Rattle.papr_edge.specs.Reading.{RefusesLong}
 use Rattle.papr_top.specs.Sets.{set_input}
 
+-- A set past the limit is refused as line 0.
 pub long_set : RefusesLong set_input
 unfolding set_of
 long_set bytes h =

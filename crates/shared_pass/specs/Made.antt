@@ -9,10 +9,11 @@ use Rattle.entry_lock.specs.PassOfTable.{view_of}
 use Rattle.entry_lock.specs.WaitingStore.{MadeReceipts}
 use Rattle.shared_pass.specs.declared.sharer.Sharer.{Sharer}
 
--- The order of a table that passes share, and how many shares there are.
+-- The order of a table that passes share.
 abbrev pub order_of : Arc LockTable Global → ℕ
 order_of table = (arc_value table).order
 
+-- How many shares a table that passes share has.
 abbrev pub passes_of : Arc LockTable Global → ℕ
 passes_of table = (arc_value table).passes
 

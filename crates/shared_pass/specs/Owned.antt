@@ -9,9 +9,11 @@ use Rattle.std_heap.specs.contracts.GlobalAllocator.TheImpl.{ghosts}
 use Rattle.core.specs.contracts.option.Option as option
 use Rattle.shared_pass.specs.contracts.working.Working.{the_row}
 
+-- What a place owns: the box at its pointer, or nothing.
 abbrev pub place_owns : Global → Ptr → Option the_row.Denot → Fml
 place_owns alloc p None = ftrue
 place_owns alloc p (Some x) = box_owns (ghosts.dealloc_token alloc) the_row p x
 
+-- How a place's value stands in memory.
 abbrev pub held_coded : Coded (Option the_row.Denot)
 held_coded = (option.the_row the_row).coded

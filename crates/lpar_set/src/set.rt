@@ -7,7 +7,9 @@ use trace_read::Trace;
 /// A partition of a set: its number, 0 to 7, and its trace.
 #[derive(Drop)]
 pub struct SetPartition {
+    /// Its number, 0 to 7, as its `begin` line has it.
     pub number: u8,
+    /// Its configuration and its run lines.
     pub trace: Trace,
 }
 

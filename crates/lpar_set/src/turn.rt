@@ -2,6 +2,8 @@
 /// that partition's run lines it is, both counted from 0.
 #[derive(Clone, Copy, PartialEq, Eq, Debug)]
 pub struct Turn {
+    /// The partition, counted from 0 in the order of `begin` lines.
     pub partition: u8,
+    /// The run line, counted from 0 among the partition's own.
     pub line: u32,
 }

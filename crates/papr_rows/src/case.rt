@@ -8,18 +8,26 @@ use std::alloc::{AllocError, Global};
 /// numbered from 1; none where this is 0.
 #[derive(Clone, Copy)]
 pub struct Calls {
+    /// The bytes of one call at most.
     pub piece: usize,
+    /// The call that fails, numbered from 1; 0 for none.
     pub fault: usize,
 }
 
 /// The words of the program and what it is given, and what must come of it.
 #[derive(Drop)]
 pub struct Case {
+    /// The words of the program's command line.
     pub words: Vec<String>,
+    /// How the input is read.
     pub source: Calls,
+    /// How the output is taken.
     pub sink: Calls,
+    /// The bytes that the program reads.
     pub input: Vec<u8>,
+    /// The exit status that it must end with.
     pub status: usize,
+    /// The bytes that it must write.
     pub output: Vec<u8>,
     // What copies are made of.
     pattern: String,

@@ -19,7 +19,9 @@ use trace_reply::{ReplyPlace, Shown};
 /// What a summary counts of the replies of a run, and the table at its end.
 #[derive(Drop)]
 pub struct CountedRun {
+    /// How many replies of each kind there were.
     pub counts: Counts,
+    /// The page table at the end.
     pub table: Shown,
 }
 

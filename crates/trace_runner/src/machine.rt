@@ -24,8 +24,11 @@ use vcpu::{Cpu, clear_caches, empty_cpus};
 /// A partition with its processors and its DMA windows, between two lines.
 #[derive(Drop)]
 pub struct Machine {
+    /// Its page table, memory and grants.
     pub partition: Partition,
+    /// Its processors, in the order of their numbers.
     pub cpus: Vec<Cpu>,
+    /// Its DMA windows, in the order of the configuration.
     pub windows: Vec<WindowEntries>,
 }
 

@@ -7,8 +7,11 @@ use entry_model::{EntryStore, Line, Op, Receipt};
 /// A store that calls the gate before each operation but the first, and passes the operation on.
 #[derive(Drop)]
 pub struct Stepping<'a, S, G> {
+    /// The store that makes the operations.
     pub store: S,
+    /// The gate that is called, and at which line.
     pub at: &'a AtLine<'a, G>,
+    /// Whether the first operation was made.
     pub started: bool,
 }
 

@@ -21,8 +21,11 @@ use vcpu::Cpu;
 /// keep of the replies. Where the store has no line there, it has no log.
 #[derive(Drop)]
 pub struct StoreRun<L> {
+    /// The states of its entries, by index.
     pub states: Vec<EntryState>,
+    /// The processors, in the order of their numbers.
     pub cpus: Vec<Cpu>,
+    /// A log for each processor, in that order; none where no line is on the store.
     pub logs: Vec<L>,
 }
 

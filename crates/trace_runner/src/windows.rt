@@ -29,7 +29,9 @@ const ENTRIES: usize = 1 << 14;
 /// A DMA window, and the states of its entries between two lines.
 #[derive(Drop)]
 pub struct WindowEntries {
+    /// Its number and its range of bus addresses.
     pub window: Window,
+    /// The states of its entries, by index.
     pub states: Vec<EntryState>,
 }
 

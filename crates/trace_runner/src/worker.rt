@@ -27,10 +27,15 @@ use vcpu::Cpu;
 /// line, its pass, the indices of its own lines among the section's, and the log of their replies.
 #[derive(Drop)]
 pub struct Worker<L> {
+    /// The processor as it now is.
     pub cpu: Cpu,
+    /// The processor before the section's first line (no code reads it).
     pub before: Snapshot<Cpu>,
+    /// Its pass of the table; none while a line has it.
     pub pass: Option<Pass>,
+    /// The indices of its own lines among the section's, rising.
     pub own: Vec<usize>,
+    /// What it keeps of their replies.
     pub log: L,
 }
 

@@ -33,7 +33,9 @@ impl Place {
 /// A place in a line.
 #[derive(Clone, Copy)]
 pub struct Point {
+    /// Which place.
     pub place: Place,
+    /// The number of the line, from 1 in the input.
     pub line: u32,
 }
 
@@ -48,7 +50,9 @@ impl Point {
 /// Holds the processor that comes to one point until another point is reached.
 #[derive(Clone, Copy)]
 pub struct Hold {
+    /// Where the processor is held.
     pub at: Point,
+    /// What it waits for.
     pub until: Point,
     /// Whether the other point is to be reached: in many turns it must be, in a few it must not.
     pub comes: bool,

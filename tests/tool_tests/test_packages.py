@@ -204,7 +204,14 @@ class Installing(ToolTest):
         for ending in ("so", f"so.{MAJOR}", f"so.{VERSION}"):
             self.assertEqual(text_of(self.usr / "lib" / f"lib{name}.{ending}"), A_LIBRARY)
 
-    @for_each("c/replay.c", "c/bytes/call.c", "cmake/CMakeLists.txt", "rust/enter.rs", "shared/hammer.c")
+    @for_each(
+        "c/replay.c",
+        "c/bytes/call.c",
+        "cmake/CMakeLists.txt",
+        "rust/enter.rs",
+        "rust/two-threads.rs",
+        "shared/hammer.c",
+    )
     def test_make_install_puts_the_example(self, name: str) -> None:
         self.assert_same_file(self.usr / "share" / "doc" / "papr" / "examples" / name, EXAMPLES / name)
 

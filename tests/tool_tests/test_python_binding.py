@@ -16,13 +16,15 @@ from .built import BYTES_SHARED, HERE, SHARED, make_shared
 from .support import DOCS, EXAMPLES, TOP, Ran, ToolTest, Word, for_each, needs
 from .support import needs_bytes_library, needs_library, needs_shared_table, run
 from .test_c_layout import Header, header, in_capitals, text_of
+from .test_shared_layout import header as shared_header
 
 PACKAGE = TOP / "bindings" / "python"
 sys.path.insert(0, str(PACKAGE))
 
 from papr import codes  # noqa: E402
-from papr._library import BYTES_FUNCTIONS, FUNCTIONS, VERSION  # noqa: E402
+from papr._library import BYTES_FUNCTIONS, FUNCTIONS, SHARED_FUNCTIONS, VERSION  # noqa: E402
 from papr._structs import CBytesEnd, CGrants  # noqa: E402
+from papr.shared import WALK_BUSY  # noqa: E402
 
 OWN_TESTS = sorted(path.stem for path in (PACKAGE / "tests").glob("test_*.py"))
 IN_PYTHON = re.compile(r"^```python\n(.*?)^```\n(?:```text\n(.*?)^```\n)?", re.MULTILINE | re.DOTALL)
@@ -34,6 +36,7 @@ SCALARS = {
     ctypes.c_uint64: "uint64_t",
     ctypes.c_int64: "int64_t",
     ctypes.c_bool: "bool",
+    ctypes.c_void_p: "void*",
 }
 # The enums of the headers, each with the Python class and what its names have in front in C.
 ENUMS: dict[str, tuple[Union[type[IntEnum], type[IntFlag]], str]] = {
@@ -41,6 +44,7 @@ ENUMS: dict[str, tuple[Union[type[IntEnum], type[IntFlag]], str]] = {
     "papr_answer": (codes.Answer, "PAPR_"),
     "papr_refusal": (codes.GrantRefusal, "PAPR_"),
     "papr_outcome": (codes.Outcome, "PAPR_WALK_"),
+    "papr_hold": (codes.Hold, "PAPR_"),
     "papr_right": (codes.Right, "PAPR_MAY_"),
     "papr_cause": (codes.Cause, "PAPR_CAUSE_"),
     "papr_decoding": (codes.Decoding, "PAPR_"),
@@ -55,6 +59,10 @@ ENUMS: dict[str, tuple[Union[type[IntEnum], type[IntFlag]], str]] = {
 def bytes_header() -> Header:
     """The header of the program on bytes."""
     return Header(text_of(TOP / "include" / "papr_bytes.h"))
+
+
+# The headers, each with the functions that the package has of it.
+HEADERS = ((header(), FUNCTIONS), (shared_header(), SHARED_FUNCTIONS), (bytes_header(), BYTES_FUNCTIONS))
 
 
 def name_of(struct: type[ctypes.Structure]) -> str:
@@ -87,13 +95,14 @@ def structs() -> dict[str, type[ctypes.Structure]]:
 class Declarations(ToolTest):
     """The package declares what the headers do."""
 
-    @for_each(*header().structs)
+    @for_each(*header().structs, *shared_header().structs)
     def test_a_struct_is_that_of_the_header(self, name: str) -> None:
-        struct, expected = structs()[name], header().structs[name].fields
+        (of_struct,) = (it for it, _ in HEADERS if name in it.structs)
+        struct, expected = structs()[name], of_struct.structs[name].fields
         fields = [(field[0], in_c(field[1])) for field in struct._fields_]
         self.assertEqual(fields, [(it, kind.replace("size_t", "uint64_t")) for it, kind in expected])
-        self.assertEqual(ctypes.sizeof(struct), header().sizes[name])
-        places = {field: at for (of, field), at in header().places.items() if of == name}
+        self.assertEqual(ctypes.sizeof(struct), of_struct.sizes[name])
+        places = {field: at for (of, field), at in of_struct.places.items() if of == name}
         self.assertEqual({field[0]: getattr(struct, field[0]).offset for field in struct._fields_}, places)
 
     def test_the_end_of_the_program_on_bytes(self) -> None:
@@ -102,23 +111,23 @@ class Declarations(ToolTest):
         self.assertEqual(ctypes.sizeof(CBytesEnd), 16)
 
     def test_there_is_no_other_struct(self) -> None:
-        self.assertCountEqual(structs(), [*header().structs, "papr_bytes_end"])
+        self.assertCountEqual(structs(), [name for it, _ in HEADERS for name in it.structs])
 
-    @for_each(*FUNCTIONS, *BYTES_FUNCTIONS)
+    @for_each(*FUNCTIONS, *SHARED_FUNCTIONS, *BYTES_FUNCTIONS)
     def test_a_function_is_that_of_the_header(self, name: str) -> None:
-        result, parameters = {**FUNCTIONS, **BYTES_FUNCTIONS}[name]
-        expected = {**header().functions, **bytes_header().functions}[name]
+        ((of_function, functions),) = (it for it in HEADERS if name in it[1])
+        (result, parameters), expected = functions[name], of_function.functions[name]
         self.assertEqual(in_c(result), as_passed(expected.result))
         self.assertEqual([in_c(it) for it in parameters], [as_passed(it) for _, it in expected.parameters])
 
     def test_there_is_no_other_function(self) -> None:
-        self.assertCountEqual(FUNCTIONS, header().functions)
-        self.assertCountEqual(BYTES_FUNCTIONS, bytes_header().functions)
+        for of_functions, functions in HEADERS:
+            self.assertCountEqual(functions, of_functions.functions)
 
-    @for_each(*header().enums, *bytes_header().enums)
+    @for_each(*header().enums, *shared_header().enums, *bytes_header().enums)
     def test_the_numbers_of(self, name: str) -> None:
         kind, front = ENUMS[name]
-        members = {**header().enums, **bytes_header().enums}[name]
+        (members,) = (it.enums[name] for it, _ in HEADERS if name in it.enums)
         expected = {it.removeprefix(front).removeprefix("PAPR_"): number for it, number in members.items()}
         self.assertEqual({it.name: it.value for it in kind}, expected)
 
@@ -127,11 +136,51 @@ class Declarations(ToolTest):
         self.assertEqual({it.name: it.value for it in codes.Flag}, flags)
         self.assertEqual(list(VERSION), header().version)
 
+    def test_the_outcome_of_a_walk_that_is_busy(self) -> None:
+        text = text_of(TOP / "include" / "papr_shared.h")
+        self.assertEqual(re.findall(r"(?m)^#define PAPR_WALK_BUSY ([0-9]+)$", text), [str(WALK_BUSY)])
+
     def test_the_numbers_of_calls_are_those_of_the_sources(self) -> None:
         text = text_of(TOP / "crates" / "papr_codes" / "src" / "calls.rt")
         found = re.findall(r"(0x[0-9A-F]+) => Hcall::(\w+),", text)
         numbers = {f"H_{in_capitals(name)}": int(number, 16) for number, name in found}
         self.assertEqual({it.name: numbers[it.name] for it in codes.Hcall}, {it.name: it.value for it in codes.Hcall})
+
+
+# A library that has a table for one caller, and none that threads share.
+NO_SHARED_TABLE = """
+#include <papr.h>
+uint32_t papr_version(void) { return PAPR_VERSION; }
+struct papr_making papr_make_grants(const struct papr_grant *given, size_t count, uint64_t base, uint8_t order,
+                                    struct papr_grants *list) { return (struct papr_making){0}; }
+"""
+USE = """
+import papr
+table = papr.Table(18)
+try:
+    papr.SharedTable(table)
+except papr.LibraryMissing as error:
+    print(error, len(table))
+"""
+
+
+@needs("cc")
+class WithoutASharedTable(ToolTest):
+    """The package over a library that has no shared table, and over none."""
+
+    def said_over(self, library: Path) -> str:
+        """What the use of a shared table writes."""
+        variables = {"PYTHONPATH": str(PACKAGE), "PAPR_SHARED_LIBRARY": str(library)}
+        ran = run(sys.executable, "-c", USE, environment=variables)
+        self.assert_ran(ran, out=None)
+        return ran.out
+
+    def test_a_library_that_has_none_is_named(self) -> None:
+        library = self.folder / SHARED
+        flags = ("-shared", "-fPIC", f"-I{TOP / 'include'}", "-o", library, "-x", "c", "-")
+        self.assert_ran(run("cc", *flags, given=NO_SHARED_TABLE))
+        expected = f"{library} has no table that threads share: it lacks papr_open 16384\n"
+        self.assertEqual(self.said_over(library), expected)
 
 
 @needs("cc")

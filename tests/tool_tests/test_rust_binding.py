@@ -5,13 +5,15 @@ import tempfile
 from pathlib import Path
 from typing import ClassVar
 
-from .support import BYTES_LIBRARY, DOCS, EXAMPLES, LIBRARY, TOP, VERSION, Ran, ToolTest, for_each, needs
-from .support import needs_bytes_library, needs_library, run
+from .support import BYTES_LIBRARY, DOCS, EXAMPLES, LIBRARY, SHARED_TABLE, TOP, VERSION, Ran, ToolTest, for_each
+from .support import needs, needs_bytes_library, needs_library, needs_shared_table, run
+from .test_shared_table import ENTERED as ENTERED_BY_TWO
 
 CRATES = TOP / "bindings" / "rust"
 # Where cargo builds, so that the next run finds what hasn't changed.
 TARGET = TOP / "out" / "rust"
-IN_RUST = re.compile(r"^## From Rust$.*?^```rust\n(.*?)^```\n\n?.*?^```text\n(.*?)^```$", re.MULTILINE | re.DOTALL)
+FROM_RUST = re.compile(r"^## From Rust$.*?(?=^## |\Z)", re.MULTILINE | re.DOTALL)
+IN_RUST = re.compile(r"^```rust\n(.*?)^```\n\n?.*?^```text\n(.*?)^```$", re.MULTILINE | re.DOTALL)
 
 ENTERED = """\
 H_ENTER 0 0x27 | 0x27.0.0.entered
@@ -36,7 +38,7 @@ class Checks(ToolTest):
             self.skipTest("cargo fmt is not installed")
         self.assert_ran(cargo("fmt", "--all", "--check"))
 
-    @for_each("", "bytes")
+    @for_each("", "shared", "std", "bytes,shared,std")
     def test_clippy_has_no_warning_with_the_features(self, features: str) -> None:
         if run("cargo", "clippy", "--version").status:
             self.skipTest("cargo clippy is not installed")
@@ -71,7 +73,8 @@ class OverTheLibraries(ToolTest):
         work = tempfile.TemporaryDirectory(prefix="papr-rust-")
         cls.addClassCleanup(work.cleanup)
         cls.libraries = work.name
-        for name, archive in (("papr", LIBRARY), ("papr_bytes", BYTES_LIBRARY)):
+        archives = (("papr", LIBRARY), ("papr_shared", SHARED_TABLE), ("papr_bytes", BYTES_LIBRARY))
+        for name, archive in archives:
             if archive.is_file():
                 (Path(work.name) / f"lib{name}.a").symlink_to(archive)
 
@@ -90,21 +93,35 @@ class OverTheLibraries(ToolTest):
     def test_the_tests_of_the_crates_pass(self) -> None:
         self.assert_tests_pass()
 
+    @needs_shared_table
+    def test_the_tests_of_the_crates_pass_with_the_shared_table(self) -> None:
+        self.assert_tests_pass("--features", "shared,std")
+
+    @needs_shared_table
     @needs_bytes_library
-    def test_the_tests_of_the_crates_pass_with_the_program(self) -> None:
+    def test_the_tests_of_the_crates_pass_with_all(self) -> None:
         self.assert_tests_pass("--all-features")
 
     def test_the_program_of_the_examples(self) -> None:
         self.assertTrue((EXAMPLES / "rust" / "enter.rs").is_file())
         self.assert_ran(self.cargo("run", "--quiet", "--example", "enter"), ENTERED)
 
-    def test_the_block_of_the_document_in_a_package_of_its_own(self) -> None:
-        """It depends on the crate by its path, and writes what the document says."""
-        found = IN_RUST.search((DOCS / "LIBRARY.md").read_text(encoding="utf-8"))
-        assert found is not None
+    @needs_shared_table
+    def test_the_program_of_two_threads(self) -> None:
+        words = ("run", "--quiet", "--features", "shared,std", "--example", "two-threads")
+        self.assert_ran(self.cargo(*words), ENTERED_BY_TWO)
+
+    @needs_shared_table
+    def test_the_blocks_of_the_document_in_a_package_of_their_own(self) -> None:
+        """It depends on the crate by its path, and each block writes what the document says."""
+        section = FROM_RUST.search((DOCS / "LIBRARY.md").read_text(encoding="utf-8"))
+        assert section is not None
+        found = IN_RUST.findall(section[0])
+        self.assertEqual(len(found), 2)
         (self.folder / "src").mkdir()
-        (self.folder / "src" / "main.rs").write_text(found[1], encoding="utf-8")
-        dependency = f'papr = {{ path = "{CRATES / "papr"}" }}'
+        dependency = f'papr = {{ path = "{CRATES / "papr"}", features = ["shared", "std"] }}'
         manifest = f'[package]\nname = "document"\nedition = "2021"\n\n[dependencies]\n{dependency}\n'
         (self.folder / "Cargo.toml").write_text(manifest, encoding="utf-8")
-        self.assert_ran(self.cargo("run", "--quiet", folder=self.folder), found[2])
+        for code, written in found:
+            (self.folder / "src" / "main.rs").write_text(code, encoding="utf-8")
+            self.assert_ran(self.cargo("run", "--quiet", folder=self.folder), written)

@@ -14,15 +14,17 @@ files.
     ['0', '-6']
 """
 
-from .codes import Answer, Cause, Code, Decoding, DeviceOutcome, Flag, GrantRefusal, Hcall, Layout, Outcome
-from .codes import Right, SlotRefusal, Status, TransferRefusal, Want
-from .errors import BadReplies, GrantRefused, LibraryMissing, PaprError, ProgramFailed, SlotRefused
-from .errors import TransferRefused
+from .codes import Answer, Cause, Code, Decoding, DeviceOutcome, Flag, GrantRefusal, Hcall, Hold, Layout
+from .codes import Outcome, Right, SlotRefusal, Status, TransferRefusal, Want
+from .errors import BadReplies, Busy, GrantRefused, LibraryMissing, PaprError, PassRefused, ProgramFailed
+from .errors import SlotRefused, TransferRefused
 from .grants import Grants
 from .program import Summary, Verdict, call, check, drill, image, run, run_set
-from .records import Access, DeviceAccess, Entry, Grant, Page, Range, Receipt, Rehash, Reply, Slot, Walk
+from .records import Access, DeviceAccess, Entry, Grant, HeldUp, Page, Range, Receipt, Rehash, Reply, Slot
+from .records import Walk
 from .replies import Replies
 from .segments import Segments
+from .shared import Pass, SharedTable
 from .table import Table, decode, library_version, rights
 from .windows import Window
 
@@ -32,6 +34,7 @@ __all__ = [
     "Access",
     "Answer",
     "BadReplies",
+    "Busy",
     "Cause",
     "Code",
     "Decoding",
@@ -44,11 +47,15 @@ __all__ = [
     "GrantRefused",
     "Grants",
     "Hcall",
+    "HeldUp",
+    "Hold",
     "Layout",
     "LibraryMissing",
     "Outcome",
     "Page",
     "PaprError",
+    "Pass",
+    "PassRefused",
     "ProgramFailed",
     "Range",
     "Receipt",
@@ -57,6 +64,7 @@ __all__ = [
     "Reply",
     "Right",
     "Segments",
+    "SharedTable",
     "Slot",
     "SlotRefusal",
     "SlotRefused",

@@ -1,4 +1,4 @@
-"""The functions of papr.h and papr_bytes.h, in the shared objects libpapr.so.0 and libpapr_bytes.so.0."""
+"""The functions of the three headers, in the shared objects libpapr.so.0 and libpapr_bytes.so.0."""
 
 import ctypes
 import os
@@ -6,8 +6,9 @@ from functools import cache
 from pathlib import Path
 from typing import Any
 
-from ._structs import BOOL, I64, SIZE, U8, U32, U64, CAccess, CBytesEnd, CDevice, CEntry, CGrant, CGrants
-from ._structs import CMaking, CPage, CRange, CReceipt, CRehash, CReply, CResize, CSlb, CSlot, CTransfer, CWalk
+from ._structs import BOOL, I64, SIZE, U8, U32, U64, CAccess, CBusy, CBytesEnd, CDevice, CEntry, CGrant
+from ._structs import CGrants, CMaking, CPage, CPass, CRange, CReceipt, CRehash, CReply, CResize, CSlb, CSlot
+from ._structs import CTransfer, CWalk
 from .errors import LibraryMissing
 
 VERSION = (0, 1, 0)  # of the headers that this package was written for
@@ -20,7 +21,7 @@ TABLE = (P(CEntry), SIZE, U8)  # entries, their count, and the order
 WINDOW = (P(CEntry), SIZE, U64)  # entries, their count, and the bus address of the first page
 WORDS, RECEIPTS, BYTE_ARRAY = (P(U64), SIZE), (P(CReceipt), SIZE), (P(U8), SIZE)
 ROOM = (*WORDS, *RECEIPTS)
-GRANTS = P(CGrants)
+GRANTS, PASS = P(CGrants), P(CPass)
 
 Types = tuple[Any, ...]
 
@@ -53,10 +54,29 @@ FUNCTIONS: dict[str, tuple[Any, Types]] = {
     "papr_export": (CTransfer, (*TABLE, U8, SIZE, SIZE, *BYTE_ARRAY)),
     "papr_import": (CTransfer, (*TABLE, GRANTS, U8, SIZE, SIZE, *BYTE_ARRAY)),
 }
+SHARED_FUNCTIONS: dict[str, tuple[Any, Types]] = {
+    "papr_open": (I64, (P(CEntry), SIZE, U8, U32, PASS)),
+    "papr_split": (I64, (PASS, PASS)),
+    "papr_join": (I64, (PASS, PASS)),
+    "papr_close": (I64, (PASS, P(CEntry), SIZE)),
+    "papr_try_h_enter": (CReply, (PASS, GRANTS, U64, U64, U64, U64, *ROOM)),
+    "papr_try_h_remove": (CReply, (PASS, U64, U64, U64, *ROOM)),
+    "papr_try_h_protect": (CReply, (PASS, U64, U64, U64, *ROOM)),
+    "papr_try_h_read": (CReply, (PASS, U64, U64, *ROOM)),
+    "papr_try_h_clear_ref": (CReply, (PASS, U64, U64, *ROOM)),
+    "papr_try_h_clear_mod": (CReply, (PASS, U64, U64, *ROOM)),
+    "papr_try_h_bulk_remove": (CReply, (PASS, *WORDS, *ROOM)),
+    "papr_try_hcall": (CReply, (PASS, GRANTS, U64, P(U64), *RECEIPTS)),
+    "papr_again": (CReply, (PASS, *ROOM)),
+    "papr_try_walk": (CWalk, (PASS, P(CAccess), *RECEIPTS)),
+    "papr_walk_again": (CWalk, (PASS, *RECEIPTS)),
+    "papr_held_up": (CBusy, (PASS,)),
+    "papr_give_up": (None, (PASS,)),
+}
 BYTES_FUNCTIONS: dict[str, tuple[Any, Types]] = {
     "papr_bytes_call": (CBytesEnd, BYTE_ARRAY * 5),
 }
-WIDTHS = {U8: 8, U64: 64, SIZE: 8 * ctypes.sizeof(SIZE)}  # in bits
+WIDTHS = {U8: 8, U32: 32, U64: 64, SIZE: 8 * ctypes.sizeof(SIZE)}  # in bits
 
 
 class Function:
@@ -115,6 +135,16 @@ def calls_library() -> ctypes.CDLL:
 
 
 @cache
+def shared_table_library() -> ctypes.CDLL:
+    """The same library for shared tables: its calls give Python's lock away, so that threads call at once."""
+    library = open_library(CALLS, ctypes.CDLL)
+    calls_library()  # its version is looked at there
+    if not hasattr(library, "papr_open"):
+        raise LibraryMissing(f"{place_of(CALLS)} has no table that threads share: it lacks papr_open")
+    return library
+
+
+@cache
 def bytes_library() -> ctypes.CDLL:
     """The library of the whole program. Its calls give Python's lock away, and may run side by side."""
     return open_library(BYTES, ctypes.CDLL)
@@ -122,7 +152,9 @@ def bytes_library() -> ctypes.CDLL:
 
 @cache
 def function(name: str) -> Function:
-    """A function of either library."""
+    """A function of one of the libraries."""
     if name in FUNCTIONS:
         return declared(calls_library(), name, FUNCTIONS[name])
+    if name in SHARED_FUNCTIONS:
+        return declared(shared_table_library(), name, SHARED_FUNCTIONS[name])
     return declared(bytes_library(), name, BYTES_FUNCTIONS[name])

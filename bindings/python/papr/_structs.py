@@ -1,4 +1,4 @@
-"""The structs of papr.h and papr_bytes.h. Nothing else in Python declares them."""
+"""The structs of papr.h, papr_shared.h and papr_bytes.h. Nothing else in Python declares them."""
 
 import ctypes
 from typing import NamedTuple, TypeVar
@@ -168,6 +168,18 @@ class CTransfer(ctypes.Structure):
     """struct papr_transfer"""
 
     _fields_ = [("index", SIZE), ("refusal", U32)]
+
+
+class CPass(ctypes.Structure):
+    """struct papr_pass"""
+
+    _fields_ = [("at", ctypes.c_void_p), ("live", BOOL)]
+
+
+class CBusy(ctypes.Structure):
+    """struct papr_busy"""
+
+    _fields_ = [("looked", U64), ("found", U64), ("entry", U32), ("done", U32), ("hold", U32)]
 
 
 class CBytesEnd(ctypes.Structure):

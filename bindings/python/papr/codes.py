@@ -7,7 +7,7 @@ class Code(IntEnum):
     """What a call answers in register 3, by the names of LoPAR and of Linux."""
 
     H_SUCCESS = 0
-    H_BUSY = 1  # not all entries of the pending table are ready
+    H_BUSY = 1  # not all entries of the pending table are ready; of a pass: it has a call to go on with
     H_CLOSED = 2  # no table of the order is pending
     H_LONG_BUSY = 9900  # the next entries are ready: call again for the rest
     H_HARDWARE = -1  # the entry has changed 2^32 - 1 times, and can't change again
@@ -16,7 +16,7 @@ class Code(IntEnum):
     H_PTEG_FULL = -6
     H_NOT_FOUND = -7
     H_NO_MEM = -9
-    H_RESOURCE = -16  # the order is above the highest that is allowed
+    H_RESOURCE = -16  # the order is above the highest that is allowed; of a shared table: see PassRefused
 
 
 class Hcall(IntEnum):
@@ -89,6 +89,14 @@ class Outcome(IntEnum):
     PARAMETER = 3  # an argument is out of range; nothing changed
     AMR = 4  # AMR refuses it, for the entry's key
     IAMR = 5  # IAMR refuses it, for the entry's key
+
+
+class Hold(IntEnum):
+    """Why a call on a shared table is busy."""
+
+    NOT_HELD_UP = 0  # the pass has nothing to go on with
+    HELD = 1  # a call: another thread is at the entry
+    CHANGING = 2  # a walk: another thread changes the entry
 
 
 class Right(IntFlag):

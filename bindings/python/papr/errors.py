@@ -1,6 +1,7 @@
 """What the package raises."""
 
-from .codes import GrantRefusal, SlotRefusal, Status, TransferRefusal
+from .codes import Code, GrantRefusal, SlotRefusal, Status, TransferRefusal
+from .records import HeldUp, Receipt
 
 
 class PaprError(Exception):
@@ -36,6 +37,31 @@ class TransferRefused(PaprError, ValueError):
         super().__init__(f"the transfer{place} is refused: {refusal.name}")
         self.index = index
         self.refusal = refusal
+
+
+class PassRefused(PaprError):
+    """A table isn't opened or closed, or a pass isn't split or joined; all is as it was.
+
+    H_NO_MEM: there is no memory. H_RESOURCE: a split finds no share left, or a close finds that passes are out.
+    H_BUSY: the pass has a call to go on with. H_PARAMETER: the table is closed, or shared already.
+    """
+
+    def __init__(self, what: str, code: Code) -> None:
+        super().__init__(f"{what}: {code.name}")
+        self.code = code
+
+
+class Busy(PaprError):
+    """Another thread is at an entry: the pass keeps its call, and again() or walk_again() goes on with it."""
+
+    def __init__(
+        self, held_up: HeldUp, words: tuple[int, ...], receipts: tuple[Receipt, ...], stale: bool
+    ) -> None:
+        super().__init__(f"entry {held_up.entry:#x} is busy, after {held_up.done} operations: {held_up.hold.name}")
+        self.held_up = held_up
+        self.words = words  # so far
+        self.receipts = receipts  # so far
+        self.stale = stale  # what is made so far makes cached translations stale
 
 
 class ProgramFailed(PaprError):

@@ -2,8 +2,8 @@
 
 from typing import NamedTuple
 
-from ._structs import CEntry, CPage, CReceipt, CRehash, CSlot
-from .codes import Answer, Cause, Code, Decoding, DeviceOutcome, Outcome, Right, Want
+from ._structs import CBusy, CEntry, CPage, CReceipt, CRehash, CSlot
+from .codes import Answer, Cause, Code, Decoding, DeviceOutcome, Hold, Outcome, Right, Want
 
 REFERENCED, CHANGED = 2, 1  # R and C in the bits of a receipt
 R_OF_DWORD1, C_OF_DWORD1 = 0x100, 0x80
@@ -110,6 +110,16 @@ class Walk(NamedTuple):
     receipts: tuple[Receipt, ...]
 
 
+class HeldUp(NamedTuple):
+    """What holds up the call or the walk of a pass."""
+
+    hold: Hold
+    entry: int  # that of the next operation
+    done: int  # how many operations are made
+    looked: int  # the entry's control word, as the try noted it
+    found: int  # .. and as its last step found it
+
+
 class Page(NamedTuple):
     """What two doublewords say; without a page `why` has the first reason."""
 
@@ -173,6 +183,11 @@ def entry_of(it: CEntry) -> Entry:
 def receipt_of(it: CReceipt) -> Receipt:
     """A receipt of the library."""
     return Receipt(it.entry, it.stamp, it.bits, Answer(it.answer), it.dword0, it.dword1)
+
+
+def held_up_of(it: CBusy) -> HeldUp:
+    """What the library says of a pass that is busy."""
+    return HeldUp(Hold(it.hold), it.entry, it.done, it.looked, it.found)
 
 
 def rehash_of(it: CRehash) -> Rehash:

@@ -3,10 +3,11 @@
 from collections.abc import Iterable, Iterator
 from typing import Any, Optional
 
+from ._calls import Calls
 from ._library import function
-from ._room import WORDS, Room
-from ._structs import U8, U64, CAccess, CEntry, CResize, CWalk, struct_of
-from .codes import Cause, Code, Decoding, Layout, Outcome, Right, TransferRefusal
+from ._room import Room
+from ._structs import U8, CAccess, CEntry, CResize, struct_of
+from .codes import Code, Layout, Right, TransferRefusal
 from .errors import TransferRefused
 from .grants import Grants, grants_of
 from .records import Access, Entry, Grant, Page, Rehash, Reply, Walk
@@ -23,10 +24,11 @@ def entries_of(order: int) -> Any:
     return (CEntry * ((1 << order) // AN_ENTRY))()
 
 
-class Table:
+class Table(Calls):
     """A table of 2^order bytes with its entries, and the memory that is granted to its guest.
 
-    One call at a time: threads that share a table take a lock of their own.
+    One call at a time: threads take a lock of their own, or a SharedTable. While it is shared, the table itself
+    has no entries, and its calls answer H_PARAMETER.
 
     >>> table = Table(18, [Grant(0x0, 0x2000000000, 0x40000000)])
     >>> print(table.h_enter(Flag.EXACT, 0x27, 0x1001, 0x3012))
@@ -69,6 +71,11 @@ class Table:
         """What an entry says."""
         return decode(self._order, index, *self[index].doublewords)
 
+    def _exchange_entries(self, entries: Any = ()) -> Any:
+        """Takes the entries out of the table, and puts these in."""
+        taken, self._entries = self._entries, entries or (CEntry * 0)()
+        return taken
+
     @property
     def _table(self) -> tuple[Any, int, int]:
         """What the library takes for the table."""
@@ -76,78 +83,25 @@ class Table:
 
     # ---- the calls
 
-    def h_enter(self, flags: int, ptex: int, pteh: int, ptel: int) -> Reply:
-        """H_ENTER: puts a translation into an empty entry. The word is its index."""
-        given = (self.grants.c_list, flags, ptex, pteh, ptel)
-        return self._room.reply_of(function("papr_h_enter")(*self._table, *given, *self._room.for_both))
+    def _call(self, name: str, *arguments: Any) -> Reply:
+        """A call that takes the table and these arguments."""
+        return self._room.reply_of(function(f"papr_{name}")(*self._table, *arguments, *self._room.for_both))
 
-    def h_remove(self, flags: int, ptex: int, avpn: int) -> Reply:
-        """H_REMOVE: empties the entry. The words are its two doublewords from before."""
-        return self._call("papr_h_remove", flags, ptex, avpn)
-
-    def h_protect(self, flags: int, ptex: int, avpn: int) -> Reply:
-        """H_PROTECT: gives the entry the protection in flags. No word."""
-        return self._call("papr_h_protect", flags, ptex, avpn)
-
-    def h_read(self, flags: int, ptex: int) -> Reply:
-        """H_READ: the words are the entry's two doublewords, or with READ_4 those of four entries."""
-        return self._call("papr_h_read", flags, ptex)
-
-    def h_clear_ref(self, flags: int, ptex: int) -> Reply:
-        """H_CLEAR_REF: clears R. The word is doubleword 1 from before."""
-        return self._call("papr_h_clear_ref", flags, ptex)
-
-    def h_clear_mod(self, flags: int, ptex: int) -> Reply:
-        """H_CLEAR_MOD: clears C. The word is doubleword 1 from before."""
-        return self._call("papr_h_clear_mod", flags, ptex)
-
-    def h_bulk_remove(self, pairs: Iterable[int]) -> Reply:
-        """H_BULK_REMOVE: four pairs, as eight words. The words are all eight, with the responses."""
-        given = words_of(pairs)
-        return self._room.reply_of(
-            function("papr_h_bulk_remove")(*self._table, given, len(given), *self._room.for_both)
-        )
-
-    def hcall(self, number: int, *arguments: int) -> Reply:
-        """A call by its number, with registers 4 to 11; those that are left out are 0."""
-        given = words_of(arguments)
-        if len(given) > WORDS:
-            raise ValueError(f"a call has at most {WORDS} arguments, and not {len(given)}")
-        self._room.words[:] = [*given, *[0] * (WORDS - len(given))]
-        room = (self._room.words, *self._room.for_receipts)
-        return self._room.reply_of(
-            function("papr_hcall")(*self._table, self.grants.c_list, number, *room)
-        )
-
-    def _call(self, name: str, *arguments: int) -> Reply:
-        """A call that takes the table and numbers."""
-        return self._room.reply_of(function(name)(*self._table, *arguments, *self._room.for_both))
+    def _call_by_number(self, number: int, words: Any) -> Reply:
+        """A call by its number, whose words are put over the arguments."""
+        given = (self.grants.c_list, number, *self._room.with_arguments(words))
+        return self._room.reply_of(function("papr_hcall")(*self._table, *given))
 
     # ---- the walk
 
     def walk(self, access: Access) -> Walk:
         """Walks the page's groups, and records an access that is allowed in R and C."""
         given = struct_of(CAccess, access)
-        return self._walk_of(function("papr_walk")(*self._table, given, *self._room.for_receipts))
+        return self._room.walk_of(function("papr_walk")(*self._table, given, *self._room.for_receipts))
 
     def probe(self, access: Access) -> Walk:
         """What a walk would find, in the entries as they are: it changes none."""
-        return self._walk_of(function("papr_probe")(*self._table, struct_of(CAccess, access)))
-
-    def _walk_of(self, it: CWalk) -> Walk:
-        """What a walk of the library found."""
-        return Walk(
-            Outcome(it.outcome),
-            it.logical,
-            it.entry,
-            it.dword0,
-            it.dword1,
-            it.base_shift,
-            it.actual_shift,
-            Right(it.rights),
-            Cause(it.causes),
-            self._room.receipts_of(it.receipts),
-        )
+        return self._room.walk_of(function("papr_probe")(*self._table, struct_of(CAccess, access)))
 
     # ---- the rehash and the resize calls
 
@@ -198,15 +152,6 @@ class Table:
         call = function("papr_import")
         made = call(*self._table, self.grants.c_list, layout, first, number, given, len(given))
         raise_for_transfer(made)
-
-
-def words_of(numbers: Iterable[int]) -> Any:
-    """Numbers of 64 bits as an array of the library."""
-    given = list(numbers)
-    for number in given:
-        if number >> 64:
-            raise OverflowError(f"{number:#x} isn't a number of 64 bits without a sign")
-    return (U64 * len(given))(*given)
 
 
 def raise_for_transfer(made: Any) -> None:

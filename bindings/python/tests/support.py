@@ -5,7 +5,7 @@ from pathlib import Path
 from typing import Any, Callable, TypeVar
 
 from papr import Grant, LibraryMissing
-from papr._library import bytes_library, calls_library
+from papr._library import bytes_library, calls_library, shared_table_library
 
 TOP = Path(__file__).resolve().parents[3]
 EXAMPLES = TOP / "examples"
@@ -25,6 +25,7 @@ def needs(library: Callable[[], object]) -> Callable[[Test], Test]:
 
 
 needs_calls, needs_bytes = needs(calls_library), needs(bytes_library)
+needs_shared_table = needs(shared_table_library)
 
 
 def text_of(name: str) -> str:

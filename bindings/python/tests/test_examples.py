@@ -1,4 +1,4 @@
-"""Tests of the two scripts in examples/."""
+"""Tests of the scripts in examples/."""
 
 import os
 import subprocess
@@ -8,7 +8,7 @@ import unittest
 from pathlib import Path
 
 from support import EXAMPLES as TRACES
-from support import TOP, needs_bytes, needs_calls, text_of
+from support import TOP, needs_bytes, needs_calls, needs_shared_table, text_of
 
 SCRIPTS = TOP / "bindings" / "python" / "examples"
 
@@ -34,6 +34,17 @@ class Fuzz(unittest.TestCase):
             expected = ["H_ENTER H_PTEG_FULL", "H_ENTER H_SUCCESS", "H_REMOVE H_NOT_FOUND", "H_REMOVE H_SUCCESS"]
             self.assertEqual(calls, [tuple(words.split()) for words in expected])
             self.assertEqual(sum(int(line.split()[2]) for line in counted), 3_000)
+
+
+@needs_shared_table
+class TwoThreads(unittest.TestCase):
+    """The two processors."""
+
+    def test_they_fill_the_group(self) -> None:
+        ran = run("two_threads.py")
+        self.assertEqual((ran.returncode, ran.stderr), (0, ""))
+        entries = [f"entry {entry:#x}: valid" for entry in range(0x20, 0x28)]
+        self.assertEqual(ran.stdout.splitlines(), [*entries, "8 of 32 calls entered a page"])
 
 
 @needs_bytes

@@ -19,38 +19,40 @@ fn from_pkg_config() -> Option<PathBuf> {
         .then(|| PathBuf::from(folder.trim_end()))
 }
 
-/// Links the archive of this folder, or else the shared object, if it has one of this name.
-fn links(folder: &Path, name: &str) -> bool {
+/// Links the archive of this folder, or else the shared object, if it has one of this name: which kind.
+fn links(folder: &Path, name: &str) -> Option<&'static str> {
     let kinds = [("a", "static"), ("so", "dylib")];
     let file = |ending: &str| folder.join(format!("lib{name}.{ending}"));
-    let Some((ending, kind)) = kinds.iter().find(|(ending, _)| file(ending).is_file()) else {
-        return false;
-    };
+    let (ending, kind) = kinds.iter().find(|(ending, _)| file(ending).is_file())?;
     println!("cargo:rerun-if-changed={}", file(ending).display());
     println!("cargo:rustc-link-search=native={}", folder.display());
     println!("cargo:rustc-link-lib={kind}={name}");
-    true
+    Some(kind)
 }
 
-/// Links a library of this name, which is built in the checkout below a crate's folder.
-fn link(name: &str, of_crate: &str) {
+/// Links a library of this name, which is built in the checkout below a crate's folder: which kind, if
+/// the linker doesn't look for it by itself.
+fn link(name: &str, of_crate: &str) -> Option<&'static str> {
     let top = Path::new(env!("CARGO_MANIFEST_DIR")).join("../../..");
     let built = top.join("crates").join(of_crate).join("out");
-    let is_linked = match env::var_os(FOLDER) {
+    let linked = match env::var_os(FOLDER) {
         Some(named) => links(Path::new(&named), name),
-        None => {
-            links(&built, of_crate) || from_pkg_config().is_some_and(|folder| links(&folder, name))
-        }
+        None => links(&built, of_crate).or_else(|| links(&from_pkg_config()?, name)),
     };
-    if !is_linked {
+    if linked.is_none() {
         println!("cargo:rustc-link-lib={name}");
     }
+    linked
 }
 
 fn main() {
     println!("cargo:rerun-if-env-changed={FOLDER}");
     println!("cargo:rerun-if-env-changed=PKG_CONFIG_PATH");
-    link("papr", "papr_c");
+    let kind = link("papr", "papr_c");
+    // libpapr.so has the shared table too.
+    if env::var_os("CARGO_FEATURE_SHARED").is_some() && kind != Some("dylib") {
+        link("papr_shared", "papr_shared");
+    }
     if env::var_os("CARGO_FEATURE_BYTES").is_some() {
         link("papr_bytes", "papr_bytes");
     }

@@ -1,5 +1,6 @@
-//! The C interface of papr: `papr.h`, and with the feature `bytes` also `papr_bytes.h`. The headers
-//! describe each function and say what its caller has to ensure; the crate `papr` ensures it.
+//! The C interface of papr: `papr.h`, with the feature `shared` also `papr_shared.h`, and with the
+//! feature `bytes` `papr_bytes.h`. The headers describe each function and say what its caller has to
+//! ensure; the crate `papr` ensures it.
 //!
 //! The build links `libpapr.a`, or else `libpapr.so`, from the folder that `PAPR_LIB_DIR` names. If
 //! that isn't set, it takes the library that `make library` built in the checkout of this crate,
@@ -11,10 +12,14 @@
 mod bytes;
 mod codes;
 mod functions;
+#[cfg(feature = "shared")]
+mod shared;
 mod structs;
 
 #[cfg(feature = "bytes")]
 pub use bytes::*;
 pub use codes::*;
 pub use functions::*;
+#[cfg(feature = "shared")]
+pub use shared::*;
 pub use structs::*;

@@ -8,13 +8,15 @@ use std::mem::{offset_of, size_of};
 use std::path::Path;
 use std::process::Command;
 
-const HEADERS: [&str; 2] = ["papr.h", "papr_bytes.h"];
-const FUNCTIONS: [&str; 2] = [
+const HEADERS: [&str; 3] = ["papr.h", "papr_shared.h", "papr_bytes.h"];
+const FUNCTIONS: [&str; 3] = [
     include_str!("../src/functions.rs"),
+    include_str!("../src/shared.rs"),
     include_str!("../src/bytes.rs"),
 ];
-const CODES: [&str; 2] = [
+const CODES: [&str; 3] = [
     include_str!("../src/codes.rs"),
+    include_str!("../src/shared.rs"),
     include_str!("../src/bytes.rs"),
 ];
 /// What the headers define, and neither a library nor this crate has.
@@ -79,6 +81,8 @@ fn structs() -> (String, BTreeSet<String>) {
         papr_slb { slots }
         papr_device { address, outcome, receipts }
         papr_transfer { index, refusal }
+        papr_pass { at, live }
+        papr_busy { looked, found, entry, done, hold }
         papr_bytes_end { status, length }
     }
 }
@@ -116,7 +120,7 @@ fn names<'a>(text: &'a str, begin: &'a str) -> impl Iterator<Item = (&'a str, &'
     })
 }
 
-/// The compiler of C finds nothing wrong with a text behind both headers.
+/// The compiler of C finds nothing wrong with a text behind the headers.
 fn assert_compiles(name: &str, text: &str) {
     let source = Path::new(env!("CARGO_TARGET_TMPDIR")).join(name);
     let all = HEADERS

@@ -5,7 +5,7 @@ use core::fmt;
 /// Why a call is refused: the codes of register 3 other than success.
 #[derive(Clone, Copy, Debug, PartialEq, Eq, Hash)]
 pub enum Error {
-    /// H_BUSY: not all entries of the pending table are ready.
+    /// H_BUSY: not all entries of the pending table are ready; of a call on a shared table it is `Busy` instead.
     Busy,
     /// H_CLOSED: no table of the order is pending.
     Closed,

@@ -5,6 +5,10 @@
 //! The proof is that of the library below (`docs/LIBRARY.md` of the sources says what it states);
 //! this crate itself is tested, not proved. It is `no_std`, and needs `alloc`.
 //!
+//! The feature `shared` has a `SharedTable`, on which several threads make calls at once, and `std` with
+//! it waits for a thread that is at an entry; the feature `bytes` has the whole program. Both need the
+//! heap of the C library.
+//!
 //! ```
 //! use papr::{flags, Access, Answer, Error, Grant, Grants, Outcome, Table, Want};
 //!
@@ -22,6 +26,8 @@
 #![no_std]
 
 extern crate alloc;
+#[cfg(feature = "std")]
+extern crate std;
 
 mod answers;
 mod entry;
@@ -33,6 +39,8 @@ pub mod program;
 mod reply;
 mod resize;
 mod segments;
+#[cfg(feature = "shared")]
+mod shared;
 mod table;
 mod transfer;
 mod walk;
@@ -45,6 +53,12 @@ pub use grants::{Grant, GrantRefusal, Grants, GrantsRefused, Range};
 pub use reply::Reply;
 pub use resize::{Collision, CommitRefused, Prepared};
 pub use segments::{Segments, Slot, SlotRefusal};
+#[cfg(all(feature = "shared", feature = "std"))]
+pub use shared::give_way;
+#[cfg(feature = "shared")]
+pub use shared::{Busy, Ended, Hold, JoinError, JoinRefused, OpenError, OpenRefused, Pass};
+#[cfg(feature = "shared")]
+pub use shared::{SharedTable, SplitError, StillShared};
 pub use table::Table;
 pub use transfer::{Layout, TransferRefusal, TransferRefused};
 pub use walk::{Access, Causes, Outcome, Rights, Translation, Walk, Want};

@@ -72,6 +72,24 @@ impl Table {
         &self.entries
     }
 
+    /// Its entries, for the library to change.
+    #[cfg(feature = "shared")]
+    pub(crate) fn entries_mut(&mut self) -> &mut [Entry] {
+        &mut self.entries
+    }
+
+    /// What is left where a table was taken out: it has no entries.
+    #[cfg(feature = "shared")]
+    pub(crate) fn nothing() -> Table {
+        Table {
+            order: 0,
+            entries: Vec::new(),
+            grants: Grants::default(),
+            pending: papr_resize::default(),
+            pending_entries: Vec::new(),
+        }
+    }
+
     /// The memory that is granted to its guest.
     pub fn grants(&self) -> &Grants {
         &self.grants

@@ -1,15 +1,21 @@
 /*
  * Measures calls and walks of threads on the shared table against the same ones on a table behind a mutex. The calls are
- * those of examples/shared. `bench/shared` builds and runs it.
+ * those of examples/shared. With the name of a call it makes that one by one thread, on both tables in turn, so that a
+ * profiler can count. `bench/shared` builds and runs it.
  */
 #include "calls.h"
 
 #include <pthread.h>
 #include <stdio.h>
 #include <stdlib.h>
+#include <string.h>
 #include <time.h>
 
 enum { CALLS = 400000, TURNS = 9, MOST_THREADS = 4 };
+
+/* Where the table for single calls has entries: the middle half of its groups is empty, so that both groups of a page
+ * are full or both empty. */
+enum { FIRST_EMPTY = COUNT / 4, FIRST_FULL = COUNT / 4 * 3 };
 
 /* Each has cache lines of its own, since a call writes its pass. */
 struct worker {
@@ -105,9 +111,86 @@ static void measure(int threads, bool is_far)
            1000 * (double)busy / threads / CALLS / TURNS);
 }
 
-int main(void)
+/* A table whose full entries are of segments 1 to 8, one for each slot of a group. */
+static void fill_table(void)
+{
+    for (size_t i = 0; i < COUNT; i++)
+        if (i < FIRST_EMPTY || i >= FIRST_FULL)
+            table[i] = (struct papr_entry){.dword0 = (1 + i % 8) << 12 | 1, .dword1 = (3 + i) << 12 | 0x12, .valid = true,
+                                           .referenced = true};
+}
+
+static struct call walk_of(uint64_t segment, uint64_t group)
+{
+    struct papr_access access = {.ea = (segment ^ group) << 12, .vsid = segment, .shift = 12};
+    return (struct call){.kind = WALK, .access = access};
+}
+
+/* The call with this name, for the i-th time, of at most 1,024. */
+static struct call named_call(const char *name, uint64_t i)
+{
+    struct call call = {.kind = READ, .args = {0, i}};
+    if (!strcmp(name, "enter"))
+        return (struct call){.kind = ENTER, .args = {PAPR_EXACT, FIRST_EMPTY + i, 0x1001, 0x3012}};
+    if (!strcmp(name, "enter-full"))
+        return (struct call){.kind = ENTER, .args = {0, i, 0x1001, 0x3012}};
+    if (!strcmp(name, "walk-first"))
+        return walk_of(1, i % (FIRST_EMPTY / 8));
+    if (!strcmp(name, "walk-none"))
+        return walk_of(9, i % (FIRST_EMPTY / 8));
+    if (!strcmp(name, "walk-empty"))
+        return walk_of(9, FIRST_EMPTY / 8 + i % (FIRST_EMPTY / 8));
+    if (!strcmp(name, "bulk-remove")) {
+        call.kind = BULK_REMOVE;
+        for (uint64_t pair = 0; pair < 4; pair++) {
+            call.args[2 * pair] = UINT64_C(1) << 62 | (4 * i + pair);
+            call.args[2 * pair + 1] = 0;
+        }
+        return call;
+    }
+    static const struct { const char *name; enum kind kind; } kinds[] = {
+        {"remove", REMOVE}, {"protect", PROTECT}, {"read", READ}, {"clear-ref", CLEAR_REF}, {"clear-mod", CLEAR_MOD},
+    };
+    for (size_t k = 0; k < sizeof kinds / sizeof *kinds; k++)
+        if (!strcmp(name, kinds[k].name)) {
+            call.kind = kinds[k].kind;
+            return call;
+        }
+    stop_if(true, "there is no such call");
+    return call;
+}
+
+static bool is_same(const struct answer *one, const struct answer *other)
+{
+    const struct papr_reply *a = &one->reply, *b = &other->reply;
+    return a->rc == b->rc && a->words == b->words && a->receipts == b->receipts &&
+           one->walk.outcome == other->walk.outcome && one->walk.dword1 == other->walk.dword1;
+}
+
+/* Makes one call so often on both tables. */
+static void make_calls(const char *name, uint64_t calls)
+{
+    struct papr_pass *pass = &workers[0].pass;
+    struct answer shared = {.is_watched = false}, serial = {.is_watched = false};
+    stop_if(calls == 0 || calls > COUNT / 16, "from 1 to 1,024 calls can be counted");
+    fill_table();
+    stop_if(papr_open(table, COUNT, ORDER, 1, pass), "the table isn't opened");
+    for (uint64_t i = 0; i < calls; i++) {
+        struct call call = named_call(name, i);
+        call_pass(pass, &grants, &call, &shared);
+        call_table(table, &grants, &call, &serial);
+        stop_if(!is_same(&shared, &serial), "the two tables answer differently");
+    }
+    stop_if(papr_close(pass, table, COUNT), "the table isn't closed");
+}
+
+int main(int count, char **words)
 {
     stop_if(!make_grants(&grants), "no grants");
+    if (count == 3) {
+        make_calls(words[1], strtoull(words[2], NULL, 10));
+        return 0;
+    }
     puts("| threads | entries | shared | mutex | shared / mutex | busy in 1,000 calls |\n|---|---|---|---|---|---|");
     for (int threads = 1; threads <= MOST_THREADS; threads *= 2)
         measure(threads, true);

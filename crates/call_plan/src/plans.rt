@@ -17,7 +17,8 @@ use papr_codes::Rc;
 /// H_ENTER (LoPAR): enters two doublewords into the group that `ptex` names, or under H_EXACT into
 /// the entry. H_PARAMETER for an index past the table, for words that can't be stored, and for a
 /// page that no single grant holds with these storage control bits.
-#[inline]
+// In line, so that a caller that makes the call knows its operation.
+#[inline(always)]
 #[tactic(auto, unfolding(h_enter::specs::Checks::h_enter_plan, h_enter::specs::Enter::candidates))]
 pub fn enter_plan<G: GrantedMemory>(
     order: u8,

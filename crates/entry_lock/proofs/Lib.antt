@@ -21,3 +21,4 @@ mod LineFacts
 mod BitsAndFronts
 mod OperationLaws
 mod WaitingFacts
+mod LeftStates

@@ -20,3 +20,4 @@ pub mod WaitingStore
 pub mod Operations
 pub mod SingleSteps
 pub mod Laws
+pub mod LeftStates

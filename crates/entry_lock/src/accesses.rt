@@ -21,7 +21,7 @@ use crate::control_word::{control_of, word_from};
 use crate::outcome::{Outcome, outcome_of};
 use crate::rule::{PassSeat, Words};
 use entry_model::{EntryState, Op, Receipt};
-use lock_core::{Control, Doing, is_still, receipt};
+use lock_core::{Control, Doing, is_still};
 use std::marker::Brand;
 
 /// The noted control word with the R and C of the state after.
@@ -135,7 +135,7 @@ fn decide(
     }
     let control = control_of(found);
     if is_still(&control, doing) {
-        return Ok(receipt(&doing.with_noted(control)));
+        return Ok(outcome_of(&doing.with_noted(control)).receipt);
     }
     Err(Busy {
         entry: doing.entry,

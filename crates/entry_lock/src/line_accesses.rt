@@ -22,10 +22,11 @@ use crate::line_steps::{look_line, look_line_again, mark_line};
 use crate::outcome::{Outcome, outcome_of};
 use crate::rule::{PassSeat, Words};
 use entry_model::{Line, Op, Receipt};
-use lock_core::{Control, Doing, is_still, receipt};
+use lock_core::{Control, Doing, is_still};
 use std::marker::Brand;
 
 /// Whether the entry is gone from a stamp, or its holder is about to change it.
+#[inline(always)]
 fn is_gone_from(control: &Control, stamp: u32) -> bool
     ensures { result ≡ is_gone_from_of control.now stamp }
 {
@@ -33,6 +34,7 @@ fn is_gone_from(control: &Control, stamp: u32) -> bool
 }
 
 /// An access that begins with a line's doublewords.
+#[inline(always)]
 fn begin_by_line(known: &Line, op: Op, noted: Control) -> Doing
     ensures { result ≡ doing_by_line known.now op noted }
 {
@@ -40,6 +42,7 @@ fn begin_by_line(known: &Line, op: Op, noted: Control) -> Doing
 }
 
 /// Notes the control word. `None` where the entry is gone from the line's stamp.
+#[inline(always)]
 fn look_first(table: &Words, seat: &mut PassSeat, known: &Line, op: Op) -> Option<Doing>
     requires table { IsAt table.now.table_id seat.old.table_id table.now.key seat.old.me }
     requires entry { known.now.entry < length (states_of table.now.key) }
@@ -67,6 +70,7 @@ fn look_first(table: &Words, seat: &mut PassSeat, known: &Line, op: Op) -> Optio
 }
 
 /// The second look, for an access that raises no bit.
+#[inline(always)]
 fn decide(
     table: &Words,
     seat: &mut PassSeat,
@@ -102,12 +106,13 @@ fn decide(
     // A lock, or a bit that another access raised, leaves the entry at the line's stamp.
     let control = control_of(found);
     if is_still(&control, doing) {
-        return Some(receipt(&doing.with_noted(control)));
+        return Some(outcome_of(&doing.with_noted(control)).receipt);
     }
     None
 }
 
 /// The mark, for an access that raises a bit.
+#[inline(always)]
 fn raise_bits(
     table: &Words,
     seat: &mut PassSeat,
@@ -159,6 +164,7 @@ fn raise_bits(
 }
 
 /// Tries an access by a line.
+#[inline(always)]
 pub fn try_line(
     table: &Words,
     seat: &mut PassSeat,

@@ -8,6 +8,7 @@ ghost use Rattle.entry_lock.specs.Views.{states_of, first_view};
 ghost use Rattle.entry_lock.specs.PassOfTable.{IsOf, view_of};
 
 use crate::control_word::word_from;
+use crate::layout::WORDS_PER_ENTRY;
 use crate::rule::{LockRule, Opening, PassSeat, View};
 use crate::table::{LockTable, Pass};
 use atomic_table::Table;
@@ -28,7 +29,11 @@ fn words_of(alloc: Global, states: &[EntryState]) -> Result<Vec<u64>, AllocError
     ensures words { IfOk result (λ v. v.items ≡ 0 ∷ entry_words states.now) }
     ensures fair { IfOk result (λ v. All IsFair states.now) }
 {
-    let mut words = Vec::new(alloc);
+    let room = states
+        .len()
+        .saturating_mul(WORDS_PER_ENTRY)
+        .saturating_add(1);
+    let mut words = Vec::with_capacity(alloc, room)?;
     words.push(0)?;
     for state in states {
         is_fair(state);

@@ -1,10 +1,13 @@
 //! What an operation does, by what is known of its entry. It is computed once for a try, and again
 //! only where R or C were raised in between.
-ghost use Rattle.std.specs.Prelude.{◌≡◌};
+ghost use Rattle.std.specs.Prelude.{◌≡◌, true, not};
+ghost use Rattle.entry_model.specs.History.{state_eq};
+ghost use Rattle.entry_model.specs.Reply.{reply_of};
 ghost use Rattle.lock_core.specs.Steps.{with_noted};
-ghost use Rattle.lock_core.specs.Words.{changes as changes_of, next_state as next_of, receipt as receipt_of};
+ghost use Rattle.lock_core.specs.Words.{noted_state as noted_of, changes as changes_of, next_state as next_of, receipt as receipt_of};
+ghost use Rattle.entry_lock.specs.LeftStates.{is_left as is_left_by};
 
-use entry_model::{EntryState, Receipt, reply};
+use entry_model::{Answer, EntryState, Op, Receipt, reply};
 use lock_core::{Control, Doing, noted_state, same_state};
 
 /// What an operation does.
@@ -18,18 +21,48 @@ pub struct Outcome {
     pub changes: bool,
 }
 
-/// What the operation does.
-#[tactic(auto, unfolding(lock_core::specs::Words::changes, lock_core::specs::Words::next_state))]
-// In line, so that each caller keeps what it needs of it: half of an operation's instructions.
+/// Whether an entry that answers so is left as it is, whatever the operation.
 #[inline(always)]
-pub fn outcome_of(doing: &Doing) -> Outcome
+fn is_left(answer: Answer) -> bool
+    ensures { result ≡ is_left_by answer }
+{
+    matches!(
+        answer,
+        Answer::Taken
+            | Answer::Words
+            | Answer::NotFound
+            | Answer::NoMatch
+            | Answer::Denied
+            | Answer::Masked
+            | Answer::Worn
+    )
+}
+
+/// Whether a reply changes the entry. Most answers say so by themselves, without a comparison of
+/// the two states.
+#[inline(always)]
+fn differs(answer: Answer, after: &EntryState, before: &EntryState) -> bool
+    requires left { is_left_by answer ≡ true → after.now ≡ before.now }
+    ensures { result ≡ not (state_eq after.now before.now) }
+{
+    if is_left(answer) {
+        return false;
+    }
+    !same_state(after, before)
+}
+
+/// What the operation does, by the state that it finds and the entry's reply.
+#[tactic(auto, unfolding(lock_core::specs::Words::changes, lock_core::specs::Words::next_state))]
+#[inline(always)]
+fn outcome_from(doing: &Doing, before: EntryState, replied: (Answer, EntryState)) -> Outcome
+    requires before { before ≡ noted_of doing.now }
+    requires replied { replied ≡ reply_of before doing.now.op }
     ensures receipt { result.receipt ≡ receipt_of doing.now }
     ensures after { result.after ≡ next_of doing.now }
     ensures changes { result.changes ≡ changes_of doing.now }
 {
-    let before = noted_state(doing);
-    let (answer, after) = reply(&before, &doing.op);
-    let changes = !same_state(&after, &before);
+    let (answer, after) = replied;
+    let changes = differs(answer, &after, &before);
     let receipt = Receipt {
         entry: doing.entry,
         before,
@@ -41,6 +74,41 @@ pub fn outcome_of(doing: &Doing) -> Outcome
         after,
         changes,
     }
+}
+
+/// What the operation does.
+// In line, so that each caller keeps what it needs of it: half of an operation's instructions.
+#[inline(always)]
+pub fn outcome_of(doing: &Doing) -> Outcome
+    ensures receipt { result.receipt ≡ receipt_of doing.now }
+    ensures after { result.after ≡ next_of doing.now }
+    ensures changes { result.changes ≡ changes_of doing.now }
+{
+    let before = noted_state(doing);
+    let replied = reply(&before, &doing.op);
+    outcome_from(doing, before, replied)
+}
+
+/// The entry's reply, for the few tries that need it twice: one function for all operations.
+#[cold]
+#[inline(never)]
+fn reply_again(before: &EntryState, op: &Op) -> (Answer, EntryState)
+    ensures { result ≡ reply_of before.now op.now }
+{
+    reply(before, op)
+}
+
+/// What the operation does, as `outcome_of`, where it seldom comes to that.
+#[inline(always)]
+fn outcome_again(doing: &Doing) -> Outcome
+    ensures receipt { result.receipt ≡ receipt_of doing.now }
+    ensures after { result.after ≡ next_of doing.now }
+{
+    let before = noted_state(doing);
+    // A copy, since `doing` itself would have to lie in memory from its beginning on.
+    let op = doing.op;
+    let replied = reply_again(&before, &op);
+    outcome_from(doing, before, replied)
 }
 
 /// The same by the control word that was found, which has valid and stamp of the noted one. Where
@@ -57,5 +125,5 @@ pub fn outcome_by(doing: &Doing, known: Outcome, found: Control) -> Outcome
     if found.referenced == doing.noted.referenced && found.changed == doing.noted.changed {
         return known;
     }
-    outcome_of(&doing.with_noted(found))
+    outcome_again(&doing.with_noted(found))
 }

@@ -109,6 +109,7 @@ impl Pass {
     /// # Errors
     /// Busy where another pass changed the control word before the mark, and the entry is still at
     /// the line's stamp. Then nothing was made.
+    #[inline(always)]
     pub fn try_known(
         &mut self,
         table: &LockTable,

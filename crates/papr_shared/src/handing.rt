@@ -6,6 +6,7 @@ use entry_model::Registers;
 use shared_pass::Working;
 
 /// Puts what a call has given, and its receipts, into the caller's places, as far as these go.
+#[inline(always)]
 pub fn hand_over_call(
     working: &Working,
     registers: &Registers,

@@ -9,6 +9,7 @@ use call_plan::CallPlan;
 use shared_pass::{Pending, Working};
 
 /// Makes a call, if the pass has nothing to go on with.
+#[inline(always)]
 pub fn begin(
     working: &mut Working,
     plan: &CallPlan,

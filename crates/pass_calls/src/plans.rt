@@ -44,6 +44,7 @@ fn try_removals<S: TriedStore>(
 /// # Errors
 /// Busy where somebody else was at the next entry. The same plan with the receipts as they are then
 /// goes on from there.
+#[inline(always)]
 pub fn try_plan<S: TriedStore>(
     store: &mut S,
     plan: &CallPlan,

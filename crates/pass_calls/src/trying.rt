@@ -16,7 +16,7 @@ use entry_model::{Receipt, Receipts};
 /// # Errors
 /// Busy where somebody else was at the next call's entry. The same trial with the receipts as they
 /// are then goes on from there.
-#[inline]
+#[inline(always)]
 pub fn try_calls<S: TriedStore, C: CallList>(
     store: &mut S,
     calls: &C,

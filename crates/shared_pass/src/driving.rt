@@ -24,6 +24,7 @@ impl Working {
     ///
     /// # Errors
     /// Busy where another pass was at the next entry. The call is then what it has to go on with.
+    #[inline(always)]
     fn attempt(&mut self, plan: &CallPlan) -> Result<Registers, Busy>
         requires fits { Fits (arc_value self.old.sharer.table).order plan.now }
         requires begun { IsBegun (plan_of plan.now) self.old.receipts }
@@ -61,6 +62,7 @@ impl Working {
     ///
     /// # Errors
     /// Busy where another pass was at the next entry. The call is then what it has to go on with.
+    #[inline(always)]
     pub fn begin(&mut self, plan: &CallPlan) -> Result<Registers, Busy>
         requires free { self.old.pending ≡ Nothing }
         requires fits { Fits (arc_value self.old.sharer.table).order plan.now }
@@ -108,6 +110,7 @@ impl Working {
     ///
     /// # Errors
     /// Busy where another pass changed the next entry. The walk is then what it has to go on with.
+    #[inline(always)]
     fn attempt_walk(&mut self, walk: &PageWalk) -> Result<Option<Receipt>, Busy>
         requires { let order = (arc_value self.old.sharer.table).order in
             IsBegunTrial is_no_match (calls_of_walk order walk.now) self.old.receipts }
@@ -145,6 +148,7 @@ impl Working {
     ///
     /// # Errors
     /// Busy where another pass changed the next entry. The walk is then what it has to go on with.
+    #[inline(always)]
     pub fn begin_walk(&mut self, walk: &PageWalk) -> Result<Option<Receipt>, Busy>
         requires { self.old.pending ≡ Nothing }
         ensures made { IsMade self.old self.new self.new.receipts }

@@ -26,7 +26,7 @@ impl TriedStore for Sharer {
         self.table.order()
     }
 
-    #[inline]
+    #[inline(always)]
     fn try_apply(&mut self, entry: u32, op: Op) -> Result<Receipt, Busy> {
         self.pass.try_apply(&self.table, entry, op)
     }

@@ -25,8 +25,9 @@ returns-then-found-looked-clause-receipt c =
 
 pub returns-then-is_still-clause-receipt : goal.returns-then-is_still-clause-receipt
 returns-then-is_still-clause-receipt c =
-    receipt_by (with_noted c.args.doing.now c.control_of-control.result) _ _ c.receipt.result
-    (c.receipt.ensures ∙ ap (λ (d : Doing). receipt d) c.with_noted.ensures) refl refl
+    receipt_by (with_noted c.args.doing.now c.control_of-control.result) _ _
+    c.outcome_of.result.receipt
+    (c.outcome_of.ensures.receipt ∙ ap (λ (d : Doing). receipt d) c.with_noted.ensures) refl refl
 
 pub returns-clause-last : goal.returns-clause-last
 returns-clause-last c =
@@ -65,7 +66,7 @@ returns-then-is_still-clause-valid c =
     let still : is_still t.0 d ≡ true = ap (λ k. is_still k d) (sym means) ∙ sym c.is_still.ensures
     ∙ c.if-is_still.true in
     ap (λ (r : Receipt). r.before.valid)
-    (c.receipt.ensures ∙ ap (λ (z : Doing). receipt z) c.with_noted.ensures)
+    (c.outcome_of.ensures.receipt ∙ ap (λ (z : Doing). receipt z) c.with_noted.ensures)
     ∙ valid_before (with_noted d c.control_of-control.result)
     ∙ ap (λ (k : Control). k.valid) means
     ∙ (t.4 miss still).1.valid

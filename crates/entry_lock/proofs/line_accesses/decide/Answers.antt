@@ -20,15 +20,17 @@ returns-then-found-word_from-clause-current c = let l = c.requires.looked in
 
 pub returns-then-is_still-clause-receipt : goal.returns-then-is_still-clause-receipt
 returns-then-is_still-clause-receipt c = let l = c.requires.looked in
-    receipt_by (with_noted c.args.doing.now c.control_of-control.result) _ _ c.receipt.result
-    (c.receipt.ensures ∙ ap (λ (d : Doing). receipt d) c.with_noted.ensures)
+    receipt_by (with_noted c.args.doing.now c.control_of-control.result) _ _
+    c.outcome_of.result.receipt
+    (c.outcome_of.ensures.receipt ∙ ap (λ (d : Doing). receipt d) c.with_noted.ensures)
     (ap (λ (d : Doing). d.entry) l.begun_at) (ap (λ (d : Doing). d.op) l.begun_at)
 
 pub returns-then-is_still-clause-current : goal.returns-then-is_still-clause-current
 returns-then-is_still-clause-current c = let l = c.requires.looked in
     later_receipt_current c.args.known.now c.args.op c.args.doing.now c.control_of-control.result
-    c.receipt.result l.begun_at l.stamp l.clear (sym c.is_still.ensures ∙ c.if-is_still.true)
-    (c.receipt.ensures ∙ ap (λ (d : Doing). receipt d) c.with_noted.ensures)
+    c.outcome_of.result.receipt l.begun_at l.stamp l.clear
+    (sym c.is_still.ensures ∙ c.if-is_still.true)
+    (c.outcome_of.ensures.receipt ∙ ap (λ (d : Doing). receipt d) c.with_noted.ensures)
 
 pub returns-then-found-word_from-clause-leaves : goal.returns-then-found-word_from-clause-leaves
 returns-then-found-word_from-clause-leaves c =

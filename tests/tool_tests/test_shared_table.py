@@ -125,9 +125,10 @@ class OneThread(SharedTest):
         self.assertRegex(ran.out, ALLOCATED)
 
     @needs("valgrind")
-    @for_each("refusals", "busy", "resize")
-    def test_nothing_is_leaked_nor_read_before_it_is_written_in(self, name: str) -> None:
-        self.assert_ran(run(*VALGRIND, self.built(name)))
+    @for_each("refusals", "busy calls", "resize")
+    def test_nothing_is_leaked_nor_read_before_it_is_written_in(self, words: str) -> None:
+        name, *arguments = words.split()
+        self.assert_ran(run(*VALGRIND, self.built(name), *arguments))
 
 
 class Hammered(SharedTest):

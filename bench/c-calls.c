@@ -45,7 +45,7 @@ static int64_t bare_enter(uint64_t flags, uint64_t ptex, uint64_t pteh, uint64_t
         if (e->valid)
             continue;
         *e = (struct papr_entry){pteh | 1, ptel & ~UINT64_C(0x180), e->stamp + 1, true,
-                                 ptel & 0x100, ptel & 0x80};
+                                 ptel & 0x100, ptel & 0x80, true};
         *word = i;
         return 0;
     }
@@ -67,7 +67,7 @@ static int64_t bare_remove(uint64_t flags, uint64_t ptex, uint64_t avpn, uint64_
         return -7;
     words[0] = e->dword0;
     words[1] = e->dword1 | (uint64_t)e->referenced << 8 | (uint64_t)e->changed << 7;
-    *e = (struct papr_entry){.stamp = e->stamp + 1};
+    *e = (struct papr_entry){.stamp = e->stamp + 1, .marked = true};
     return 0;
 }
 
@@ -81,6 +81,7 @@ static int64_t bare_protect(uint64_t flags, uint64_t ptex, uint64_t avpn)
     e->dword1 = (e->dword1 & ~UINT64_C(0xb000000000000e07)) | (flags & 7) | (flags & 0xe00) |
                 (flags << 48 & UINT64_C(0xb000000000000000));
     e->stamp++;
+    e->marked = true;
     return 0;
 }
 
@@ -103,6 +104,7 @@ static uint32_t bare_walk(uint64_t vsid, uint64_t ea, uint64_t *logical)
         for (int i = 0; i < 8; i++) {
             struct papr_entry *e = &bare[(h ? COUNT / 8 - 1 - hash : hash) * 8 + i];
             if (e->valid && (e->dword0 & 0xffffffffffffff83) == (tag | (unsigned)h << 1 | 1) && !(e->dword0 & 4)) {
+                e->marked = e->marked || !e->referenced;
                 e->referenced = true;
                 *logical = (e->dword1 & 0x0ffffffffffff000) | (ea & 0xfff);
                 return 0;

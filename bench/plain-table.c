@@ -129,7 +129,7 @@ struct papr_reply plain_h_enter(struct papr_entry *entries, size_t count, uint8_
         made = put(receipts, receipts_room, made, e, (uint32_t)i, PAPR_ENTERED);
         *e = (struct papr_entry){(pteh & ~UINT64_C(0x60)) | 1,
                                  ptel & ~(UINT64_C(0x4000000000000000) | R | C),
-                                 e->stamp + 1, true, ptel & R, ptel & C};
+                                 e->stamp + 1, true, ptel & R, ptel & C, true};
         return answered(PAPR_H_SUCCESS, put_words(words, words_room, 1, i, 0), made);
     }
     return answered(PAPR_H_PTEG_FULL, 0, made);
@@ -148,7 +148,7 @@ struct papr_reply plain_h_remove(struct papr_entry *entries, size_t count, uint8
         return answered(PAPR_H_HARDWARE, 0, put(receipts, receipts_room, 0, e, (uint32_t)ptex, PAPR_WORN));
     uint32_t made = put(receipts, receipts_room, 0, e, (uint32_t)ptex, PAPR_REMOVED);
     uint32_t shown = put_words(words, words_room, 2, e->dword0, second(e));
-    *e = (struct papr_entry){.stamp = e->stamp + 1};
+    *e = (struct papr_entry){.stamp = e->stamp + 1, .marked = true};
     return stale(shown, made);
 }
 
@@ -168,6 +168,7 @@ struct papr_reply plain_h_protect(struct papr_entry *entries, size_t count, uint
     e->dword1 = (e->dword1 & ~UINT64_C(0xb000000000000e07)) | (flags & 0xe07) | (flags & 0x100) << 55 |
                 (flags & 0x3000) << 48;
     e->stamp++;
+    e->marked = true;
     return stale(0, made);
 }
 
@@ -208,6 +209,7 @@ static struct papr_reply cleared(struct papr_entry *entries, size_t count, uint8
     else
         e->referenced = false;
     e->stamp++;
+    e->marked = true;
     return stale(shown, made);
 }
 
@@ -255,7 +257,7 @@ struct papr_reply plain_h_bulk_remove(struct papr_entry *entries, size_t count, 
             }
             made = put(receipts, receipts_room, made, e, (uint32_t)index, answer);
             if (answer == PAPR_REMOVED) {
-                *e = (struct papr_entry){.stamp = e->stamp + 1};
+                *e = (struct papr_entry){.stamp = e->stamp + 1, .marked = true};
                 removed = true;
             }
         }
@@ -340,8 +342,10 @@ static inline struct papr_walk walked(struct papr_entry *entries, size_t count, 
                                 : walk.outcome == PAPR_WALK_DENIED ? PAPR_DENIED : PAPR_MASKED);
             if (walk.outcome == PAPR_WALK_AT) {
                 if (records) {
+                    bool changed = e->changed || a->want == 1;
+                    e->marked = e->marked || !e->referenced || changed != e->changed;
                     e->referenced = true;
-                    e->changed = e->changed || a->want == 1;
+                    e->changed = changed;
                 }
                 walk.logical = frame(e->dword1, size.actual) | (a->ea & ((UINT64_C(1) << size.actual) - 1));
             }

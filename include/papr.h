@@ -53,7 +53,8 @@ uint32_t papr_version(void);
 
 /* One entry, in 24 bytes. All zero is an empty entry, so calloc makes an empty table. The calls write
  * entries. If the caller writes one itself, R and C (0x180) of dword1 are clear, and in an entry that
- * isn't valid both doublewords and both bits are 0. */
+ * isn't valid both doublewords and both bits are 0. A call that changes anything else of an entry marks
+ * it; papr_take_changed says which are marked. */
 struct papr_entry {
     uint64_t dword0;
     uint64_t dword1;    /* with R and C clear */
@@ -61,6 +62,7 @@ struct papr_entry {
     bool valid;
     bool referenced;    /* R */
     bool changed;       /* C */
+    bool marked;        /* the entry was changed since its mark was last taken */
 };
 
 /* ---- what a call answers */
@@ -337,6 +339,21 @@ struct papr_page papr_decode(uint8_t order, uint64_t ptex, uint64_t dword0, uint
  * allow nothing. */
 uint8_t papr_rights(uint8_t protection, bool key);
 
+/* ---- which entries changed */
+
+struct papr_taken {
+    int64_t rc;                 /* PAPR_H_SUCCESS or PAPR_H_PARAMETER */
+    uint32_t count;             /* how many indexes were written */
+    uint32_t next;              /* the index from which to go on: `count` of the table, if none is left */
+};
+
+/* Says which entries were changed since their marks were last taken: writes the indexes of marked
+ * entries, in ascending order from the index `first` on, until `indexes_room` elements are filled or the
+ * table ends, and takes these marks. Nothing else of the entries changes. PAPR_H_PARAMETER: the entries
+ * aren't a table of the order, or `first` is above their count; nothing changes. */
+struct papr_taken papr_take_changed(struct papr_entry *entries, size_t count, uint8_t order,
+                                    uint32_t first, uint32_t *indexes, size_t indexes_room);
+
 /* ---- the rehash */
 
 struct papr_rehash {
@@ -349,8 +366,9 @@ struct papr_rehash {
 
 /* Carries the bolted entries of one table to another, as H_RESIZE_HPT_COMMIT does: each that
  * translates a page goes to that page's group there, at its old slot and at stamp 0. The old content
- * of `into` is lost; at PAPR_H_PTEG_FULL it is empty. PAPR_H_PARAMETER: an order isn't from 18 to 22,
- * or a count isn't that of its order; nothing changes. */
+ * of `into` is lost; at PAPR_H_PTEG_FULL it is empty. In `into` each entry is marked that is valid then
+ * or had another state than an empty one, and at PAPR_H_PTEG_FULL each. PAPR_H_PARAMETER: an order
+ * isn't from 18 to 22, or a count isn't that of its order; nothing changes. */
 struct papr_rehash papr_rehash(const struct papr_entry *entries, size_t count, uint8_t order,
                                struct papr_entry *into, size_t into_count, uint8_t into_order);
 
@@ -518,6 +536,7 @@ PAPR_AT(papr_entry, stamp, 16);
 PAPR_AT(papr_entry, valid, 20);
 PAPR_AT(papr_entry, referenced, 21);
 PAPR_AT(papr_entry, changed, 22);
+PAPR_AT(papr_entry, marked, 23);
 PAPR_SIZE(papr_receipt, 32);
 PAPR_AT(papr_receipt, dword0, 0);
 PAPR_AT(papr_receipt, dword1, 8);
@@ -582,6 +601,10 @@ PAPR_AT(papr_page, secondary, 32);
 PAPR_AT(papr_page, referenced, 33);
 PAPR_AT(papr_page, changed, 34);
 PAPR_AT(papr_page, why, 36);
+PAPR_SIZE(papr_taken, 16);
+PAPR_AT(papr_taken, rc, 0);
+PAPR_AT(papr_taken, count, 8);
+PAPR_AT(papr_taken, next, 12);
 PAPR_SIZE(papr_rehash, 24);
 PAPR_AT(papr_rehash, rc, 0);
 PAPR_AT(papr_rehash, first, 8);

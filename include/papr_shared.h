@@ -64,7 +64,8 @@ int64_t papr_join(struct papr_pass *pass, struct papr_pass *other);
 
 /* Writes the entries back, frees the table, and closes the pass, which must have all shares.
  * PAPR_H_PARAMETER: the pass is closed, or the count isn't that of the table; PAPR_H_RESOURCE: other
- * passes have shares; PAPR_H_BUSY: it has a call to go on with. Nothing changes then. */
+ * passes have shares; PAPR_H_BUSY: it has a call to go on with. Nothing changes then. An entry that is
+ * another one than before is marked. */
 int64_t papr_close(struct papr_pass *pass, struct papr_entry *entries, size_t count);
 
 /* ---- the calls on entries, as in papr.h. If a call is busy, the words and receipts so far are filled in,

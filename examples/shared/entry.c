@@ -62,7 +62,8 @@ void leave(struct papr_entry *entry, const struct operation *operation)
     uint64_t first = operation->first, second = operation->second;
     switch (answer_of(entry, operation)) {
     case PAPR_ENTERED:
-        *entry = (struct papr_entry){first, second & ~(R | C), entry->stamp + 1, true, second & R, second & C};
+        *entry = (struct papr_entry){.dword0 = first, .dword1 = second & ~(R | C), .stamp = entry->stamp + 1,
+                                     .valid = true, .referenced = second & R, .changed = second & C};
         break;
     case PAPR_REMOVED:
         *entry = (struct papr_entry){.stamp = entry->stamp + 1};

@@ -13,16 +13,15 @@ from .support import TOP, ToolTest, for_each
 HEADER = TOP / "include" / "papr.h"
 FOLDERS = [TOP / "crates" / crate / "src" for crate in ("c_layout", "papr_c")]
 SOURCES = [path for folder in FOLDERS for path in sorted(folder.glob("*.rt"))]
-# What the sources have from the crates below: an entry, return codes, and flags.
+# What the sources have from the crates below: return codes, and flags.
 BELOW = [
-    TOP / "crates" / "entry_model" / "src" / "state.rt",
     TOP / "crates" / "papr_codes" / "src" / "codes.rt",
     TOP / "crates" / "papr_codes" / "src" / "flag_bits.rt",
 ]
 
 # The structs of the header, by their names in the sources.
 STRUCTS = {
-    "EntryState": "papr_entry",
+    "PaprEntry": "papr_entry",
     "PaprReceipt": "papr_receipt",
     "PaprReply": "papr_reply",
     "PaprGrant": "papr_grant",
@@ -32,6 +31,7 @@ STRUCTS = {
     "PaprAccess": "papr_access",
     "PaprWalk": "papr_walk",
     "PaprPage": "papr_page",
+    "PaprTaken": "papr_taken",
     "PaprRehash": "papr_rehash",
     "PaprResize": "papr_resize",
     "PaprSlot": "papr_slot",
@@ -58,6 +58,7 @@ FUNCTIONS = (
     "papr_probe",
     "papr_decode",
     "papr_rights",
+    "papr_take_changed",
     "papr_rehash",
     "papr_resize_prepare",
     "papr_resize_commit",
@@ -91,6 +92,7 @@ COUNTS = {
     "entries": "count",
     "words": "words_room",
     "receipts": "receipts_room",
+    "indexes": "indexes_room",
     "given": "given_count",
     "pairs": "pairs_count",
     "into": "into_count",

@@ -224,6 +224,17 @@ class Fields(ToolTest):
 
 @needs("cc")
 @needs_library
+class Marks(ToolTest):
+    """A program that compares each entry's mark with what calls did to the entry, and migrates a table by marks."""
+
+    def test_an_entry_is_marked_exactly_where_it_was_changed(self) -> None:
+        program = self.folder / "marks"
+        self.assert_ran(run("cc", "-std=c11", *STRICT, "-O1", "-o", program, DATA / "marks.c", LIBRARY))
+        self.assert_ran(run(program))
+
+
+@needs("cc")
+@needs_library
 class Sanitized(ToolTest):
     """The replayer and the program of fields with the compiler's checks of addresses and of undefined behaviour."""
 

@@ -23,6 +23,7 @@ PROGRAMS = {
     "alike": [DATA / "shared" / "alike.c"],
     "busy": [DATA / "shared" / "busy.c"],
     "resize": [DATA / "shared" / "resize.c"],
+    "marks": [DATA / "shared" / "marks.c"],
     "memory": [DATA / "shared" / "memory.c"],
     "hammer": HAMMER,
     "two-threads": [EXAMPLES / "shared" / "two-threads.c"],
@@ -116,6 +117,9 @@ class OneThread(SharedTest):
     def test_a_table_is_resized_as_the_document_says(self) -> None:
         self.assert_ran(run(self.built("resize")))
 
+    def test_a_closed_table_has_marks_where_it_was_changed(self) -> None:
+        self.assert_ran(run(self.built("marks")))
+
     def test_a_call_that_is_busy_is_gone_on_with_or_given_up(self) -> None:
         self.assert_ran(run(self.built("busy")))
 
@@ -125,9 +129,9 @@ class OneThread(SharedTest):
         self.assertRegex(ran.out, ALLOCATED)
 
     @needs("valgrind")
-    @for_each("refusals", "busy calls", "resize")
-    def test_nothing_is_leaked_nor_read_before_it_is_written_in(self, words: str) -> None:
-        name, *arguments = words.split()
+    @for_each(("refusals",), ("busy", "calls"), ("resize",))
+    def test_nothing_is_leaked_nor_read_before_it_is_written_in(self, words: tuple[str, ...]) -> None:
+        name, *arguments = words
         self.assert_ran(run(*VALGRIND, self.built(name), *arguments))
 
 
@@ -192,7 +196,7 @@ class Archive(ToolTest):
         defined, heap = self.symbols("--defined-only"), {"rattle_alloc", "rattle_realloc", "rattle_dealloc"}
         self.assertEqual(defined, {*declared("SHARED_TABLE"), *heap})
         needed = self.symbols("--undefined-only") - defined
-        self.assertEqual(needed, {"malloc", "realloc", "free", "memcpy", "memmove", "memset"})
+        self.assertEqual(needed, {"malloc", "realloc", "free", "memcpy", "memset"})
 
 
 @needs("make", "pkg-config")

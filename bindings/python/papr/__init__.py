@@ -21,7 +21,7 @@ from .errors import SlotRefused, TransferRefused
 from .grants import Grants
 from .program import Summary, Verdict, call, check, drill, image, run, run_set
 from .records import Access, DeviceAccess, Entry, Grant, HeldUp, Page, Range, Receipt, Rehash, Reply, Slot
-from .records import Walk
+from .records import Taken, Walk
 from .replies import Replies
 from .segments import Segments
 from .shared import Pass, SharedTable
@@ -71,6 +71,7 @@ __all__ = [
     "Status",
     "Summary",
     "Table",
+    "Taken",
     "TransferRefusal",
     "TransferRefused",
     "Verdict",

@@ -8,7 +8,7 @@ from typing import Any
 
 from ._structs import BOOL, I64, SIZE, U8, U32, U64, CAccess, CBusy, CBytesEnd, CDevice, CEntry, CGrant
 from ._structs import CGrants, CMaking, CPage, CPass, CRange, CReceipt, CRehash, CReply, CResize, CSlb, CSlot
-from ._structs import CTransfer, CWalk
+from ._structs import CTaken, CTransfer, CWalk
 from .errors import LibraryMissing
 
 VERSION = (0, 1, 0)  # of the headers that this package was written for
@@ -42,6 +42,7 @@ FUNCTIONS: dict[str, tuple[Any, Types]] = {
     "papr_probe": (CWalk, (*TABLE, P(CAccess))),
     "papr_decode": (CPage, (U8, U64, U64, U64)),
     "papr_rights": (U8, (U8, BOOL)),
+    "papr_take_changed": (CTaken, (*TABLE, U32, P(U32), SIZE)),
     "papr_rehash": (CRehash, (*TABLE, *TABLE)),
     "papr_resize_prepare": (I64, (P(CResize), U8, U64, U64, P(CEntry), SIZE)),
     "papr_resize_commit": (CRehash, (P(CResize), *TABLE, P(CEntry), SIZE, U64, U64)),

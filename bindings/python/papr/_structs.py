@@ -24,7 +24,14 @@ class CEntry(ctypes.Structure):
         ("valid", BOOL),
         ("referenced", BOOL),
         ("changed", BOOL),
+        ("marked", BOOL),
     ]
+
+
+class CTaken(ctypes.Structure):
+    """struct papr_taken"""
+
+    _fields_ = [("rc", I64), ("count", U32), ("next", U32)]
 
 
 class CReceipt(ctypes.Structure):

@@ -26,6 +26,13 @@ class Entry(NamedTuple):
         return self.dword0, self.dword1 | bits
 
 
+class Taken(NamedTuple):
+    """Which entries were changed since their marks were last taken."""
+
+    indexes: tuple[int, ...]  # in ascending order
+    next: int  # the index from which to go on; the number of entries, if none is left
+
+
 class Receipt(NamedTuple):
     """One operation on one entry, with the entry's state before."""
 

@@ -6,11 +6,11 @@ from typing import Any, Optional
 from ._calls import Calls
 from ._library import function
 from ._room import Room
-from ._structs import U8, CAccess, CEntry, CResize, struct_of
+from ._structs import U8, U32, CAccess, CEntry, CResize, struct_of
 from .codes import Code, Layout, Right, TransferRefusal
 from .errors import TransferRefused
 from .grants import Grants, grants_of
-from .records import Access, Entry, Grant, Page, Rehash, Reply, Walk
+from .records import Access, Entry, Grant, Page, Rehash, Reply, Taken, Walk
 from .records import entry_of, page_of, rehash_of
 
 ORDERS = range(18, 23)
@@ -102,6 +102,19 @@ class Table(Calls):
     def probe(self, access: Access) -> Walk:
         """What a walk would find, in the entries as they are: it changes none."""
         return self._room.walk_of(function("papr_probe")(*self._table, struct_of(CAccess, access)))
+
+    # ---- which entries changed
+
+    def take_changed(self, first: int = 0, room: Optional[int] = None) -> Taken:
+        """The entries from `first` on that were changed since their marks were last taken, `room` of them at most.
+
+        Takes the marks of those that it tells.
+        """
+        if not 0 <= first <= len(self):
+            raise IndexError(f"there is no entry {first:#x}")
+        indexes = (U32 * (len(self) if room is None else room))()
+        taken = function("papr_take_changed")(*self._table, first, indexes, len(indexes))
+        return Taken(tuple(indexes[: taken.count]), taken.next)
 
     # ---- the rehash and the resize calls
 

@@ -5,7 +5,7 @@ import unittest
 from support import GRANTS, needs_calls
 
 from papr import Access, Answer, Cause, Code, Decoding, Entry, Flag, Grant, GrantRefusal, GrantRefused, Grants
-from papr import Hcall, Layout, Outcome, Page, Receipt, Rehash, Reply, Right, Table, TransferRefusal
+from papr import Hcall, Layout, Outcome, Page, Receipt, Rehash, Reply, Right, Table, Taken, TransferRefusal
 from papr import TransferRefused, Want, decode, library_version, rights
 
 LOAD = Access(0x5678, 1)
@@ -288,6 +288,31 @@ class Resizes(unittest.TestCase):
         self.assertEqual(table.h_resize_hpt_prepare(0, 18), Code.H_SUCCESS)
         self.assertEqual(table.h_resize_hpt_commit(0, 19).code, Code.H_CLOSED)
         self.assertEqual(table.h_resize_hpt_commit(0, 18).code, Code.H_SUCCESS)
+
+
+@needs_calls
+class Changes(TableTest):
+    """Which entries changed."""
+
+    def test_they_are_told_once(self) -> None:
+        self.assertEqual(self.table.take_changed(room=1), Taken((0x21,), 0x22))
+        self.assertEqual(self.table.take_changed(0x22), Taken((0x22,), 1 << 14))
+        self.assertEqual(self.table.take_changed(), Taken((), 1 << 14))
+
+    def test_an_access_counts_and_a_read_does_not(self) -> None:
+        self.table.take_changed()
+        self.table.h_read(0, 0x21)
+        self.table.probe(LOAD)
+        self.assertEqual(self.table.take_changed().indexes, ())
+        self.table.walk(LOAD)
+        self.assertEqual(self.table.take_changed().indexes, (0x22,))
+        self.table.walk(LOAD)
+        self.assertEqual(self.table.take_changed().indexes, ())
+
+    def test_an_index_past_the_table_is_refused(self) -> None:
+        for first in (-1, (1 << 14) + 1):
+            with self.assertRaises(IndexError):
+                self.table.take_changed(first)
 
 
 @needs_calls

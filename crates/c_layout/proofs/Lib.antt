@@ -1,3 +1,4 @@
 pub mod Filling
 pub mod Searching
+pub mod Marks
 mod Rows

@@ -7,3 +7,5 @@ pub mod Hcalls
 pub mod Rights
 pub mod Accesses
 pub mod WalkEnds
+pub mod Entries
+pub mod EntryFacts

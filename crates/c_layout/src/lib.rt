@@ -2,6 +2,7 @@
 //! finds, as `repr(C)` structs, and what each of them tells.
 #![tactic(auto)]
 
+mod entry;
 mod grants;
 mod receipts;
 mod reply;
@@ -10,6 +11,9 @@ mod stale;
 mod tables;
 mod walking;
 
+pub use entry::{
+    PaprEntry, changes_are_marked, hold_what_they_are_given, marks_stay, unmarked_are_unchanged,
+};
 pub use grants::{PaprGrant, PaprGrants};
 pub use receipts::{PaprReceipt, put_receipt, put_receipts};
 pub use reply::{PaprReply, filled_count, hand_over, put_word};

@@ -1,7 +1,8 @@
 ghost use Rattle.std.specs.Prelude.{◌≡◌};
+ghost use Rattle.c_layout.specs.Entries.{states_of};
 ghost use Rattle.c_layout.specs.Tables.{is_table};
 
-use entry_model::EntryState;
+use crate::entry::PaprEntry;
 
 /// The order of the smallest table.
 pub const LEAST: u8 = 18;
@@ -10,8 +11,8 @@ pub const LEAST: u8 = 18;
 pub const GREATEST: u8 = 22;
 
 /// Whether the entries are all those of one table of `2^order` bytes.
-pub fn is_table(entries: &[EntryState], order: u8) -> bool
-    ensures { result ≡ Rattle.c_layout.specs.Tables.is_table order entries.now }
+pub fn is_table(entries: &[PaprEntry], order: u8) -> bool
+    ensures { result ≡ Rattle.c_layout.specs.Tables.is_table order (states_of entries.now) }
 {
     LEAST <= order && order <= GREATEST && entries.len() == 1 << (order - 4)
 }

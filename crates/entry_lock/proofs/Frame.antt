@@ -1,4 +1,5 @@
--- The frame: an entry, an actor and a view change, and the words and the views show the machine as before.
+-- The frame: an entry, an actor and a view change, and the words and the views show the machine as
+-- before.
 use Rattle.std.specs.Prelude.{slice_get}
 use Rattle.std.proofs.Common.{◌≡◌, ◌≢◌, ℕ, ◌+◌, ◌*◌, ◌<◌, ◌≤◌, true, List, [], ◌∷◌, length, set, inl, inr, ⊎_elim, refl, sym, ap, ◌∙◌, subst, arith, Some}
 use mathlib.Core.Logic.{dite}
@@ -23,7 +24,8 @@ use Rattle.entry_lock.proofs.ViewLists.{set_view, same_view, total_two, total_sa
 use lib.ListN.{get_elem?}
 
 -- ---- fronts
--- What a step on the entry x, which leaves y, does to the fronts of its pass, and to those of others.
+-- What a step on the entry x, which leaves y, does to the fronts of its pass, and to those of
+-- others.
 pub record Fronts (e : ℕ) (x y : Entry) (v w : View) : Type 0 where
   pub mine : FrontFits w.actor.phase e y (front_at w.fronts e)
   pub level : (e' : ℕ) → e' ≢ e → front_at w.fronts e' ≡ front_at v.fronts e'

@@ -3,8 +3,8 @@ ghost use Rattle.entry_lock.specs.Holding.{HasJustLocked};
 
 use crate::rule::PassSeat;
 
-/// A pass that has just locked an entry: it holds the entry, and has loaded no word of it yet. A value
-/// can be made only there.
+/// A pass that has just locked an entry: it holds the entry, and has loaded no word of it yet. A
+/// value can be made only there.
 #[derive(Drop)]
 pub struct JustLocked<'a> {
     pub(crate) seat: &'a PassSeat,

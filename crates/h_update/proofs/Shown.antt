@@ -18,7 +18,8 @@ use Rattle.h_update.specs.Bulk.{Pair, pairs_of, type_of, flags_of, index_of, tes
 use Rattle.entry_model.specs.declared.operation.Answer.TheVariants as answers
 use Rattle.entry_model.specs.declared.operation.Op.TheVariants as ops
 
--- The receipt is one of a removal; where it removed an entry that had C, a pair of the entry shows it.
+-- The receipt is one of a removal; where it removed an entry that had C, a pair of the entry shows
+-- it.
 pub record ShowsRemoved (words : List ℕ) (r : Receipt) : Type 0 where
   pub test : Test
   pub op : r.op ≡ ops.Remove test

@@ -1,4 +1,5 @@
--- The calls on entries that are there enter nothing, and give H_HARDWARE only where an entry was worn.
+-- The calls on entries that are there enter nothing, and give H_HARDWARE only where an entry was
+-- worn.
 use Rattle.std.specs.Prelude.{map, ◌≢◌, MatchBool}
 use Rattle.std.proofs.Common.{◌≡◌, ℕ, ◌-◌, ◌^◌, ◌≤◌, List, [], ◌∷◌, true, false, ◌⊎◌, inl, inr, nat_lt, arith}
 use Rattle.std.specs.List.{AllByRecursion}

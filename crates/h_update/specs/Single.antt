@@ -1,4 +1,5 @@
--- The hypervisor calls on one entry, or on four that are read together: what each asks of the entry, and the reply that the answer gives.
+-- The hypervisor calls on one entry, or on four that are read together: what each asks of the
+-- entry, and the reply that the answer gives.
 use Rattle.hpte_fields.specs.TableSize.{entry_count}
 use Rattle.std.specs.Prelude.{ℕ, ◌*◌, ◌/◌, List, [], ◌∷◌, true, Option, Some, None, if◌then◌else◌, nat_lt, map, flat_map}
 use Rattle.std.specs.List.{range_with_len}
@@ -19,7 +20,8 @@ use Rattle.papr_codes.specs.declared.codes.Rc.TheVariants as rc
 abbrev pub where_flag : ℕ → ℕ → ℕ → Option ℕ
 where_flag flags flag word = if has_flag flags flag then Some word else None
 
--- H_REMOVE's test: the word is compared under H_AVPN, and masks under H_ANDCOND; with both flags both apply.
+-- H_REMOVE's test: the word is compared under H_AVPN, and masks under H_ANDCOND; with both flags
+-- both apply.
 abbrev pub remove_test : ℕ → ℕ → Test
 remove_test flags avpn = record {
   avpn = where_flag flags h_avpn avpn;
@@ -39,7 +41,8 @@ both_words r = (words_of r.before).0 ∷ (words_of r.before).1 ∷ []
 abbrev pub second_word : Receipt → List ℕ
 second_word r = (words_of r.before).1 ∷ []
 
--- NotFound gives H_NOT_FOUND, Worn gives H_HARDWARE, and any other answer H_SUCCESS with these words.
+-- NotFound gives H_NOT_FOUND, Worn gives H_HARDWARE, and any other answer H_SUCCESS with these
+-- words.
 abbrev pub code_and_words : Answer → List ℕ → Rc × List ℕ
 code_and_words NotFound words = (rc.NotFound, [])
 code_and_words Worn words = (rc.Hardware, [])

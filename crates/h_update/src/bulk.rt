@@ -130,6 +130,27 @@ fn response(status: u8, request: u64) -> u64
     u64::from(status) << 56 | request & (FLAGS | INDEX)
 }
 
+/// The response to a request whose entry gave this receipt.
+#[inline]
+pub fn answered(receipt: &Receipt, request: u64) -> u64
+    ensures { result
+        ≡ plans.response
+        (if is_worn receipt.now.answer
+        then plans.worn_status
+        else plans.status_of receipt.now.answer receipt.now.before)
+        request }
+{
+    response(status(receipt), request)
+}
+
+/// The response to an ill-formed request.
+#[inline]
+pub fn ill_formed(request: u64) -> u64
+    ensures { result ≡ plans.response plans.ill_formed request }
+{
+    response(ILL_FORMED, request)
+}
+
 /// The code, and the words with those behind them that stay as they were.
 fn ended(rc: Rc, mut words: ReplyWords, unchanged: &[u64]) -> Registers
     requires { length words + length unchanged.now ≤ 8 }
@@ -141,8 +162,8 @@ fn ended(rc: Rc, mut words: ReplyWords, unchanged: &[u64]) -> Registers
     Registers { rc, words }
 }
 
-/// What the receipts of a bulk removal tell: the code, and all eight words, with a response in place
-/// of each request that was taken up.
+/// What the receipts of a bulk removal tell: the code, and all eight words, with a response in
+/// place of each request that was taken up.
 pub fn removal_registers(order: u8, pairs: &[u64; 8], receipts: &[Receipt]) -> Registers
     requires low { 18 ≤ order }
     requires high { order ≤ 22 }

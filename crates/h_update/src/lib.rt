@@ -9,7 +9,9 @@ mod bulk;
 mod read;
 mod single;
 
-pub use bulk::{Asked, asked_by, h_bulk_remove, h_bulk_remove_into, removal_registers};
+pub use bulk::{
+    Asked, answered, asked_by, h_bulk_remove, h_bulk_remove_into, ill_formed, removal_registers,
+};
 pub use read::{h_read, h_read_into, read_range};
 pub use single::{
     ShownWords, SingleCall, clear_mod_call, clear_ref_call, h_clear_mod, h_clear_mod_into,

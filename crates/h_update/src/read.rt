@@ -92,8 +92,8 @@ pub fn h_read_into<T: EntryStore>(
     read_from(store, first, count, receipts)
 }
 
-/// H_READ: both doublewords of the entry, with R and C; under H_READ_4 those of the four entries that
-/// it lies among. An entry that isn't valid reads as zeros.
+/// H_READ: both doublewords of the entry, with R and C; under H_READ_4 those of the four entries
+/// that it lies among. An entry that isn't valid reads as zeros.
 pub fn h_read<T: EntryStore>(store: &mut T, flags: u64, ptex: u64) -> HReply
     ensures made { T.made store.old store.new result.receipts }
     ensures reply { IsReplyOf (h_read_plan (T.table_order store.old) flags ptex) result }

@@ -218,9 +218,9 @@ pub fn h_clear_mod_into<T: EntryStore>(
     single(store, ptex, clear_mod_call(), receipts)
 }
 
-/// H_REMOVE: empties the entry and gives both its doublewords, with R and C. Under H_AVPN `avpn` has
-/// to be the entry's abbreviated virtual page number, and under H_ANDCOND the entry may have none of
-/// these bits in doubleword 0; else H_NOT_FOUND comes.
+/// H_REMOVE: empties the entry and gives both its doublewords, with R and C. Under H_AVPN `avpn`
+/// has to be the entry's abbreviated virtual page number, and under H_ANDCOND the entry may have
+/// none of these bits in doubleword 0; else H_NOT_FOUND comes.
 pub fn h_remove<T: EntryStore>(store: &mut T, flags: u64, ptex: u64, avpn: u64) -> HReply
     ensures made { T.made store.old store.new result.receipts }
     ensures reply { IsReplyOf

@@ -1,4 +1,5 @@
--- Two good runs of one trace that show the same marks are one run: section by section, on each store.
+-- Two good runs of one trace that show the same marks are one run: section by section, on each
+-- store.
 use Rattle.std.specs.Prelude.{None}
 use Rattle.std.proofs.Common.{◌≡◌, ℕ, zero, suc, ◌<◌, ◌+◌, List, [], ◌∷◌, ◌++◌, Bool, true, false, ap, sym, ◌∙◌, refl, subst, ◌⊎◌, inl, inr, map, length, arith, cond, eqb}
 use Rattle.std.specs.Prelude.{if◌then◌else◌, ◌==◌, filter}

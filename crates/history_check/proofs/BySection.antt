@@ -1,4 +1,5 @@
--- Section by section: what explains a text begins with what explains its first section, which is one only.
+-- Section by section: what explains a text begins with what explains its first section, which is
+-- one only.
 use Rattle.std.proofs.Common.{◌≡◌, ℕ, suc, ◌+◌, arith, List, [], ◌∷◌, ◌++◌, true, ap, sym, ◌∙◌, refl, subst, length, append_assoc}
 use Rattle.trace_line.specs.declared.line.TraceLine.{TraceLine}
 use Rattle.trace_line.specs.Lines.{is_quiet}
@@ -255,7 +256,8 @@ found_once w ms x rs qs y z plain ns cpus g k =
       subst (λ ts. ArePlainStores (stores_behind w ts)) (sym e1) told.2,
     )
 
--- What explains the text behind a section that was found explains the whole, and the other way round.
+-- What explains the text behind a section that was found explains the whole, and the other way
+-- round.
 pub behind_found :
     (w : AllStores) (ms : List TraceLine) (l : TraceLine) (ns : List TraceLine) (x : List ℕ)
     (rs : List Reply) (r : Reply) (y last : List ℕ)
@@ -277,7 +279,8 @@ behind_found w ms l ns x rs r y last plain h cpus q found replied e =
     subst (λ z. Explains (next_run w ms rs l) ns z last) (sym rest)
     (subst (λ z. Explains (next_run w ms z l) ns s.rest last) (sym one.0) s.later)
 
--- The invariant of the judge's loop: what explains the rest, to the j-th quiet line from here, explains the text to the (k + j)-th.
+-- The invariant of the judge's loop: what explains the rest, to the j-th quiet line from here,
+-- explains the text to the (k + j)-th.
 abbrev pub Reaches : AcceptedTrace → List ℕ → ℕ → AllStores → List TraceLine → List ℕ → Type 0
 Reaches t text k w ns y =
     (j : ℕ) (last : List ℕ)

@@ -1,4 +1,5 @@
--- Each line is on the page table or on a window: facts of all elements of a list by the stores of their lines.
+-- Each line is on the page table or on a window: facts of all elements of a list by the stores of
+-- their lines.
 use Rattle.std.specs.Prelude.{None}
 use Rattle.std.specs.Prelude.{◌||◌, not, filter}
 use Rattle.std.proofs.Common.{◌≡◌, List, [], ◌∷◌, Bool, true, false, ap, refl, ◌⊎◌, inl, inr, map}

@@ -38,7 +38,8 @@ use Rattle.history_check.specs.PlacedSteps.{enter_op, tce_op, call_op}
 use Rattle.history_check.proofs.Alike.{is_store_access, either_P, changed_after, where_after}
 
 -- ---- what is kept
--- The operation is a store or none, and however it is answered, what is kept of it is what is told of that answer.
+-- The operation is a store or none, and however it is answered, what is kept of it is what is told
+-- of that answer.
 pub record Keeps (store : Bool) (told : Answer → Op) (op : Op) : Type 0 where
   pub stores : is_store_access (step_op op) ≡ store
   pub each :

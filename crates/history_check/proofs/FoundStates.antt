@@ -225,7 +225,8 @@ within_of :
 within_of size [] h = tt
 within_of size (r ∷ rs) h = (h.0, within_of size rs h.1)
 
--- Receipts on the states found are legal histories, which close on the states that the steps end on.
+-- Receipts on the states found are legal histories, which close on the states that the steps end
+-- on.
 pub found_section :
     (s : Section) (listed b : List State)
     → OnCpus s

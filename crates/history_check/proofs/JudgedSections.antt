@@ -1,4 +1,5 @@
--- The judge's loop: where it stands between two sections, and what each of its ends says of the whole text.
+-- The judge's loop: where it stands between two sections, and what each of its ends says of the
+-- whole text.
 use Rattle.std.proofs.Common.{◌≡◌, ℕ, zero, suc, ◌+◌, ◌<◌, ◌≤◌, ◌^◌, List, [], ◌∷◌, ◌++◌, true, false, ap, sym, ◌∙◌, refl, subst, length, arith, append-nil, zero-add, ◌⊎◌, inl, inr}
 use Rattle.std.specs.Prelude.{count_by, if◌then◌else◌, nat_le}
 use Rattle.std.proofs.lemmas.List.{length-append}

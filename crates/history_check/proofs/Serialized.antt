@@ -1,4 +1,5 @@
--- Sorted by place, the receipts of a section are a run on the states that it opens on; and such a run fixes each state before.
+-- Sorted by place, the receipts of a section are a run on the states that it opens on; and such a
+-- run fixes each state before.
 use Rattle.std.proofs.Common.{◌≡◌, ℕ, ◌<◌, ◌≤◌, List, [], ◌∷◌, true, false, ap, sym, ◌∙◌, refl, subst, ◌⊎◌, inl, inr, map, length, length-set, arith, eqb}
 use Rattle.std.specs.Prelude.{filter, slice_set}
 use Rattle.std.specs.List.{AllByRecursion}

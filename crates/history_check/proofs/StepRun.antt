@@ -14,7 +14,8 @@ use Rattle.history_check.specs.OrderedSteps.{IsStepOf, act_at, past_lines, numbe
 use Rattle.history_check.proofs.ListedStates.{past_end}
 use Rattle.history_check.proofs.NextStates.{unchanged_next}
 
--- The steps that are left, made from here on, find and leave what all of them do from the first states on.
+-- The steps that are left, made from here on, find and leave what all of them do from the first
+-- states on.
 pub record AreMade (ls : List TraceLine) (a : List State) (order : List LineStep) (i : ℕ)
     (states found : List State) :
     Type 0 where

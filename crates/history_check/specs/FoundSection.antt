@@ -84,7 +84,8 @@ IsGoodPart s = IsGoodTo s (closing_of s)
 abbrev pub IsGoodOn : Opening → List RepliedLine → Type 0
 IsGoodOn o ts = IsGoodPart (section_on o ts)
 
--- With these replies the lines are a good section of a store, and their text stands first in the given one, before the rest.
+-- With these replies the lines are a good section of a store, and their text stands first in the
+-- given one, before the rest.
 pub record IsFound
     (o : Opening)
     (ls : List TraceLine)
@@ -97,7 +98,8 @@ pub record IsFound
     pub good : IsGoodOn o (lines_with_replies ls rs)
     pub text : given ≡ lines_text (lines_with_replies ls rs) ++ rest
 
--- The lines have good replies, whose text is what stands before the last part of the text; the section closes on these states and processors.
+-- The lines have good replies, whose text is what stands before the last part of the text; the
+-- section closes on these states and processors.
 pub record HasSection
     (o : Opening)
     (ls : List TraceLine)

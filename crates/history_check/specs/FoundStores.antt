@@ -26,7 +26,8 @@ windows_in vs = map (λ (v : WindowState). v.window) vs
 abbrev pub windows_of : AllStores → List BusWindow
 windows_of s = windows_in s.windows
 
--- What a section of a window needs of what was before it, where this memory is granted and there are so many processors. Its lines use nothing that a processor keeps, so these are new ones.
+-- What a section of a window needs of what was before it, where this memory is granted and there
+-- are so many processors. Its lines use nothing that a processor keeps, so these are new ones.
 abbrev pub window_opening : List Grant → ℕ → WindowState → Opening
 window_opening grants cpus v = record {
   context = window_context grants v.window;
@@ -71,7 +72,8 @@ abbrev pub run_quiet_on : AllStores → Act → Reply × AllStores
 run_quiet_on s act = let x = run_quiet_line s.table act in (x.0, record s { table = x.1 })
 
 -- ---- a section and a text
--- With these replies the lines are a good section of a run that is so far, and their text stands first in the given one, before the rest.
+-- With these replies the lines are a good section of a run that is so far, and their text stands
+-- first in the given one, before the rest.
 pub record AreFound
     (s : AllStores)
     (ls : List TraceLine)

@@ -40,7 +40,8 @@ pub record SetsFront (old new : Fronts) (entry front : ℕ) : Type 0 where
 
 -- ---- events
 
--- Events lead from fronts to fronts: what comes behind them is in order from the second where, with the events before it, it is from the first.
+-- Events lead from fronts to fronts: what comes behind them is in order from the second where, with
+-- the events before it, it is from the first.
 pub record LeadsTo (first : ℕ → ℕ) (events : List Event) (second : ℕ → ℕ) : Type 0 where
   pub with_events :
       (e : ℕ) (later : List Event)

@@ -13,7 +13,8 @@ is_at_line line s =
     ((s.valid && (s.stamp == line.stamp)) && (s.dword0 == line.dword0))
     && (s.dword1 == line.dword1)
 
--- This operation on the line's entry in this state, at which the line is current, and which the entry decides.
+-- This operation on the line's entry in this state, at which the line is current, and which the
+-- entry decides.
 pub record IsHitBy (line : Line) (op : Op) (s : State) (r : Receipt) : Type 0 where
   pub made : IsReceiptOf line.entry op r
   pub before : r.before ≡ s

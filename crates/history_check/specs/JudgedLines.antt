@@ -18,7 +18,8 @@ abbrev pub processors_behind : List Processor → List RepliedLine → List Proc
 processors_behind processors [] = processors
 processors_behind processors (t ∷ ts) = processors_behind (processors_after processors t) ts
 
--- There is one reply for each line, which stands on as many of the states found as the line's count says; none is left over.
+-- There is one reply for each line, which stands on as many of the states found as the line's count
+-- says; none is left over.
 abbrev pub AllStand :
     StoreContext
     → List State
@@ -48,7 +49,8 @@ AllInOrder fronts ps ts =
     (cpu e : ℕ)
     → InOrder e (fronts cpu e) (events_by (processor_at ps cpu) (lines_of_processor cpu ts))
 
--- What of a section the judge has before it: closing states, the lines' counts of states found, the states found.
+-- What of a section the judge has before it: closing states, the lines' counts of states found, the
+-- states found.
 pub record Judged : Type 0 where
   pub context : StoreContext
   pub closing : List State
@@ -67,7 +69,8 @@ judged context closing ls ns found = record {
   found = found;
 }
 
--- From these processors and fronts on, the lines have these replies, with whose text the given one begins, and leave these processors.
+-- From these processors and fronts on, the lines have these replies, with whose text the given one
+-- begins, and leave these processors.
 pub record AreReplied
     (j : Judged)
     (ps : List Processor)

@@ -29,7 +29,8 @@ OneRunHasText =
     → text_of t rs ++ x ≡ text_of t qs ++ y
     → rs ≡ qs
 
--- A text that begins with that of a good run begins with one of the trace cut behind any quiet line.
+-- A text that begins with that of a good run begins with one of the trace cut behind any quiet
+-- line.
 abbrev pub EarlierSectionsStand : Type 0
 EarlierSectionsStand =
     (t : AcceptedTrace) (text : List ℕ) (k : ℕ)

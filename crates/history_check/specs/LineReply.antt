@@ -50,7 +50,8 @@ pub record IsReplyOn
 abbrev pub IsHitReply : Reply → Type 0
 IsHitReply r = way_of r ≡ Some Hit
 
--- Its receipts are on the states found and have marks, and the text begins with its text, which has n bytes.
+-- Its receipts are on the states found and have marks, and the text begins with its text, which has
+-- n bytes.
 pub record FitsText
     (l : TraceLine)
     (found : List State)
@@ -73,7 +74,8 @@ FitsNoReply context p l found given =
     → given ≡ reply_text l r ++ rest
     → ⊥
 
--- The reply stands: it is one to the line by operations that found these states, its receipts have marks, and a cached line that was gone has left its stamp when the section closes.
+-- The reply stands: it is one to the line by operations that found these states, its receipts have
+-- marks, and a cached line that was gone has left its stamp when the section closes.
 pub record StandsOn
     (context : StoreContext)
     (closing : List State)

@@ -20,7 +20,8 @@ mark_steps line index act (m ∷ ms) =
     }
     ∷ mark_steps line (index + 1) act ms
 
--- The steps of lines, one line after the other, with the numbers of lines and steps from the given ones on.
+-- The steps of lines, one line after the other, with the numbers of lines and steps from the given
+-- ones on.
 abbrev pub lines_steps : ℕ → ℕ → List TraceLine → List (List Mark) → List LineStep
 lines_steps line index [] mss = []
 lines_steps line index (l ∷ ls) [] = []

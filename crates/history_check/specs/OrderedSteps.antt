@@ -1,4 +1,5 @@
--- Steps with their numbers, sorted by place, and the states that they find written at their numbers.
+-- Steps with their numbers, sorted by place, and the states that they find written at their
+-- numbers.
 use Rattle.std.specs.Prelude.{◌≡◌, ℕ, ◌+◌, ◌<◌, false, List, [], ◌∷◌, length, map, slice_index_or, slice_set, IsPermutation}
 use Rattle.std.specs.List.Sorted.{IsNonDecreasingBy}
 use Rattle.entry_model.specs.State.{State}

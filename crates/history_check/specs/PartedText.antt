@@ -1,4 +1,5 @@
--- The lines of a section by stores, and their parts of a text: the reply to a line that isn't quiet is one line of text.
+-- The lines of a section by stores, and their parts of a text: the reply to a line that isn't quiet
+-- is one line of text.
 use Rattle.std.specs.Prelude.{ℕ, zero, suc, ◌==◌, Bool, List, [], ◌∷◌, ◌++◌, map, if◌then◌else◌}
 use Rattle.trace_line.specs.declared.act.Act.{Act}
 use Rattle.trace_line.specs.declared.line.TraceLine.{TraceLine}

@@ -1,4 +1,5 @@
--- Steps with their places: the states that they find when they are made in the order of their places.
+-- Steps with their places: the states that they find when they are made in the order of their
+-- places.
 use Rattle.std.specs.Prelude.{◌≡◌, ℕ, ◌<◌, Bool, false, List, [], ◌∷◌, length, map, slice_index, IsPermutation, Option, Some, None}
 use Rattle.std.specs.List.{AllByRecursion}
 use Rattle.std.specs.List.Sorted.{IsNonDecreasingBy}
@@ -35,7 +36,8 @@ abbrev pub enter_op : Option (ℕ × ℕ) → Op
 enter_op None = ops.Read
 enter_op (Some w) = ops.Enter w.0 w.1
 
--- What is kept of each operation by which this TCE is put. It empties the entry, and what is answered Entered or Taken enters the TCE there.
+-- What is kept of each operation by which this TCE is put. It empties the entry, and what is
+-- answered Entered or Taken enters the TCE there.
 abbrev pub tce_op : ℕ → Answer → Op
 tce_op tce Entered = ops.Enter (first_word tce) (second_word tce)
 tce_op tce Taken = ops.Enter (first_word tce) (second_word tce)
@@ -53,7 +55,8 @@ call_op calls.BulkRemove args answer = ops.Remove no_test
 call_op calls.PutTce args answer = tce_op (slice_index args 2) answer
 call_op other args answer = ops.Read
 
--- What is kept of each operation of a line that was answered so, if the stamp was not at its last value.
+-- What is kept of each operation of a line that was answered so, if the stamp was not at its last
+-- value.
 abbrev pub act_op : Act → Answer → Op
 act_op (acts.Call number args spelt) answer = call_op (hcall_of number) args answer
 act_op (acts.Access want ea user) answer = ops.Access 0 0 false false want no_masks
@@ -102,7 +105,8 @@ with_states_found (x ∷ xs) [] = []
 with_states_found (x ∷ xs) (s ∷ ss) =
     record { placed = x; state = s } ∷ with_states_found xs ss
 
--- Made from these states on in an order of their places, the steps find the states that are listed for them, and end on those.
+-- Made from these states on in an order of their places, the steps find the states that are listed
+-- for them, and end on those.
 pub record FindStates
     (states : List State)
     (xs : List PlacedStep)

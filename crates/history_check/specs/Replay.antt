@@ -8,7 +8,8 @@ use Rattle.entry_model.specs.declared.receipt.Receipt.{Receipt}
 use Rattle.entry_model.specs.Receipt.{is_decided}
 use Rattle.hpte_fields.specs.Fields.{rc_bits}
 
--- Behind the given states stands one on which an Enter finds the entry taken, and any other operation finds nothing.
+-- Behind the given states stands one on which an Enter finds the entry taken, and any other
+-- operation finds nothing.
 abbrev pub state_past_end : Op → State
 state_past_end (Enter dword0 dword1) = record (empty_state 0) { valid = true }
 state_past_end other = empty_state 0
@@ -23,7 +24,8 @@ abbrev pub before_each : List Receipt → List State
 before_each rs = map (λ (r : Receipt). r.before) rs
 
 -- ---- a store of given states
--- The states still to come, and whether an answer used a translation. Behind such an answer the store promises nothing of the states.
+-- The states still to come, and whether an answer used a translation. Behind such an answer the
+-- store promises nothing of the states.
 pub record ReplayState : Type 0 where
   pub order : ℕ
   pub states : List State

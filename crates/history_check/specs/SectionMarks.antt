@@ -19,14 +19,16 @@ section_steps [] mss = []
 section_steps (l ∷ ls) [] = []
 section_steps (l ∷ ls) (ms ∷ mss) = placed_line l.act ms ++ section_steps ls mss
 
--- The reply's marks are in their ranges, and no more than its line's operations: an access has sixteen.
+-- The reply's marks are in their ranges, and no more than its line's operations: an access has
+-- sixteen.
 pub record HasItsMarks (context : StoreContext) (t : RepliedLine) : Type 0 where
   pub marks : AllByRecursion IsMark (marks_in t.reply)
   pub few :
       (length (marks_in t.reply) ≤ 16)
       ⊎ (length (marks_in t.reply) ≤ length (named_ops context t.line.act))
 
--- The lines have these replies, whose marks their texts show, and the text begins with these, before the rest.
+-- The lines have these replies, whose marks their texts show, and the text begins with these,
+-- before the rest.
 pub record ShowMarks
     (context : StoreContext)
     (ls : List TraceLine)
@@ -44,7 +46,8 @@ abbrev pub MarkEntries : ℕ → List Reply → Type 0
 MarkEntries size rs =
     AllByRecursion (λ r. AllByRecursion (λ (m : Mark). m.entry < size) (marks_in r)) rs
 
--- The lines' marks that were read: their steps, which are on entries of a table of this size, and how many each line has. Any replies with whose text the text begins have these marks.
+-- The lines' marks that were read: their steps, which are on entries of a table of this size, and
+-- how many each line has. Any replies with whose text the text begins have these marks.
 pub record ReadMarks
     (context : StoreContext)
     (size : ℕ)

@@ -20,14 +20,17 @@ use Rattle.receipt_text.specs.declared.mark.Mark.{Mark}
 abbrev pub no_test : Test
 no_test = record { avpn = None; andcond = None }
 
--- What is kept of an operation. No test, since the answer says whether the entry passed. Of an access what it wants: by which segment, which masks and which entry it was made isn't known before the processor's lines are run.
+-- What is kept of an operation. No test, since the answer says whether the entry passed. Of an
+-- access what it wants: by which segment, which masks and which entry it was made isn't known
+-- before the processor's lines are run.
 abbrev pub step_op : Op → Op
 step_op (Access tag base key no_execute want masks) = Access 0 0 false false want no_masks
 step_op (Remove test) = Remove no_test
 step_op (Protect test flags) = Protect no_test flags
 step_op other = other
 
--- This of an operation that was answered so. At the last stamp nothing changes whatever the operation was, and so nothing is kept of it.
+-- This of an operation that was answered so. At the last stamp nothing changes whatever the
+-- operation was, and so nothing is kept of it.
 abbrev pub unless_worn : Answer → Op → Op
 unless_worn answer op = if is_worn answer then Read else op
 
@@ -39,7 +42,9 @@ raises_stamp Protected = true
 raises_stamp Was = true
 raises_stamp other = false
 
--- The state after, where this was the answer. An access that was allowed was on a valid state, and sets R, and a store C; any other operation made its change if the answer says that the stamp was raised.
+-- The state after, where this was the answer. An access that was allowed was on a valid state, and
+-- sets R, and a store C; any other operation made its change if the answer says that the stamp was
+-- raised.
 unfoldable pub next_by : Op → Answer → State → State
 next_by (Access tag base key no_execute want masks) answer s =
     if is_at answer && s.valid then touched_state s want else s
@@ -75,7 +80,8 @@ ending_states a [] = a
 ending_states a (x ∷ xs) = ending_states (after_step a x) xs
 
 -- ---- places
--- Nothing was changed by an operation, a store of a processor or none, as the answer and R and C before tell.
+-- Nothing was changed by an operation, a store of a processor or none, as the answer and R and C
+-- before tell.
 abbrev pub is_unchanged : Bool → Answer → Bool → Bool → Bool
 is_unchanged store answer r c =
     if raises_stamp answer

@@ -59,7 +59,8 @@ HaveNoParts grants cpus ls text vs =
     AllByRecursion (λ (v : WindowState). HasNoPart grants cpus ls text v → ⊥) vs → ⊥
 
 -- ---- the page table
--- The lines have good replies on the page table, with which the text begins, and the run's table is then as behind them.
+-- The lines have good replies on the page table, with which the text begins, and the run's table is
+-- then as behind them.
 pub record HasTablePart
     (old new : Store)
     (ls : List TraceLine)

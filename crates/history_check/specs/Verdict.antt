@@ -38,7 +38,8 @@ BeginsGood t text =
 abbrev pub IsGoodText : AcceptedTrace → List ℕ → Type 0
 IsGoodText t text = (rs : List Reply) × IsGoodRun t rs × (text ≡ text_of t rs)
 
--- Section k stands: the text begins with that of a good run of the lines to its end. Behind the last section stands that nothing follows.
+-- Section k stands: the text begins with that of a good run of the lines to its end. Behind the
+-- last section stands that nothing follows.
 abbrev pub SectionStands : AcceptedTrace → List ℕ → ℕ → Type 0
 SectionStands t text k =
     MatchBool

@@ -87,14 +87,15 @@ placed_skip from to states into index placed none = record {
   apart j k target low below one two (inr other) =
       placed.differ j k target low (omega arith) one two
 
-carried_valid :
+pub carried_valid :
     (from to : ℕ) (states : List State) (k target : ℕ)
     → target_at from to states k ≡ Some target
     → (state_at states k).valid ≡ true
 carried_valid from to states k target is =
     (carried_is from to (state_at states k) k target is).valid
 
--- An entry that stands at an index was carried there, so no other goes there as long as the index is empty.
+-- An entry that stands at an index was carried there, so no other goes there as long as the index
+-- is empty.
 free_target :
     (from to : ℕ) (states into : List State) (index k target : ℕ)
     → IsPlacedBelow from to states into index

@@ -1,4 +1,5 @@
--- The new table where no two entries meet: each entry that is carried at its target, and empty ones elsewhere.
+-- The new table where no two entries meet: each entry that is carried at its target, and empty ones
+-- elsewhere.
 use Rattle.std.proofs.Common.{◌≡◌, ◌≢◌, ℕ, ◌+◌, ◌<◌, ◌≤◌, true, false, List, length, find, Option, Some, None, refl, sym, ap, ◌∙◌, inl, inr, ◌⊎◌, arith}
 use Rattle.std.specs.Prelude.{option_map, is_some}
 use Rattle.std.specs.Option.{option_and_then}

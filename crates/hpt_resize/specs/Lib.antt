@@ -3,3 +3,4 @@ pub mod Pending
 pub mod Resize
 pub mod TableMemory
 pub mod Translations
+pub mod Holders

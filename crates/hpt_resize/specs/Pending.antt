@@ -21,7 +21,8 @@ is_ready table = table.ready == entry_count table.order
 abbrev pub with_more_ready : PendingTable → PendingTable
 with_more_ready table = record table { ready = min (table.ready + 16384) (entry_count table.order) }
 
--- Its order is one that a table can have, its ready entries are empty, and there is room for all entries and for no more.
+-- Its order is one that a table can have, its ready entries are empty, and there is room for all
+-- entries and for no more.
 pub record IsPreparing (order : ℕ) (states : List State) (capacity : ℕ) : Type 0 where
   pub low : 18 ≤ order
   pub high : order ≤ 22

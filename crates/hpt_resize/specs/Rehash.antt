@@ -1,4 +1,5 @@
--- What a page table becomes in another size: which entries are carried, where each goes, and where two would meet.
+-- What a page table becomes in another size: which entries are carried, where each goes, and where
+-- two would meet.
 use Rattle.hpte_fields.specs.TableSize.{entry_count}
 use Rattle.std.specs.Prelude.{◌≡◌, ◌≢◌, ℕ, ◌+◌, ◌*◌, ◌%◌, ◌<◌, ◌==◌, ◌&&◌, Bool, false, if◌then◌else◌, List, length, map, find, Option, Some, None, option_map, is_some}
 use Rattle.std.specs.List.{range_with_len}
@@ -12,14 +13,16 @@ use Rattle.entry_model.specs.Run.{state_at}
 use Rattle.hpt_resize.specs.declared.carry.Collision.{Collision}
 
 -- ---- one entry
--- The page of an entry that is carried: one that is valid and bolted, where it is the entry of a page.
+-- The page of an entry that is carried: one that is valid and bolted, where it is the entry of a
+-- page.
 unfoldable pub carried_page : ℕ → State → ℕ → Option VirtualPage
 carried_page from state index =
     if state.valid && is_bolted state.dword0
     then page_at from index state.dword0 state.dword1
     else None
 
--- It goes to the page's group in the new table, the primary one or with H set the secondary one, and keeps its slot of the eight.
+-- It goes to the page's group in the new table, the primary one or with H set the secondary one,
+-- and keeps its slot of the eight.
 unfoldable pub target_of : ℕ → ℕ → State → ℕ → Option ℕ
 target_of from to state index =
     option_map
@@ -45,7 +48,8 @@ unfoldable pub first_with : ℕ → ℕ → List State → ℕ → ℕ → Optio
 first_with from to states second target =
     find (λ index. is_target target (target_at from to states index)) (range_with_len 0 second)
 
--- The collision of the entry at an index with the lowest one of its target, where there is one before it.
+-- The collision of the entry at an index with the lowest one of its target, where there is one
+-- before it.
 unfoldable pub collision_at : ℕ → ℕ → List State → ℕ → Option Collision
 collision_at from to states second =
     option_and_then
@@ -91,7 +95,8 @@ AreApartBelow from to states index =
     → target_at from to states j ≡ Some target
     → target_at from to states k ≢ Some target
 
--- The two entries go to one target, no entry before the first does, and before the second no two go to one.
+-- The two entries go to one target, no entry before the first does, and before the second no two go
+-- to one.
 pub record IsCollision (from to : ℕ) (states : List State) (collision : Collision) : Type 0 where
   pub rising : collision.first < collision.second
   pub in_table : collision.second < length states
@@ -100,7 +105,9 @@ pub record IsCollision (from to : ℕ) (states : List State) (collision : Collis
   pub first_is_lowest : NoneBefore from to states collision.first collision.target
   pub second_is_lowest : AreApartBelow from to states collision.second
 
--- The entries before an index are carried: no two of them go to one target, each is at its target with its doublewords, R and C, at stamp 0, and every other entry of the new table is empty at stamp 0.
+-- The entries before an index are carried: no two of them go to one target, each is at its target
+-- with its doublewords, R and C, at stamp 0, and every other entry of the new table is empty at
+-- stamp 0.
 pub record IsPlacedBelow (from to : ℕ) (states new : List State) (index : ℕ) : Type 0 where
   pub long : length new ≡ entry_count to
   pub carried :

@@ -1,4 +1,5 @@
--- The two resize calls, on the pending table, the pool and the current table. Their rules are tried in the order in which they stand here.
+-- The two resize calls, on the pending table, the pool and the current table. Their rules are tried
+-- in the order in which they stand here.
 use Rattle.std.specs.Prelude.{◌≡◌, ◌≢◌, ℕ, ◌+◌, ◌≤◌, ◌==◌, ◌&&◌, ◌||◌, not, Bool, false, nat_lt, nat_le, if◌then◌else◌, List, length, Contains, Option, Some, None}
 use Rattle.hpt_pool.specs.Pool.{Block, PoolState, block_at, lowest_place, with_block, without_block}
 use Rattle.entry_model.specs.State.{State}
@@ -97,7 +98,8 @@ abbrev pub IsElsewhere : Option PendingTable → Block → Type 0
 IsElsewhere None block = Unit {0}
 IsElsewhere (Some table) block = table.place ≢ block.place
 
--- After the call the block of the pending table is taken, and each other block that was taken is still taken and another one than that.
+-- After the call the block of the pending table is taken, and each other block that was taken is
+-- still taken and another one than that.
 abbrev pub KeepsBlocks : Option PendingTable → PoolState → Option PendingTable → PoolState → Type 0
 KeepsBlocks pending pool pending_after pool_after =
     (block : Block)
@@ -161,7 +163,8 @@ abbrev pub commit_refusal : ℕ → ℕ → Option PendingTable → Option Rc
 commit_refusal flags shift pending =
     if is_commit_request flags shift then pending_refusal shift pending else Some Parameter
 
--- After a collision the pending table is dropped. Without one it is the current table, of the next number, and the old block is given back.
+-- After a collision the pending table is dropped. Without one it is the current table, of the next
+-- number, and the old block is given back.
 abbrev pub carry_outcome : PendingTable → PoolState → Table → Option Collision → CommitOutcome
 carry_outcome pending pool table (Some collision) = record {
   rc = PtegFull;

@@ -1,4 +1,5 @@
--- A partition's table memory while no processor runs, and what the two resize calls answer and leave of it.
+-- A partition's table memory while no processor runs, and what the two resize calls answer and
+-- leave of it.
 use Rattle.std.specs.Prelude.{ℕ, List, [], ◌∷◌, Option, None, unwrap_or, replicate, slice_set}
 use Rattle.hpt_pool.specs.Pool.{PoolState, no_blocks, block_at, lowest_place, with_block}
 use Rattle.entry_model.specs.State.{State, empty_state}
@@ -9,7 +10,8 @@ use Rattle.table_image.specs.declared.entry.ImageEntry.{ImageEntry}
 use Rattle.hpt_resize.specs.Pending.{PendingTable}
 use Rattle.hpt_resize.specs.Resize.{Table, outcome_of_prepare, outcome_of_commit}
 
--- The highest order that the guest may ask for, the pool of table memory, the table that is being prepared, and the current one.
+-- The highest order that the guest may ask for, the pool of table memory, the table that is being
+-- prepared, and the current one.
 pub record TableMemory : Type 0 where
   pub limit : ℕ
   pub pool : PoolState
@@ -21,13 +23,15 @@ pub record TableMemory : Type 0 where
 unfoldable pub empty_states : ℕ → List State
 empty_states order = replicate (entry_count order) (empty_state 0)
 
--- The states with each of these entries in its place: valid at stamp 0, with its doublewords, R and C. All others stay.
+-- The states with each of these entries in its place: valid at stamp 0, with its doublewords, R and
+-- C. All others stay.
 abbrev pub with_entries : List State → List ImageEntry → List State
 with_entries states [] = states
 with_entries states (e ∷ es) =
     with_entries (slice_set states e.index (entered_state e.dword0 e.dword1)) es
 
--- A table of 2 ^ order bytes with these entries and no other, at the lowest place of a pool of which nothing is taken.
+-- A table of 2 ^ order bytes with these entries and no other, at the lowest place of a pool of
+-- which nothing is taken.
 unfoldable pub opening_memory : ℕ → ℕ → ℕ → ℕ → List ImageEntry → TableMemory
 opening_memory limit order pool_base pool_order entries =
     let pool = no_blocks pool_base pool_order in

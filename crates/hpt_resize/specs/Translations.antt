@@ -6,7 +6,8 @@ use Rattle.entry_model.specs.Run.{state_at}
 use Rattle.hpt_resize.specs.Rehash.{target_at, at_stamp_0, carried_page}
 use Rattle.hpt_resize.specs.Resize.{Table}
 
--- The entry of the old table goes to an index of the new one, has there its doublewords, R and C at stamp 0, and is an entry of this page.
+-- The entry of the old table goes to an index of the new one, has there its doublewords, R and C at
+-- stamp 0, and is an entry of this page.
 pub record StandsThere (old new : Table) (entry : ℕ) (page : VirtualPage) : Type 0 where
   pub index : ℕ
   pub goes : target_at old.order new.order old.states entry ≡ Some index
@@ -23,7 +24,8 @@ pub record WasCarried (old new : Table) (index : ℕ) : Type 0 where
   pub carried : carried_page old.order (state_at old.states entry) entry ≡ Some page
   pub goes : target_at old.order new.order old.states entry ≡ Some index
 
--- Each bolted entry of a page stands in the new table, and each valid entry of the new table came so.
+-- Each bolted entry of a page stands in the new table, and each valid entry of the new table came
+-- so.
 pub record KeepsTranslations (old new : Table) : Type 0 where
   pub carried :
       (entry : ℕ) (page : VirtualPage)

@@ -1,9 +1,11 @@
-ghost use Rattle.std.specs.Prelude.{◌≡◌, ◌-◌, ◌^◌, ◌<◌, ◌≤◌, length, Option, Some, None, IsOk, IfErr, OnOk, MatchOption, MatchResult, replicate, vec_len, vec_capacity};
+ghost use Rattle.std.specs.Prelude.{◌≡◌, ◌-◌, ◌^◌, ◌<◌, ◌≤◌, length, map, Option, Some, None, IsOk, IfErr, OnOk, MatchOption, MatchResult, replicate, vec_len, vec_capacity};
 ghost use Rattle.hpte_fields.specs.TableSize.{entry_count};
 ghost use Rattle.entry_model.specs.State.{State, empty_state};
 ghost use Rattle.entry_model.specs.Run.{state_at};
+ghost use Rattle.hpt_resize.specs.Holders.{all_holding};
 ghost use Rattle.hpt_resize.specs.Rehash.{target_of, target_at, at_stamp_0, first_with, collision_of, rehashed_states, NoneBefore, IsCollision, IsPlacedBelow};
 
+use crate::holder::StateHolder;
 use entry_model::EntryState;
 use hpt_hash::{groups, page_of};
 use hpte_fields::{bolted, secondary};
@@ -53,42 +55,46 @@ pub fn rehash(
     rehash_into(order_from, order_to, states, into.as_mut_slice())
 }
 
-/// [`rehash`] into entries of the caller, all of them empty before.
-pub fn rehash_into(
+/// [`rehash`] into entries of the caller, all of them empty before. Each keeps what else it has.
+pub fn rehash_into<H: StateHolder>(
     order_from: u8,
     order_to: u8,
-    states: &[EntryState],
-    into: &mut [EntryState],
+    states: &[H],
+    into: &mut [H],
 ) -> Result<(), Collision>
     requires from_low { 18 ≤ order_from }
     requires from_high { order_from ≤ 22 }
     requires to_low { 18 ≤ order_to }
     requires to_high { order_to ≤ 22 }
-    requires whole { length states.now ≡ entry_count order_from }
-    requires empty { into.old ≡ replicate (entry_count order_to) (empty_state 0) }
+    requires whole { length (map H.held states.now) ≡ entry_count order_from }
+    requires empty { map H.held into.old ≡ replicate (entry_count order_to) (empty_state 0) }
     ensures told { MatchResult
         result
-        (λ _. collision_of order_from order_to states.now ≡ None)
-        (λ collision. collision_of order_from order_to states.now ≡ Some collision) }
-    ensures meet { IfErr result (IsCollision order_from order_to states.now) }
-    ensures placed { MatchResult
+        (λ _. collision_of order_from order_to (map H.held states.now) ≡ None)
+        (λ collision. collision_of order_from order_to (map H.held states.now) ≡ Some collision) }
+    ensures meet { IfErr result (IsCollision order_from order_to (map H.held states.now)) }
+    ensures placed { let held = map H.held states.now in
+        MatchResult
         result
-        (λ _. IsPlacedBelow order_from order_to states.now into.new (length states.now))
-        (λ collision. IsPlacedBelow order_from order_to states.now into.new collision.second) }
-    ensures carried { OnOk result (into.new ≡ rehashed_states order_from order_to states.now) }
+        (λ _. IsPlacedBelow order_from order_to held (map H.held into.new) (length held))
+        (λ collision.
+        IsPlacedBelow order_from order_to held (map H.held into.new) collision.second) }
+    ensures carried { OnOk result
+        (map H.held into.new ≡ rehashed_states order_from order_to (map H.held states.now)) }
     ensures never { order_from ≤ order_to → IsOk result }
+    ensures holders { into.new ≡ all_holding H.holding into.old (map H.held into.new) }
 {
     for index in 0..states.len() {
-        if let Some(target) = target_index(order_from, order_to, &states[index], index) {
-            let standing = into[target];
-            if standing.valid {
+        let state = states[index].state();
+        if let Some(target) = target_index(order_from, order_to, &state, index) {
+            if into[target].state().valid {
                 return Err(Collision {
                     first: first(order_from, order_to, states, index, target) as u32,
                     second: index as u32,
                     target: target as u32,
                 });
             }
-            into[target] = fresh(states[index]);
+            into[target].hold(&fresh(state));
         }
     }
     Ok(())
@@ -135,21 +141,28 @@ fn fresh(state: EntryState) -> EntryState
 }
 
 // The lowest index below `second` that is carried to this target.
-fn first(order_from: u8, order_to: u8, states: &[EntryState], second: usize, target: usize) -> usize
+fn first<H: StateHolder>(
+    order_from: u8,
+    order_to: u8,
+    states: &[H],
+    second: usize,
+    target: usize,
+) -> usize
     requires from_low { 18 ≤ order_from }
     requires from_high { order_from ≤ 22 }
     requires to_low { 18 ≤ order_to }
     requires to_high { order_to ≤ 22 }
-    requires whole { length states.now ≡ entry_count order_from }
-    requires in_table { second < length states.now }
-    requires taken { NoneBefore order_from order_to states.now second target → ⊥ }
-    ensures found { first_with order_from order_to states.now second target ≡ Some result }
+    requires whole { length (map H.held states.now) ≡ entry_count order_from }
+    requires in_table { second < length (map H.held states.now) }
+    requires taken { NoneBefore order_from order_to (map H.held states.now) second target → ⊥ }
+    ensures found { first_with order_from order_to (map H.held states.now) second target
+        ≡ Some result }
     ensures below { result < second }
-    ensures goes { target_at order_from order_to states.now result ≡ Some target }
-    ensures lowest { NoneBefore order_from order_to states.now result target }
+    ensures goes { target_at order_from order_to (map H.held states.now) result ≡ Some target }
+    ensures lowest { NoneBefore order_from order_to (map H.held states.now) result target }
 {
     for index in 0..second {
-        if target_index(order_from, order_to, &states[index], index) == Some(target) {
+        if target_index(order_from, order_to, &states[index].state(), index) == Some(target) {
             return index;
         }
     }

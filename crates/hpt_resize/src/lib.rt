@@ -6,9 +6,11 @@
 
 mod carry;
 mod current;
+mod holder;
 mod pending;
 mod prepared;
 
 pub use carry::{Collision, rehash, rehash_into};
 pub use current::{CommitAnswer, Current};
+pub use holder::StateHolder;
 pub use prepared::Resize;

@@ -37,8 +37,8 @@ impl Resize {
         Resize { pending: None }
     }
 
-    /// H_RESIZE_HPT_PREPARE: makes a table of `2^shift` bytes ready, a part at each call. `limit` is
-    /// the highest order that the guest may ask for. Where memory ends, nothing changes.
+    /// H_RESIZE_HPT_PREPARE: makes a table of `2^shift` bytes ready, a part at each call. `limit`
+    /// is the highest order that the guest may ask for. Where memory ends, nothing changes.
     #[tactic(auto, unfolding(crate::specs::Resize::outcome_of_prepare))]
     pub fn prepare(
         &mut self,

@@ -185,8 +185,8 @@ fn what_prepare_answers(rt: HostRuntime) -> Result<(), Fail> {
     Ok(())
 }
 
-/// The answers of the calls that make a table ready, up to the first that isn't a long wait: how many
-/// waits, and that answer.
+/// The answers of the calls that make a table ready, up to the first that isn't a long wait: how
+/// many waits, and that answer.
 fn made_ready(
     alloc: Global,
     pool: &mut Pool,

@@ -1,5 +1,5 @@
-//! Tests of the libraries that read traces and write replies: what no text of the program shows. What one
-//! shows is a row of `papr_rows`.
+//! Tests of the libraries that read traces and write replies: what no text of the program shows.
+//! What one shows is a row of `papr_rows`.
 #![tactic(auto)]
 
 #[cfg(test)]

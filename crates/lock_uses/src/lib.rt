@@ -1,6 +1,6 @@
-//! Tests of the running table below the hypervisor calls, the walk and a processor's accesses, which
-//! know nothing of it: they are generic over stores, and run over passes with their contracts as they
-//! are. And a caller of [`pass_calls`], by whose clauses its own follow.
+//! Tests of the running table below the hypervisor calls, the walk and a processor's accesses,
+//! which know nothing of it: they are generic over stores, and run over passes with their contracts
+//! as they are. And a caller of [`pass_calls`], by whose clauses its own follow.
 #![tactic(auto)]
 
 mod trying;

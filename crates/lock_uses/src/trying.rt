@@ -7,8 +7,8 @@ use call_plan::CallPlan;
 use entry_model::{HReply, Receipts};
 use pass_calls::{TriedStore, try_plan};
 
-/// The reply of a hypervisor call in at most so many tries, each of which goes on where the one before
-/// was held up. `None` where it is still held up then.
+/// The reply of a hypervisor call in at most so many tries, each of which goes on where the one
+/// before was held up. `None` where it is still held up then.
 pub fn call_within<S: TriedStore>(store: &mut S, plan: &CallPlan, tries: u32) -> Option<HReply>
     requires { Fits (S.table_order store.old) plan.now }
     ensures { IfSome result (λ reply. IsReplyOf (plan_of plan.now) reply) }

@@ -1,4 +1,5 @@
--- The readings of a set behind a line of one partition: that partition's is told anew, and the others stay.
+-- The readings of a set behind a line of one partition: that partition's is told anew, and the
+-- others stay.
 use Rattle.std.specs.Prelude.{unwrap_or}
 use Rattle.std.proofs.Common.{◌≡◌, ◌≢◌, ◌∙◌, ℕ, ◌<◌, List, length, get_or, Option, Some, None, ap, sym, subst}
 use Rattle.std.proofs.lemmas.List.{get_or-set_same, get_or-set_other}

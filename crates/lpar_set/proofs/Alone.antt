@@ -1,4 +1,5 @@
--- Each partition of a set is answered as it would be with the pool to itself, until a PREPARE is refused for lack of room.
+-- Each partition of a set is answered as it would be with the pool to itself, until a PREPARE is
+-- refused for lack of room.
 use Rattle.std.proofs.Common.{◌≡◌, ℕ, ◌<◌, List, map, length, sym, ◌∙◌, subst}
 use Rattle.pool_range.specs.Ranges.{IsPoolRange}
 use Rattle.hpt_pool.specs.Pool.{no_blocks}

@@ -1,4 +1,5 @@
--- Blocks that are taken in a pool, no two of which begin at one place: what stays so where some of them are replaced.
+-- Blocks that are taken in a pool, no two of which begin at one place: what stays so where some of
+-- them are replaced.
 use Rattle.std.proofs.Common.{◌≢◌, zero, suc, List, [], ◌∷◌, ◌++◌, All, AllPairs, Contains, get_or, sym, arith}
 use Rattle.std.proofs.lemmas.List.Elements.{All-head, All-tail, All-append}
 use Rattle.std.proofs.lemmas.List.Kept.{AllPairs-cons}
@@ -50,7 +51,8 @@ pairs_append R (x ∷ xs) ys first second across =
     (All-tail (λ z. All (R z) ys) x xs across))
 
 -- ---- blocks replaced
--- Some blocks of the pool are given back and others are taken: the new ones are taken and begin apart, and each other block stays taken, apart from the new ones.
+-- Some blocks of the pool are given back and others are taken: the new ones are taken and begin
+-- apart, and each other block stays taken, apart from the new ones.
 pub record Replaces (taken own taken_after own_after : List Block) : Type 0 where
   pub held : All (Contains taken_after) own_after
   pub apart : AllPairs BeginApart own_after

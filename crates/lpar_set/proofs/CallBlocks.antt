@@ -1,4 +1,5 @@
--- What the two resize calls do to the blocks that a partition holds: no block of another one is touched.
+-- What the two resize calls do to the blocks that a partition holds: no block of another one is
+-- touched.
 use Rattle.std.proofs.Common.{ℕ, List, [], ◌∷◌, All, AllPairs, Contains, Option, Some, None, refl, sym, arith}
 use Rattle.std.proofs.lemmas.List.Elements.{All-nil, All-cons, All-head, All-tail}
 use Rattle.std.proofs.lemmas.List.Kept.{AllPairs-cons}

@@ -1,4 +1,5 @@
--- A configuration line behind run lines: it is refused for its place, by the set or by the partition's own reading.
+-- A configuration line behind run lines: it is refused for its place, by the set or by the
+-- partition's own reading.
 use Rattle.std.proofs.Common.{◌≡◌, ℕ, true, false, List, [], ◌∷◌, length, ltb, if◌then◌else◌, Result, Ok, Err, refl, sym, ap, ◌∙◌, ◌⊎◌, inl, inr}
 use Rattle.std.proofs.lemmas.Bool.{cases_Bool, eqb-true, false≢true}
 use Rattle.trace_read.specs.declared.forms.Form.{Form}

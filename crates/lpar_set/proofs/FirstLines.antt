@@ -1,4 +1,5 @@
--- The first lines of an accepted trace make one, so replies as of their serial run assure what it does.
+-- The first lines of an accepted trace make one, so replies as of their serial run assure what it
+-- does.
 use Rattle.std.proofs.Common.{◌≡◌, refl, ap, sym, subst, ◌∙◌, map, ℕ, zero, suc, ◌<◌, ◌≤◌, ◌^◌, List, [], ◌∷◌, Bool, true, false, take, length, ◌⊎◌, inl, inr, arith, length-take}
 use Rattle.std.specs.Prelude.{cond, count_by}
 use Rattle.std.specs.List.{AllByRecursion}
@@ -55,7 +56,8 @@ first_accepted n t is =
     }
 
 -- ---- the replies
--- Where there is no DMA window each line is on the page table, and the serial run is that of the table.
+-- Where there is no DMA window each line is on the page table, and the serial run is that of the
+-- table.
 serial_alone :
     (t : AcceptedTrace)
     → t.config.windows ≡ []

@@ -1,4 +1,5 @@
--- One line of a run: its reply is of its kind, an access that is allowed lands by the grants, and the grants stay.
+-- One line of a run: its reply is of its kind, an access that is allowed lands by the grants, and
+-- the grants stay.
 use Rattle.std.proofs.Common.{◌≡◌, ℕ, List, true, false, Option, Some, None, refl, sym, subst, ◌⊎◌, inl, inr}
 use Rattle.std.proofs.lemmas.Bool.{cases_Bool}
 use Rattle.frame_grants.specs.declared.grant.Grant.{Grant}

@@ -1,4 +1,5 @@
--- Each line of a partition beside others is answered as it would be with the pool to itself, but for the place in a dump, until a PREPARE is refused for lack of room.
+-- Each line of a partition beside others is answered as it would be with the pool to itself, but
+-- for the place in a dump, until a PREPARE is refused for lack of room.
 use Rattle.std.specs.Prelude.{slice_index}
 use Rattle.std.proofs.Common.{◌≡◌, ℕ, true, false, List, refl, inl, inr, ◌⊎◌, subst, sym}
 use Rattle.std.proofs.lemmas.Bool.{cases_Bool}
@@ -24,7 +25,8 @@ use Rattle.lpar_set.proofs.RoomToo.{room_too}
 use Rattle.lpar_set.proofs.Moved.{moved_memory, moved, IsLikeAfter, IsLikeMemory, result_like, answer_like, dump_like, commit_like, committed_like}
 use Rattle.lpar_set.proofs.MovedPrepare.{prepare_like}
 
--- The one run holds its blocks in a sound pool, and the other one, whose blocks lie elsewhere, has its pool to itself; the pools are of one order.
+-- The one run holds its blocks in a sound pool, and the other one, whose blocks lie elsewhere, has
+-- its pool to itself; the pools are of one order.
 pub record MayDiffer (v : Store) (pool : PoolState) (place other : ℕ) : Type 0 where
   pub sound : IsSound v.memory.pool
   pub held : HoldsBlocks v

@@ -1,4 +1,5 @@
--- A PREPARE of a run whose blocks lie elsewhere: it answers the same where its pool too has room for the table.
+-- A PREPARE of a run whose blocks lie elsewhere: it answers the same where its pool too has room
+-- for the table.
 use Rattle.std.specs.Prelude.{option_map}
 use Rattle.std.proofs.Common.{◌≡◌, ◌≢◌, ℕ, ◌≤◌, ◌==◌, nat_lt, not, Bool, true, false, if◌then◌else◌, Option, Some, None, refl, sym, subst}
 use Rattle.papr_codes.specs.declared.codes.Rc.{Rc}
@@ -11,7 +12,8 @@ use Rattle.partition.proofs.PoolKept.{asked_low}
 use Rattle.lpar_set.specs.SetLaws.{is_no_mem_code}
 use Rattle.lpar_set.proofs.Moved.{pending_at, moved_memory, answer, IsLikeMemory}
 
--- Where the one pool has room for a table, beside all but the one that is being prepared, the other pool has it too.
+-- Where the one pool has room for a table, beside all but the one that is being prepared, the other
+-- pool has it too.
 abbrev pub HasRoomToo : Option PendingTable → PoolState → Option PendingTable → PoolState → Type 0
 HasRoomToo pending pool pending_too pool_too =
     (order : ℕ)

@@ -15,7 +15,8 @@ use Rattle.lpar_set.proofs.BegunTables.{map_agree}
 use Rattle.lpar_set.proofs.GrantsApart.{pairs_set, strangers_back}
 use Rattle.lpar_set.proofs.SetPlaces.{beside_set, same_reading, other_reading}
 
--- The set with a partition's reading told anew, and with these partitions begun, these tables and these turns.
+-- The set with a partition's reading told anew, and with these partitions begun, these tables and
+-- these turns.
 abbrev pub told : SetReading → ℕ → Reading → List ℕ → PoolState → List Turn → SetReading
 told r number new begun tables turns =
     record (with_reading r number new) { begun = begun; tables = tables; turns = turns }

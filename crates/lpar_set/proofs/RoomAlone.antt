@@ -1,4 +1,5 @@
--- Where a pool has room for a second block beside a first, it has room for it wherever the first one lies, if nothing else is taken.
+-- Where a pool has room for a second block beside a first, it has room for it wherever the first
+-- one lies, if nothing else is taken.
 use Rattle.std.specs.List.{list_any}
 use Rattle.std.proofs.Common.{◌≡◌, ◌≢◌, ℕ, ◌+◌, ◌-◌, ◌*◌, ◌^◌, ◌<◌, ◌≤◌, true, false, not, List, All, get_or, length, None, refl, sym, ap, ◌∙◌, subst, add-mul, mul-le-mul_right, inl, inr, ◌⊎◌, arith}
 use Rattle.std.proofs.lemmas.Bool.{cases_lt}

@@ -1,4 +1,5 @@
--- Where a pool that others share has room for a partition's next table, a pool that the partition has to itself has room too.
+-- Where a pool that others share has room for a partition's next table, a pool that the partition
+-- has to itself has room too.
 use Rattle.std.proofs.Common.{◌≡◌, ◌≢◌, ℕ, ◌<◌, ◌≤◌, false, Contains, Option, Some, None, refl, sym, ◌∙◌, subst}
 use Rattle.std.proofs.lemmas.List.Elements.{All-contains}
 use Rattle.hpt_pool.specs.Pool.{Block, PoolState, IsPlaced, IsSound, block_at, overlap, lowest_place}
@@ -14,7 +15,8 @@ use Rattle.lpar_set.proofs.LoneBlocks.{IsAlone, block_of, only_table}
 use Rattle.lpar_set.proofs.MovedPrepare.{HasRoomToo}
 use Rattle.lpar_set.proofs.RoomAlone.{smaller, room_beside}
 
--- The current table's block is one of a sound pool's, also once the table that is being prepared was dropped.
+-- The current table's block is one of a sound pool's, also once the table that is being prepared
+-- was dropped.
 record IsLeft (table : Table) (pending : Option PendingTable) (pool : PoolState) : Type 0 where
   sound : IsSound (pool_without pending pool)
   taken : Contains (pool_without pending pool).taken (block_of table)
@@ -41,7 +43,8 @@ is_left table pending pool sound held =
       order = kept.size;
     }
 
--- A table for which there is room beside another has a smaller order than the pool, and so has that one.
+-- A table for which there is room beside another has a smaller order than the pool, and so has that
+-- one.
 record AreSmaller (order other whole : ℕ) : Type 0 where
   one : order < whole
   two : other < whole

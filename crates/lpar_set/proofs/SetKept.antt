@@ -147,7 +147,8 @@ line_keeps w k l is inside =
     }
 
 -- ---- what stays
--- The pool's range stays, and of the line's partition its limit, its grants and the count of its processors.
+-- The pool's range stays, and of the line's partition its limit, its grants and the count of its
+-- processors.
 pub record Stays (w after : SetState) (k : ℕ) : Type 0 where
   pub base : after.pool.base ≡ w.pool.base
   pub order : after.pool.order ≡ w.pool.order

@@ -59,7 +59,8 @@ unfolding lowest_place multiples taken_with
 room_for_three h = h.1.1.0 refl
 
 -- ---- a pool that is full
--- H_RESIZE_HPT_PREPARE of the first partition answers H_NO_MEM, since the second has the other block; and nothing changes.
+-- H_RESIZE_HPT_PREPARE of the first partition answers H_NO_MEM, since the second has the other
+-- block; and nothing changes.
 no_memory : (set_line opened 0 (prepares 10)).0 ≡ reply_of_code NoMem
 unfolding run_on is_quiet hcall_of row_of run_quiet_line run_resize prepare_result
     outcome_of_prepare lowest_place multiples
@@ -71,7 +72,8 @@ unfolding run_on is_quiet hcall_of row_of run_quiet_line run_resize prepare_resu
 nothing_changes = refl
 
 -- ---- a run
--- The load of partition 5 lands in the storage that starts at 0x3000000000, and its dump shows its own table.
+-- The load of partition 5 lands in the storage that starts at 0x3000000000, and its dump shows its
+-- own table.
 both_run :
     set_text small_set (replies_from small_set opened small_set.turns)
     ≡ codes

@@ -1,4 +1,5 @@
--- The set of worked values is an accepted one, so that what is promised of accepted sets is promised of some.
+-- The set of worked values is an accepted one, so that what is promised of accepted sets is
+-- promised of some.
 use Rattle.std.proofs.Common.{◌≡◌, ◌≢◌, ℕ, zero, suc, ◌<◌, List, [], ◌∷◌, false, map, length, refl, arith}
 use Rattle.std.specs.List.{AllPairs, All, range_with_len}
 use Rattle.std.proofs.lemmas.List.Elements.{All-from_recursion, All-nil}

@@ -1,4 +1,5 @@
--- A set of two partitions with few entries each, for worked values. The pool has room for their two tables alone, and the lists have the states of the first two groups: all others stay empty.
+-- A set of two partitions with few entries each, for worked values. The pool has room for their two
+-- tables alone, and the lists have the states of the first two groups: all others stay empty.
 use Rattle.std.proofs.Common.{ℕ, List, [], ◌∷◌, false, None, replicate}
 use Rattle.frame_grants.specs.declared.grant.Grant.{Grant}
 use Rattle.frame_grants.specs.declared.grant.Kind.TheVariants.{Ram}

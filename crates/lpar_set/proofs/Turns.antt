@@ -1,4 +1,5 @@
--- What a turn of an accepted set names: a line of one of its partitions, on one of that partition's processors.
+-- What a turn of an accepted set names: a line of one of its partitions, on one of that partition's
+-- processors.
 use Rattle.std.proofs.Common.{◌≡◌, ℕ, zero, suc, ◌+◌, ◌<◌, ◌==◌, Bool, true, false, if◌then◌else◌, List, [], ◌∷◌, length, map, get_or, Contains, refl, sym, ap, ◌∙◌, subst, arith}
 use Rattle.std.specs.List.{AllByRecursion, range_with_len}
 use Rattle.std.proofs.lemmas.Bool.{eq-eqb}

@@ -1,4 +1,5 @@
--- Where the tables of several partitions open in one pool: each at the lowest place that those before it left.
+-- Where the tables of several partitions open in one pool: each at the lowest place that those
+-- before it left.
 use Rattle.std.specs.Prelude.{◌≢◌, ℕ, List, [], ◌∷◌, None, unwrap_or}
 use Rattle.hpt_pool.specs.Pool.{PoolState, block_at, lowest_place, with_block}
 

@@ -1,4 +1,5 @@
--- Which set an input is, in words of its lines: what an accepted set has, and what a line is refused for.
+-- Which set an input is, in words of its lines: what an accepted set has, and what a line is
+-- refused for.
 use Rattle.std.specs.Prelude.{◌≡◌, ◌≢◌, ℕ, ◌+◌, ◌^◌, ◌<◌, ◌≤◌, true, false, List, ◌∷◌, ◌++◌, length, map, Contains, Some, None, Ok, Err}
 use Rattle.std.specs.List.{AllPairs, list_all, list_any}
 use Rattle.frame_grants.specs.declared.grant.Grant.{Grant}
@@ -16,7 +17,9 @@ use Rattle.lpar_set.specs.SetGrammar.{below_8, is_of_the_whole, set_of}
 use Rattle.lpar_set.specs.SetTrace.{NumberedTrace, AcceptedSet, IsAcceptedSet, line_of}
 
 -- ---- accepted sets
--- The set over the shared pool whose partitions are those that begin, in the order of their `begin` lines, and all that a line names; each has the trace that its own lines give, read as an input of their own beside that pool; and the turns are the run lines in file order.
+-- The set over the shared pool whose partitions are those that begin, in the order of their `begin`
+-- lines, and all that a line names; each has the trace that its own lines give, read as an input of
+-- their own beside that pool; and the turns are the run lines in file order.
 pub record IsSetOf (lines : List (List ℕ)) (s : AcceptedSet) : Type 0 where
   pub base : s.pool_base ≡ (shared_pool lines).0
   pub order : s.pool_order ≡ (shared_pool lines).1
@@ -126,7 +129,8 @@ abbrev pub RefusalsAreReasons : Type 0
 RefusalsAreReasons =
     (bytes : List ℕ) (n : ℕ) (why : Why) → set_of bytes ≡ Err (n, why) → IsAgainst bytes n why
 
--- An input against which anything may be said is refused, at that line or one before it: the lowest line comes first.
+-- An input against which anything may be said is refused, at that line or one before it: the lowest
+-- line comes first.
 abbrev pub LowestLinesComeFirst : Type 0
 LowestLinesComeFirst =
     (bytes : List ℕ) (n : ℕ) (why : Why)

@@ -1,4 +1,5 @@
--- The lines of one partition of a set as an input of their own, and what all lines of a set say by themselves.
+-- The lines of one partition of a set as an input of their own, and what all lines of a set say by
+-- themselves.
 use Rattle.std.specs.Prelude.{ℕ, ◌==◌, ◌&&◌, Bool, false, true, List, [], ◌∷◌, map, filter_map, codes, is_some, Option, Some, None, Result, Ok, Err, if◌then◌else◌}
 use Rattle.std.specs.Str.{bytes_eq}
 use Rattle.hpt_pool.specs.Pool.{PoolState, no_blocks}

@@ -1,4 +1,5 @@
--- The set that an input gives: a machine over its lines, which hands each partition's lines to that partition's own reading.
+-- The set that an input gives: a machine over its lines, which hands each partition's lines to that
+-- partition's own reading.
 use Rattle.std.specs.Prelude.{ℕ, ◌+◌, ◌^◌, ◌==◌, ◌&&◌, ◌||◌, not, Bool, true, false, List, [], ◌∷◌, ◌++◌, length, map, replicate, codes, nat_lt, is_some, unwrap_or, slice_index_or, slice_set, Option, Some, None, Result, Ok, Err, if◌then◌else◌}
 use Rattle.std.specs.List.{list_all, list_any, position_or_len}
 use Rattle.std.specs.Str.{bytes_eq}
@@ -20,7 +21,9 @@ use Rattle.lpar_set.specs.declared.turn.Turn.{Turn}
 use Rattle.lpar_set.specs.OpeningTables.{with_opening}
 use Rattle.lpar_set.specs.SetTrace.{NumberedTrace, AcceptedSet}
 
--- The lines so far: how many were read, whether all were remarks, the shared pool, the readings of the eight numbers of which those that occur are there, the numbers of the partitions in the order of their `begin` lines, the pool with the tables of these, and the run lines.
+-- The lines so far: how many were read, whether all were remarks, the shared pool, the readings of
+-- the eight numbers of which those that occur are there, the numbers of the partitions in the order
+-- of their `begin` lines, the pool with the tables of these, and the run lines.
 pub record SetReading : Type 0 where
   pub taken : ℕ
   pub untouched : Bool
@@ -54,7 +57,8 @@ abbrev pub below_8 : Option ℕ → Option ℕ
 below_8 None = None
 below_8 (Some number) = if nat_lt number 8 then Some number else None
 
--- The second word is one that no line of a set may have there: a pool of a partition's own, a window or an entry.
+-- The second word is one that no line of a set may have there: a pool of a partition's own, a
+-- window or an entry.
 abbrev pub is_of_the_whole : List (List ℕ) → Bool
 is_of_the_whole [] = false
 is_of_the_whole (w ∷ ws) =
@@ -98,7 +102,8 @@ with_reading r number reading = record r {
 abbrev pub begun_at : List ℕ → ℕ → ℕ
 begun_at begun number = position_or_len (λ n. n == number) begun
 
--- What an accepted line adds. A grant may not meet another partition's; at `begin` the pool has room for one more table; a run line is one more turn.
+-- What an accepted line adds. A grant may not meet another partition's; at `begin` the pool has
+-- room for one more table; a run line is one more turn.
 unfoldable pub with_given : SetReading → ℕ → Reading → Reading → Given → Result SetReading Why
 with_given r number old new (givens.Grant grant) = do
   strange ← guard (not (meets_stranger r number grant)) whys.Overlap
@@ -221,7 +226,8 @@ after_set_lines r [] = set_at_end r
 after_set_lines r (l ∷ ls) =
     set_go_on (r.taken + 1) (after_set_line r l) (λ s. after_set_lines s ls)
 
--- The accepted set, or the first refused line and the reason. More bytes than may be are refused as line 0.
+-- The accepted set, or the first refused line and the reason. More bytes than may be are refused as
+-- line 0.
 unfoldable pub set_of : List ℕ → Result AcceptedSet (ℕ × Why)
 set_of bytes =
     if nat_lt most_bytes (length bytes)

@@ -53,7 +53,8 @@ without_place other = other
 abbrev pub first_lines : ℕ → AcceptedTrace → AcceptedTrace
 first_lines n t = record t { lines = take n t.lines }
 
--- The replies are the first ones of the serial run of the trace, which has the whole pool to itself, but that the place in a dump may differ.
+-- The replies are the first ones of the serial run of the trace, which has the whole pool to
+-- itself, but that the place in a dump may differ.
 abbrev pub RunsAsIfAlone : AcceptedTrace → List Reply → Type 0
 RunsAsIfAlone t rs =
     map without_place rs ≡ map without_place (take (length rs) (serial_replies t))
@@ -63,7 +64,8 @@ RunsAsIfAlone t rs =
 abbrev pub IsInGrant : ℕ → Grant → Type 0
 IsInGrant address g = IsTrue (range_within address 1 g.machine g.length)
 
--- A machine address of the partition: a grant of its own has it, no grant of another partition has it, and it is none of the pool's, in which all tables lie.
+-- A machine address of the partition: a grant of its own has it, no grant of another partition has
+-- it, and it is none of the pool's, in which all tables lie.
 pub record IsOwnAddress (s : AcceptedSet) (k address : ℕ) : Type 0 where
   pub grant : Grant
   pub own : Contains (partition_at s k).trace.config.granted.grants grant
@@ -94,7 +96,10 @@ StaysAtHome s k (replies.Device r) = DeviceEndsAtHome s k r.outcome
 StaysAtHome s k other = Unit {0}
 
 -- ---- what a set assures each partition
--- Its replies, one for each of its lines and of the line's kind, show at accesses machine addresses of its own alone. Up to its first H_NO_MEM they are the first ones of its trace alone, and assure what good runs do: no store is lost, committed resizes keep the bolted pages, and accesses land in its grants.
+-- Its replies, one for each of its lines and of the line's kind, show at accesses machine addresses
+-- of its own alone. Up to its first H_NO_MEM they are the first ones of its trace alone, and assure
+-- what good runs do: no store is lost, committed resizes keep the bolted pages, and accesses land
+-- in its grants.
 pub record IsPartitionAssured (s : AcceptedSet) (k : ℕ) (rs : List Reply) : Type 0 where
   pub kinds : AreReplies (partition_at s k).trace.lines rs
   pub at_home : AllByRecursion (StaysAtHome s k) rs

@@ -13,7 +13,8 @@ use Rattle.trace_read.specs.Places.{is_running}
 use Rattle.lpar_set.specs.SetTrace.{NumberedTrace}
 use Rattle.lpar_set.specs.SetGrammar.{SetReading, reading_of, trace_read_so}
 
--- The set after a line is as the line says, or it is refused as it says, unless there is no memory. After a refusal the set isn't read on.
+-- The set after a line is as the line says, or it is refused as it says, unless there is no memory.
+-- After a refusal the set isn't read on.
 abbrev pub TakesTo : Result SetReading Why → Result (Unit {0}) Stop → SetReading → Type 0
 TakesTo said (Ok done) new = said ≡ Ok new
 TakesTo said (Err stops.Memory) new = Unit {0}
@@ -24,7 +25,8 @@ abbrev pub stop_error : ℕ → Stop → TraceError
 stop_error line (stops.Refused why) = errors.Line line why
 stop_error line stops.Memory = errors.Memory
 
--- Before the line that is counted last, no partition has taken a line with its number, and where one hasn't begun there is a place for it among those that have.
+-- Before the line that is counted last, no partition has taken a line with its number, and where
+-- one hasn't begun there is a place for it among those that have.
 pub record IsReady (r : SetReading) : Type 0 where
   pub few : r.taken ≤ 2 ^ 17
   pub earlier : (number : ℕ) → (reading_of r number).taken < r.taken
@@ -34,7 +36,8 @@ pub record IsReady (r : SetReading) : Type 0 where
       → is_running (reading_of r number).stage ≡ false
       → length r.begun < 8
 
--- A configuration line behind a run line of another partition, while its own has not begun. Once that has, its own reading refuses such a line.
+-- A configuration line behind a run line of another partition, while its own has not begun. Once
+-- that has, its own reading refuses such a line.
 abbrev pub is_early : SetReading → ℕ → List (List ℕ) → Bool
 is_early r number ws =
     (nat_lt 0 (length r.turns) && not (is_running (reading_of r number).stage)) && is_setting ws

@@ -15,7 +15,8 @@ use Rattle.lpar_set.specs.declared.turn.Turn.{Turn}
 use Rattle.lpar_set.specs.OpeningTables.{opening_place, with_opening}
 use Rattle.lpar_set.specs.SetTrace.{NumberedTrace, AcceptedSet, line_of}
 
--- All that one partition carries from line to line, but for the pool: its grants, the highest order that it may ask for, the table that is being prepared, the current one, and its processors.
+-- All that one partition carries from line to line, but for the pool: its grants, the highest order
+-- that it may ask for, the table that is being prepared, the current one, and its processors.
 pub record MemberState : Type 0 where
   pub grants : List Grant
   pub limit : ℕ
@@ -101,7 +102,8 @@ no_member = record {
 abbrev pub member_at : SetState → ℕ → MemberState
 member_at w k = slice_index_or w.members k no_member
 
--- The set after a line of one partition: the pool and that partition are as the line leaves them, and each other partition stays.
+-- The set after a line of one partition: the pool and that partition are as the line leaves them,
+-- and each other partition stays.
 abbrev pub with_member : SetState → ℕ → Store → SetState
 with_member w k after = record {
   pool = after.memory.pool;

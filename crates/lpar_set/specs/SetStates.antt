@@ -31,7 +31,8 @@ pub record IsMember (m : MemberState) : Type 0 where
 abbrev pub HasAllowed : MemberState → Type 0
 HasAllowed m = IfSome m.pending (λ (t : PendingTable). (18 ≤ t.order) × (t.order ≤ 22))
 
--- The pool is sound; each block that a partition holds is taken in it, and no two of them begin at one place.
+-- The pool is sound; each block that a partition holds is taken in it, and no two of them begin at
+-- one place.
 pub record IsSetState (w : SetState) : Type 0 where
   pub pool : IsSound w.pool
   pub members : AllByRecursion IsMember w.members

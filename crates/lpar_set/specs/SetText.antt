@@ -1,4 +1,5 @@
--- The text of a set's replies: each line has the partition's number before it, the lines of a dump's entries too.
+-- The text of a set's replies: each line has the partition's number before it, the lines of a
+-- dump's entries too.
 use Rattle.std.specs.Prelude.{ℕ, List, [], ◌∷◌, ◌++◌, length, codes}
 use Rattle.std.specs.List.{flat_map}
 use Rattle.std.specs.Fmt.{decimal}

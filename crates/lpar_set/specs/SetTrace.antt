@@ -17,7 +17,8 @@ pub record NumberedTrace : Type 0 where
   pub number : ℕ
   pub trace : AcceptedTrace
 
--- The pool that all share, the partitions in the order of their `begin` lines, and the run lines of all in file order.
+-- The pool that all share, the partitions in the order of their `begin` lines, and the run lines of
+-- all in file order.
 pub record AcceptedSet : Type 0 where
   pub pool_base : ℕ
   pub pool_order : ℕ
@@ -53,7 +54,8 @@ AreStrangers grants others =
     (λ (g : Grant). AllByRecursion (λ (other : Grant). meets_machine g other ≡ false) others)
     grants
 
--- Such a partition may be one of a set over this pool: its number is below 8, its trace is an accepted one beside the pool, its opening table has no entry, and it has no DMA window.
+-- Such a partition may be one of a set over this pool: its number is below 8, its trace is an
+-- accepted one beside the pool, its opening table has no entry, and it has no DMA window.
 pub record IsOfSet (pool_base pool_order : ℕ) (p : NumberedTrace) : Type 0 where
   pub number : p.number < 8
   pub accepted : IsAccepted p.trace
@@ -66,7 +68,9 @@ pub record IsOfSet (pool_base pool_order : ℕ) (p : NumberedTrace) : Type 0 whe
 abbrev pub IsTurnOf : AcceptedSet → Turn → Type 0
 IsTurnOf s turn = turn.partition < length s.partitions
 
--- The partitions, at least one, have numbers of their own and machine memory of their own, their tables have room in the pool one after the other, and each partition's turns are its lines in their order.
+-- The partitions, at least one, have numbers of their own and machine memory of their own, their
+-- tables have room in the pool one after the other, and each partition's turns are its lines in
+-- their order.
 pub record IsAcceptedSet (s : AcceptedSet) : Type 0 where
   pub pool : IsPoolRange s.pool_base s.pool_order
   pub some : 1 ≤ length s.partitions

@@ -21,8 +21,8 @@ use trace_line::Act;
 use trace_reply::{ReplyEnd, ReplyPlace};
 use vcpu::Cpu;
 
-/// Runs a line that isn't quiet on a table that nobody else is at, by this processor. Its reply takes
-/// the place, and it and the states after it are the serial run's.
+/// Runs a line that isn't quiet on a table that nobody else is at, by this processor. Its reply
+/// takes the place, and it and the states after it are the serial run's.
 pub fn run_act(
     table: &mut PlainTable,
     cpu: &mut Cpu,
@@ -70,7 +70,8 @@ fn apply_act(
     ensures processor { cpu.new ≡ processor_after cpu.old act.now (reply_in place.new) }
     ensures seen { AllCached (IsSeen table.new) cpu.new.cache }
 
-    // Of a cached line that was gone, the line's own receipts come later, and it is gone for the table.
+    // Of a cached line that was gone, the line's own receipts come later, and it is gone for the
+    // table.
     ensures comes_later { IfSome
         (gone_line_of cpu.old act.now (reply_in place.new))
         (λ line. AllLater line (receipts_in (reply_in place.new))) }

@@ -1,5 +1,5 @@
-//! Sets of partitions over one pool of table memory: up to eight partitions, each with its own grants,
-//! processors and table, whose lines run in the order in which they stand in one input.
+//! Sets of partitions over one pool of table memory: up to eight partitions, each with its own
+//! grants, processors and table, whose lines run in the order in which they stand in one input.
 //!
 //! What a partition may get of the pool depends on the others, and nothing else does.
 #![tactic(auto)]

@@ -26,8 +26,8 @@ use trace_read::Config;
 use trace_reply::{Reply, ReplyPlace, Shown};
 use vcpu::{Cpu, clear_caches, empty_cpus};
 
-/// A partition of a set between two of its lines: all that it carries but the pool, in which the blocks
-/// of its tables lie, and which each call is passed.
+/// A partition of a set between two of its lines: all that it carries but the pool, in which the
+/// blocks of its tables lie, and which each call is passed.
 #[derive(Drop)]
 pub struct Member {
     limit: u8,
@@ -65,8 +65,8 @@ impl Model for Member {
 }
 
 impl Member {
-    /// The partition of a configuration, before its first line. Its table takes the lowest place in the
-    /// pool. The only error is want of memory; then the pool stays.
+    /// The partition of a configuration, before its first line. Its table takes the lowest place in
+    /// the pool. The only error is want of memory; then the pool stays.
     pub fn open(alloc: Global, pool: &mut Pool, config: &Config) -> Result<Member, AllocError>
         requires room { lowest_place pool.old config.now.order ≢ None }
         ensures ok { IfOk result (λ member. member ≡ opening_member pool.old config.now) }
@@ -90,8 +90,8 @@ impl Member {
         })
     }
 
-    /// Runs a line. Its reply takes the place. Where memory ends, which it can at quiet lines alone, the
-    /// partition and the pool stay.
+    /// Runs a line. Its reply takes the place. Where memory ends, which it can at quiet lines
+    /// alone, the partition and the pool stay.
     #[tactic(auto, unfolding(run_model::specs::SerialRun::run_on))]
     pub fn line(
         &mut self,

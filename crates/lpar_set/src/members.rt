@@ -13,8 +13,8 @@ use std::marker::Model;
 use trace_line::TraceLine;
 use trace_reply::ReplyPlace;
 
-/// The partitions of a set between two lines, in the order of their `begin` lines, and the pool that
-/// they share.
+/// The partitions of a set between two lines, in the order of their `begin` lines, and the pool
+/// that they share.
 #[derive(Drop)]
 pub struct Members {
     pool: Pool,
@@ -65,9 +65,9 @@ impl Members {
         Ok(Members { pool, members })
     }
 
-    /// Runs a line of the partition that is so far in the order of `begin` lines, counted from 0. Its
-    /// reply takes the place. Where memory ends, which it can at quiet lines alone, all partitions and
-    /// the pool stay.
+    /// Runs a line of the partition that is so far in the order of `begin` lines, counted from 0.
+    /// Its reply takes the place. Where memory ends, which it can at quiet lines alone, all
+    /// partitions and the pool stay.
     pub fn line(
         &mut self,
         alloc: Global,

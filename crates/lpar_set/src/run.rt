@@ -26,8 +26,8 @@ fn run_turns(alloc: Global, set: &SetTrace, members: &mut Members) -> Result<Rep
     Ok(replies)
 }
 
-/// The replies to the lines of a set, one after the other in file order, in no more room than they need.
-/// The only error is want of memory.
+/// The replies to the lines of a set, one after the other in file order, in no more room than they
+/// need. The only error is want of memory.
 pub fn run_set(alloc: Global, set: &SetTrace) -> Result<Replies, AllocError>
     ensures replies { IfOk result (λ r. r.items ≡ set_replies set.now) }
     ensures count { IfOk result (λ r. length r.items ≡ length set.now.turns) }

@@ -32,8 +32,8 @@ impl SetPartition {
     }
 }
 
-/// An accepted set: the pool that its partitions share, the partitions in the order of their `begin`
-/// lines, and the run lines in file order.
+/// An accepted set: the pool that its partitions share, the partitions in the order of their
+/// `begin` lines, and the run lines in file order.
 #[derive(Drop)]
 pub struct SetTrace {
     pool: PoolRange,

@@ -28,8 +28,8 @@ use trace_read::{
     drop_cr, is_remark_line, is_setting, is_text, pool_named, read_words,
 };
 
-/// What the lines of a set have given so far. After a line that is refused, or for which there is no
-/// memory, it is of no further use.
+/// What the lines of a set have given so far. After a line that is refused, or for which there is
+/// no memory, it is of no further use.
 #[derive(Drop)]
 pub struct SetReader<'a> {
     taken: u32,
@@ -264,8 +264,8 @@ impl<'a> SetReader<'a> {
         }
     }
 
-    // Whether a configuration line comes behind a run line of another partition. Once its own has begun
-    // its reading refuses it, so the form of most lines is looked at once.
+    // Whether a configuration line comes behind a run line of another partition. Once its own has
+    // begun its reading refuses it, so the form of most lines is looked at once.
     fn is_early(&self, number: u8, words: &[&[u8]]) -> bool
         requires { number < 8 }
         ensures early { result ≡ is_early self.now number (texts words.now) }

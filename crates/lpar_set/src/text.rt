@@ -40,8 +40,8 @@ fn put_entries(
     Ok(())
 }
 
-/// Appends the lines of a dump, that of the table and those of its entries, each behind the partition's
-/// number.
+/// Appends the lines of a dump, that of the table and those of its entries, each behind the
+/// partition's number.
 fn put_dump(out: &mut String, number: u8, line: &TraceLine, shown: &Shown) -> Result<(), AllocError>
     ensures { OnOk
         result
@@ -91,8 +91,9 @@ fn put_numbered_place(
     put_place(out, line, place)
 }
 
-/// The text of replies to the lines of a set, in file order: a line for each, and for a dump a further
-/// one for each valid entry, each behind the number of its partition. The only error is want of memory.
+/// The text of replies to the lines of a set, in file order: a line for each, and for a dump a
+/// further one for each valid entry, each behind the number of its partition. The only error is
+/// want of memory.
 pub fn set_text(alloc: Global, set: &SetTrace, replies: &Replies) -> Result<String, AllocError>
     requires { length set.now.turns ≡ length replies.now.items }
     ensures { IfOk
@@ -114,8 +115,8 @@ pub fn set_text(alloc: Global, set: &SetTrace, replies: &Replies) -> Result<Stri
     Ok(out)
 }
 
-/// The texts of the replies to all lines of a set, whose partitions are before their first ones. Each is
-/// written as soon as its line has run.
+/// The texts of the replies to all lines of a set, whose partitions are before their first ones.
+/// Each is written as soon as its line has run.
 fn turns_to_text(alloc: Global, set: &SetTrace, members: &mut Members) -> Result<String, AllocError>
     requires { members.old ≡ opening_set set.now }
     ensures { IfOk
@@ -136,8 +137,8 @@ fn turns_to_text(alloc: Global, set: &SetTrace, members: &mut Members) -> Result
     Ok(out)
 }
 
-/// The text of the run of a set. No reply is kept longer than it takes to write it. The only error is
-/// want of memory.
+/// The text of the run of a set. No reply is kept longer than it takes to write it. The only error
+/// is want of memory.
 pub fn set_to_text(alloc: Global, set: &SetTrace) -> Result<String, AllocError>
     ensures text { IfOk
         result

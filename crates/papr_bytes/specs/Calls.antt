@@ -26,7 +26,8 @@ words_named first second third = (word_of first ++ word_of second) ++ word_of th
 abbrev pub no_memory : CallEnd
 no_memory = record { status = 5; length = 0 }
 
--- The text is put first into the caller's place with the call's status, or the place is too small, and stays.
+-- The text is put first into the caller's place with the call's status, or the place is too small,
+-- and stays.
 abbrev pub handed : Status → List ℕ → List ℕ → CallEnd × List ℕ
 handed status text place =
     if nat_le (length text) (length place)

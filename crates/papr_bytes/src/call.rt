@@ -31,9 +31,9 @@ fn called(
     Ok(hand_over(status, &sink.text, place))
 }
 
-/// Calls the program with at most three words; empty ones are left out. The input stands for standard
-/// input, and what the program writes is put into `place`. Where that is too small the status is 7,
-/// nothing is put there, and the length is the room that is wanted.
+/// Calls the program with at most three words; empty ones are left out. The input stands for
+/// standard input, and what the program writes is put into `place`. Where that is too small the
+/// status is 7, nothing is put there, and the length is the room that is wanted.
 #[unsafe(no_mangle)]
 pub extern "C" fn papr_bytes_call(
     alloc: Global,

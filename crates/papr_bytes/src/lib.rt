@@ -1,5 +1,6 @@
-//! papr on bytes: what the program does with its words, its standard input and its standard output, as
-//! one function on memory of the caller's, for C and for a page. `include/papr_bytes.h` is the same in C.
+//! papr on bytes: what the program does with its words, its standard input and its standard output,
+//! as one function on memory of the caller's, for C and for a page. `include/papr_bytes.h` is the
+//! same in C.
 //!
 //! The words are those behind the program's name, and the input stands for standard input. What the
 //! program writes is put into the caller's place. Nothing is kept between two calls.

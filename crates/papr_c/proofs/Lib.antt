@@ -18,3 +18,9 @@ pub mod KeptTranslations
 pub mod Agreement
 pub mod EndedTrials
 pub mod RoundTrip
+pub mod Removing
+pub mod LentEntries
+pub mod Changes
+pub mod TakenMarks
+pub mod Ranges
+pub mod ToldOnce

@@ -19,7 +19,8 @@ use Rattle.table_image.proofs.BitFields.{place_fits, segment_back, first_back, s
 use Rattle.papr_c.specs.Transfers.{entry_bytes, entry_of_bytes, entry_of_words}
 use Rattle.papr_c.specs.TransferLaw.{IsGranted, IsRoundTrip}
 
--- What a layout makes of two doublewords: words of 64 bits, which are read as these, with the same V.
+-- What a layout makes of two doublewords: words of 64 bits, which are read as these, with the same
+-- V.
 record AreBack (layout : Layout) (v w : ℕ × ℕ) : Type 0 where
   first : w.0 < 2 ^ 64
   second : w.1 < 2 ^ 64

@@ -91,7 +91,7 @@ length-more : (rs : List Receipt) (r : Receipt) → length (rs ++ r ∷ []) ≡ 
 length-more [] r = refl
 length-more (x ∷ rs) r = omega (arith, length-more rs r)
 
-put_next :
+pub put_next :
     (old new : List PaprReceipt) (i : ℕ) (rs : List Receipt) (r : Receipt)
     → new ≡ placed old 0 (map shown_receipt rs)
     → length rs ≡ i

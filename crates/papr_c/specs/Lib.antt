@@ -1,4 +1,3 @@
-pub mod Lent
 pub mod Tried
 pub mod StaleLaw
 pub mod Calls
@@ -15,3 +14,4 @@ pub mod Windows
 pub mod Decoding
 pub mod Hcalls
 pub mod TransferLaw
+pub mod Taking

@@ -1,5 +1,5 @@
 -- What a rehash of C leaves: its answer, and the entries of the new table.
-use Rattle.std.specs.Prelude.{ℕ, ◌&&◌, true, false, if◌then◌else◌, List, replicate, Option, Some, None}
+use Rattle.std.specs.Prelude.{ℕ, ◌-◌, ◌&&◌, true, false, if◌then◌else◌, List, ◌++◌, length, map, take, drop, replicate, Option, Some, None}
 use Rattle.hpte_fields.specs.TableSize.{entry_count}
 use Rattle.papr_codes.specs.ReturnCodes.{rc_code}
 use Rattle.papr_codes.specs.declared.codes.Rc.{Rc}
@@ -9,6 +9,7 @@ use Rattle.hpt_resize.specs.declared.carry.Collision.{Collision}
 use Rattle.hpt_resize.specs.Rehash.{collision_of, rehashed_states}
 use Rattle.papr_c.specs.declared.rehashing.PaprRehash.{PaprRehash}
 use Rattle.c_layout.specs.Tables.{is_table}
+use Rattle.c_layout.specs.Entries.{Entry, states_of, entry_with, entries_with}
 
 -- ---- answers
 -- The code of a rehash that isn't made, and nothing else.
@@ -54,3 +55,34 @@ outcome_of_rehash from entries to into =
       table_after (collision_of from to entries) from to entries,
     )
     else (refused_rehash Parameter, into)
+
+-- ---- marks
+-- The entries, each of them empty at stamp 0: marked if it was, or if it had another state.
+abbrev pub emptied_entries : List Entry → List Entry
+emptied_entries entries = map (λ (e : Entry). entry_with e (empty_state 0)) entries
+
+-- The same of those from one index on up to another one; the others are as they were.
+abbrev pub emptied_between : ℕ → ℕ → List Entry → List Entry
+emptied_between first end entries =
+    let rest = drop first entries in
+    take first entries
+    ++ (take (end - first) (emptied_entries rest) ++ drop (end - first) rest)
+
+-- Empty entries, each of them marked.
+abbrev pub wiped_entries : List Entry → List Entry
+wiped_entries entries =
+    replicate (length entries) (record { state = empty_state 0; marked = true })
+
+-- Each entry of the new table was emptied, and then took the state that was carried to it, so each
+-- that is valid is marked. Where two would meet all are.
+abbrev pub entries_after : Option Collision → ℕ → ℕ → List State → List Entry → List Entry
+entries_after None from to entries into =
+    entries_with (emptied_entries into) (rehashed_states from to entries)
+entries_after (Some c) from to entries into = wiped_entries into
+
+-- Where both are tables; otherwise nothing changes.
+abbrev pub rehashed_entries : ℕ → List State → ℕ → List Entry → List Entry
+rehashed_entries from entries to into =
+    if is_table from entries && is_table to (states_of into)
+    then entries_after (collision_of from to entries) from to entries into
+    else into

@@ -12,7 +12,8 @@ use Rattle.hpt_resize.specs.Resize.{is_prepare_request, commit_refusal}
 use Rattle.papr_c.specs.declared.rehashing.PaprRehash.{PaprRehash}
 use Rattle.papr_c.specs.declared.resizing.PaprResize.{PaprResize}
 use Rattle.c_layout.specs.Tables.{is_table}
-use Rattle.papr_c.specs.Rehash.{refused_rehash, rehash_told, table_after}
+use Rattle.c_layout.specs.Entries.{Entry, states_of}
+use Rattle.papr_c.specs.Rehash.{refused_rehash, rehash_told, table_after, entries_after}
 
 -- What a resize call may change: what is pending, and the memory that is lent for its table.
 pub record ResizeMemory : Type 0 where
@@ -110,3 +111,19 @@ outcome_of_resize_commit order entries flags shift m =
     if is_table order entries
     then commit_where (commit_refusal flags shift (pending_of m.resize)) order entries shift m
     else (refused_rehash Parameter, m)
+
+-- The entries of that memory with their marks, where nothing refuses the commit.
+abbrev pub entries_where : Option Rc → ℕ → List State → ℕ → List Entry → List Entry
+entries_where (Some rc) order entries shift into = into
+entries_where None order entries shift into =
+    if length (states_of into) == entry_count shift
+    then entries_after (collision_of order shift entries) order shift entries into
+    else into
+
+-- So for a current table of 2 ^ order bytes: marked as by a rehash.
+abbrev pub committed_entries :
+    ℕ → List State → ℕ → ℕ → PaprResize → List Entry → List Entry
+committed_entries order entries flags shift resize into =
+    if is_table order entries
+    then entries_where (commit_refusal flags shift (pending_of resize)) order entries shift into
+    else into

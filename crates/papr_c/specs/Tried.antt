@@ -6,6 +6,7 @@ use Rattle.entry_model.specs.Reply.{words_of}
 use Rattle.entry_model.specs.Run.{state_at, states_after}
 use Rattle.entry_model.specs.Trial.{Call, call, receipt_at}
 use Rattle.entry_model.specs.declared.operation.Answer.{Answer}
+use Rattle.entry_model.specs.declared.operation.Answer.TheVariants.{Entered, Removed, Protected, Was}
 use Rattle.entry_model.specs.declared.operation.Op.{Op}
 use Rattle.entry_model.specs.declared.receipt.Receipt.{Receipt}
 use Rattle.call_trials.specs.Calls.{call_at}
@@ -50,3 +51,12 @@ IsTriedLast goes cs i m (Some r) count = IsMadeAt goes cs i m r false × (count 
 abbrev pub IsTriedNext : (Answer → Bool) → List Call → ℕ → LentPair → Option Tried → Type 0
 IsTriedNext goes cs i m None = (r : Receipt) × IsMadeAt goes cs i m r true
 IsTriedNext goes cs i m (Some t) = IsTriedLast goes cs i m t.ending t.count
+
+-- ---- what is written
+-- The entry was changed, other than by an access.
+abbrev pub is_change : Answer → Bool
+is_change Entered = true
+is_change Removed = true
+is_change Protected = true
+is_change Was = true
+is_change other = false

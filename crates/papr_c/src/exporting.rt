@@ -4,11 +4,13 @@ ghost use Rattle.table_image.specs.Layouts.{laid_out};
 ghost use Rattle.entry_model.specs.Reply.{words_of};
 ghost use Rattle.c_layout.specs.Places.{filled};
 ghost use Rattle.papr_c.specs.Transfers.{bytes_of_entries, outcome_of_export};
+ghost use Rattle.c_layout.specs.Entries.{states_of};
 
 use crate::transfer::{PaprTransfer, Refusal, is_range, layout_of};
 use byteorder::{BigEndian, ByteOrder};
-use c_layout::is_table;
+use c_layout::{PaprEntry, is_table};
 use entry_model::EntryState;
+use hpt_resize::StateHolder;
 use table_image::Layout;
 
 /// The bits of doubleword 0 below B that the newer layout has no place for.
@@ -35,17 +37,17 @@ fn words_in(layout: Layout, entry: &EntryState) -> Option<(u64, u64)>
 }
 
 /// The first of so many entries that the layout can't hold.
-fn first_unheld(
-    layout: Layout,
-    entries: &[EntryState],
-    first: usize,
-    number: usize,
-) -> Option<usize>
-    requires { first + number ≤ length entries.now }
-    ensures { result ≡ Rattle.papr_c.specs.Transfers.first_unheld layout entries.now first number }
+fn first_unheld(layout: Layout, entries: &[PaprEntry], first: usize, number: usize) -> Option<usize>
+    requires { first + number ≤ length (states_of entries.now) }
+    ensures { result
+        ≡ Rattle.papr_c.specs.Transfers.first_unheld
+        layout
+        (states_of entries.now)
+        first
+        number }
 {
     for i in 0..number {
-        if words_in(layout, &entries[first + i]).is_none() {
+        if words_in(layout, &entries[first + i].state()).is_none() {
             return Some(first + i);
         }
     }
@@ -62,14 +64,20 @@ fn put_words(out: &mut [u8], dword0: u64, dword1: u64)
 }
 
 /// Puts the bytes of so many entries, each of which the layout holds, into the first places.
-fn put_bytes(layout: Layout, entries: &[EntryState], first: usize, number: usize, out: &mut [u8])
-    requires in_table { first + number ≤ length entries.now }
+fn put_bytes(layout: Layout, entries: &[PaprEntry], first: usize, number: usize, out: &mut [u8])
+    requires in_table { first + number ≤ length (states_of entries.now) }
     requires room { 16 * number ≤ length out.old }
-    requires held { Rattle.papr_c.specs.Transfers.first_unheld layout entries.now first number ≡ None }
-    ensures { out.new ≡ filled out.old (bytes_of_entries layout entries.now first number) }
+    requires held { Rattle.papr_c.specs.Transfers.first_unheld
+        layout
+        (states_of entries.now)
+        first
+        number
+        ≡ None }
+    ensures { out.new
+        ≡ filled out.old (bytes_of_entries layout (states_of entries.now) first number) }
 {
     for i in 0..number {
-        let (dword0, dword1) = words_in(layout, &entries[first + i]).unwrap();
+        let (dword0, dword1) = words_in(layout, &entries[first + i].state()).unwrap();
         put_words(&mut out[16 * i..], dword0, dword1);
     }
 }
@@ -79,7 +87,7 @@ fn put_bytes(layout: Layout, entries: &[EntryState], first: usize, number: usize
 /// are left out. Where the layout can't hold an entry nothing is written.
 #[unsafe(no_mangle)]
 pub extern "C" fn papr_export(
-    entries: &[EntryState],
+    entries: &[PaprEntry],
     order: u8,
     layout: u8,
     first: usize,
@@ -87,7 +95,7 @@ pub extern "C" fn papr_export(
     out: &mut [u8],
 ) -> PaprTransfer
     ensures { (result, out.new)
-        ≡ outcome_of_export order entries.now layout first number out.old }
+        ≡ outcome_of_export order (states_of entries.now) layout first number out.old }
 {
     if !is_table(entries, order) || !is_range(entries.len(), first, number, out.len()) {
         return PaprTransfer::refused(0, Refusal::Arguments);

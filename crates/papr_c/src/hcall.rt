@@ -2,33 +2,35 @@ ghost use Rattle.std.specs.Prelude.{◌≡◌};
 ghost use Rattle.papr_c.specs.Calls.{memory};
 ghost use Rattle.c_layout.specs.Grants.{listed};
 ghost use Rattle.papr_c.specs.Hcalls.{outcome_of_hcall};
+ghost use Rattle.c_layout.specs.Entries.{states_of, AreMarked};
 
 use crate::bulk::papr_h_bulk_remove;
 use crate::enter::papr_h_enter;
 use crate::read::papr_h_read;
 use crate::single::{papr_h_clear_mod, papr_h_clear_ref, papr_h_protect, papr_h_remove};
-use c_layout::{PaprGrants, PaprReceipt, PaprReply};
-use entry_model::EntryState;
+use c_layout::{PaprEntry, PaprGrants, PaprReceipt, PaprReply};
 use papr_codes::{Hcall, Rc};
 
 /// A hypervisor call by its number, register 3, with its words in `args` as in registers 4 to 11.
 /// The words that it gives take their place, from register 4 on. H_FUNCTION for a number that isn't
 /// one of a call on entries; then nothing changes.
+#[tactic(auto, using(c_layout::proofs::Marks::marked_none))]
 #[unsafe(no_mangle)]
 pub extern "C" fn papr_hcall(
-    entries: &mut [EntryState],
+    entries: &mut [PaprEntry],
     order: u8,
     grants: &PaprGrants,
     number: u64,
     args: &mut [u64; 8],
     receipts: &mut [PaprReceipt],
 ) -> PaprReply
-    ensures { (result, memory entries.new args.new receipts.new)
+    ensures told { (result, memory (states_of entries.new) args.new receipts.new)
         ≡ outcome_of_hcall
         order
         (listed grants.now.grants grants.now.count)
         number
-        (memory entries.old args.old receipts.old) }
+        (memory (states_of entries.old) args.old receipts.old) }
+    ensures marks { AreMarked entries.old entries.new }
 {
     let asked = *args;
     let (first, second, third) = (asked[0], asked[1], asked[2]);

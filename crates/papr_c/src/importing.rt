@@ -3,11 +3,13 @@ ghost use Rattle.entry_model.specs.Reply.{entered_state};
 ghost use Rattle.table_image.specs.Layouts.{read_words};
 ghost use Rattle.c_layout.specs.Grants.{listed};
 ghost use Rattle.papr_c.specs.Transfers.{replaced, entries_of_bytes, outcome_of_import};
+ghost use Rattle.c_layout.specs.Entries.{states_of, AreMarked};
 
 use crate::transfer::{PaprTransfer, Refusal, is_range, layout_of};
 use byteorder::{BigEndian, ByteOrder};
-use c_layout::{PaprGrants, is_table};
+use c_layout::{PaprEntry, PaprGrants, is_table};
 use entry_model::{EntryState, Op, reply};
+use hpt_resize::StateHolder;
 use hpte_fields::VALID;
 use page_grants::entered_words;
 use table_image::Layout;
@@ -110,28 +112,34 @@ fn first_refused(grants: &PaprGrants, layout: Layout, bytes: &[u8], number: usiz
 }
 
 /// Puts so many entries, none of which is refused, in place of those from the first on.
+#[tactic(auto, using(c_layout::proofs::Marks::marked_none))]
 fn put_entries(
     grants: &PaprGrants,
     layout: Layout,
     bytes: &[u8],
     number: usize,
     first: usize,
-    entries: &mut [EntryState],
+    entries: &mut [PaprEntry],
 )
     requires enough { 16 * number ≤ length bytes.now }
-    requires in_table { first + number ≤ length entries.old }
+    requires in_table { first + number ≤ length (states_of entries.old) }
     requires entered { Rattle.papr_c.specs.Transfers.first_refused
         (listed grants.now.grants grants.now.count)
         layout
         bytes.now
         number
         ≡ None }
-    ensures { let grants = listed grants.now.grants grants.now.count in
-        entries.new
-        ≡ replaced entries.old first (entries_of_bytes grants layout bytes.now number) }
+    ensures entries { let grants = listed grants.now.grants grants.now.count in
+        states_of entries.new
+        ≡ replaced
+        (states_of entries.old)
+        first
+        (entries_of_bytes grants layout bytes.now number) }
+    ensures marks { AreMarked entries.old entries.new }
 {
     for i in 0..number {
-        entries[first + i] = entry_of_bytes(grants, layout, bytes, i).unwrap();
+        let state = entry_of_bytes(grants, layout, bytes, i).unwrap();
+        entries[first + i].hold(&state);
     }
 }
 
@@ -139,9 +147,10 @@ fn put_entries(
 /// `papr_export` writes them in this layout. Each is what H_ENTER stores of its two doublewords, at
 /// stamp 0, or empty where V is clear; what stood there is dropped. Where H_ENTER would refuse one,
 /// or the layout has no such entry, nothing changes.
+#[tactic(auto, using(c_layout::proofs::Marks::marked_none))]
 #[unsafe(no_mangle)]
 pub extern "C" fn papr_import(
-    entries: &mut [EntryState],
+    entries: &mut [PaprEntry],
     order: u8,
     grants: &PaprGrants,
     layout: u8,
@@ -149,15 +158,16 @@ pub extern "C" fn papr_import(
     number: usize,
     bytes: &[u8],
 ) -> PaprTransfer
-    ensures { (result, entries.new)
+    ensures told { (result, states_of entries.new)
         ≡ outcome_of_import
         order
-        entries.old
+        (states_of entries.old)
         (listed grants.now.grants grants.now.count)
         layout
         first
         number
         bytes.now }
+    ensures marks { AreMarked entries.old entries.new }
 {
     if !is_table(entries, order) || !is_range(entries.len(), first, number, bytes.len()) {
         return PaprTransfer::refused(0, Refusal::Arguments);

@@ -4,6 +4,7 @@ ghost use Rattle.papr_c.specs.Decoding.{PlacesAreThoseOfPages, NoCauseExactlyAtP
 ghost use Rattle.papr_c.specs.ResizeLaw.{IsPrepareOfPool, IsCommitOfPool};
 ghost use Rattle.papr_c.specs.RightsLaws.{RightsAreWhatStays, NoCauseExactlyWhereAllowed};
 ghost use Rattle.papr_c.specs.StaleLaw.{UnstaleKeepsTranslations};
+ghost use Rattle.papr_c.specs.Taking.{EachMarkIsToldOnce};
 ghost use Rattle.papr_c.specs.TransferLaw.{IsRoundTrip};
 ghost use Rattle.papr_c.specs.Walks.{ProbesAgreeWithWalks};
 
@@ -57,4 +58,10 @@ pub fn commits_as_over_a_pool()
 /// What `papr_export` writes of an entry, `papr_import` makes the same entry of, but for its stamp.
 pub fn entries_come_back()
     ensures { IsRoundTrip }
+{}
+
+/// Where `papr_take_changed` is asked until the end, with no call between, each marked entry is
+/// told once, and no mark is left.
+pub fn each_mark_is_told_once()
+    ensures { EachMarkIsToldOnce }
 {}

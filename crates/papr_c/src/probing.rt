@@ -4,28 +4,30 @@ ghost use Rattle.entry_model.specs.Receipt.{found_of};
 ghost use Rattle.entry_model.specs.Trial.{Call};
 ghost use Rattle.call_plan.specs.PageCalls.{calls_of};
 ghost use Rattle.papr_c.specs.Walks.{each_as_is, outcome_of_probe};
+ghost use Rattle.c_layout.specs.Entries.{states_of};
 
 use crate::trying::asked;
-use c_layout::{NO_PAGE, PaprAccess, PaprWalk, is_table, want_of};
+use c_layout::{NO_PAGE, PaprAccess, PaprEntry, PaprWalk, is_table, want_of};
 use call_plan::PageCalls;
 use call_trials::CallList;
-use entry_model::{EntryState, Receipt};
+use entry_model::Receipt;
+use hpt_resize::StateHolder;
 use power_addr::Page;
 
 /// The receipt that a walk would have of the entry that translates its page.
 #[inline]
-fn find(entries: &[EntryState], calls: &PageCalls) -> Option<Receipt>
+fn find(entries: &[PaprEntry], calls: &PageCalls) -> Option<Receipt>
     requires in_table { AllByRecursion
-        (λ (c : Call). c.entry < length entries.now)
+        (λ (c : Call). c.entry < length (states_of entries.now))
         (calls_of calls.now) }
     requires few { length (calls_of calls.now) ≤ 16 }
-    ensures { result ≡ found_of (each_as_is entries.now (calls_of calls.now)) }
+    ensures { result ≡ found_of (each_as_is (states_of entries.now) (calls_of calls.now)) }
 {
     for made in 0..16 {
         let Some((entry, op)) = calls.call_at(made) else {
             return None;
         };
-        let before = entries[entry as usize];
+        let before = entries[entry as usize].state();
         let (receipt, _after) = asked(entry, before, &op);
         if !calls.goes_on_after(receipt.answer) {
             return Some(receipt);
@@ -37,8 +39,8 @@ fn find(entries: &[EntryState], calls: &PageCalls) -> Option<Receipt>
 /// What `papr_walk` would find of an access to `ea`, by the entries as they are, of which none
 /// changes. `dword1` and the rights are those without the access, and there are no receipts.
 #[unsafe(no_mangle)]
-pub extern "C" fn papr_probe(entries: &[EntryState], order: u8, access: &PaprAccess) -> PaprWalk
-    ensures { result ≡ outcome_of_probe order access.now entries.now }
+pub extern "C" fn papr_probe(entries: &[PaprEntry], order: u8, access: &PaprAccess) -> PaprWalk
+    ensures { result ≡ outcome_of_probe order access.now (states_of entries.now) }
 {
     let page = Page::of_address(access.one_tb, access.vsid, access.shift, access.ea);
     let (Some(page), Some(want)) = (page, want_of(access.want)) else {

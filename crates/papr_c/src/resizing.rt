@@ -1,11 +1,11 @@
 ghost use Rattle.std.specs.Prelude.{◌≡◌, ◌≤◌, ◌+◌, min, Some, None, length, MatchResult, IfOk, OnOk};
 ghost use Rattle.hpte_fields.specs.TableSize.{entry_count};
 ghost use Rattle.hpt_resize.specs.Resize.{commit_refusal};
-ghost use Rattle.papr_c.specs.Resizing.{resize_memory, nothing_pending, pending_of, is_pending_table, table_of_order, emptied, prepared, outcome_of_resize_prepare, outcome_of_resize_commit};
+ghost use Rattle.papr_c.specs.Resizing.{resize_memory, nothing_pending, pending_of, is_pending_table, table_of_order, emptied, prepared, outcome_of_resize_prepare, outcome_of_resize_commit, committed_entries};
+ghost use Rattle.c_layout.specs.Entries.{states_of, AreMarked};
 
 use crate::rehashing::{PaprRehash, carry, clear};
-use c_layout::{GREATEST, LEAST, is_table};
-use entry_model::EntryState;
+use c_layout::{GREATEST, LEAST, PaprEntry, is_table};
 use hpte_fields::entry_count;
 use papr_codes::Rc;
 
@@ -93,32 +93,39 @@ fn is_prepare_request(flags: u64, shift: u64) -> bool
 
 /// Makes the next entries of a table of `2^order` bytes ready, of which the first are so already,
 /// and says how many are then.
-fn advance(ready: usize, order: u8, into: &mut [EntryState]) -> usize
+#[tactic(auto, using(c_layout::proofs::Marks::marked_none))]
+fn advance(ready: usize, order: u8, into: &mut [PaprEntry]) -> usize
     requires low { 18 ≤ order }
     requires high { order ≤ 22 }
     requires few { ready ≤ entry_count order }
-    requires whole { length into.old ≡ entry_count order }
+    requires whole { length (states_of into.old) ≡ entry_count order }
     ensures ready { result ≡ min (ready + 16384) (entry_count order) }
-    ensures into { into.new ≡ emptied ready result into.old }
+    ensures into { states_of into.new ≡ emptied ready result (states_of into.old) }
+    ensures marks { AreMarked into.old into.new }
 {
     let end = into.len().min(ready + READY_A_CALL);
-    clear(&mut into[ready..end]);
+    clear(into, ready, end);
     end
 }
 
 /// H_RESIZE_HPT_PREPARE: makes a table of `2^shift` bytes ready in the memory that is lent, a part
 /// at each call. `limit` is the highest order that the guest may ask for.
-#[tactic(auto, unfolding(crate::specs::Resizing::outcome_of_resize_prepare))]
+#[tactic(auto, using(c_layout::proofs::Marks::marked_none), unfolding(crate::specs::Resizing::outcome_of_resize_prepare))]
 #[unsafe(no_mangle)]
 pub extern "C" fn papr_resize_prepare(
     resize: &mut PaprResize,
     limit: u8,
     flags: u64,
     shift: u64,
-    into: &mut [EntryState],
+    into: &mut [PaprEntry],
 ) -> i64
-    ensures { (result, resize_memory resize.new into.new)
-        ≡ outcome_of_resize_prepare limit flags shift (resize_memory resize.old into.old) }
+    ensures told { (result, resize_memory resize.new (states_of into.new))
+        ≡ outcome_of_resize_prepare
+        limit
+        flags
+        shift
+        (resize_memory resize.old (states_of into.old)) }
+    ensures marks { AreMarked into.old into.new }
 {
     if !is_prepare_request(flags, shift) {
         return Rc::Parameter.code();
@@ -154,19 +161,21 @@ pub extern "C" fn papr_resize_prepare(
 #[unsafe(no_mangle)]
 pub extern "C" fn papr_resize_commit(
     resize: &mut PaprResize,
-    entries: &[EntryState],
+    entries: &[PaprEntry],
     order: u8,
-    into: &mut [EntryState],
+    into: &mut [PaprEntry],
     flags: u64,
     shift: u64,
 ) -> PaprRehash
-    ensures { (result, resize_memory resize.new into.new)
+    ensures told { (result, resize_memory resize.new (states_of into.new))
         ≡ outcome_of_resize_commit
         order
-        entries.now
+        (states_of entries.now)
         flags
         shift
-        (resize_memory resize.old into.old) }
+        (resize_memory resize.old (states_of into.old)) }
+    ensures marks { into.new
+        ≡ committed_entries order (states_of entries.now) flags shift resize.old into.old }
 {
     if !is_table(entries, order) {
         return PaprRehash::refused(Rc::Parameter);

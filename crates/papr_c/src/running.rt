@@ -2,36 +2,33 @@ ghost use Rattle.std.specs.Prelude.{◌≡◌, true};
 ghost use Rattle.call_plan.specs.Plans as plans;
 ghost use Rattle.papr_c.specs.Calls.{memory, outcome_of_call};
 ghost use Rattle.c_layout.specs.Tables.{is_table};
-ghost use Rattle.h_update.specs.Bulk.{h_bulk_remove_plan};
+ghost use Rattle.c_layout.specs.Entries.{states_of, AreMarked};
 
-use crate::lent::LentTable;
 use crate::read::put_entries;
+use crate::removals::remove_pairs;
 use crate::trying::{make, try_lent};
-use c_layout::{
-    PaprReceipt, PaprReply, any_stale, ends_stale, filled_count, hand_over, is_stale, put_receipts,
-};
+use c_layout::{PaprEntry, PaprReceipt, PaprReply, ends_stale, filled_count, hand_over, is_stale};
 use call_plan::{CallPlan, Told, Trial};
-use entry_model::{EntryState, Receipts};
-use h_update::h_bulk_remove_into;
 use papr_codes::Rc;
 
 /// Tries entries that are lent, and hands over what their receipts tell.
 // In line, so that each caller has the part of `reply` that its operation needs, and no other.
 #[inline(always)]
 fn try_trial(
-    entries: &mut [EntryState],
+    entries: &mut [PaprEntry],
     order: u8,
     trial: &Trial,
     words: &mut [u64],
     receipts: &mut [PaprReceipt],
 ) -> PaprReply
-    requires table { is_table order entries.old ≡ true }
+    requires table { is_table order (states_of entries.old) ≡ true }
     requires fits { plans.IsTrialIn order trial.now }
-    ensures { (result, memory entries.new words.new receipts.new)
+    ensures told { (result, memory (states_of entries.new) words.new receipts.new)
         ≡ outcome_of_call
         order
         (plans.plan_of_trial trial.now)
-        (memory entries.old words.old receipts.old) }
+        (memory (states_of entries.old) words.old receipts.old) }
+    ensures marks { AreMarked entries.old entries.new }
 {
     let room = receipts.len();
     match trial.told {
@@ -59,47 +56,23 @@ fn try_trial(
     }
 }
 
-/// Removes the entries that pairs of words ask for.
-#[inline]
-fn remove_pairs(
-    entries: &mut [EntryState],
-    order: u8,
-    pairs: &[u64; 8],
-    words: &mut [u64],
-    receipts: &mut [PaprReceipt],
-) -> PaprReply
-    requires table { is_table order entries.old ≡ true }
-    ensures { (result, memory entries.new words.new receipts.new)
-        ≡ outcome_of_call
-        order
-        (h_bulk_remove_plan order pairs.now)
-        (memory entries.old words.old receipts.old) }
-{
-    let mut made = Receipts::new();
-    let mut table = LentTable::lend(entries, order);
-    let registers = h_bulk_remove_into(&mut table, pairs, &mut made);
-    let _put = put_receipts(made.as_slice(), receipts);
-    let tried = made.as_slice().len() as u32;
-    let stale = any_stale(made.as_slice());
-    hand_over(&registers, tried, stale, words, receipts.len())
-}
-
 /// Makes a call on entries that are lent, and hands over what its receipts tell.
 #[inline(always)]
 pub fn run_lent(
-    entries: &mut [EntryState],
+    entries: &mut [PaprEntry],
     order: u8,
     plan: &CallPlan,
     words: &mut [u64],
     receipts: &mut [PaprReceipt],
 ) -> PaprReply
-    requires table { is_table order entries.old ≡ true }
+    requires table { is_table order (states_of entries.old) ≡ true }
     requires fits { plans.Fits order plan.now }
-    ensures { (result, memory entries.new words.new receipts.new)
+    ensures told { (result, memory (states_of entries.new) words.new receipts.new)
         ≡ outcome_of_call
         order
         (plans.plan_of plan.now)
-        (memory entries.old words.old receipts.old) }
+        (memory (states_of entries.old) words.old receipts.old) }
+    ensures marks { AreMarked entries.old entries.new }
 {
     match plan {
         CallPlan::Code { rc } => PaprReply::told(*rc, 0, 0, false),

@@ -1,18 +1,19 @@
 ghost use Rattle.std.specs.Prelude.{◌≡◌};
 ghost use Rattle.h_update.specs.Single.{h_remove_plan, h_protect_plan, h_clear_ref_plan, h_clear_mod_plan};
 ghost use Rattle.papr_c.specs.Calls.{memory, outcome_of_call};
+ghost use Rattle.c_layout.specs.Entries.{states_of, AreMarked};
 
 use crate::running::run_lent;
-use c_layout::{PaprReceipt, PaprReply, is_table};
+use c_layout::{PaprEntry, PaprReceipt, PaprReply, is_table};
 use call_plan::{clear_mod_plan, clear_ref_plan, protect_plan, remove_plan};
-use entry_model::EntryState;
 
 /// H_REMOVE (LoPAR): empties the entry `ptex` where it passes the test that `flags` ask for, by
 /// `avpn`. The words are its two doublewords before.
+#[tactic(auto, using(c_layout::proofs::Marks::marked_none))]
 #[inline(always)]
 #[unsafe(no_mangle)]
 pub extern "C" fn papr_h_remove(
-    entries: &mut [EntryState],
+    entries: &mut [PaprEntry],
     order: u8,
     flags: u64,
     ptex: u64,
@@ -20,11 +21,12 @@ pub extern "C" fn papr_h_remove(
     words: &mut [u64],
     receipts: &mut [PaprReceipt],
 ) -> PaprReply
-    ensures { (result, memory entries.new words.new receipts.new)
+    ensures told { (result, memory (states_of entries.new) words.new receipts.new)
         ≡ outcome_of_call
         order
         (h_remove_plan order flags ptex avpn)
-        (memory entries.old words.old receipts.old) }
+        (memory (states_of entries.old) words.old receipts.old) }
+    ensures marks { AreMarked entries.old entries.new }
 {
     if !is_table(entries, order) {
         return PaprReply::refused();
@@ -35,10 +37,11 @@ pub extern "C" fn papr_h_remove(
 
 /// H_PROTECT (LoPAR): gives the entry `ptex` the protection in `flags`, where it passes the test by
 /// `avpn` that they ask for. There are no words.
+#[tactic(auto, using(c_layout::proofs::Marks::marked_none))]
 #[inline(always)]
 #[unsafe(no_mangle)]
 pub extern "C" fn papr_h_protect(
-    entries: &mut [EntryState],
+    entries: &mut [PaprEntry],
     order: u8,
     flags: u64,
     ptex: u64,
@@ -46,11 +49,12 @@ pub extern "C" fn papr_h_protect(
     words: &mut [u64],
     receipts: &mut [PaprReceipt],
 ) -> PaprReply
-    ensures { (result, memory entries.new words.new receipts.new)
+    ensures told { (result, memory (states_of entries.new) words.new receipts.new)
         ≡ outcome_of_call
         order
         (h_protect_plan order flags ptex avpn)
-        (memory entries.old words.old receipts.old) }
+        (memory (states_of entries.old) words.old receipts.old) }
+    ensures marks { AreMarked entries.old entries.new }
 {
     if !is_table(entries, order) {
         return PaprReply::refused();
@@ -61,21 +65,23 @@ pub extern "C" fn papr_h_protect(
 
 /// H_CLEAR_REF (LoPAR): clears R of the entry `ptex`. The word is its doubleword 1 before. `flags`
 /// are ignored.
+#[tactic(auto, using(c_layout::proofs::Marks::marked_none))]
 #[inline(always)]
 #[unsafe(no_mangle)]
 pub extern "C" fn papr_h_clear_ref(
-    entries: &mut [EntryState],
+    entries: &mut [PaprEntry],
     order: u8,
     _flags: u64,
     ptex: u64,
     words: &mut [u64],
     receipts: &mut [PaprReceipt],
 ) -> PaprReply
-    ensures { (result, memory entries.new words.new receipts.new)
+    ensures told { (result, memory (states_of entries.new) words.new receipts.new)
         ≡ outcome_of_call
         order
         (h_clear_ref_plan order ptex)
-        (memory entries.old words.old receipts.old) }
+        (memory (states_of entries.old) words.old receipts.old) }
+    ensures marks { AreMarked entries.old entries.new }
 {
     if !is_table(entries, order) {
         return PaprReply::refused();
@@ -86,21 +92,23 @@ pub extern "C" fn papr_h_clear_ref(
 
 /// H_CLEAR_MOD (LoPAR): clears C of the entry `ptex`. The word is its doubleword 1 before. `flags`
 /// are ignored.
+#[tactic(auto, using(c_layout::proofs::Marks::marked_none))]
 #[inline(always)]
 #[unsafe(no_mangle)]
 pub extern "C" fn papr_h_clear_mod(
-    entries: &mut [EntryState],
+    entries: &mut [PaprEntry],
     order: u8,
     _flags: u64,
     ptex: u64,
     words: &mut [u64],
     receipts: &mut [PaprReceipt],
 ) -> PaprReply
-    ensures { (result, memory entries.new words.new receipts.new)
+    ensures told { (result, memory (states_of entries.new) words.new receipts.new)
         ≡ outcome_of_call
         order
         (h_clear_mod_plan order ptex)
-        (memory entries.old words.old receipts.old) }
+        (memory (states_of entries.old) words.old receipts.old) }
+    ensures marks { AreMarked entries.old entries.new }
 {
     if !is_table(entries, order) {
         return PaprReply::refused();

@@ -3,12 +3,14 @@ ghost use Rattle.std.specs.List.{AllByRecursion};
 ghost use Rattle.entry_model.specs.Receipt.{after_of, receipt_of};
 ghost use Rattle.entry_model.specs.Run.{state_at, states_after};
 ghost use Rattle.entry_model.specs.Trial.{Call, ending_of, trial_run};
+ghost use Rattle.c_layout.specs.Entries.{states_of, ArePassed};
 ghost use Rattle.c_layout.specs.Places.{placed, shown_receipt};
 ghost use Rattle.papr_c.specs.Tried.{IsTriedNext};
 
-use c_layout::{PaprReceipt, put_receipt};
+use c_layout::{PaprEntry, PaprReceipt, put_receipt};
 use call_trials::CallList;
 use entry_model::{Answer, EntryState, Op, Receipt, reply};
+use hpt_resize::StateHolder;
 
 /// How a trial ended.
 #[derive(Clone, Copy)]
@@ -19,20 +21,40 @@ pub struct Tried {
     pub count: u32,
 }
 
-/// Gives an entry its state after an operation. An entry that was read or doesn't match is as it
-/// was, and isn't written: a walk goes past most of them.
+/// Whether the entry was changed, other than by an access.
 #[inline(always)]
-fn store(entries: &mut [EntryState], receipt: &Receipt, after: &EntryState)
-    requires in_table { receipt.now.entry < length entries.old }
-    requires before { receipt.now.before ≡ state_at entries.old receipt.now.entry }
-    requires after { after.now ≡ after_of receipt.now }
-    ensures { entries.new ≡ states_after entries.old receipt.now }
+fn is_change(answer: Answer) -> bool
+    ensures { result ≡ Rattle.papr_c.specs.Tried.is_change answer }
 {
-    if matches!(receipt.op, Op::Read) {
-        return;
-    }
-    if !matches!(receipt.answer, Answer::NoMatch) {
-        entries[receipt.entry as usize] = *after;
+    matches!(
+        answer,
+        Answer::Entered | Answer::Removed | Answer::Protected | Answer::Was
+    )
+}
+
+/// Whether an access was allowed.
+#[inline(always)]
+fn is_at(answer: Answer) -> bool
+    ensures { result ≡ Rattle.entry_model.specs.Receipt.is_at answer }
+{
+    matches!(answer, Answer::At)
+}
+
+/// Gives an entry its state after an operation. A change raises the stamp, so the entry is marked
+/// then, and an access that is allowed may have set R or C. Else the entry is as it was, and isn't
+/// written: a walk goes past most of them.
+#[inline(always)]
+fn store(entries: &mut [PaprEntry], receipt: &Receipt, after: &EntryState)
+    requires in_table { receipt.now.entry < length entries.old }
+    requires before { receipt.now.before ≡ state_at (states_of entries.old) receipt.now.entry }
+    requires after { after.now ≡ after_of receipt.now }
+    ensures entries { states_of entries.new ≡ states_after (states_of entries.old) receipt.now }
+    ensures passed { ArePassed entries.old entries.new }
+{
+    if is_change(receipt.answer) {
+        entries[receipt.entry as usize] = PaprEntry::of(after, true);
+    } else if is_at(receipt.answer) {
+        entries[receipt.entry as usize].hold(after);
     }
 }
 
@@ -56,18 +78,19 @@ pub fn asked(entry: u32, before: EntryState, op: &Op) -> (Receipt, EntryState)
 /// one.
 #[inline(always)]
 pub fn make(
-    entries: &mut [EntryState],
+    entries: &mut [PaprEntry],
     op: &Op,
     entry: u32,
     receipts: &mut [PaprReceipt],
     place: u32,
 ) -> Receipt
-    requires { entry < length entries.old }
-    ensures receipt { result ≡ receipt_of entry (state_at entries.old entry) op.now }
-    ensures entries { entries.new ≡ states_after entries.old result }
+    requires { entry < length (states_of entries.old) }
+    ensures receipt { result ≡ receipt_of entry (state_at (states_of entries.old) entry) op.now }
+    ensures entries { states_of entries.new ≡ states_after (states_of entries.old) result }
+    ensures passed { ArePassed entries.old entries.new }
     ensures receipts { receipts.new ≡ set receipts.old place (shown_receipt result) }
 {
-    let before = entries[entry as usize];
+    let before = entries[entry as usize].state();
     let (receipt, after) = asked(entry, before, op);
     store(entries, &receipt, &after);
     put_receipt(&receipt, receipts, place);
@@ -79,27 +102,28 @@ pub fn make(
 /// follows.
 #[inline(always)]
 fn try_next<C: CallList>(
-    entries: &mut [EntryState],
+    entries: &mut [PaprEntry],
     calls: &C,
     receipts: &mut [PaprReceipt],
     made: u32,
 ) -> Option<Tried>
     requires in_table { AllByRecursion
-        (λ (c : Call). c.entry < length entries.old)
+        (λ (c : Call). c.entry < length (states_of entries.old))
         (C.calls calls.now) }
     requires near { made ≤ length (C.calls calls.now) }
     requires small { made < 2 ^ 31 }
-    ensures { IsTriedNext
+    ensures next { IsTriedNext
         (C.goes_on calls.now)
         (C.calls calls.now)
         made
         (record {
-          before = entries.old;
-          after = entries.new;
+          before = states_of entries.old;
+          after = states_of entries.new;
           places_before = receipts.old;
           places_after = receipts.new;
         })
         result }
+    ensures passed { ArePassed entries.old entries.new }
 {
     let Some((entry, op)) = calls.call_at(made) else {
         return Some(Tried {
@@ -122,22 +146,26 @@ fn try_next<C: CallList>(
 // In line, so that each caller has the part of `reply` that its operation needs, and no other.
 #[inline(always)]
 pub fn try_lent<C: CallList>(
-    entries: &mut [EntryState],
+    entries: &mut [PaprEntry],
     calls: &C,
     receipts: &mut [PaprReceipt],
 ) -> Tried
     requires in_table { AllByRecursion
-        (λ (c : Call). c.entry < length entries.old)
+        (λ (c : Call). c.entry < length (states_of entries.old))
         (C.calls calls.now) }
     requires few { length (C.calls calls.now) ≤ 16 }
-    ensures entries { entries.new
-        ≡ (trial_run (C.goes_on calls.now) entries.old (C.calls calls.now)).1 }
-    ensures receipts { let made = (trial_run (C.goes_on calls.now) entries.old (C.calls calls.now)).0 in
+    ensures entries { states_of entries.new
+        ≡ (trial_run (C.goes_on calls.now) (states_of entries.old) (C.calls calls.now)).1 }
+    ensures passed { ArePassed entries.old entries.new }
+    ensures receipts { let states = states_of entries.old in
+        let made = (trial_run (C.goes_on calls.now) states (C.calls calls.now)).0 in
         receipts.new ≡ placed receipts.old 0 (map shown_receipt made) }
     ensures count { result.count
-        ≡ length (trial_run (C.goes_on calls.now) entries.old (C.calls calls.now)).0 }
+        ≡ length
+        (trial_run (C.goes_on calls.now) (states_of entries.old) (C.calls calls.now)).0 }
     ensures ending { let goes = C.goes_on calls.now in
-        result.ending ≡ ending_of goes (trial_run goes entries.old (C.calls calls.now)).0 }
+        result.ending
+        ≡ ending_of goes (trial_run goes (states_of entries.old) (C.calls calls.now)).0 }
 {
     for made in 0..16 {
         if let Some(tried) = try_next(entries, calls, receipts, made) {
@@ -153,22 +181,26 @@ pub fn try_lent<C: CallList>(
 /// The same, eight calls by eight: the compiler then knows the group of each call of a walk.
 #[inline(always)]
 pub fn try_by_groups<C: CallList>(
-    entries: &mut [EntryState],
+    entries: &mut [PaprEntry],
     calls: &C,
     receipts: &mut [PaprReceipt],
 ) -> Tried
     requires in_table { AllByRecursion
-        (λ (c : Call). c.entry < length entries.old)
+        (λ (c : Call). c.entry < length (states_of entries.old))
         (C.calls calls.now) }
     requires few { length (C.calls calls.now) ≤ 16 }
-    ensures entries { entries.new
-        ≡ (trial_run (C.goes_on calls.now) entries.old (C.calls calls.now)).1 }
-    ensures receipts { let made = (trial_run (C.goes_on calls.now) entries.old (C.calls calls.now)).0 in
+    ensures entries { states_of entries.new
+        ≡ (trial_run (C.goes_on calls.now) (states_of entries.old) (C.calls calls.now)).1 }
+    ensures passed { ArePassed entries.old entries.new }
+    ensures receipts { let states = states_of entries.old in
+        let made = (trial_run (C.goes_on calls.now) states (C.calls calls.now)).0 in
         receipts.new ≡ placed receipts.old 0 (map shown_receipt made) }
     ensures count { result.count
-        ≡ length (trial_run (C.goes_on calls.now) entries.old (C.calls calls.now)).0 }
+        ≡ length
+        (trial_run (C.goes_on calls.now) (states_of entries.old) (C.calls calls.now)).0 }
     ensures ending { let goes = C.goes_on calls.now in
-        result.ending ≡ ending_of goes (trial_run goes entries.old (C.calls calls.now)).0 }
+        result.ending
+        ≡ ending_of goes (trial_run goes (states_of entries.old) (C.calls calls.now)).0 }
 {
     for made in 0..8 {
         if let Some(tried) = try_next(entries, calls, receipts, made) {

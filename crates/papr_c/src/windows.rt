@@ -8,14 +8,15 @@ ghost use Rattle.entry_model.specs.Receipt;
 ghost use Rattle.papr_c.specs.Calls.{memory, outcome_where};
 ghost use Rattle.c_layout.specs.Grants.{listed};
 ghost use Rattle.papr_c.specs.Windows.{window_of, page_entry, outcome_of_tce, device_told, refused_device, outcome_of_device};
+ghost use Rattle.c_layout.specs.Entries.{states_of, AreMarked};
 
 use crate::trying::make;
 use bus_window::Window;
 use c_layout::{
-    PaprGrants, PaprReceipt, PaprReply, either_stale, filled_count, is_stale, put_word,
+    PaprEntry, PaprGrants, PaprReceipt, PaprReply, either_stale, filled_count, is_stale, put_word,
 };
 use dma_window::{entering, tce_of};
-use entry_model::{Answer, DeviceOutcome, EntryState, Op, Test};
+use entry_model::{Answer, DeviceOutcome, Op, Test};
 use frame_grants::Kind;
 use page_grants::GrantedMemory;
 use papr_codes::Rc;
@@ -83,17 +84,17 @@ impl PaprDevice {
 }
 
 /// Whether there can be a window of so many entries from this bus address on.
-fn is_window(entries: &[EntryState], base: u64) -> bool
-    ensures { result ≡ bus.is_window (window_of base entries.now) }
+fn is_window(entries: &[PaprEntry], base: u64) -> bool
+    ensures { result ≡ bus.is_window (window_of base (states_of entries.now)) }
 {
     Window::new(0, base, entries.len() as u64).is_some()
 }
 
 /// The entry of the page that has this bus address, in a window of these entries: none where there
 /// can be no such window, or it lacks the page.
-fn entry_of(entries: &[EntryState], base: u64, ioba: u64) -> Option<u32>
-    ensures entry { result ≡ page_entry base entries.now ioba }
-    ensures in_window { IfSome result (λ entry. entry < length entries.now) }
+fn entry_of(entries: &[PaprEntry], base: u64, ioba: u64) -> Option<u32>
+    ensures entry { result ≡ page_entry base (states_of entries.now) ioba }
+    ensures in_window { IfSome result (λ entry. entry < length (states_of entries.now)) }
 {
     Window::new(0, base, entries.len() as u64)?.entry_at(ioba)
 }
@@ -145,10 +146,11 @@ fn is_worn(answer: Answer) -> bool
 }
 
 /// Empties an entry.
-fn clear(entries: &mut [EntryState], entry: u32, receipts: &mut [PaprReceipt]) -> PaprReply
-    requires { entry < length entries.old }
-    ensures { (result, memory entries.new [] receipts.new)
-        ≡ outcome_where true (clear_plan entry) (memory entries.old [] receipts.old) }
+fn clear(entries: &mut [PaprEntry], entry: u32, receipts: &mut [PaprReceipt]) -> PaprReply
+    requires { entry < length (states_of entries.old) }
+    ensures told { (result, memory (states_of entries.new) [] receipts.new)
+        ≡ outcome_where true (clear_plan entry) (memory (states_of entries.old) [] receipts.old) }
+    ensures marks { AreMarked entries.old entries.new }
 {
     let room = receipts.len();
     let removed = make(entries, &REMOVAL, entry, receipts, 0);
@@ -158,14 +160,18 @@ fn clear(entries: &mut [EntryState], entry: u32, receipts: &mut [PaprReceipt]) -
 
 /// Empties an entry, and makes this operation on it.
 fn replace(
-    entries: &mut [EntryState],
+    entries: &mut [PaprEntry],
     entry: u32,
     op: &Op,
     receipts: &mut [PaprReceipt],
 ) -> PaprReply
-    requires { entry < length entries.old }
-    ensures { (result, memory entries.new [] receipts.new)
-        ≡ outcome_where true (replace_plan entry op.now) (memory entries.old [] receipts.old) }
+    requires { entry < length (states_of entries.old) }
+    ensures told { (result, memory (states_of entries.new) [] receipts.new)
+        ≡ outcome_where
+        true
+        (replace_plan entry op.now)
+        (memory (states_of entries.old) [] receipts.old) }
+    ensures marks { AreMarked entries.old entries.new }
 {
     let room = receipts.len();
     let removed = make(entries, &REMOVAL, entry, receipts, 0);
@@ -180,19 +186,20 @@ fn replace(
 
 /// H_PUT_TCE on the entry of a page.
 fn put_at(
-    entries: &mut [EntryState],
+    entries: &mut [PaprEntry],
     entry: u32,
     grants: &PaprGrants,
     tce: u64,
     receipts: &mut [PaprReceipt],
 ) -> PaprReply
-    requires { entry < length entries.old }
-    ensures { let grants = listed grants.now.grants grants.now.count in
-        (result, memory entries.new [] receipts.new)
+    requires { entry < length (states_of entries.old) }
+    ensures told { let grants = listed grants.now.grants grants.now.count in
+        (result, memory (states_of entries.new) [] receipts.new)
         ≡ outcome_where
         true
         (put_plan_at grants tce entry)
-        (memory entries.old [] receipts.old) }
+        (memory (states_of entries.old) [] receipts.old) }
+    ensures marks { AreMarked entries.old entries.new }
 {
     if !permits_any(tce) {
         return clear(entries, entry, receipts);
@@ -209,18 +216,19 @@ fn put_at(
 #[tactic(auto, unfolding(dma_window::specs::Calls::put_tce_plan))]
 #[unsafe(no_mangle)]
 pub extern "C" fn papr_put_tce(
-    entries: &mut [EntryState],
+    entries: &mut [PaprEntry],
     base: u64,
     grants: &PaprGrants,
     ioba: u64,
     tce: u64,
     receipts: &mut [PaprReceipt],
 ) -> PaprReply
-    ensures { (result, memory entries.new [] receipts.new)
+    ensures told { (result, memory (states_of entries.new) [] receipts.new)
         ≡ outcome_of_tce
         base
         (λ w. put_tce_plan (listed grants.now.grants grants.now.count) w ioba tce)
-        (memory entries.old [] receipts.old) }
+        (memory (states_of entries.old) [] receipts.old) }
+    ensures marks { AreMarked entries.old entries.new }
 {
     let Some(entry) = entry_of(entries, base, ioba) else {
         return PaprReply::refused();
@@ -233,17 +241,18 @@ pub extern "C" fn papr_put_tce(
 #[tactic(auto, unfolding(dma_window::specs::Calls::get_tce_plan))]
 #[unsafe(no_mangle)]
 pub extern "C" fn papr_get_tce(
-    entries: &mut [EntryState],
+    entries: &mut [PaprEntry],
     base: u64,
     ioba: u64,
     words: &mut [u64],
     receipts: &mut [PaprReceipt],
 ) -> PaprReply
-    ensures { (result, memory entries.new words.new receipts.new)
+    ensures told { (result, memory (states_of entries.new) words.new receipts.new)
         ≡ outcome_of_tce
         base
         (λ w. get_tce_plan w ioba)
-        (memory entries.old words.old receipts.old) }
+        (memory (states_of entries.old) words.old receipts.old) }
+    ensures marks { AreMarked entries.old entries.new }
 {
     let Some(entry) = entry_of(entries, base, ioba) else {
         return PaprReply::refused();
@@ -276,7 +285,7 @@ fn device_by(grants: &PaprGrants, tce: u64, ioba: u64, write: bool) -> DeviceOut
 /// A device's access at a bus address, a read or a write, by the entries of its window.
 #[unsafe(no_mangle)]
 pub extern "C" fn papr_device(
-    entries: &mut [EntryState],
+    entries: &mut [PaprEntry],
     base: u64,
     grants: &PaprGrants,
     ioba: u64,
@@ -286,7 +295,7 @@ pub extern "C" fn papr_device(
     ensures told { (result, receipts.new)
         ≡ outcome_of_device
         base
-        entries.old
+        (states_of entries.old)
         (listed grants.now.grants grants.now.count)
         ioba
         write

@@ -1,6 +1,6 @@
-//! The program `papr`: hands its words, standard input and standard output to [`papr_top::papr`] where
-//! the word is `par`, and else to [`papr_top::papr_serial`], which always returns. It ends with the status,
-//! and prints nothing itself.
+//! The program `papr`: hands its words, standard input and standard output to [`papr_top::papr`]
+//! where the word is `par`, and else to [`papr_top::papr_serial`], which always returns. It ends
+//! with the status, and prints nothing itself.
 #![tactic(auto)]
 
 use papr_edge::{Command, command_of};

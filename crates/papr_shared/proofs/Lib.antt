@@ -1,3 +1,4 @@
 pub mod TwoPasses
 pub mod NeverBusy
 pub mod Endings
+pub mod LentEntries

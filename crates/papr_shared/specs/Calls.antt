@@ -48,7 +48,8 @@ pub record IsBegunNow (plan : Plan) (x y : Working) (h : Handed) : Type 0 where
   pub made : IsMade x y y.receipts
   pub tried : IsTried plan y h
 
--- A call that went on: the new receipts are behind those that there were, and are all that were made.
+-- A call that went on: the new receipts are behind those that there were, and are all that were
+-- made.
 pub record HasGoneOn (plan : Plan) (x y : Working) (h : Handed) : Type 0 where
   pub behind : y.receipts ≡ x.receipts ++ receipts_added x.receipts y.receipts
   pub made : IsMade x y (receipts_added x.receipts y.receipts)

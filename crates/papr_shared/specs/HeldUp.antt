@@ -11,7 +11,8 @@ use Rattle.papr_shared.specs.declared.held_up.PaprBusy.{PaprBusy}
 abbrev pub not_held_up : PaprBusy
 not_held_up = record { looked = 0; found = 0; entry = 0; done = 0; hold = 0 }
 
--- The entry of the next operation, the two words of the last try, and how many operations were made.
+-- The entry of the next operation, the two words of the last try, and how many operations were
+-- made.
 abbrev pub busy_at : Busy → List Receipt → ℕ → PaprBusy
 busy_at b rs hold = record {
   looked = b.looked;

@@ -124,8 +124,8 @@ pub record IsStillOpen (x : Option Working) (rc : Rc) (t : ClosedAfter) : Type 0
   pub pass_is : t.pass ≡ x
   pub code_is : t.code ≡ rc_code rc
 
--- The pass is closed. The entries are as the table's run left them: the pass's receipts are all that
--- were made, and lead each entry from its opening to this state.
+-- The pass is closed. The entries are as the table's run left them: the pass's receipts are all
+-- that were made, and lead each entry from its opening to this state.
 pub record IsClosedNow (x : Working) (t : ClosedAfter) : Type 0 where
   pub closes :
       Closes (arc_value x.sharer.table).opening.items (view_of x.sharer.pass) t.entries_after

@@ -19,8 +19,8 @@ use Rattle.shared_pass.specs.Attempts.{KeepsWalk}
 use Rattle.papr_shared.specs.Answers.{HandedWalk, IsRefusedWalk}
 
 -- ---- one try
--- What the receipts tell at the end: the entry that was found, as the walk left it, or that there is
--- none.
+-- What the receipts tell at the end: the entry that was found, as the walk left it, or that there
+-- is none.
 abbrev pub end_told : PageWalk → List Receipt → List PaprReceipt → PaprWalk
 end_told w rs places =
     walk_end after_of w.access w.want (found_of rs) (min (length places) (length rs))
@@ -53,7 +53,8 @@ pub record IsWalkBegun (w : PageWalk) (x y : Working) (h : HandedWalk) : Type 0 
   pub made : IsMade x y y.receipts
   pub walked : IsWalked w y h
 
--- A walk that went on: the new receipts are behind those that there were, and are all that were made.
+-- A walk that went on: the new receipts are behind those that there were, and are all that were
+-- made.
 pub record HasWalkedOn (w : PageWalk) (x y : Working) (h : HandedWalk) : Type 0 where
   pub behind : y.receipts ≡ x.receipts ++ receipts_added x.receipts y.receipts
   pub made : IsMade x y (receipts_added x.receipts y.receipts)

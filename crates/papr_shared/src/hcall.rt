@@ -14,8 +14,8 @@ use papr_codes::{Hcall, Rc};
 use shared_pass::PaprPass;
 use std::alloc::Global;
 
-/// The plan of the call with this number, on a table of `2^order` bytes: H_FUNCTION, if it isn't one
-/// of a call on entries.
+/// The plan of the call with this number, on a table of `2^order` bytes: H_FUNCTION, if it isn't
+/// one of a call on entries.
 fn numbered<'a>(order: u8, grants: &PaprGrants, number: u64, asked: &'a [u64; 8]) -> CallPlan<'a>
     requires low { 18 ≤ order }
     requires high { order ≤ 22 }

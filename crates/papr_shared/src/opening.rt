@@ -1,10 +1,12 @@
 ghost use Rattle.std.specs.Prelude.{◌≡◌, ◌≤◌, ◌<◌, true, None, IfSome};
+ghost use Rattle.c_layout.specs.Entries.{states_of};
 ghost use Rattle.c_layout.specs.Tables.{is_table};
 ghost use Rattle.shared_pass.specs.Workings.{IsNew};
 ghost use Rattle.papr_shared.specs.Passes as spec;
 
-use c_layout::is_table;
+use c_layout::{PaprEntry, is_table};
 use entry_model::EntryState;
+use hpt_resize::StateHolder;
 use papr_codes::Rc;
 use shared_pass::{PaprPass, Working};
 use std::alloc::Global;
@@ -13,31 +15,35 @@ use std::alloc::Global;
 const MOST_PASSES: u32 = 64;
 
 /// Whether the entries are a table, and there can be so many passes of it.
-fn can_open(entries: &[EntryState], order: u8, passes: u32) -> bool
-    ensures { result ≡ spec.can_open entries.now order passes }
+fn can_open(entries: &[PaprEntry], order: u8, passes: u32) -> bool
+    ensures { result ≡ spec.can_open (states_of entries.now) order passes }
 {
     is_table(entries, order) && 0 < passes && passes <= MOST_PASSES
 }
 
-/// A list of the caller's entries. `None` for want of memory.
-fn states_of(alloc: Global, entries: &[EntryState]) -> Option<Vec<EntryState>>
-    ensures { IfSome result (λ v. v.items ≡ entries.now) }
+/// A list of what the caller's entries hold. `None` for want of memory.
+fn listed(alloc: Global, entries: &[PaprEntry]) -> Option<Vec<EntryState>>
+    ensures { IfSome result (λ v. v.items ≡ states_of entries.now) }
 {
-    let mut states = Vec::new(alloc);
-    if states.extend_from_slice(entries).is_err() {
+    let Ok(mut states) = Vec::with_capacity(alloc, entries.len()) else {
         return None;
+    };
+    for i in 0..entries.len() {
+        let Ok(()) = states.push(entries[i].state()) else {
+            return None;
+        };
     }
     Some(states)
 }
 
 /// A pass with all shares of a table of these entries. `None` for want of memory.
-fn opened(alloc: Global, entries: &[EntryState], order: u8, passes: u32) -> Option<Box<Working>>
-    requires table { is_table order entries.now ≡ true }
+fn opened(alloc: Global, entries: &[PaprEntry], order: u8, passes: u32) -> Option<Box<Working>>
+    requires table { is_table order (states_of entries.now) ≡ true }
     requires some { 0 < passes }
     requires few { passes ≤ 64 }
-    ensures { IfSome result (λ b. IsNew entries.now order passes b.value) }
+    ensures { IfSome result (λ b. IsNew (states_of entries.now) order passes b.value) }
 {
-    let states = states_of(alloc, entries)?;
+    let states = listed(alloc, entries)?;
     let working = Working::open(alloc, states, order, passes)?;
     match Box::new(alloc, working) {
         Ok(boxed) => Some(boxed),
@@ -50,13 +56,13 @@ fn opened(alloc: Global, entries: &[EntryState], order: u8, passes: u32) -> Opti
 #[unsafe(no_mangle)]
 pub extern "C" fn papr_open(
     alloc: Global,
-    entries: &[EntryState],
+    entries: &[PaprEntry],
     order: u8,
     passes: u32,
     pass: &mut PaprPass,
 ) -> i64
     ensures { spec.IsOpening
-        entries.now
+        (states_of entries.now)
         order
         passes
         pass.old.place.held

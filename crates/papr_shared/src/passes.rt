@@ -1,9 +1,12 @@
 ghost use Rattle.std.specs.Prelude.{◌≡◌, nat_le, length, Some, None, IfOk, IfErr};
 ghost use Rattle.papr_codes.specs.ReturnCodes.{rc_code};
 ghost use Rattle.papr_codes.specs.declared.codes.Rc.TheVariants.{Success};
+ghost use Rattle.c_layout.specs.Entries.{states_of, AreMarked};
 ghost use Rattle.papr_shared.specs.Passes as spec;
 
+use c_layout::PaprEntry;
 use entry_model::EntryState;
+use hpt_resize::StateHolder;
 use hpte_fields::entry_count;
 use papr_codes::Rc;
 use shared_pass::{PaprPass, Room, Working, close};
@@ -83,20 +86,34 @@ struct StillOpen {
     rc: Rc,
 }
 
+/// Gives each entry the state at its place.
+fn put_states(entries: &mut [PaprEntry], states: &[EntryState])
+    requires { length states.now ≡ length (states_of entries.old) }
+    ensures states { states_of entries.new ≡ states.now }
+    ensures marks { AreMarked entries.old entries.new }
+{
+    for i in 0..entries.len() {
+        entries[i].hold(&states[i]);
+    }
+}
+
 /// Closes the table of a pass, and writes its entries back.
-fn write_back(working: Box<Working>, entries: &mut [EntryState]) -> Result<(), StillOpen>
-    ensures closed { let after = spec.closed_after entries.old entries.new in
+#[tactic(auto, using(c_layout::proofs::Marks::marked_none))]
+fn write_back(working: Box<Working>, entries: &mut [PaprEntry]) -> Result<(), StillOpen>
+    ensures closed { let after =
+        spec.closed_after (states_of entries.old) (states_of entries.new) in
         IfOk result
         (λ done. spec.ClosesBy
-        (spec.close_refusal (length entries.old) working.value)
+        (spec.close_refusal (length (states_of entries.old)) working.value)
         working.value
         (after None (rc_code Success))) }
-    ensures still { let after = spec.closed_after entries.old entries.new in
+    ensures still { let after = spec.closed_after (states_of entries.old) (states_of entries.new) in
         IfErr result
         (λ still. spec.ClosesBy
-        (spec.close_refusal (length entries.old) working.value)
+        (spec.close_refusal (length (states_of entries.old)) working.value)
         working.value
         (after (Some still.working.value) (rc_code still.rc))) }
+    ensures marks { AreMarked entries.old entries.new }
 {
     if entries.len() != entry_count(working.order()) as usize {
         let rc = Rc::Parameter;
@@ -112,7 +129,7 @@ fn write_back(working: Box<Working>, entries: &mut [EntryState]) -> Result<(), S
     }
     match close(working) {
         Ok(closed) => {
-            entries.copy_from_slice(closed.closing.as_slice());
+            put_states(entries, closed.closing.as_slice());
             Ok(())
         }
         Err(working) => {
@@ -122,12 +139,19 @@ fn write_back(working: Box<Working>, entries: &mut [EntryState]) -> Result<(), S
     }
 }
 
-/// Writes the entries back, frees the table, and closes the pass, which must have all shares.
+/// Writes the entries back, frees the table, and closes the pass, which must have all shares. An
+/// entry that has another state then is marked.
+#[tactic(auto, using(c_layout::proofs::Marks::marked_none))]
 #[unsafe(no_mangle)]
-pub extern "C" fn papr_close(alloc: Global, pass: &mut PaprPass, entries: &mut [EntryState]) -> i64
-    ensures { spec.IsClosing
+pub extern "C" fn papr_close(alloc: Global, pass: &mut PaprPass, entries: &mut [PaprEntry]) -> i64
+    ensures told { spec.IsClosing
         pass.old.place.held
-        (spec.closed_after entries.old entries.new pass.new.place.held result) }
+        (spec.closed_after
+        (states_of entries.old)
+        (states_of entries.new)
+        pass.new.place.held
+        result) }
+    ensures marks { AreMarked entries.old entries.new }
 {
     let Some(working) = pass.take(alloc) else {
         return Rc::Parameter.code();

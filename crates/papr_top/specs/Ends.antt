@@ -8,7 +8,8 @@ use Rattle.papr_edge.specs.declared.status.Status.{Status}
 use Rattle.papr_edge.specs.declared.status.Status.TheVariants.{Usage, Refused, ReadFault, WriteFault, Memory}
 use Rattle.papr_top.specs.Top.{IsOutcome, HasInput, HasRefusedInput}
 
--- What a call has before it and leaves: the bytes of the source and of the sink, and how often each of the two has failed.
+-- What a call has before it and leaves: the bytes of the source and of the sink, and how often each
+-- of the two has failed.
 pub record Sides : Type 0 where
   pub run : Run
   pub source_faults : ℕ
@@ -24,7 +25,8 @@ SourceFailed sides = Rose sides.source_faults sides.source_faults_after
 abbrev pub SinkFailed : Sides → Type 0
 SinkFailed sides = Rose sides.sink_faults sides.sink_faults_after
 
--- A fault that is answered is one of the source's or of the sink's own, and else their counts stand.
+-- A fault that is answered is one of the source's or of the sink's own, and else their counts
+-- stand.
 pub record TellsFaults (sides : Sides) (status : Status) : Type 0 where
   pub read_fault : status ≡ ReadFault → SourceFailed sides
   pub write_fault : status ≡ WriteFault → SinkFailed sides

@@ -26,7 +26,8 @@ abbrev pub with_lfs : List (List ℕ) → List ℕ
 with_lfs [] = []
 with_lfs (line ∷ rest) = line ++ 10 ∷ with_lfs rest
 
--- A trace of these lines, the line of an image behind `entry` and the word of its layout, and `begin`.
+-- A trace of these lines, the line of an image behind `entry` and the word of its layout, and
+-- `begin`.
 abbrev pub bytes_again : List (List ℕ) → Layout → ℕ → List ℕ → List ℕ
 bytes_again head layout index digits =
     with_lfs head
@@ -44,7 +45,8 @@ reading_after r (line ∷ rest) = do
   s ← after_line r line
   reading_after s rest
 
--- These lines are accepted, behind them an entry may come and then `begin`, and there is room for two lines.
+-- These lines are accepted, behind them an entry may come and then `begin`, and there is room for
+-- two lines.
 pub record MayHaveEntry (head : List (List ℕ)) (r : Reading) : Type 0 where
   pub lines : AllByRecursion (λ line. AllByRecursion (λ c. is_lf c ≡ false) line) head
   pub read : reading_after opening_reading head ≡ Ok r
@@ -53,7 +55,8 @@ pub record MayHaveEntry (head : List (List ℕ)) (r : Reading) : Type 0 where
   pub few : length head + 2 ≤ 2 ^ 17
 
 -- ---- the law
--- The bytes are a trace of the configuration with the entry. Its table opens with the entry's doublewords, R and C, at stamp 0; every other entry opens as without the line.
+-- The bytes are a trace of the configuration with the entry. Its table opens with the entry's
+-- doublewords, R and C, at stamp 0; every other entry opens as without the line.
 pub record IsTraceWithEntry
     (bytes : List ℕ) (c : Configuration) (index : ℕ) (s : State) : Type 0
   where
@@ -66,7 +69,9 @@ pub record IsTraceWithEntry
         → other ≢ index
         → state_at (opening_states trace.config) other ≡ state_at (opening_states c) other
 
--- Each valid entry of each table that a serial run reaches, by its line in an image whose layout can hold it, opens so behind lines of a trace with that table's order, the same grants, and entries of lower indices alone.
+-- Each valid entry of each table that a serial run reaches, by its line in an image whose layout
+-- can hold it, opens so behind lines of a trace with that table's order, the same grants, and
+-- entries of lower indices alone.
 abbrev pub ImageLinesOpenAgain : Type 0
 ImageLinesOpenAgain =
     (t : AcceptedTrace) (lines : List TraceLine) (layout : Layout) (index : ℕ) (s : State)

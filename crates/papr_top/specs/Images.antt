@@ -34,14 +34,16 @@ image_output layout t =
 abbrev pub layout_refusal_text : ℕ → List ℕ
 layout_refusal_text index = codes "papr: entry " ++ hex index ++ codes ": layout\n"
 
--- An image comes with Done, and the serial run is assured; the line of the first entry that can't be held comes with Refused.
+-- An image comes with Done, and the serial run is assured; the line of the first entry that can't
+-- be held comes with Refused.
 abbrev pub IsImage : Layout → AcceptedTrace → Status → List ℕ → Type 0
 IsImage layout t Done text = (image_output layout t ≡ Ok text) × IsSerialAssured t
 IsImage layout t Refused text =
     (index : ℕ) × (image_output layout t ≡ Err index) × (text ≡ layout_refusal_text index)
 IsImage layout t other text = ⊥
 
--- As a command that reads ends; but for an accepted trace too the answer may be Refused, and then the line of the entry was written.
+-- As a command that reads ends; but for an accepted trace too the answer may be Refused, and then
+-- the line of the entry was written.
 abbrev pub EndsImage : Layout → Run → Status → Type 0
 EndsImage layout run Refused =
     Refuses trace_input run ⊎ Answers trace_input (λ t. IsImage layout t Refused) run

@@ -19,7 +19,8 @@ abbrev pub status_with : Verdict → Status
 status_with verdicts.Good = Done
 status_with (verdicts.Bad section) = CheckNo
 
--- The line that tells the verdict on the text that was read, for a trace that keeps the limits; Good comes with Done, Bad with CheckNo.
+-- The line that tells the verdict on the text that was read, for a trace that keeps the limits;
+-- Good comes with Done, Bad with CheckNo.
 pub record IsVerdictText (input : JudgedInput) (status : Status) (text : List ℕ) : Type 0 where
   pub accepted : IsAccepted input.trace
   pub verdict : Verdict

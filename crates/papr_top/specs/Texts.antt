@@ -33,7 +33,8 @@ pub record IsSerialText (t : AcceptedTrace) (text : List ℕ) : Type 0 where
   pub is : text ≡ text_of t (serial_replies t)
   pub assured : IsSerialAssured t
 
--- The text of some run that is assured: one that processors beside each other made, and the serial one where one processor has all lines.
+-- The text of some run that is assured: one that processors beside each other made, and the serial
+-- one where one processor has all lines.
 pub record IsParallelText (t : AcceptedTrace) (text : List ℕ) : Type 0 where
   pub replies : List Reply
   pub is : text ≡ text_of t replies

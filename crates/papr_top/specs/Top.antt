@@ -18,7 +18,8 @@ use Rattle.papr_top.specs.Sets.{set_input, IsSetText}
 abbrev pub usage_text : List ℕ
 usage_text = codes "papr: usage\n"
 
--- Of a drill's trace, from which no byte is read: the summary was written whole, or a prefix of it, or nothing for want of memory.
+-- Of a drill's trace, from which no byte is read: the summary was written whole, or a prefix of it,
+-- or nothing for want of memory.
 abbrev pub EndsDrill : AcceptedTrace → Run → Status → Type 0
 EndsDrill t run Done =
     ReadsNothing run × IsSerialAssured t × Writes run (drill_text t)
@@ -26,7 +27,8 @@ EndsDrill t run WriteFault = ReadsNothing run × WritesPrefix run (drill_text t)
 EndsDrill t run Memory = ReadsNothing run × Writes run []
 EndsDrill t run other = ⊥
 
--- Of words that are none of the listed forms: the usage line was written, or a prefix of it, and no byte was read.
+-- Of words that are none of the listed forms: the usage line was written, or a prefix of it, and no
+-- byte was read.
 abbrev pub EndsUsage : Run → Status → Type 0
 EndsUsage run Usage = ReadsNothing run × Writes run usage_text
 EndsUsage run WriteFault = ReadsNothing run × WritesPrefix run usage_text
@@ -49,7 +51,8 @@ IsOutcome (Some (commands.Drill seed lines)) run status =
     EndsDrill (generated_trace seed lines) run status
 
 -- ---- what a command needs
--- The words are a command, and the source tells the input that it reads; under `image` the layout can hold each entry. A drill reads none.
+-- The words are a command, and the source tells the input that it reads; under `image` the layout
+-- can hold each entry. A drill reads none.
 abbrev pub HasInput : Option Command → Option (List ℕ) → Type 0
 HasInput None left = ⊥
 HasInput (Some (commands.Drill seed lines)) left = Unit {0}
@@ -58,7 +61,8 @@ HasInput (Some commands.Check) left = IsSomeAnd left (λ bytes. IsOk (judged_inp
 HasInput (Some commands.Set) left = IsSomeAnd left (λ bytes. IsOk (set_input bytes))
 HasInput (Some reading) left = IsSomeAnd left (λ bytes. IsOk (trace_input bytes))
 
--- The words are a command that reads, and what the source tells is no input of it, or under `image` has an entry that the layout can't hold.
+-- The words are a command that reads, and what the source tells is no input of it, or under `image`
+-- has an entry that the layout can't hold.
 abbrev pub HasRefusedInput : Option Command → Option (List ℕ) → Type 0
 HasRefusedInput None left = ⊥
 HasRefusedInput (Some (commands.Drill seed lines)) left = ⊥

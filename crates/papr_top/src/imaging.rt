@@ -58,8 +58,8 @@ fn layout_refusal(alloc: Global, index: u32) -> Result<String, AllocError>
     Ok(out)
 }
 
-/// The image of the table at the end of the trace's serial run, or the line that names an entry that
-/// the layout can't hold.
+/// The image of the table at the end of the trace's serial run, or the line that names an entry
+/// that the layout can't hold.
 pub fn image_answer(alloc: Global, layout: Layout, trace: &Trace) -> Result<Answer, AllocError>
     ensures { IfOk result (λ answer. IsAnswer (IsImage layout) trace.now answer) }
 {

@@ -1,7 +1,7 @@
 //! What the program `papr` does: it reads a trace of hypervisor calls and memory accesses, runs its
-//! lines one after the other, and writes the reply to each with its receipts; or it does so with a set of
-//! partitions whose tables share one pool; or it judges whether a text
-//! is that of such a run; or it generates a trace, runs it, and writes a summary.
+//! lines one after the other, and writes the reply to each with its receipts; or it does so with a
+//! set of partitions whose tables share one pool; or it judges whether a text is that of such a
+//! run; or it generates a trace, runs it, and writes a summary.
 #![tactic(auto)]
 
 mod answer;

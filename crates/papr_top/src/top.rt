@@ -47,14 +47,15 @@ fn drill<K: Sink>(alloc: Global, seed: u64, lines: u32, sink: &mut K) -> Status
 /// `run` reads the source to its end and writes the replies of the serial run: [`Status::Done`].
 /// An input that is no trace is refused with its first refused line and the reason:
 /// [`Status::Refused`]. `check` reads a trace, a line `replies` and a text, and writes whether the
-/// text is that of a good run of the trace: `good`, or `bad section K` with the first section that no
-/// good run explains, [`Status::CheckNo`]. `set` reads a set of partitions whose tables share one pool,
-/// runs its lines one after the other, and writes the replies. `image old` and `image new` run a trace as `run` does, and
-/// write the table at its end, in the layout of the Power ISA, version 2.07, or in that of version
-/// 3.0; where the layout can't hold an entry, the first such is named: [`Status::Refused`]. `drill
-/// SEED LINES` leaves the source as it is, and writes the summary of the
-/// serial run of a generated trace. Other words leave it too, and are answered with a usage line:
-/// [`Status::Usage`]. All text goes to the sink. [`Status::Memory`] is want of memory.
+/// text is that of a good run of the trace: `good`, or `bad section K` with the first section that
+/// no good run explains, [`Status::CheckNo`]. `set` reads a set of partitions whose tables share
+/// one pool, runs its lines one after the other, and writes the replies. `image old` and `image
+/// new` run a trace as `run` does, and write the table at its end, in the layout of the Power ISA,
+/// version 2.07, or in that of version 3.0; where the layout can't hold an entry, the first such is
+/// named: [`Status::Refused`]. `drill SEED LINES` leaves the source as it is, and writes the
+/// summary of the serial run of a generated trace. Other words leave it too, and are answered with
+/// a usage line: [`Status::Usage`]. All text goes to the sink. [`Status::Memory`] is want of
+/// memory.
 pub fn papr_serial<S: Source, K: Sink>(
     alloc: Global,
     words: &[String],
@@ -100,10 +101,10 @@ pub fn papr_serial<S: Source, K: Sink>(
     }
 }
 
-/// All that the program does, with the words behind its name: [`papr_serial`], and `par`, which reads
-/// the source to its end, runs each processor's lines in a thread of its own, and writes the replies.
-/// They are a good run, which may be another one each time. The gate is called at each line; the
-/// program's own lets all pass. Under `par` a call may wait for another processor.
+/// All that the program does, with the words behind its name: [`papr_serial`], and `par`, which
+/// reads the source to its end, runs each processor's lines in a thread of its own, and writes the
+/// replies. They are a good run, which may be another one each time. The gate is called at each
+/// line; the program's own lets all pass. Under `par` a call may wait for another processor.
 pub fn papr<R: Threads + Wait + Sync, S: Source, K: Sink, G: Gate + Sync>(
     rt: &R,
     alloc: Global,

@@ -29,7 +29,8 @@ use Rattle.papr_top.specs.Texts.{IsAssured, IsSerialAssured}
 abbrev pub Promise : Type 1
 Promise = AcceptedTrace → List Reply → Type 0
 
--- The bytes are a trace, and the text of replies to it that keep the promise was put behind what was there.
+-- The bytes are a trace, and the text of replies to it that keep the promise was put behind what
+-- was there.
 pub record PutsReplies (promise : Promise) (bytes : List ℕ) (old new : Option (List ℕ)) :
     Type 0 where
   pub trace : AcceptedTrace
@@ -54,17 +55,20 @@ pub record IsOfOneThread (t : AcceptedTrace) (rs : List Reply) : Type 0 where
   pub assured : IsSerialAssured t
 
 -- ---- the promises
--- A store that succeeds, and a change bit that is set at first, shows until a reply clears it, which shows it.
+-- A store that succeeds, and a change bit that is set at first, shows until a reply clears it,
+-- which shows it.
 pub record StoresShow (t : AcceptedTrace) (rs : List Reply) : Type 0 where
   pub stores : NoStoreIsLostIn (sections_of t rs)
   pub set : NoSetBitIsLostIn (sections_of t rs)
   pub cleared : AllByRecursion ClearedBitsAreShown (sections_of t rs)
 
--- A committed resize keeps the translations of the bolted pages, and no other quiet line changes the table.
+-- A committed resize keeps the translations of the bolted pages, and no other quiet line changes
+-- the table.
 abbrev pub ResizesKeep : Promise
 ResizesKeep t rs = ResizesKeepTranslations (sections_of t rs)
 
--- An access that is allowed lands by an entry of its page, in a grant and in no table; none ends outside the grants.
+-- An access that is allowed lands by an entry of its page, in a grant and in no table; none ends
+-- outside the grants.
 abbrev pub EachAccessLands : Promise
 EachAccessLands t rs = AllByRecursion (AccessesLand t.config.granted) (sections_of t rs)
 
@@ -93,7 +97,8 @@ ZeroMasksAreSilent t rs =
     AllByRecursion (λ (l : TraceLine). SetsZero l.act) t.lines
     → AllByRecursion NoneIsMasked (sections_of t rs)
 
--- Where one processor has all lines, these are the replies of the serial run, and there is no other good run.
+-- Where one processor has all lines, these are the replies of the serial run, and there is no other
+-- good run.
 abbrev pub OneProcessorHasOneRun : Promise
 OneProcessorHasOneRun t rs =
     (cpu : ℕ)

@@ -10,7 +10,8 @@ pub fn take_and_give(pool: &mut Pool, order: u8) -> Option<u64>
     ensures place { result ≡ lowest_place pool.old order }
     ensures same { pool.new ≡ pool.old }
 {
-    // Each call of a pool tells that its blocks are sound, and giving back needs that of the pool before.
+    // Each call of a pool tells that its blocks are sound, and giving back needs that of the pool
+    // before.
     let _order = pool.order();
     let place = pool.take(order)?;
     pool.give(place, order);
@@ -37,7 +38,8 @@ pub fn take_pair(pool: &mut Pool, first: u8, second: u8) -> Option<(u64, u64)>
         × (lowest_place pool.old first ≡ Some place)
         × (lowest_place (with_block pool.old (block_at place first)) second ≡ None))) }
 {
-    // Each call of a pool tells that its blocks are sound, and giving back needs that of the pool before.
+    // Each call of a pool tells that its blocks are sound, and giving back needs that of the pool
+    // before.
     let _order = pool.order();
     let place = pool.take(first)?;
     match pool.take(second) {

@@ -58,8 +58,8 @@ pub trait KeptPromise {
         ensures { Follows promise };
 }
 
-/// What the program answers to `par` over this input: where it is done, it wrote the text of replies
-/// that keep the promise.
+/// What the program answers to `par` over this input: where it is done, it wrote the text of
+/// replies that keep the promise.
 pub fn keep_promise<P: KeptPromise, R: Threads + Wait + Sync>(
     rt: &R,
     alloc: Global,

@@ -1,4 +1,5 @@
--- What is proved of an opening table, and of the resize calls: a committed resize keeps each bolted page's translation.
+-- What is proved of an opening table, and of the resize calls: a committed resize keeps each bolted
+-- page's translation.
 use Rattle.std.specs.Prelude.{◌≡◌, ◌≢◌, ◌≤◌, ℕ, ◌/◌, ◌%◌, ◌<◌, ◌↔◌, true, IsTrue, List, length, Some}
 use Rattle.std.specs.List.{AllByRecursion}
 use Rattle.power_addr.specs.Pages.{VirtualPage}
@@ -30,7 +31,8 @@ pub record IsOpenedAt (states : List State) (e : ImageEntry) : Type 0 where
   pub canonical : IsCanonicalState (state_at states e.index)
   pub stamp : (state_at states e.index).stamp ≡ 0
 
--- The first table of a partition, of 2 ^ order bytes: it has each of these entries, and every other one is empty at stamp 0.
+-- The first table of a partition, of 2 ^ order bytes: it has each of these entries, and every other
+-- one is empty at stamp 0.
 pub record IsOpeningTable (order : ℕ) (entries : List ImageEntry) (table : Table) : Type 0 where
   pub order_is : table.order ≡ order
   pub number : table.number ≡ 0
@@ -49,7 +51,8 @@ OpensWithEntries =
     → IsOpeningTable config.order config.entries (opening_partition config).memory.table
 
 -- ---- a table that is opened again
--- The words of an entry, with R and C put back, are some that H_ENTER would store as they are; and what opens with them is the entry's state at stamp 0.
+-- The words of an entry, with R and C put back, are some that H_ENTER would store as they are; and
+-- what opens with them is the entry's state at stamp 0.
 pub record CanBeOpened (grants : List Grant) (s : State) : Type 0 where
   pub stored : entered_words grants (words_of s).0 (words_of s).1 ≡ Some (words_of s)
   pub state : entered_state (words_of s).0 (words_of s).1 ≡ at_stamp_0 s
@@ -68,7 +71,8 @@ OpensAgain =
 abbrev pub Translates : Table → VirtualPage → ℕ → Type 0
 Translates table page entry = IsTrue (is_paired (translations table.order table.states) page entry)
 
--- A bolted entry of the page, whose group for its H in a table of 2 ^ order bytes is that of the target, and whose slot is the target's.
+-- A bolted entry of the page, whose group for its H in a table of 2 ^ order bytes is that of the
+-- target, and whose slot is the target's.
 pub record IsSource (table : Table) (order : ℕ) (page : VirtualPage) (target : ℕ) : Type 0 where
   pub entry : ℕ
   pub in_table : entry < length table.states
@@ -77,7 +81,8 @@ pub record IsSource (table : Table) (order : ℕ) (page : VirtualPage) (target :
   pub group : group_of page order (is_secondary (state_at table.states entry).dword0) ≡ target / 8
   pub slot : entry % 8 ≡ target % 8
 
--- The new table pairs a page with an entry exactly where one of the old table's bolted entries of the page goes there, and that entry has its doublewords, R and C.
+-- The new table pairs a page with an entry exactly where one of the old table's bolted entries of
+-- the page goes there, and that entry has its doublewords, R and C.
 pub record PairsCarriedPages (old new : Table) : Type 0 where
   pub pairs :
       (page : VirtualPage) (target : ℕ)

@@ -11,7 +11,8 @@ use Rattle.hpte_fields.specs.TableSize.{entry_count}
 use Rattle.hpt_resize.specs.Resize.{IsHeld, IsElsewhere, Table}
 use Rattle.hpt_resize.specs.TableMemory.{TableMemory, opening_memory}
 
--- Its table memory, and the memory that is granted to the guest. While the states of the table's entries are out, the table has none.
+-- Its table memory, and the memory that is granted to the guest. While the states of the table's
+-- entries are out, the table has none.
 pub record PartitionState : Type 0 where
   pub memory : TableMemory
   pub granted : GrantedMemory
@@ -30,7 +31,8 @@ abbrev pub with_memory : PartitionState → TableMemory → PartitionState
 with_memory partition memory = record partition { memory = memory }
 
 -- ---- the beginning
--- A table of the configured order with the configured entries, in a pool that is empty but for it, beside the configured grants.
+-- A table of the configured order with the configured entries, in a pool that is empty but for it,
+-- beside the configured grants.
 unfoldable pub opening_partition : Configuration → PartitionState
 opening_partition config = record {
   memory
@@ -49,7 +51,8 @@ opening_partition config = record {
 abbrev pub reply_of_code : Rc → HReply
 reply_of_code rc = reply_by (plan_of_code rc) []
 
--- The table's number rises by one where the call succeeded, and else it stays; so it rises by one at most.
+-- The table's number rises by one where the call succeeded, and else it stays; so it rises by one
+-- at most.
 pub record CountsTables (rc : Rc) (old new : PartitionState) : Type 0 where
   pub at_most : new.memory.table.number ≤ old.memory.table.number + 1
   pub rises : rc ≡ Success → new.memory.table.number ≡ old.memory.table.number + 1
@@ -60,7 +63,9 @@ pub record CountsTables (rc : Rc) (old new : PartitionState) : Type 0 where
 abbrev pub block_of : Table → Block
 block_of table = block_at table.place table.order
 
--- Orders are those that the project allows. The pool is sound, and it is the one that the grants stand beside. The blocks of the current and of the pending table are taken in it, and they are two.
+-- Orders are those that the project allows. The pool is sound, and it is the one that the grants
+-- stand beside. The blocks of the current and of the pending table are taken in it, and they are
+-- two.
 pub record IsPartition (partition : PartitionState) : Type 0 where
   pub limit_low : 18 ≤ partition.memory.limit
   pub limit_high : partition.memory.limit ≤ 22

@@ -1,5 +1,5 @@
-//! Laws of the opening table and of the resize calls. Each function does nothing, and its contract is
-//! the law.
+//! Laws of the opening table and of the resize calls. Each function does nothing, and its contract
+//! is the law.
 
 ghost use Rattle.partition.specs.Laws.{OpensWithEntries, OpensAgain, CommitPairsCarriedPages, KeptTranslationsArePaired};
 

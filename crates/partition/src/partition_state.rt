@@ -61,8 +61,8 @@ impl Model for Partition {
 }
 
 impl Partition {
-    /// The partition of a configuration: the entries that it names are valid, all others are empty, and
-    /// the table has the lowest place in the pool. The only error is want of memory.
+    /// The partition of a configuration: the entries that it names are valid, all others are empty,
+    /// and the table has the lowest place in the pool. The only error is want of memory.
     pub fn open(alloc: Global, config: &Config) -> Result<Partition, AllocError>
         ensures ok { IfOk result (λ partition. partition ≡ opening_partition config.now) }
         ensures has_states { IfOk result HasStates }
@@ -142,8 +142,8 @@ impl Partition {
         self.current.states = states;
     }
 
-    /// H_RESIZE_HPT_PREPARE: makes a table of `2^shift` bytes ready, a part at each call. Where memory
-    /// ends, nothing changes.
+    /// H_RESIZE_HPT_PREPARE: makes a table of `2^shift` bytes ready, a part at each call. Where
+    /// memory ends, nothing changes.
     pub fn prepare(&mut self, alloc: Global, flags: u64, shift: u64) -> Result<HReply, AllocError>
         requires { HasStates self.old }
         ensures reply { IfOk

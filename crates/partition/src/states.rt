@@ -7,8 +7,8 @@ use std::alloc::{AllocError, Global};
 use table_image::ImageEntry;
 use trace_read::Config;
 
-/// The states of a configuration's table: the entries that it names are valid, all others are empty.
-/// The only error is want of memory.
+/// The states of a configuration's table: the entries that it names are valid, all others are
+/// empty. The only error is want of memory.
 pub fn opening_states(alloc: Global, config: &Config) -> Result<Vec<EntryState>, AllocError>
     ensures { IfOk
         result

@@ -1,6 +1,6 @@
-//! Hypervisor calls on a table that several threads share, by a pass and with no waiting. Where another
-//! pass has the next entry, a call is held up: its caller keeps the plan and the receipts so far, and
-//! makes the rest later.
+//! Hypervisor calls on a table that several threads share, by a pass and with no waiting. Where
+//! another pass has the next entry, a call is held up: its caller keeps the plan and the receipts
+//! so far, and makes the rest later.
 #![tactic(auto)]
 
 mod passing;

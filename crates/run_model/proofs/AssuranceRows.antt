@@ -179,7 +179,8 @@ unfolding hcall_of row_of
 prepared = refl
 
 -- ---- landings
--- The store at 0x1234 of its page: the frame is 0x3000, and the grant begins at machine address 0x2000000000.
+-- The store at 0x1234 of its page: the frame is 0x3000, and the grant begins at machine address
+-- 0x2000000000.
 granted : GrantedMemory
 granted = record {
   pool_base = 0x1000000000;

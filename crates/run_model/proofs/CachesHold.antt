@@ -1,4 +1,5 @@
--- Each cached line holds of its entry's state, and each line that is run with nobody else at the table keeps this.
+-- Each cached line holds of its entry's state, and each line that is run with nobody else at the
+-- table keeps this.
 use Rattle.std.specs.Prelude.{IfSome}
 use Rattle.std.proofs.Common.{◌≡◌, ℕ, ◌<◌, ◌≤◌, ◌-◌, ◌^◌, List, [], ◌∷◌, true, false, sym, ◌∙◌, refl, subst, ◌⊎◌, inl, inr, not, length, Option, Some, None}
 use Rattle.std.specs.List.{AllByRecursion}
@@ -42,7 +43,8 @@ use Rattle.entry_model.specs.declared.access_reply.Outcome.TheVariants as outcom
 use Rattle.trace_line.specs.declared.act.Act.TheVariants as acts
 use Rattle.trace_reply.specs.declared.reply.Reply.TheVariants as replies
 
--- The line is of an entry of the table, its words translate its page, and it holds of the entry's state.
+-- The line is of an entry of the table, its words translate its page, and it holds of the entry's
+-- state.
 pub record IsFresh (states : List State) (line : Line) : Type 0 where
   pub translates : TranslatesItsPage line
   pub in_table : line.entry < length states

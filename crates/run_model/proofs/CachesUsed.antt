@@ -1,4 +1,5 @@
--- In a good run a hit is by a line that is current, and a walk goes past a line only where it is gone.
+-- In a good run a hit is by a line that is current, and a walk goes past a line only where it is
+-- gone.
 use Rattle.std.specs.Prelude.{max, IfSome, MatchBool}
 use Rattle.std.proofs.Common.{◌≡◌, ℕ, ◌+◌, ◌*◌, ◌<◌, ◌≤◌, List, [], ◌∷◌, ◌++◌, Bool, true, false, refl, sym, subst, ◌⊎◌, inl, inr, map, Option, Some, None, eqb, arith}
 use Rattle.std.specs.List.{AllByRecursion}

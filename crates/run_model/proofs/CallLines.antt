@@ -87,7 +87,8 @@ of_all P (t ∷ ts) h = (
   of_all P ts (λ cpu. (each_under P (λ (x : RepliedLine). x.line.cpu == cpu) t ts (h cpu)).1),
 )
 
--- What holds of each processor's lines holds of each line of the section, if it is no fact of processors.
+-- What holds of each processor's lines holds of each line of the section, if it is no fact of
+-- processors.
 pub each_of_section :
     (P : RepliedLine → Type 0) (s : Section)
     → EachLine (λ p t. P t) s
@@ -151,7 +152,8 @@ store_calls P on o s ts (q ∷ qs) named shows quiets quiet good =
     (store_calls P on o (after_quiet (closing x) x.quiet) q.1 qs later shows quiets quiet.1
     good.1)
 
--- What follows of each call's reply on a store, and holds of each quiet line, holds of each line there.
+-- What follows of each call's reply on a store, and holds of each quiet line, holds of each line
+-- there.
 pub good_calls :
     (P : RepliedLine → Type 0) (t : AcceptedTrace) (rs : List Reply) (o : Option BusWindow)
     (s : Store)
@@ -172,7 +174,8 @@ abbrev pub Follows : (RepliedLine → Type 0) → Type 0
 Follows P =
     (context : StoreContext) (t : RepliedLine) → IsCallReply context t.line.act t.reply → P t
 
--- What follows of each call's reply, on any store, and holds of each quiet line, holds of each line.
+-- What follows of each call's reply, on any store, and holds of each quiet line, holds of each
+-- line.
 pub each_call :
     (P : RepliedLine → Type 0) (t : AcceptedTrace) (rs : List Reply)
     → Follows P

@@ -61,7 +61,8 @@ each_filter P f (x ∷ xs) h =
     cond_both (f x) (x ∷ filter f xs) (filter f xs) (AllByRecursion P)
     (λ e. (h.0, each_filter P f xs h.1)) (λ e. each_filter P f xs h.1)
 
--- What holds of each element that passes holds of the first, where it passes, and of each other that does.
+-- What holds of each element that passes holds of the first, where it passes, and of each other
+-- that does.
 pub each_under :
     {A : Type 0} (P : A → Type 0) (f : A → Bool) (x : A) (xs : List A)
     → AllByRecursion P (filter f (x ∷ xs))

@@ -1,4 +1,5 @@
--- Each valid entry of each state that a serial run reaches has words that H_ENTER would store as they are.
+-- Each valid entry of each state that a serial run reaches has words that H_ENTER would store as
+-- they are.
 use Rattle.std.specs.Prelude.{nat_lt, slice_index}
 use Rattle.std.proofs.Common.{◌≡◌, ℕ, List, [], ◌∷◌, Bool, true, false, Option, Some, None, refl, sym, subst, ◌⊎◌, inl, inr}
 use Rattle.std.specs.List.{AllByRecursion}

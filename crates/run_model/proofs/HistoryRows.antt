@@ -40,7 +40,8 @@ by : State → Op → Receipt
 by before op = receipt_of 5 before op
 
 -- ---- histories
--- By stamp, then by bits, and on one state those that change nothing first. Of these a read and an H_ENTER that finds the entry taken tie, and stay as they are listed.
+-- By stamp, then by bits, and on one state those that change nothing first. Of these a read and an
+-- H_ENTER that finds the entry taken tie, and stay as they are listed.
 sorted :
     history 5
     (by with_r stored
@@ -69,7 +70,8 @@ tied :
 unfolding at_stamp by place pair_of state_eq
 tied = refl
 
--- Legal from the state at which the entry opens to the one at which it closes; with another state between it isn't.
+-- Legal from the state at which the entry opens to the one at which it closes; with another state
+-- between it isn't.
 legal :
     IsLegal (at_stamp 2)
     (by (at_stamp 2) ops.Read ∷ by (at_stamp 2) reached ∷ by with_r reached ∷ []) with_r
@@ -82,7 +84,8 @@ unfolding at_stamp with_r reached by has_base permission rows row_says key_rows
 r_is_lost h = let no : false ≡ true = ap (λ (s : State). s.referenced) h.1.0 in cc
 
 -- ---- closing states
--- The last state of each entry's history, whatever the order in which the receipts are listed; without a receipt the state at which it opens.
+-- The last state of each entry's history, whatever the order in which the receipts are listed;
+-- without a receipt the state at which it opens.
 closes :
     closing_states (empty_state 3 ∷ at_stamp 1 ∷ empty_state 0 ∷ [])
     (receipt_of 2 (empty_state 0) (ops.Enter 0x1001 0x3012)
@@ -126,7 +129,8 @@ forgets_r : InOrder 5 4 (made (by (at_stamp 2) reached) ∷ made (by (at_stamp 2
 unfolding at_stamp reached by pair_of has_base permission rows row_says key_rows
 forgets_r h = let no : 9 ≤ 8 = h.1.0 in omega arith
 
--- A cached line at stamp 1 that was gone raises the front to stamp 2: what the entry was at stamp 1 can't be seen any more, whatever its bits.
+-- A cached line at stamp 1 that was gone raises the front to stamp 2: what the entry was at stamp 1
+-- can't be seen any more, whatever its bits.
 goes_on_past_the_line : InOrder 5 4 (gone line ∷ made (by (at_stamp 2) ops.Read) ∷ [])
 unfolding at_stamp line by pair_of
 goes_on_past_the_line = (omega arith, tt)

@@ -1,4 +1,5 @@
--- States with a low stamp, and with their page in a grant where they are valid; and the histories that keep them so.
+-- States with a low stamp, and with their page in a grant where they are valid; and the histories
+-- that keep them so.
 use Rattle.std.specs.Prelude.{filter, ◌==◌}
 use Rattle.std.proofs.Common.{◌≡◌, ℕ, suc, ◌+◌, ◌<◌, ◌≤◌, List, [], ◌∷◌, true, false, ap, sym, ◌∙◌, refl, subst, ◌⊎◌, inl, inr, length, arith}
 use Rattle.std.specs.List.{AllByRecursion}
@@ -67,7 +68,8 @@ none_worn grants rs h =
     (λ (r : Receipt). is_worn r.answer ≡ false) rs (λ r k. fine_below r k.low) h
 
 -- ---- along a legal history
--- What these operations keep of a state and its bound: each raises the bound at most by its cost, and a higher bound says no more.
+-- What these operations keep of a state and its bound: each raises the bound at most by its cost,
+-- and a higher bound says no more.
 pub record IsKeptBy (E : Op → Type 0) (Q : ℕ → State → Type 0) : Type 0 where
   pub step : (n : ℕ) (s : State) (op : Op) → E op → Q n s → Q (n + cost op) (reply_of s op).1
   pub more : (n m : ℕ) (s : State) → n ≤ m → Q n s → Q m s
@@ -147,7 +149,8 @@ pub closed_size :
 unfolding section_end
 closed_size w ts = closing_size (states_of w) (receipts_from_processor (length w.processors) 0 ts)
 
--- What operations keep of the states that histories open on is so of each state before a receipt, and of those that they close on.
+-- What operations keep of the states that histories open on is so of each state before a receipt,
+-- and of those that they close on.
 pub states_kept :
     (E : Op → Type 0) (Q : ℕ → State → Type 0) (n m : ℕ) (a b : List State) (rs : List Receipt)
     → IsKeptBy E Q

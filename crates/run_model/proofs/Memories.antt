@@ -18,7 +18,8 @@ use Rattle.hpt_resize.proofs.OpeningStates.{opening-length}
 abbrev pub IsAllowed : PendingTable → Type 0
 IsAllowed table = (18 ≤ table.order) × (table.order ≤ 22)
 
--- The current table has as many entries as its order says, and the pending one has one of the orders.
+-- The current table has as many entries as its order says, and the pending one has one of the
+-- orders.
 pub record IsMemory (limit : ℕ) (pending : Option PendingTable) (table : Table) : Type 0 where
   pub limited : limit ≤ 22
   pub low : 18 ≤ table.order

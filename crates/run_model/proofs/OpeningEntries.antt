@@ -1,4 +1,5 @@
--- What holds of an empty entry and of each entry that is valid at first holds of each opening state.
+-- What holds of an empty entry and of each entry that is valid at first holds of each opening
+-- state.
 use Rattle.std.proofs.Common.{◌≡◌, ℕ, List, [], ◌∷◌, Some}
 use Rattle.std.specs.List.{AllByRecursion}
 use Rattle.frame_grants.specs.declared.grant.Grant.{Grant}

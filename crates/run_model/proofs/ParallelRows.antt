@@ -1,4 +1,5 @@
--- What a processor on its own may answer: two processors at one entry, whose calls stand in the entry's history in another order than in the file.
+-- What a processor on its own may answer: two processors at one entry, whose calls stand in the
+-- entry's history in another order than in the file.
 use Rattle.std.proofs.Common.{◌≡◌, ℕ, List, [], ◌∷◌, true, false, refl, ◌≤◌, arith}
 use Rattle.papr_codes.specs.Hcalls.{hcall_of, row_of}
 use Rattle.papr_codes.specs.declared.codes.Rc.TheVariants.{Success}
@@ -60,7 +61,8 @@ entering = record {
 abbrev fronts : List ℕ
 fronts = opening_fronts (states_of (small 2))
 
--- The read of line 5 may find what line 6 entered, and its processor's front is the entry's pair then.
+-- The read of line 5 may find what line 6 entered, and its processor's front is the entry's pair
+-- then.
 reads_what_line_6_entered :
     WorksLine (context_of (small 2)) fronts new_processor (reading present (0x1001 ∷ 0x3012 ∷ []))
     (fronts_after fronts (read present))
@@ -83,7 +85,8 @@ no_earlier_read :
 unfolding pair_of
 no_earlier_read later h = let no : 4 ≤ 0 = h.keeps.0 in omega arith
 
--- The receipts are listed by processor, and the history has them in the order in which they were made.
+-- The receipts are listed by processor, and the history has them in the order in which they were
+-- made.
 history_of_both :
     history 0 (receipts_from_processor 2 0 (reading present (0x1001 ∷ 0x3012 ∷ []) ∷ entering ∷ []))
     ≡ entered ∷ read present ∷ []

@@ -1,4 +1,5 @@
--- Each cached line's entry stands in its page's group, and each access lands where its entry maps the page.
+-- Each cached line's entry stands in its page's group, and each access lands where its entry maps
+-- the page.
 use Rattle.std.specs.Prelude.{IfSome, IsTrue, find, if◌then◌else◌}
 use Rattle.std.proofs.Common.{◌≡◌, ℕ, zero, suc, List, [], ◌∷◌, Bool, true, false, not, ap, sym, ◌∙◌, refl, subst, ◌⊎◌, inl, inr, arith, map, replicate, Option, Some, None}
 use Rattle.std.specs.List.{AllByRecursion}

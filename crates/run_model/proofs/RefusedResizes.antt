@@ -1,4 +1,5 @@
--- In a good run a resize call that is refused leaves all that the run carries, but for the pending table in two cases.
+-- In a good run a resize call that is refused leaves all that the run carries, but for the pending
+-- table in two cases.
 use Rattle.std.specs.Prelude.{◌==◌, nat_lt, not, slice_index, IfSome}
 use Rattle.std.proofs.Common.{◌≡◌, ℕ, List, [], ◌∷◌, Bool, true, false, ap, sym, ◌∙◌, refl, subst, Option, Some, None}
 use Rattle.std.specs.List.{AllByRecursion}
@@ -27,7 +28,8 @@ use Rattle.papr_codes.specs.declared.codes.Rc.TheVariants as rc
 use Rattle.trace_line.specs.declared.act.Act.TheVariants as acts
 
 -- ---- prepare
--- The outcome at memory: where it is a refusal, what is left, and that a table was dropped only for one of another order.
+-- The outcome at memory: where it is a refusal, what is left, and that a table was dropped only for
+-- one of another order.
 record PrepareLeaves (memory : TableMemory) (shift : ℕ) (p : PrepareOutcome) : Type 0 where
   left :
       is_refusal p.rc ≡ true

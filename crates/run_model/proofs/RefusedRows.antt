@@ -105,7 +105,8 @@ unfolding put reply_to with_entry entry run_on line_result hcall_plan is_quiet h
 put_keeps_no_removals = refl
 
 -- ---- H_PUT_TCE on a window, while another call enters a TCE
--- The window's entry 1 had the TCE 0x4001, which this call removes. Then it has the other call's, 0x6001.
+-- The window's entry 1 had the TCE 0x4001, which this call removes. Then it has the other call's,
+-- 0x6001.
 window : BusWindow
 window = bus_window 1 0x4000 2
 

@@ -1,4 +1,5 @@
--- In a good run a refused line on a window leaves the entries of its receipts, but that an H_PUT_TCE may have removed the TCE that was there.
+-- In a good run a refused line on a window leaves the entries of its receipts, but that an
+-- H_PUT_TCE may have removed the TCE that was there.
 use Rattle.std.proofs.Common.{◌≡◌, ℕ, List, [], ◌∷◌, Bool, true, false, sym, refl, subst, Option, Some, None}
 use Rattle.std.specs.Prelude.{◌==◌}
 use Rattle.std.specs.List.{AllByRecursion}

@@ -1,4 +1,5 @@
--- What holds of an empty entry, and of each entry at stamp 0 where it holds of the entry, holds of each entry after a commit.
+-- What holds of an empty entry, and of each entry at stamp 0 where it holds of the entry, holds of
+-- each entry after a commit.
 use Rattle.std.proofs.Common.{ℕ, List, length, Option, Some, None}
 use Rattle.std.specs.List.{AllByRecursion, range_with_len}
 use Rattle.std.specs.Option.{option_map_or}

@@ -1,4 +1,5 @@
--- What each reply enters, how far it raises stamps, and that it is safe where its receipts were made on states with low stamps.
+-- What each reply enters, how far it raises stamps, and that it is safe where its receipts were
+-- made on states with low stamps.
 use Rattle.std.proofs.Common.{◌≡◌, ℕ, ◌*◌, ◌≤◌, ◌^◌, List, true, false, sym, refl, subst, arith, Option, Some, None}
 use Rattle.std.specs.List.{AllByRecursion, range_with_len}
 use Rattle.std.specs.Option.{option_map_or}
@@ -99,7 +100,8 @@ hcall_tame set calls.PutTce args = answered_tame (IsSuited set.grants) rc.Parame
 hcall_tame set other args = answered_tame (IsSuited set.grants) rc.Function (λ e. cc)
 
 -- ---- lines
--- What is entered has a granted page, few stamps are raised, and the reply is safe where the stamps before were low.
+-- What is entered has a granted page, few stamps are raised, and the reply is safe where the stamps
+-- before were low.
 pub record IsTameLine (granted : GrantedMemory) (reply : Reply) : Type 0 where
   pub enters : EnterGranted granted.grants (receipts_in reply)
   pub few : weight (receipts_in reply) ≤ 32

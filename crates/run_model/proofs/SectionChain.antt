@@ -50,7 +50,8 @@ unfolding section_end
 closed_order w ts = refl
 
 -- ---- all sections
--- The memory on which each opens stands, and is what the quiet line leaves of the memory on which the section before it closed.
+-- The memory on which each opens stands, and is what the quiet line leaves of the memory on which
+-- the section before it closed.
 abbrev pub AreChained : List Section → Type 0
 AreChained [] = Unit {0}
 AreChained (s ∷ []) = MemoryStands s.before.memory

@@ -374,7 +374,8 @@ section_good s b within h q =
     }
 
 -- ---- all sections
--- Each section's lines run alone, from the store behind the one before it, and each quiet line has its reply.
+-- Each section's lines run alone, from the store behind the one before it, and each quiet line has
+-- its reply.
 abbrev pub Stands : (Act → Bool) → Store → List RepliedLine → List QuietPart → Type 0
 Stands on s ts [] = (b : List State) × RunsAlone (section_of on s ts None) b
 Stands on s ts (q ∷ qs) =

@@ -1,4 +1,5 @@
--- The sections of worked runs: which lines fall where, on which states each opens, and what a processor's lines tell of an entry.
+-- The sections of worked runs: which lines fall where, on which states each opens, and what a
+-- processor's lines tell of an entry.
 use Rattle.std.specs.Prelude.{map, slice_set, take, IfSome}
 use Rattle.std.proofs.Common.{◌≡◌, ℕ, List, [], ◌∷◌, true, false, Some, None, refl, ◌<◌, arith}
 use Rattle.power_addr.specs.Pages.{virtual_page, same_page}
@@ -109,7 +110,8 @@ dump =
     (replies.Dump
     (record { number = 0; order = 18; place = 0x1000000000; states = (0, with_r) ∷ [] }))
 
--- Processor 0 enters and, behind processor 1's protection, finds the entry by a walk; behind the dump processor 1 does.
+-- Processor 0 enters and, behind processor 1's protection, finds the entry by a walk; behind the
+-- dump processor 1 does.
 replied_lines : List RepliedLine
 replied_lines =
     replied_line 4 0 (SlbMte 0x8000000 0x1000) (replies.Segment true)
@@ -143,7 +145,8 @@ unfolding replied_lines replied_line hcall walk resize dump is_quiet hcall_of ro
     permission rows row_says key_rows run_quiet_line shown_of
 dump_is_replied = refl
 
--- The one behind the dump opens on the states that the one before it closes on, and so on; the one behind the commit on a table of the next number.
+-- The one behind the dump opens on the states that the one before it closes on, and so on; the one
+-- behind the commit on a table of the next number.
 opening_states :
     map (λ (s : Section). state_at s.before.memory.table.states 0) (take 3 opened)
     ≡ empty_state 0 ∷ with_r ∷ with_r ∷ []
@@ -206,7 +209,8 @@ unfolding filled bare opened replied_lines replied_line hcall walk resize dump i
 opening_processors = refl
 
 -- ---- what a processor's lines tell of an entry
--- A walk past the cached line says that it was gone, before its receipt; the first walk is past none.
+-- A walk past the cached line says that it was gone, before its receipt; the first walk is past
+-- none.
 told :
     events_by bare (walk 5 0 (reached (at_stamp 2)) ∷ walk 6 0 (reached (at_stamp 3)) ∷ [])
     ≡ made (reached (at_stamp 2))
@@ -224,7 +228,8 @@ unfolding filled bare walk replied_line reached at_stamp has_base permission row
     slots_after no_slots slot_of_words segment_of empty_cache cached_line same_page after_walk
 told = refl
 
--- Where the entry closes at the line's stamp, a walk past it is no good reply; at a later stamp it is.
+-- Where the entry closes at the line's stamp, a walk past it is no good reply; at a later stamp it
+-- is.
 past_a_current_line :
     IsAccessLine (access_of (context_of (small 2))) (with_r ∷ []) filled (walk 6 0 (reached with_r))
     → ⊥

@@ -1,4 +1,5 @@
--- A partition with few entries, for worked values. Its table has the order 18, and the list has the states of the first two groups: all others stay empty.
+-- A partition with few entries, for worked values. Its table has the order 18, and the list has the
+-- states of the first two groups: all others stay empty.
 use Rattle.std.proofs.Common.{ℕ, List, [], ◌∷◌, Bool, true, None, replicate}
 use Rattle.frame_grants.specs.declared.grant.Kind.TheVariants.{Ram, Io}
 use Rattle.storage_prot.specs.declared.want.Want.{Want}

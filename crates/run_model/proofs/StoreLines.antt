@@ -1,4 +1,5 @@
--- Lines by the stores that they are on: each is on the page table or on a window, and quiet lines are on the page table.
+-- Lines by the stores that they are on: each is on the page table or on a window, and quiet lines
+-- are on the page table.
 use Rattle.std.specs.Prelude.{filter, ◌==◌, ◌||◌}
 use Rattle.std.proofs.Common.{◌≡◌, ℕ, List, [], ◌∷◌, Bool, true, false, not, ap, sym, ◌∙◌, refl, subst, ◌⊎◌, inl, inr, map, Option, Some, None}
 use Rattle.std.specs.List.{AllByRecursion, list_any}
@@ -194,7 +195,8 @@ abbrev all_but_first : List RepliedLine → List RepliedLine
 all_but_first [] = []
 all_but_first (t ∷ ts) = ts
 
--- Two lists of which the filter depends on the lines alone agree in the first reply, if the line is kept, and behind it.
+-- Two lists of which the filter depends on the lines alone agree in the first reply, if the line is
+-- kept, and behind it.
 module _ (f : Act → Bool) (l : TraceLine) (r q : Reply) (ts us : List RepliedLine) where
   abbrev Keeps : RepliedLine → Bool
   Keeps t = f t.line.act

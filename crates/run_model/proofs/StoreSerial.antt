@@ -1,4 +1,5 @@
--- In the serial run of all stores the lines on each store run alone there: the page table and the windows alike.
+-- In the serial run of all stores the lines on each store run alone there: the page table and the
+-- windows alike.
 use Rattle.std.specs.Prelude.{IfSome, Bool, ◌==◌, if◌then◌else◌}
 use Rattle.std.proofs.Common.{◌≡◌, ℕ, List, [], ◌∷◌, true, false, ap, sym, ◌∙◌, refl, subst, map, length, ◌⊎◌, inl, inr, Option, Some, None, arith, ◌^◌, ◌<◌}
 use Rattle.std.specs.List.{AllByRecursion}

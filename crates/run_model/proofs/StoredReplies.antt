@@ -1,4 +1,5 @@
--- Each valid entry has words that H_ENTER would store as they are, and no operation changes that but one that enters other words.
+-- Each valid entry has words that H_ENTER would store as they are, and no operation changes that
+-- but one that enters other words.
 use Rattle.std.specs.Prelude.{if◌then◌else◌, ◌==◌}
 use Rattle.std.proofs.Common.{◌≡◌, ℕ, ◌+◌, ◌*◌, ◌^◌, ◌<◌, List, Bool, true, false, bit_and, bit_or, ap, sym, ◌∙◌, refl, lit<, arith}
 use Rattle.std.specs.Int.Bits.{and_zero_l, and_zero_r, or_zero_r}

@@ -128,7 +128,8 @@ none_unset (s ∷ rest) h legal = (
       (StaysShown s entry rest) (stays_shown s entry rest h legal.1) dirty
       (legal.0.legal entry (dirty_in_table (states_of s.before) entry dirty))
 
--- In a good run every change bit that is set when a section begins shows until a reply reports or clears it.
+-- In a good run every change bit that is set when a section begins shows until a reply reports or
+-- clears it.
 pub no_set_bit_is_lost :
     (t : AcceptedTrace) (rs : List Reply)
     → IsAccepted t

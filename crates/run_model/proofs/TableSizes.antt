@@ -1,4 +1,5 @@
--- A table has as many entries as its order says, and one of the orders that the project allows, after each line of a serial run.
+-- A table has as many entries as its order says, and one of the orders that the project allows,
+-- after each line of a serial run.
 use Rattle.std.specs.Prelude.{slice_index, IfSome}
 use Rattle.std.proofs.Common.{◌≡◌, ℕ, ◌-◌, ◌^◌, ◌<◌, ◌≤◌, List, [], ◌∷◌, Bool, true, false, Option, Some, None, length, refl, sym, ◌∙◌, subst, arith, ◌⊎◌, inl, inr}
 use Rattle.std.proofs.Math.Pow.{pow_mono}

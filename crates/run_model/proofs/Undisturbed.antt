@@ -1,4 +1,5 @@
--- Lines that run with nobody else at the table: what both the serial run and a good run of one processor are.
+-- Lines that run with nobody else at the table: what both the serial run and a good run of one
+-- processor are.
 use Rattle.std.specs.Prelude.{◌≡◌, ◌<◌, List, [], ◌∷◌, IfSome}
 use Rattle.entry_model.specs.State.{State}
 use Rattle.entry_model.specs.Run.{state_at, IsRun}

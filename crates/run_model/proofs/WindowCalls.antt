@@ -1,4 +1,5 @@
--- Calls and devices' accesses on the entries of a window: they stay in the store, and nobody else there gives them one reply.
+-- Calls and devices' accesses on the entries of a window: they stay in the store, and nobody else
+-- there gives them one reply.
 use Rattle.std.specs.Prelude.{IfSome, ◌||◌, ◌&&◌, nat_le, nat_lt}
 use Rattle.std.specs.Option.{option_map_or}
 use Rattle.std.proofs.Common.{◌≡◌, ℕ, ◌+◌, ◌-◌, ◌*◌, ◌/◌, ◌^◌, ◌<◌, ◌≤◌, List, [], ◌∷◌, Bool, true, false, ap, sym, ◌∙◌, refl, subst, length, arith, Option, Some, None}

@@ -93,7 +93,8 @@ unfolding table windows run_on is_quiet having one other put putting set_read gr
     row_of line_result hcall_plan put_tce_plan plan_run trial_run is_ram machine_range
 put_on_the_second = refl
 
--- A device of the window 2 reaches the page, one of the window 1 is denied, and the number 3 is none's.
+-- A device of the window 2 reaches the page, one of the window 1 is denied, and the number 3 is
+-- none's.
 read_by : ℕ → TraceLine
 read_by number = record { number = 6; cpu = 0; act = Device false number 0x11008 }
 
@@ -118,7 +119,8 @@ unfolding table windows run_on is_quiet having one other read_by set_read grants
 none_of_three = refl
 
 -- ---- sections
--- A dump cuts the window's lines as it cuts the page table's, and the second section opens on what the first leaves.
+-- A dump cuts the window's lines as it cuts the page table's, and the second section opens on what
+-- the first leaves.
 dumped : RepliedLine
 dumped =
     record {

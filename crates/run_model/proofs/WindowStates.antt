@@ -1,4 +1,5 @@
--- States of a window's entries: a low stamp, and of each valid entry a TCE whose page lies in one grant of main storage. What lines on windows keep of these.
+-- States of a window's entries: a low stamp, and of each valid entry a TCE whose page lies in one
+-- grant of main storage. What lines on windows keep of these.
 use Rattle.std.specs.Prelude.{◌≢◌, ◌||◌, ◌+◌, ◌==◌, if◌then◌else◌}
 use Rattle.std.specs.Option.{option_map_or}
 use Rattle.std.proofs.Common.{◌≡◌, ℕ, ◌≤◌, List, [], ◌∷◌, Bool, true, false, ap, sym, ◌∙◌, subst, inl, inr, arith, Option, Some, None}
@@ -115,7 +116,8 @@ tce_kept grants = record {
 abbrev AnyWords : ℕ → ℕ → Type 0
 AnyWords dword0 dword1 = Unit {0}
 
--- The plan makes no other operations, raises few stamps, and gives H_HARDWARE only where an entry was worn.
+-- The plan makes no other operations, raises few stamps, and gives H_HARDWARE only where an entry
+-- was worn.
 record IsTcePlan (grants : List Grant) (plan : Plan) : Type 0 where
   made : AllByRecursion (λ (c : Call). TceOp grants c.op) plan.calls
   tame : IsTame AnyWords plan

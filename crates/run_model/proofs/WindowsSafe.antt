@@ -1,4 +1,5 @@
--- In a good run no entry is worn, of the page table or of a window, and each access of a device lands by its TCE.
+-- In a good run no entry is worn, of the page table or of a window, and each access of a device
+-- lands by its TCE.
 use Rattle.std.proofs.Common.{◌≡◌, ℕ, ◌+◌, ◌*◌, ◌^◌, ◌<◌, ◌≤◌, List, [], ◌∷◌, Bool, true, false, sym, ap, ◌∙◌, refl, subst, ◌⊎◌, inl, inr, length, Option, Some, None, arith}
 use Rattle.std.specs.Prelude.{IfSome}
 use Rattle.std.specs.List.{AllByRecursion}

@@ -1,4 +1,5 @@
--- The stores of a run as a machine carries them: of a window which it is, and what its entries hold.
+-- The stores of a run as a machine carries them: of a window which it is, and what its entries
+-- hold.
 use Rattle.std.specs.Prelude.{List, ◌∷◌, map, length}
 use Rattle.bus_window.specs.Windows.{BusWindow}
 use Rattle.entry_model.specs.State.{State}
@@ -15,7 +16,8 @@ pub record AllStores : Type 0 where
   pub table : Store
   pub windows : List WindowState
 
--- The window as a store beside the page table: where the same memory is granted, and there are as many processors.
+-- The window as a store beside the page table: where the same memory is granted, and there are as
+-- many processors.
 abbrev pub as_store : Store → WindowState → Store
 as_store table v = window_store table.grants (length table.processors) v.states v.window
 

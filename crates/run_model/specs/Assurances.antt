@@ -10,7 +10,9 @@ use Rattle.run_model.specs.ShownStores.{NoStoreIsLostIn, NoSetBitIsLostIn, Clear
 use Rattle.run_model.specs.CommittedResizes.{ResizesKeepTranslations}
 use Rattle.run_model.specs.Landings.{AccessesLand, IsUnworn}
 
--- No store is lost, nor a change bit that is set at first, and a reply that clears a change bit shows it; committed resizes keep the bolted pages; accesses land by their entries' translations, and those of devices by their TCEs, in granted memory alone; and no entry is worn.
+-- No store is lost, nor a change bit that is set at first, and a reply that clears a change bit
+-- shows it; committed resizes keep the bolted pages; accesses land by their entries' translations,
+-- and those of devices by their TCEs, in granted memory alone; and no entry is worn.
 pub record Assures (t : AcceptedTrace) (rs : List Reply) : Type 0 where
   pub stores : NoStoreIsLostIn (sections_of t rs)
   pub set : NoSetBitIsLostIn (sections_of t rs)

@@ -1,4 +1,5 @@
--- How accesses use what their processors have cached: a hit by a line that is current, and a walk past a line only where it is gone.
+-- How accesses use what their processors have cached: a hit by a line that is current, and a walk
+-- past a line only where it is gone.
 use Rattle.std.specs.Prelude.{◌≡◌, ◌<◌, List, [], ◌∷◌, Option, Some, None}
 use Rattle.entry_model.specs.State.{State}
 use Rattle.entry_model.specs.declared.line.Line.{Line}
@@ -27,12 +28,14 @@ pub record IsByCurrentLine (line : Line) (rs : List Receipt) : Type 0 where
   pub entry : receipt.entry ≡ line.entry
   pub current : IsCurrent line receipt.before
 
--- The line's entry leaves the line's stamp before the table closes on these states, and had left it at each of the receipts.
+-- The line's entry leaves the line's stamp before the table closes on these states, and had left it
+-- at each of the receipts.
 pub record IsPastLine (states : List State) (line : Line) (rs : List Receipt) : Type 0 where
   pub left : line.stamp < (state_at states line.entry).stamp
   pub later : AllLater line rs
 
--- By the way that was taken, and the line of the page that was cached. Where none was there is no hit.
+-- By the way that was taken, and the line of the page that was cached. Where none was there is no
+-- hit.
 abbrev pub UsesLine : List State → Option By → Option Line → List Receipt → Type 0
 UsesLine states (Some Hit) (Some line) rs = IsByCurrentLine line rs
 UsesLine states (Some Hit) None rs = ⊥

@@ -1,4 +1,5 @@
--- What quiet lines leave of the table: a committed resize keeps each bolted page's translation, and no other line changes the table.
+-- What quiet lines leave of the table: a committed resize keeps each bolted page's translation, and
+-- no other line changes the table.
 use Rattle.std.specs.Prelude.{◌≡◌, Bool, true, false, not, List, [], ◌∷◌, Option, Some, None}
 use Rattle.papr_codes.specs.declared.calls.Hcall.{Hcall}
 use Rattle.papr_codes.specs.Hcalls.{hcall_of}
@@ -35,7 +36,8 @@ is_committed (Some q) = commits_by q.line.act q.reply
 abbrev pub closing_table : Section → Table
 closing_table s = (closing s).memory.table
 
--- What a quiet line leaves of the table: another one exactly where it is a commit that succeeded, which then has the translations; and else the same.
+-- What a quiet line leaves of the table: another one exactly where it is a commit that succeeded,
+-- which then has the translations; and else the same.
 pub record LeavesTable (s next : Section) : Type 0 where
   pub told : has_table_of s next ≡ not (is_committed s.quiet)
   pub keeps :

@@ -1,4 +1,5 @@
--- Where accesses of devices land: where the TCE in their receipt maps the page, in granted main storage, and in no table.
+-- Where accesses of devices land: where the TCE in their receipt maps the page, in granted main
+-- storage, and in no table.
 use Rattle.std.specs.Prelude.{◌≡◌, ℕ, Bool, true, IsTrue, List, [], ◌∷◌, Some}
 use Rattle.dma_window.specs.Devices.{logical_of}
 use Rattle.dma_window.specs.Entries.{address_of, permits, tce_of}
@@ -14,7 +15,9 @@ use Rattle.run_model.specs.Landings.{IsInPool}
 use Rattle.trace_line.specs.declared.act.Act.TheVariants as acts
 use Rattle.trace_reply.specs.declared.reply.Reply.TheVariants as replies
 
--- The TCE that the receipt found permits the access, and a single grant of main storage holds its page. The address is the one that a grant of main storage gives that page, with the bus address's offset in it; it is none of the pool's, in which all tables lie.
+-- The TCE that the receipt found permits the access, and a single grant of main storage holds its
+-- page. The address is the one that a grant of main storage gives that page, with the bus address's
+-- offset in it; it is none of the pool's, in which all tables lie.
 pub record IsDeviceLanding
     (granted : GrantedMemory)
     (write : Bool)

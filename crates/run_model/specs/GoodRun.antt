@@ -1,4 +1,5 @@
--- The good run: replies that place each call on an entry once in that entry's legal history, and never before what its processor had seen.
+-- The good run: replies that place each call on an entry once in that entry's legal history, and
+-- never before what its processor had seen.
 use Rattle.std.specs.Prelude.{◌≡◌, ℕ, ◌<◌, List, [], ◌∷◌, length, IfSome}
 use Rattle.std.specs.List.{AllByRecursion}
 use Rattle.entry_model.specs.State.{State}
@@ -35,7 +36,8 @@ EachLine P s =
     (processor_at s.before.processors cpu)
     (lines_of_processor cpu s.replied_lines)
 
--- The reply of an access; a walk in place of a cached line comes only where the line's entry left its stamp.
+-- The reply of an access; a walk in place of a cached line comes only where the line's entry left
+-- its stamp.
 pub record IsAccessLine
     (context : AccessContext)
     (states : List State)
@@ -50,7 +52,8 @@ pub record IsAccessLine
         (λ line. line.stamp < (state_at states line.entry).stamp)
 
 -- ---- a section
--- Each receipt is of an entry of the store, and each entry's history is legal, from the state that it opens on to the one that it closes on.
+-- Each receipt is of an entry of the store, and each entry's history is legal, from the state that
+-- it opens on to the one that it closes on.
 pub record AreLegal (s : Section) : Type 0 where
   pub in_table : AllByRecursion (λ (r : Receipt). r.entry < length (states_of s.before)) (made_in s)
   pub legal :
@@ -61,7 +64,8 @@ pub record AreLegal (s : Section) : Type 0 where
       (history entry (made_in s))
       (state_at (states_of (closing s)) entry)
 
--- On each entry each processor's receipts keep its front, which begins at the state that the entry opens on.
+-- On each entry each processor's receipts keep its front, which begins at the state that the entry
+-- opens on.
 abbrev pub AreInOrder : Section → Type 0
 AreInOrder s =
     (cpu entry : ℕ)

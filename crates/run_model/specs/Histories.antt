@@ -1,4 +1,5 @@
--- The states that a section's receipts close on, and what a processor learns of an entry in its own order.
+-- The states that a section's receipts close on, and what a processor learns of an entry in its own
+-- order.
 use Rattle.std.specs.Prelude.{ℕ, zero, suc, ◌≤◌, ◌==◌, ◌++◌, List, [], ◌∷◌, Option, Some, None, filter, map, max, MatchBool, if◌then◌else◌}
 use Rattle.entry_model.specs.State.{State}
 use Rattle.entry_model.specs.declared.line.Line.{Line}
@@ -20,7 +21,8 @@ abbrev pub receipts_by : List RepliedLine → List Receipt
 receipts_by [] = []
 receipts_by (t ∷ ts) = receipts_in t.reply ++ receipts_by ts
 
--- The receipts of so many processors from one on: one processor after the other, each in the order of its lines.
+-- The receipts of so many processors from one on: one processor after the other, each in the order
+-- of its lines.
 abbrev pub receipts_from_processor : ℕ → ℕ → List RepliedLine → List Receipt
 receipts_from_processor zero cpu ts = []
 receipts_from_processor (suc n) cpu ts =
@@ -48,7 +50,8 @@ abbrev pub front_after_gone : ℕ → ℕ → Line → ℕ
 front_after_gone entry front line =
     if line.entry == entry then max front (pair_beyond line) else front
 
--- No receipt of the entry comes before the front, and each sets the front to the pair of its state after. A line of the entry that was gone raises it.
+-- No receipt of the entry comes before the front, and each sets the front to the pair of its state
+-- after. A line of the entry that was gone raises it.
 abbrev pub InOrder : ℕ → ℕ → List Event → Type 0
 InOrder entry front [] = Unit {0}
 InOrder entry front (made r ∷ events) =

@@ -1,4 +1,5 @@
--- Where accesses land: where the entry that was used maps the page, in granted memory, and in no table.
+-- Where accesses land: where the entry that was used maps the page, in granted memory, and in no
+-- table.
 use Rattle.std.specs.Prelude.{◌≡◌, ◌≢◌, ℕ, ◌+◌, ◌^◌, ◌<◌, ◌≤◌, IsTrue, Option, Some}
 use Rattle.frame_grants.specs.declared.grant.Kind.{Kind}
 use Rattle.frame_grants.specs.Grants.{GrantedMemory, machine_range}
@@ -27,7 +28,9 @@ pub record IsInPool (granted : GrantedMemory) (address : ℕ) : Type 0 where
   pub from_base : granted.pool_base ≤ address
   pub to_end : address < granted.pool_base + 2 ^ granted.pool_order
 
--- The receipt says At, and its entry was one of the page in the state before. The address is the one that a grant gives the entry's frame, with the effective address's offset in the page; it is none of the pool's, in which all tables lie.
+-- The receipt says At, and its entry was one of the page in the state before. The address is the
+-- one that a grant gives the entry's frame, with the effective address's offset in the page; it is
+-- none of the pool's, in which all tables lie.
 pub record IsLanding
     (granted : GrantedMemory)
     (order ea : ℕ)
@@ -43,7 +46,8 @@ pub record IsLanding
     pub off_pool : IsInPool granted address → ⊥
 
 -- ---- accesses
--- An access that is allowed lands so, by the segment of its address and the receipt that it ended with; and none ends outside the grants.
+-- An access that is allowed lands so, by the segment of its address and the receipt that it ended
+-- with; and none ends outside the grants.
 abbrev pub Lands :
     GrantedMemory → ℕ → ℕ → Option Segment → Option Receipt → Outcome → Type 0
 Lands granted order ea (Some seg) (Some r) (At address) =

@@ -44,7 +44,8 @@ ParallelIsGood =
     → IsParallel t rs
     → IsGoodRun t rs
 
--- The serial run of an accepted trace is such a run: a processor that nobody disturbs keeps all that is promised.
+-- The serial run of an accepted trace is such a run: a processor that nobody disturbs keeps all
+-- that is promised.
 abbrev pub SerialIsParallel : Type 0
 SerialIsParallel = (t : AcceptedTrace) → IsAccepted t → IsParallel t (serial_replies t)
 
@@ -76,7 +77,8 @@ NoStoreIsLost =
     → IsGoodRun t rs
     → NoStoreIsLostIn (sections_of t rs)
 
--- In a good run every change bit that is set when a section begins, and so when the run begins, shows until a reply reports or clears it.
+-- In a good run every change bit that is set when a section begins, and so when the run begins,
+-- shows until a reply reports or clears it.
 abbrev pub NoSetBitIsLost : Type 0
 NoSetBitIsLost =
     (t : AcceptedTrace) (rs : List Reply)
@@ -91,7 +93,8 @@ ClearingRepliesShow =
     → IsGoodRun t rs
     → AllByRecursion ClearedBitsAreShown (sections_of t rs)
 
--- In a good run a committed resize keeps each bolted page's translation, and no other line changes the table between two sections.
+-- In a good run a committed resize keeps each bolted page's translation, and no other line changes
+-- the table between two sections.
 abbrev pub ResizesKeepBoltedPages : Type 0
 ResizesKeepBoltedPages =
     (t : AcceptedTrace) (rs : List Reply)
@@ -99,7 +102,8 @@ ResizesKeepBoltedPages =
     → IsGoodRun t rs
     → ResizesKeepTranslations (sections_of t rs)
 
--- In a good run each access that is allowed, by a walk or by a cached line, lands where an entry that was then one of its page maps it: in a grant, and in no table. None is ungranted.
+-- In a good run each access that is allowed, by a walk or by a cached line, lands where an entry
+-- that was then one of its page maps it: in a grant, and in no table. None is ungranted.
 abbrev pub AccessesLandByTheirEntries : Type 0
 AccessesLandByTheirEntries =
     (t : AcceptedTrace) (rs : List Reply)
@@ -107,7 +111,8 @@ AccessesLandByTheirEntries =
     → IsGoodRun t rs
     → AllByRecursion (AccessesLand t.config.granted) (sections_of t rs)
 
--- In a good run each access of a device that is allowed lands where the TCE in its receipt maps the page: in granted main storage, and in no table. None is ungranted.
+-- In a good run each access of a device that is allowed lands where the TCE in its receipt maps the
+-- page: in granted main storage, and in no table. None is ungranted.
 abbrev pub DevicesLandByTheirTces : Type 0
 DevicesLandByTheirTces =
     (t : AcceptedTrace) (rs : List Reply)
@@ -125,7 +130,8 @@ NoEntryIsWorn =
     → IsGoodRun t rs
     → AllByRecursion IsUnworn rs
 
--- In a good run a hit is by a cached line that is current at the hit's place, and a walk goes past a cached line only where its entry has left the line's stamp.
+-- In a good run a hit is by a cached line that is current at the hit's place, and a walk goes past
+-- a cached line only where its entry has left the line's stamp.
 abbrev pub CachedLinesAreCurrentOrGone : Type 0
 CachedLinesAreCurrentOrGone =
     (t : AcceptedTrace) (rs : List Reply)
@@ -152,14 +158,16 @@ SerialPutsAreNotBusy =
     (lines_with_replies t.lines (serial_replies t))
 
 -- ---- masks
--- In a good run an access is refused by a mask exactly where protection allows it by the entry that it ended with, and a mask of its processor refuses it for the entry's key.
+-- In a good run an access is refused by a mask exactly where protection allows it by the entry that
+-- it ended with, and a mask of its processor refuses it for the entry's key.
 abbrev pub MasksRefuseExactlyWhere : Type 0
 MasksRefuseExactlyWhere =
     (t : AcceptedTrace) (rs : List Reply)
     → IsGoodRun t rs
     → AllByRecursion MasksRefuse (sections_of t rs)
 
--- In a good run of a trace that sets no mask but to 0, no access is refused by a mask: each entry answers by its protection alone.
+-- In a good run of a trace that sets no mask but to 0, no access is refused by a mask: each entry
+-- answers by its protection alone.
 abbrev pub ZeroMasksRefuseNothing : Type 0
 ZeroMasksRefuseNothing =
     (t : AcceptedTrace) (rs : List Reply)
@@ -168,7 +176,9 @@ ZeroMasksRefuseNothing =
     → AllByRecursion NoneIsMasked (sections_of t rs)
 
 -- ---- what a refusal leaves
--- In a good run a refused line changes no entry, no segment and no other cached line than one that was gone; but a bulk removal that ends with H_PARAMETER or H_HARDWARE keeps the pairs that it has removed.
+-- In a good run a refused line changes no entry, no segment and no other cached line than one that
+-- was gone; but a bulk removal that ends with H_PARAMETER or H_HARDWARE keeps the pairs that it has
+-- removed.
 abbrev pub RefusedLinesChangeNothing : Type 0
 RefusedLinesChangeNothing =
     (t : AcceptedTrace) (rs : List Reply)
@@ -176,7 +186,8 @@ RefusedLinesChangeNothing =
     → IsGoodRun t rs
     → AllByRecursion RefusedLinesLeave (sections_of t rs)
 
--- In a good run a refused line on a window changes no entry of it; but an H_PUT_TCE that ends with H_BUSY or H_HARDWARE has removed the TCE that was there.
+-- In a good run a refused line on a window changes no entry of it; but an H_PUT_TCE that ends with
+-- H_BUSY or H_HARDWARE has removed the TCE that was there.
 abbrev pub RefusedWindowLinesChangeNothing : Type 0
 RefusedWindowLinesChangeNothing =
     (t : AcceptedTrace) (rs : List Reply)
@@ -185,7 +196,8 @@ RefusedWindowLinesChangeNothing =
     (λ (w : BusWindow). AllByRecursion RefusedWindowLinesLeave (window_sections t rs w))
     t.config.windows
 
--- In a good run a refused resize call changes nothing; but a prepare that answers H_NO_MEM and a commit that answers H_PTEG_FULL have dropped the pending table.
+-- In a good run a refused resize call changes nothing; but a prepare that answers H_NO_MEM and a
+-- commit that answers H_PTEG_FULL have dropped the pending table.
 abbrev pub RefusedResizesChangeNothing : Type 0
 RefusedResizesChangeNothing =
     (t : AcceptedTrace) (rs : List Reply)
@@ -193,7 +205,9 @@ RefusedResizesChangeNothing =
     → RefusedQuietLinesLeave (sections_of t rs)
 
 -- ---- what entries are
--- Whatever lines the serial run of an accepted trace's configuration executes, each valid entry is one that H_ENTER could have made: its doublewords came from H_ENTER, from H_PROTECT or from the configuration, and a resize keeps them.
+-- Whatever lines the serial run of an accepted trace's configuration executes, each valid entry is
+-- one that H_ENTER could have made: its doublewords came from H_ENTER, from H_PROTECT or from the
+-- configuration, and a resize keeps them.
 abbrev pub EntriesCanBeEntered : Type 0
 EntriesCanBeEntered =
     (t : AcceptedTrace) (lines : List TraceLine)
@@ -202,7 +216,9 @@ EntriesCanBeEntered =
     (CanBeEntered t.config.granted.grants)
     (states_of (table_after t.config lines))
 
--- What a layout holds of a table can be opened again: each valid entry of each table that a serial run reaches, written by its index and its digits, behind `entry` lines of lower indices, in a trace whose opening table has the order of that table, and whose grants are the same.
+-- What a layout holds of a table can be opened again: each valid entry of each table that a serial
+-- run reaches, written by its index and its digits, behind `entry` lines of lower indices, in a
+-- trace whose opening table has the order of that table, and whose grants are the same.
 abbrev pub ImagesOpenAgain : Type 0
 ImagesOpenAgain =
     (t : AcceptedTrace) (lines : List TraceLine) (layout : Layout) (index : ℕ) (s : State)

@@ -25,7 +25,8 @@ use Rattle.trace_line.specs.declared.act.Act.TheVariants as acts
 use Rattle.trace_reply.specs.declared.reply.Reply.TheVariants as replies
 
 -- ---- calls
--- H_PUT_TCE of this bus address and TCE. On the page table, whose entries are no window's, it is answered H_PARAMETER.
+-- H_PUT_TCE of this bus address and TCE. On the page table, whose entries are no window's, it is
+-- answered H_PARAMETER.
 abbrev pub put_plan : List Grant → Option BusWindow → ℕ → ℕ → Plan
 put_plan grants None ioba tce = plan_of_code rc.Parameter
 put_plan grants (Some w) ioba tce = put_tce_plan grants w ioba tce
@@ -35,7 +36,8 @@ abbrev pub get_plan : Option BusWindow → ℕ → Plan
 get_plan None ioba = plan_of_code rc.Parameter
 get_plan (Some w) ioba = get_tce_plan w ioba
 
--- What a hypervisor call does that isn't made at a quiet line, on a store of entries. A resize call, and a number that is no call, are answered H_FUNCTION here.
+-- What a hypervisor call does that isn't made at a quiet line, on a store of entries. A resize
+-- call, and a number that is no call, are answered H_FUNCTION here.
 unfoldable pub hcall_plan : StoreContext → Hcall → List ℕ → Plan
 hcall_plan context calls.Enter args =
     h_enter_plan
@@ -60,13 +62,16 @@ hcall_plan context calls.GetTce args = get_plan context.window (slice_index args
 hcall_plan context other args = plan_of_code rc.Function
 
 -- ---- replies
--- The reply of a device's access by the window whose entries a store has. On the page table it finds no window.
+-- The reply of a device's access by the window whose entries a store has. On the page table it
+-- finds no window.
 abbrev pub IsDeviceLine : List Grant → Option BusWindow → Bool → ℕ → Reply → Type 0
 IsDeviceLine grants None write ioba r = r ≡ replies.Device no_window_reply
 IsDeviceLine grants (Some w) write ioba (replies.Device d) = IsDeviceReply grants w ioba write d
 IsDeviceLine grants (Some w) write ioba other = ⊥
 
--- The reply of a hypervisor call and of a device's access is the one of its receipts. An slbmte is refused exactly where the buffer refuses its words; to clear the buffer or to set a mask never is.
+-- The reply of a hypervisor call and of a device's access is the one of its receipts. An slbmte is
+-- refused exactly where the buffer refuses its words; to clear the buffer or to set a mask never
+-- is.
 abbrev pub IsCallReply : StoreContext → Act → Reply → Type 0
 IsCallReply context (acts.Call number args spelt) (replies.Hcall h) =
     IsReplyOf (hcall_plan context (hcall_of number) args) h
@@ -78,7 +83,8 @@ IsCallReply context acts.SlbClear r = r ≡ replies.Segment true
 IsCallReply context (acts.SetMask name value) r = r ≡ replies.MaskSet
 IsCallReply context other r = Unit {0}
 
--- The reply of an access is the one of its receipts, for the segments, the masks and the cache that the processor has then.
+-- The reply of an access is the one of its receipts, for the segments, the masks and the cache that
+-- the processor has then.
 abbrev pub IsReplyToAccess : AccessContext → Processor → Act → Reply → Type 0
 IsReplyToAccess context p (acts.Access want ea user) (replies.Access r) =
     IsAccessReply

@@ -33,7 +33,9 @@ with_image_entry c e = record c { entries = c.entries ++ e ∷ [] }
 abbrev pub opening_states : Configuration → List State
 opening_states c = states_of (page_table c)
 
--- The line is accepted behind these configuration lines, and adds the entry. The table that opens then has the entry's state at stamp 0: its doublewords, R and C; every other entry opens as without the line.
+-- The line is accepted behind these configuration lines, and adds the entry. The table that opens
+-- then has the entry's state at stamp 0: its doublewords, R and C; every other entry opens as
+-- without the line.
 pub record IsOpenedAgain
     (c : Configuration) (words : List (List ℕ)) (index : ℕ) (s : State) : Type 0
   where

@@ -1,4 +1,5 @@
--- A run in which each processor works on its own: what it promises of its own lines, and what a store promises when it is closed behind a section.
+-- A run in which each processor works on its own: what it promises of its own lines, and what a
+-- store promises when it is closed behind a section.
 use Rattle.std.specs.Prelude.{◌≡◌, ℕ, ◌<◌, Bool, List, [], ◌∷◌, length, IfSome, None}
 use Rattle.std.specs.List.{AllByRecursion}
 use Rattle.entry_model.specs.State.{State}
@@ -23,7 +24,8 @@ use Rattle.run_model.specs.StoreContexts.{StoreContext, access_of}
 use Rattle.run_model.specs.Stores.{Store, context_of, states_of, opening_stores, is_on}
 
 -- ---- a processor
--- One of its lines, from the fronts that it had to those that it has then. Of a cached line that was gone, the entry's receipts come later, and the front says that it was gone.
+-- One of its lines, from the fronts that it had to those that it has then. Of a cached line that
+-- was gone, the entry's receipts come later, and the front says that it was gone.
 pub record WorksLine
     (context : StoreContext)
     (fronts : List ℕ)
@@ -63,7 +65,8 @@ AllWork s fronts =
     (lines_of_processor cpu s.replied_lines)
     (fronts cpu)
 
--- The store closed on these states: each entry has one legal history, and a line that is gone by a processor's fronts has a lower stamp than its entry.
+-- The store closed on these states: each entry has one legal history, and a line that is gone by a
+-- processor's fronts has a lower stamp than its entry.
 pub record IsClosed (s : Section) (fronts : ℕ → List ℕ) (states : List State) : Type 0 where
   pub size : length states ≡ length (states_of s.before)
   pub in_table : AllByRecursion (λ (r : Receipt). r.entry < length (states_of s.before)) (made_in s)

@@ -1,4 +1,5 @@
--- The processors of a partition: what each keeps after one of its lines, by that line and its reply alone.
+-- The processors of a partition: what each keeps after one of its lines, by that line and its reply
+-- alone.
 use Rattle.std.specs.Prelude.{ℕ, List, Option, Some, None, slice_index_or, slice_set}
 use Rattle.entry_model.specs.declared.line.Line.{Line}
 use Rattle.slb_model.specs.declared.error.BadSlb.{BadSlb}

@@ -1,4 +1,5 @@
--- Which calls and accesses are refused, and that these change nothing but in the cases that are named here. The grants are a constant of the run.
+-- Which calls and accesses are refused, and that these change nothing but in the cases that are
+-- named here. The grants are a constant of the run.
 use Rattle.std.specs.Prelude.{◌≡◌, ℕ, Bool, true, false, not, List, [], ◌∷◌, Option, Some, None, IfSome, slice_index}
 use Rattle.std.specs.List.{AllByRecursion}
 use Rattle.papr_codes.specs.declared.calls.Hcall.{Hcall}
@@ -47,7 +48,8 @@ abbrev pub device_ends_at : DeviceOutcome → Bool
 device_ends_at (device_outcomes.At address) = true
 device_ends_at other = false
 
--- A hypervisor call by its code, an access of a processor or a device that doesn't end At, or an slbmte whose words were refused.
+-- A hypervisor call by its code, an access of a processor or a device that doesn't end At, or an
+-- slbmte whose words were refused.
 abbrev pub is_refused : Act → Reply → Bool
 is_refused (acts.Call number args spelt) (replies.Hcall h) = is_refusal h.rc
 is_refused (acts.Access want ea user) (replies.Access r) = not (ends_at r.outcome)
@@ -61,7 +63,8 @@ abbrev pub is_removed : Answer → Bool
 is_removed answers.Removed = true
 is_removed other = false
 
--- A bulk removal that ends with H_PARAMETER or H_HARDWARE keeps the pairs that it has removed; and an H_PUT_TCE that ends with H_BUSY or H_HARDWARE has removed the TCE that was there.
+-- A bulk removal that ends with H_PARAMETER or H_HARDWARE keeps the pairs that it has removed; and
+-- an H_PUT_TCE that ends with H_BUSY or H_HARDWARE has removed the TCE that was there.
 abbrev pub keeps_removals : Hcall → Rc → Bool
 keeps_removals calls.BulkRemove rc.Parameter = true
 keeps_removals calls.BulkRemove rc.Hardware = true
@@ -88,14 +91,16 @@ cache_without (Some line) cache =
     with_set line.page (without_page line.page (set_of cache line.page)) cache
 
 -- ---- the lines of a section
--- What a line leaves: the entries of its receipts, its processor's segments, and of its cache all but a line that was gone.
+-- What a line leaves: the entries of its receipts, its processor's segments, and of its cache all
+-- but a line that was gone.
 pub record LeavesAll (p : Processor) (act : Act) (reply : Reply) : Type 0 where
   pub entries : AllByRecursion (LeavesEntry (keeps_removals_by act reply)) (receipts_in reply)
   pub slots : (processor_after p act reply).slots ≡ p.slots
   pub cache :
       (processor_after p act reply).cache ≡ cache_without (gone_line_of p act reply) p.cache
 
--- Each refused line of a section does. No line of it, refused or not, changes more of the memory than entries: the pool and the pending table stand.
+-- Each refused line of a section does. No line of it, refused or not, changes more of the memory
+-- than entries: the pool and the pending table stand.
 pub record RefusedLinesLeave (s : Section) : Type 0 where
   pub lines :
       EachLine
@@ -112,7 +117,8 @@ RefusedWindowLinesLeave s =
     EachLine (λ p t. is_refused t.line.act t.reply ≡ true → LeavesAll p t.line.act t.reply) s
 
 -- ---- resize calls
--- A prepare that answers H_NO_MEM and a commit that answers H_PTEG_FULL have dropped the pending table.
+-- A prepare that answers H_NO_MEM and a commit that answers H_PTEG_FULL have dropped the pending
+-- table.
 abbrev pub drops_pending : Hcall → Rc → Bool
 drops_pending calls.Prepare rc.NoMem = true
 drops_pending calls.Commit rc.PtegFull = true

@@ -1,4 +1,5 @@
--- The sections of a store: the quiet lines cut a run, and each section opens on what the one before it left.
+-- The sections of a store: the quiet lines cut a run, and each section opens on what the one before
+-- it left.
 use Rattle.std.specs.Prelude.{ℕ, suc, Bool, List, [], ◌∷◌, length, Option, Some, None, if◌then◌else◌}
 use Rattle.bus_window.specs.Windows.{BusWindow}
 use Rattle.entry_model.specs.State.{State}
@@ -30,7 +31,8 @@ processors_after_lines cpu (p ∷ ps) ts =
     processor_after_lines p (lines_of_processor cpu ts) ∷ processors_after_lines (suc cpu) ps ts
 
 -- ---- a section
--- The store before it, its lines there, and the quiet line that ends it, if that is one on this store.
+-- The store before it, its lines there, and the quiet line that ends it, if that is one on this
+-- store.
 pub record Section : Type 0 where
   pub before : Store
   pub replied_lines : List RepliedLine
@@ -41,7 +43,8 @@ abbrev pub made_in : Section → List Receipt
 made_in s = receipts_from_processor (length s.before.processors) 0 s.replied_lines
 
 -- ---- how it closes
--- The store behind these lines, where it closes on these states: each processor is as after its own lines.
+-- The store behind these lines, where it closes on these states: each processor is as after its own
+-- lines.
 abbrev pub section_end_on : Store → List RepliedLine → List State → Store
 section_end_on s ts states = record s {
   memory = with_states s.memory states;

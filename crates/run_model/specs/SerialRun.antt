@@ -135,7 +135,8 @@ run_on s l =
     (line_result (context_of s) (processor_at s.processors l.cpu) (states_of s) l.act)
 
 -- ---- all stores
--- The reply to a line, and the stores after it: it acts on the store that it is on, and leaves the others. Where it is on none, which can't be, H_FUNCTION.
+-- The reply to a line, and the stores after it: it acts on the store that it is on, and leaves the
+-- others. Where it is on none, which can't be, H_FUNCTION.
 abbrev pub run_line : List BusWindow → List Store → TraceLine → Reply × List Store
 run_line ws [] l = (reply_of_code rc.Function, [])
 run_line ws (s ∷ ss) l =

@@ -47,7 +47,8 @@ abbrev pub stores : Receipt → Bool
 stores r = stores_by r.op r.answer
 
 -- ---- one entry
--- C is set in each state before, up to and with that of the first receipt that clears it; where none does it is set in the last state, and stays shown.
+-- C is set in each state before, up to and with that of the first receipt that clears it; where
+-- none does it is set in the last state, and stays shown.
 abbrev pub ShowsChange : List Receipt → State → Type 0 → Type 0
 ShowsChange [] last after = (last.changed ≡ true) × after
 ShowsChange (r ∷ rs) last after =
@@ -62,7 +63,8 @@ abbrev pub closing_state : Section → ℕ → State
 closing_state s entry = state_at (states_of (closing s)) entry
 
 -- ---- the reply that clears
--- The words show C of an entry: H_REMOVE's in doubleword 1, the second of them, H_CLEAR_MOD's in the one word, H_BULK_REMOVE's in a pair of the entry.
+-- The words show C of an entry: H_REMOVE's in doubleword 1, the second of them, H_CLEAR_MOD's in
+-- the one word, H_BULK_REMOVE's in a pair of the entry.
 abbrev pub shows_changed : Hcall → List ℕ → ℕ → Bool
 shows_changed calls.Remove words entry = is_changed (slice_index words 1)
 shows_changed calls.ClearMod words entry = is_changed (slice_index words 0)
@@ -89,7 +91,8 @@ ClearedBitsAreShown s = EachLine (λ p t. ShowsClearedBits t.line.act t.reply) s
 abbrev pub has_table_of : Section → Section → Bool
 has_table_of old new = new.before.memory.table.number == old.before.memory.table.number
 
--- Where an entry of the one section stands in the next: in the same table at its index, in a new one where the resize carried it, if it did.
+-- Where an entry of the one section stands in the next: in the same table at its index, in a new
+-- one where the resize carried it, if it did.
 abbrev pub carried_to : Section → Section → ℕ → Option ℕ
 carried_to old new entry =
     if has_table_of old new
@@ -100,7 +103,9 @@ carried_to old new entry =
     (states_of (closing old))
     entry
 
--- C of this entry is set when these sections begin, and is shown from there on: through each section, and then at the place to which a committed resize carried the entry. One that a resize drops is dropped by that call's reply.
+-- C of this entry is set when these sections begin, and is shown from there on: through each
+-- section, and then at the place to which a committed resize carried the entry. One that a resize
+-- drops is dropped by that call's reply.
 abbrev pub StaysShown : Section → ℕ → List Section → Type 0
 StaysShown s entry [] = Unit {0}
 StaysShown s entry (next ∷ rest) =
@@ -128,7 +133,8 @@ NoStoreIsLostIn (s ∷ rest) =
     × NoStoreIsLostIn rest
 
 -- ---- bits that are set already
--- C of each valid entry that has it when a section begins is shown from there on, in each section; so is that of each entry of the opening table.
+-- C of each valid entry that has it when a section begins is shown from there on, in each section;
+-- so is that of each entry of the opening table.
 abbrev pub NoSetBitIsLostIn : List Section → Type 0
 NoSetBitIsLostIn [] = Unit {0}
 NoSetBitIsLostIn (s ∷ rest) =

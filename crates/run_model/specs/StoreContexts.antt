@@ -1,10 +1,12 @@
--- What the lines on one store of entries have in common: the page table is such a store, and each DMA window has one.
+-- What the lines on one store of entries have in common: the page table is such a store, and each
+-- DMA window has one.
 use Rattle.std.specs.Prelude.{ℕ, List, Option, Some, None}
 use Rattle.bus_window.specs.Windows.{BusWindow}
 use Rattle.frame_grants.specs.declared.grant.Grant.{Grant}
 use Rattle.hpt_walk.specs.Access.{AccessContext, access_context}
 
--- The store has 2 ^ order bytes, this memory is granted, and the entries are those of this window; the page table's are no window's.
+-- The store has 2 ^ order bytes, this memory is granted, and the entries are those of this window;
+-- the page table's are no window's.
 pub record StoreContext : Type 0 where
   pub order : ℕ
   pub grants : List Grant

@@ -13,7 +13,8 @@ use Rattle.run_model.specs.LineReplies.{hcall_plan}
 use Rattle.run_model.specs.RefusedCalls.{is_refusal, keeps_removals, LeavesEntry}
 
 -- ---- refused calls
--- The reply of a hypervisor call with a code that refuses it leaves the entry of each of its receipts, but for the removals that the call keeps with that code.
+-- The reply of a hypervisor call with a code that refuses it leaves the entry of each of its
+-- receipts, but for the removals that the call keeps with that code.
 abbrev pub RefusedCallsLeaveEntries : Type 0
 RefusedCallsLeaveEntries =
     (context : StoreContext) (hcall : Hcall) (args : List ℕ) (reply : HReply)
@@ -26,7 +27,8 @@ RefusedCallsLeaveEntries =
 abbrev pub ChangesEntry : Receipt → Type 0
 ChangesEntry r = state_eq (after_of r) r.before ≡ false
 
--- In a legal history of an entry each receipt behind one that changed the entry has a higher place. So no two that changed it have one place.
+-- In a legal history of an entry each receipt behind one that changed the entry has a higher place.
+-- So no two that changed it have one place.
 abbrev pub ChangesHavePlacesOfTheirOwn : Type 0
 ChangesHavePlacesOfTheirOwn =
     (e : ℕ) (a b : State) (all xs ys zs : List Receipt) (r s : Receipt)

@@ -17,7 +17,9 @@ use Rattle.trace_reply.specs.Replies.{RepliedLine}
 use Rattle.run_model.specs.StoreContexts.{StoreContext, window_context}
 
 -- ---- a store
--- The granted memory, the window whose entries these are, the tables and their pool, and the processors. The entries of the page table are no window's. A window's are the one table that it has.
+-- The granted memory, the window whose entries these are, the tables and their pool, and the
+-- processors. The entries of the page table are no window's. A window's are the one table that it
+-- has.
 pub record Store : Type 0 where
   pub grants : List Grant
   pub window : Option BusWindow
@@ -33,7 +35,8 @@ abbrev pub states_of : Store → List State
 states_of s = s.memory.table.states
 
 -- ---- those of a run
--- At first the configured entries are valid, all others are empty, and no processor has a segment or a cached translation.
+-- At first the configured entries are valid, all others are empty, and no processor has a segment
+-- or a cached translation.
 unfoldable pub page_table : Configuration → Store
 page_table c = record {
   grants = c.granted.grants;
@@ -70,7 +73,9 @@ plain_store context states processors = record {
   processors = processors;
 }
 
--- A window with these states, where this memory is granted and there are so many processors. It has 2 ^ 18 bytes, and so as many entries as the largest window has pages. Its lines use nothing that a processor keeps, so these stay new ones.
+-- A window with these states, where this memory is granted and there are so many processors. It has
+-- 2 ^ 18 bytes, and so as many entries as the largest window has pages. Its lines use nothing that
+-- a processor keeps, so these stay new ones.
 abbrev pub window_store : List Grant → ℕ → List State → BusWindow → Store
 window_store grants cpus states w =
     plain_store (window_context grants w) states (replicate cpus new_processor)
@@ -88,7 +93,8 @@ opening_stores c = page_table c ∷ map (opening_store c) c.windows
 abbrev pub is_on_window : BusWindow → Act → Bool
 is_on_window w act = option_map_or (λ number. w.liobn == number) (bus_of act) false
 
--- A line names its store by its act alone: a window by its number, and the page table where it names none of the windows.
+-- A line names its store by its act alone: a window by its number, and the page table where it
+-- names none of the windows.
 abbrev pub is_on : List BusWindow → Option BusWindow → Act → Bool
 is_on ws None act = not (list_any (λ (w : BusWindow). is_on_window w act) ws)
 is_on ws (Some w) act = is_on_window w act

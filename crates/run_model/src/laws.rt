@@ -7,8 +7,8 @@ pub fn serial_is_good()
     ensures { SerialIsGood }
 {}
 
-/// A run in which each processor works on its own, on a table that gives each entry one legal history,
-/// is a good run.
+/// A run in which each processor works on its own, on a table that gives each entry one legal
+/// history, is a good run.
 pub fn parallel_is_good()
     ensures { ParallelIsGood }
 {}
@@ -18,7 +18,8 @@ pub fn serial_is_parallel()
     ensures { SerialIsParallel }
 {}
 
-/// A run is good store by store exactly where it is good section by section, with all stores side by side.
+/// A run is good store by store exactly where it is good section by section, with all stores side
+/// by side.
 pub fn good_side_by_side()
     ensures { GoodSideBySide }
 {}
@@ -28,7 +29,8 @@ pub fn one_good_run()
     ensures { SerialIsTheOneGoodRun }
 {}
 
-/// In a good run every store that succeeds shows in a change bit until a reply reports or clears it.
+/// In a good run every store that succeeds shows in a change bit until a reply reports or clears
+/// it.
 pub fn no_store_is_lost()
     ensures { NoStoreIsLost }
 {}
@@ -39,8 +41,8 @@ pub fn no_set_bit_is_lost()
     ensures { NoSetBitIsLost }
 {}
 
-/// In a good run the reply that clears a change bit shows it: H_REMOVE's in register 5, H_CLEAR_MOD's in
-/// register 4, H_BULK_REMOVE's in a pair of the entry.
+/// In a good run the reply that clears a change bit shows it: H_REMOVE's in register 5,
+/// H_CLEAR_MOD's in register 4, H_BULK_REMOVE's in a pair of the entry.
 pub fn clearing_replies_show()
     ensures { ClearingRepliesShow }
 {}
@@ -50,26 +52,26 @@ pub fn resizes_keep_bolted_pages()
     ensures { ResizesKeepBoltedPages }
 {}
 
-/// In a good run each access that is allowed lands where an entry that was then one of its page maps it,
-/// in a grant and in no table.
+/// In a good run each access that is allowed lands where an entry that was then one of its page
+/// maps it, in a grant and in no table.
 pub fn accesses_land_by_their_entries()
     ensures { AccessesLandByTheirEntries }
 {}
 
-/// In a good run each access of a device that is allowed lands where the TCE in its receipt maps the page,
-/// in granted main storage and in no table.
+/// In a good run each access of a device that is allowed lands where the TCE in its receipt maps
+/// the page, in granted main storage and in no table.
 pub fn devices_land_by_their_tces()
     ensures { DevicesLandByTheirTces }
 {}
 
-/// In a good run a hit is by a cached line that is current at the hit's place, and a walk goes past a
-/// cached line only where its entry has left the line's stamp.
+/// In a good run a hit is by a cached line that is current at the hit's place, and a walk goes past
+/// a cached line only where its entry has left the line's stamp.
 pub fn cached_lines_are_current_or_gone()
     ensures { CachedLinesAreCurrentOrGone }
 {}
 
-/// In a good run an access is refused by a mask exactly where protection allows it by the entry that it
-/// ended with, and a mask of its processor refuses it for the entry's key.
+/// In a good run an access is refused by a mask exactly where protection allows it by the entry
+/// that it ended with, and a mask of its processor refuses it for the entry's key.
 pub fn masks_refuse_exactly_where()
     ensures { MasksRefuseExactlyWhere }
 {}
@@ -94,8 +96,9 @@ pub fn serial_puts_are_not_busy()
     ensures { SerialPutsAreNotBusy }
 {}
 
-/// In a good run a call, an access or an slbmte that is refused changes no entry, no segment and no cached
-/// line but one that was gone; a bulk removal keeps the pairs that it removed before it was refused.
+/// In a good run a call, an access or an slbmte that is refused changes no entry, no segment and no
+/// cached line but one that was gone; a bulk removal keeps the pairs that it removed before it was
+/// refused.
 pub fn refused_lines_change_nothing()
     ensures { RefusedLinesChangeNothing }
 {}
@@ -106,8 +109,8 @@ pub fn refused_window_lines_change_nothing()
     ensures { RefusedWindowLinesChangeNothing }
 {}
 
-/// In a good run a resize call that is refused changes nothing, but that a prepare without memory and a
-/// commit on which two entries meet drop the pending table.
+/// In a good run a resize call that is refused changes nothing, but that a prepare without memory
+/// and a commit on which two entries meet drop the pending table.
 pub fn refused_resizes_change_nothing()
     ensures { RefusedResizesChangeNothing }
 {}
@@ -117,9 +120,9 @@ pub fn reached_entries_can_be_entered()
     ensures { EntriesCanBeEntered }
 {}
 
-/// Each valid entry that a serial run comes to, and that a layout can hold, may stand in the opening table
-/// of another trace with the same grants: an `entry` line with its index and its digits is accepted, and
-/// the entry opens with its doublewords, R and C, at stamp 0.
+/// Each valid entry that a serial run comes to, and that a layout can hold, may stand in the
+/// opening table of another trace with the same grants: an `entry` line with its index and its
+/// digits is accepted, and the entry opens with its doublewords, R and C, at stamp 0.
 pub fn images_open_again()
     ensures { ImagesOpenAgain }
 {}

@@ -1,9 +1,11 @@
-//! What a run of a trace is: what a partition and its processors carry from line to line, the serial
-//! run, the sections between quiet lines, the good runs, and what follows of a run from its being good.
+//! What a run of a trace is: what a partition and its processors carry from line to line, the
+//! serial run, the sections between quiet lines, the good runs, and what follows of a run from its
+//! being good.
 //!
-//! The calls are those of LoPAR on the page frame table and on DMA windows, and the accesses those of
-//! the Power ISA (Book III, hashed page table translation). `laws` has the theorems. Two calls run:
-//! `make_call`, which picks the hypervisor call of a line by its number, and `make_device_access`.
+//! The calls are those of LoPAR on the page frame table and on DMA windows, and the accesses those
+//! of the Power ISA (Book III, hashed page table translation). `laws` has the theorems. Two calls
+//! run: `make_call`, which picks the hypervisor call of a line by its number, and
+//! `make_device_access`.
 #![tactic(auto)]
 
 mod calls;

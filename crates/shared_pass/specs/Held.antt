@@ -31,8 +31,8 @@ abbrev pub is_nothing : Pending → Bool
 is_nothing pending.Nothing = true
 is_nothing other = false
 
--- These receipts are of the first operations, after each of which it goes on, and the next operation
--- is busy.
+-- These receipts are of the first operations, after each of which it goes on, and the next
+-- operation is busy.
 pub record IsHeldAt (goes : Answer → Bool) (cs : List Call) (rs : List Receipt) (b : Busy) : Type 0
   where
     pub begun : IsBegunTrial goes cs rs

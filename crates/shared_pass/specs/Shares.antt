@@ -24,8 +24,8 @@ pub record IsOpened (entries : List State) (size shares : ℕ) (s : Sharer) : Ty
   pub lines : (view_of s.pass).actor.lines ≡ []
   pub fronts : (view_of s.pass).fronts ≡ opening_fronts entries
 
--- The pass a is b after a split, and c is the new one: it has one of the shares and has made nothing,
--- and it has seen what a has.
+-- The pass a is b after a split, and c is the new one: it has one of the shares and has made
+-- nothing, and it has seen what a has.
 pub record IsSplit (a b c : Sharer) : Type 0 where
   pub table : b.table ≡ a.table
   pub other_table : AreOfOne a c
@@ -37,8 +37,8 @@ pub record IsSplit (a b c : Sharer) : Type 0 where
   pub seen : (view_of c.pass).actor.lines ≡ (view_of a.pass).actor.lines
   pub same_fronts : (view_of c.pass).fronts ≡ (view_of a.pass).fronts
 
--- The pass a is c after it took in b: it has the shares of both and their receipts, those of b behind,
--- and has seen what both have.
+-- The pass a is c after it took in b: it has the shares of both and their receipts, those of b
+-- behind, and has seen what both have.
 pub record IsJoined (a b c : Sharer) : Type 0 where
   pub table : c.table ≡ a.table
   pub shares : c.pass.shares ≡ a.pass.shares + b.pass.shares

@@ -105,8 +105,8 @@ impl Working {
         self.attempt(&call.plan())
     }
 
-    /// Makes the rest of a walk of which its receipts were made. Gives back the receipt of the entry
-    /// that translates the page, if there is one.
+    /// Makes the rest of a walk of which its receipts were made. Gives back the receipt of the
+    /// entry that translates the page, if there is one.
     ///
     /// # Errors
     /// Busy where another pass changed the next entry. The walk is then what it has to go on with.

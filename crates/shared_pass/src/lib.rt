@@ -1,6 +1,6 @@
 //! A pass of the running table as one thread has it: with its share in the table, with the call or
-//! the walk that was held up and its receipts so far, and as C holds it, by a pointer that no C code
-//! reads.
+//! the walk that was held up and its receipts so far, and as C holds it, by a pointer that no C
+//! code reads.
 #![tactic(auto)]
 
 mod crossing;

@@ -20,8 +20,8 @@ pub struct PageWalk {
 }
 
 impl PageWalk {
-    /// The walk of an access. `None` where its segment's number, its page size or its kind is out of
-    /// range.
+    /// The walk of an access. `None` where its segment's number, its page size or its kind is out
+    /// of range.
     pub fn of(access: &PaprAccess) -> Option<PageWalk>
         ensures { result ≡ walk_asked access.now }
     {

@@ -2,10 +2,11 @@
 //!
 //!     table_bench KIND THREADS PLACE ORDER TRIES
 //!
-//! KIND is `plain` (a plain table, one thread), `mutex` (a plain table behind one lock) or `lock` (the
-//! running table). PLACE is `shared`, where all threads work on the same eight entries, or `apart`,
-//! where each has its own part of the table. Each thread makes TRIES operations and the program prints
-//! how many receipts it made. Without words it makes a few on a table of each kind, as a test.
+//! KIND is `plain` (a plain table, one thread), `mutex` (a plain table behind one lock) or `lock`
+//! (the running table). PLACE is `shared`, where all threads work on the same eight entries, or
+//! `apart`, where each has its own part of the table. Each thread makes TRIES operations and the
+//! program prints how many receipts it made. Without words it makes a few on a table of each kind,
+//! as a test.
 #![tactic(auto)]
 
 mod kinds;

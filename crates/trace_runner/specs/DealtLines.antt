@@ -3,7 +3,8 @@ use Rattle.std.specs.Prelude.{◌≡◌, ℕ, ◌+◌, min, List, [], ◌∷◌,
 use Rattle.trace_line.specs.declared.line.TraceLine.{TraceLine}
 use Rattle.trace_runner.specs.Workers.{AreOwn, AllNumbered}
 
--- Each list has the indices of one processor's own lines among these, the first that of processor 0.
+-- Each list has the indices of one processor's own lines among these, the first that of processor
+-- 0.
 abbrev pub AreDealt : {Z : Type 0} → List TraceLine → List (Vec ℕ Z) → Type 0
 AreDealt lines dealt = AllNumbered (λ cpu own. AreOwn lines cpu own.items) 0 dealt
 

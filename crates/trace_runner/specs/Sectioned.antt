@@ -43,7 +43,8 @@ pub record WindowSectioned
         (window_context grants v.window) v.states (replicate cpus new_processor) ts)
         later.states
 
--- The replies to its lines: on each store each processor worked on its own, the store closed, and the run goes on with what it closed on.
+-- The replies to its lines: on each store each processor worked on its own, the store closed, and
+-- the run goes on with what it closed on.
 pub record Sectioned
     (s : AllStores)
     (lines : List TraceLine)
@@ -134,7 +135,8 @@ pub record RunsToQuiet
     pub number : later.table.memory.table.number ≤ next.table.memory.table.number + 1
     pub processors : length later.table.processors ≡ length next.table.processors
 
--- An output has the replies to these lines. Where the stores are named, they are a run in which on each store each processor works on its own.
+-- An output has the replies to these lines. Where the stores are named, they are a run in which on
+-- each store each processor works on its own.
 pub record HasRunFrom
     {O : Type 0}
     (has : Keeping O)

@@ -20,7 +20,8 @@ use Rattle.trace_runner.specs.Windows.{windows_of}
 use Rattle.trace_runner.specs.Workers.{Keeping, NoneQuiet, AllNumbered, lines_of_cpu, replied_lines_of_cpu}
 
 -- ---- lists side by side
--- They have the same length, and each two at the same place have a fact by their number from one on.
+-- They have the same length, and each two at the same place have a fact by their number from one
+-- on.
 abbrev pub AllPaired :
     {A B : Type 0} → (ℕ → A → B → Type 0) → ℕ → List A → List B → Type 0
 AllPaired P number [] [] = Unit {0}
@@ -55,7 +56,8 @@ section_on context opening processors ts = record {
   quiet = None;
 }
 
--- Each line's processor has a log, and each processor's log keeps the replies to its lines that are picked for it.
+-- Each line's processor has a log, and each processor's log keeps the replies to its lines that are
+-- picked for it.
 pub record AllKeep
     {L : Type 0}
     (keeps : Keeping L)
@@ -77,7 +79,8 @@ abbrev pub HavePicked : List TraceLine → (ℕ → List Reply) → List Replied
 HavePicked lines picks ts =
     (cpu : ℕ) → lines_of_processor cpu ts ≡ replied_lines_of_cpu cpu lines (picks cpu)
 
--- Processors ran these lines on a store: their logs keep the replies that are picked, and the lines with these are a section of the store, from its opening to its closing states.
+-- Processors ran these lines on a store: their logs keep the replies that are picked, and the lines
+-- with these are a section of the store, from its opening to its closing states.
 pub record RunsStore
     {L : Type 0}
     (keeps : Keeping L)
@@ -152,7 +155,8 @@ RanWindows keeps grants cpus on number vs us logs =
     (λ store v u own. RanWindow keeps grants cpus (on store) v u own.items)
     number vs us logs
 
--- Those on the page table were run by its processors. What these keep of the replies stands behind the other logs.
+-- Those on the page table were run by its processors. What these keep of the replies stands behind
+-- the other logs.
 pub record RanTable
     {L Z : Type 0}
     (keeps : Keeping L)

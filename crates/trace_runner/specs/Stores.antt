@@ -1,4 +1,5 @@
--- The stores of a run by their numbers: 0 is the page table's, and each window has one more than its place among the windows.
+-- The stores of a run by their numbers: 0 is the page table's, and each window has one more than
+-- its place among the windows.
 use Rattle.std.specs.Prelude.{◌≡◌, ℕ, suc, ◌==◌, List, [], ◌∷◌, filter, Vec, if◌then◌else◌}
 use Rattle.bus_window.specs.Windows.{BusWindow}
 use Rattle.trace_line.specs.declared.act.Act.{Act}
@@ -7,7 +8,8 @@ use Rattle.trace_reply.specs.Replies.{RepliedLine}
 use Rattle.run_model.specs.Stores.{is_on_window}
 use Rattle.trace_runner.specs.Workers.{AllNumbered}
 
--- The number of the window that the line names, where the first of these has the given one; 0 where it names none of them.
+-- The number of the window that the line names, where the first of these has the given one; 0 where
+-- it names none of them.
 abbrev pub store_from : ℕ → List BusWindow → Act → ℕ
 store_from number [] act = 0
 store_from number (w ∷ ws) act =

@@ -9,7 +9,8 @@ use Rattle.run_model.specs.AllStores.{WindowState}
 abbrev pub windows_of : List WindowState → List BusWindow
 windows_of vs = map (λ (v : WindowState). v.window) vs
 
--- The place of the first that the line names, where the first has this place. None where it names none of them.
+-- The place of the first that the line names, where the first has this place. None where it names
+-- none of them.
 abbrev pub place_from : ℕ → List WindowState → Act → Option ℕ
 place_from place [] act = None
 place_from place (v ∷ vs) act =

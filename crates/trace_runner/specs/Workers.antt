@@ -59,7 +59,8 @@ IsSeenBy table pass line =
 abbrev pub Keeping : Type 0 → Type 1
 Keeping L = L → List TraceLine → List Reply → Type 0
 
--- It has run its lines among these: its replies are to them, the pass made their receipts and no other, and it kept its promise from the opening fronts on.
+-- It has run its lines among these: its replies are to them, the pass made their receipts and no
+-- other, and it kept its promise from the opening fronts on.
 pub record HasRun
     {L : Type 0}
     (context : StoreContext)

@@ -1,5 +1,5 @@
-//! The lines of a section on all stores: the page table's, and then each window's. No reply can tell
-//! whether the lines of a processor on different stores overlap, since stores share nothing.
+//! The lines of a section on all stores: the page table's, and then each window's. No reply can
+//! tell whether the lines of a processor on different stores overlap, since stores share nothing.
 ghost use Rattle.std.specs.Prelude.{◌≡◌, ◌+◌, ◌<◌, ◌≤◌, [], List, length, IfOk};
 ghost use Rattle.bus_window.specs.Windows.{BusWindow};
 ghost use Rattle.trace_line.specs.declared.line.TraceLine.{TraceLine as LineOf};
@@ -20,8 +20,8 @@ use std::thread::Threads;
 use trace_line::TraceLine;
 use vcpu::empty_cpus;
 
-/// Runs the lines on the page table. What its processors keep of the replies is put behind the other
-/// logs.
+/// Runs the lines on the page table. What its processors keep of the replies is put behind the
+/// other logs.
 fn run_on_table<R: Threads + Wait + Sync, G: Gate + Sync, L: RunLog>(
     rt: &R,
     alloc: Global,
@@ -98,8 +98,8 @@ fn run_on_window<R: Threads + Wait + Sync, G: Gate + Sync, L: RunLog>(
     Ok((later, logs))
 }
 
-/// Runs the lines on each window. Of these lists the first has the lines on the page table, and each
-/// other one those on a window. What is kept of the replies is put behind the other logs.
+/// Runs the lines on each window. Of these lists the first has the lines on the page table, and
+/// each other one those on a window. What is kept of the replies is put behind the other logs.
 fn run_on_windows<R: Threads + Wait + Sync, G: Gate + Sync, L: RunLog>(
     rt: &R,
     alloc: Global,
@@ -143,8 +143,8 @@ fn run_on_windows<R: Threads + Wait + Sync, G: Gate + Sync, L: RunLog>(
     Ok(later)
 }
 
-/// Runs the lines of a section, each on its store, and puts what is kept of the replies into the list
-/// of logs, the page table's first.
+/// Runs the lines of a section, each on its store, and puts what is kept of the replies into the
+/// list of logs, the page table's first.
 pub fn run_stores<R: Threads + Wait + Sync, G: Gate + Sync, L: RunLog>(
     rt: &R,
     alloc: Global,

@@ -54,8 +54,8 @@ fn count_lines(
     Ok(CountedRun { counts, table })
 }
 
-/// The counts of the replies of the serial run of a trace, and the table at its end. The replies are
-/// a good run, and none is kept.
+/// The counts of the replies of the serial run of a trace, and the table at its end. The replies
+/// are a good run, and none is kept.
 pub fn run_counted(alloc: Global, trace: &Trace) -> Result<CountedRun, AllocError>
     ensures counts { IfOk result (λ run. IsCountOf run.counts (serial_replies trace.now)) }
     ensures table { IfOk

@@ -59,8 +59,8 @@ impl Machine {
         })
     }
 
-    /// Runs a line: on the first window that it names, and on the page table where it names none. Its
-    /// reply takes the place.
+    /// Runs a line: on the first window that it names, and on the page table where it names none.
+    /// Its reply takes the place.
     pub fn line(
         &mut self,
         alloc: Global,

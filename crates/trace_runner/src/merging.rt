@@ -11,8 +11,8 @@ use crate::windows::WindowEntries;
 use std::alloc::AllocError;
 use trace_line::TraceLine;
 
-/// Puts the replies to these lines, of which the logs of each store have those to the lines on it, in
-/// file order behind those of the output. The page table's logs are the first.
+/// Puts the replies to these lines, of which the logs of each store have those to the lines on it,
+/// in file order behind those of the output. The page table's logs are the first.
 pub fn merge_replies<L: RunLog>(
     windows: &[WindowEntries],
     lines: &[TraceLine],

@@ -21,7 +21,8 @@ use std::snapshot::Snapshot;
 use trace_line::TraceLine;
 use vcpu::Cpu;
 
-/// A pass with one share of what is left: one that is split off, or in the end the one that is left.
+/// A pass with one share of what is left: one that is split off, or in the end the one that is
+/// left.
 fn take_share(table: &LockTable, rest: &mut Option<Pass>) -> Pass
     requires some { IsSomeAnd
         rest.old
@@ -38,8 +39,8 @@ fn take_share(table: &LockTable, rest: &mut Option<Pass>) -> Pass
     share
 }
 
-/// The worker of a processor with these lines of its own, by their indices: with a pass, and room for
-/// the replies to them, if there are any, and with neither else.
+/// The worker of a processor with these lines of its own, by their indices: with a pass, and room
+/// for the replies to them, if there are any, and with neither else.
 fn next_worker<L: RunLog>(
     alloc: Global,
     table: &LockTable,
@@ -76,8 +77,8 @@ fn next_worker<L: RunLog>(
     })
 }
 
-/// A table of these states, and a worker for each processor. Those that have lines share the table's
-/// passes. The room of the list of processors stays.
+/// A table of these states, and a worker for each processor. Those that have lines share the
+/// table's passes. The room of the list of processors stays.
 pub fn open_section<L: RunLog>(
     alloc: Global,
     states: Vec<EntryState>,
@@ -115,8 +116,8 @@ pub fn open_section<L: RunLog>(
     Ok((table, workers))
 }
 
-/// A worker for each processor, with the lines that were dealt to it. Those that have lines share the
-/// pass, and have room for the replies to them. The room of the list of processors stays.
+/// A worker for each processor, with the lines that were dealt to it. Those that have lines share
+/// the pass, and have room for the replies to them. The room of the list of processors stays.
 fn make_workers<L: RunLog>(
     alloc: Global,
     table: &LockTable,

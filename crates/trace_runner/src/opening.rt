@@ -13,8 +13,8 @@ use crate::machine::Machine;
 use std::alloc::{AllocError, Global};
 use trace_read::Trace;
 
-/// The machine of a trace, before its first line. The serial run of each trace is a good run, in which no
-/// H_PUT_TCE is answered H_BUSY.
+/// The machine of a trace, before its first line. The serial run of each trace is a good run, in
+/// which no H_PUT_TCE is answered H_BUSY.
 pub fn open_machine(alloc: Global, trace: &Trace) -> Result<Machine, AllocError>
     ensures run_state { IfOk result (λ machine. machine ≡ opening_all trace.now.config) }
     ensures serial { IfOk
@@ -27,7 +27,9 @@ pub fn open_machine(alloc: Global, trace: &Trace) -> Result<Machine, AllocError>
     ensures cpus { IfOk
         result
         (λ machine.
-        AllByRecursion (λ (l : TraceLine). l.cpu < length machine.table.processors) trace.now.lines) }
+        AllByRecursion
+        (λ (l : TraceLine). l.cpu < length machine.table.processors)
+        trace.now.lines) }
     ensures number { IfOk result (λ machine. machine.table.memory.table.number ≡ 0) }
     ensures good { IsGoodRun trace.now (serial_replies trace.now) }
     ensures assured { Assures trace.now (serial_replies trace.now) }

@@ -1,5 +1,5 @@
-//! The parallel run: between two quiet lines, on each store a thread for each processor that has lines
-//! there.
+//! The parallel run: between two quiet lines, on each store a thread for each processor that has
+//! lines there.
 ghost use Rattle.std.specs.Prelude.{◌≡◌, ℕ, ◌<◌, ◌≤◌, ◌-◌, ◌^◌, length, IfOk, string_bytes};
 ghost use Rattle.std.specs.List.{AllByRecursion};
 ghost use Rattle.trace_line.specs.declared.line.TraceLine.{TraceLine as LineOf};
@@ -27,8 +27,8 @@ use trace_line::TraceLine;
 use trace_read::Trace;
 use trace_reply::{Replies, ReplyPlace};
 
-/// Runs the lines of a section, on each store in a thread for each processor that has some there, and
-/// puts the replies behind those of the output.
+/// Runs the lines of a section, on each store in a thread for each processor that has some there,
+/// and puts the replies behind those of the output.
 fn section<R: Threads + Wait + Sync, G: Gate + Sync, L: RunLog>(
     rt: &R,
     alloc: Global,
@@ -129,8 +129,8 @@ fn run_logged<R: Threads + Wait + Sync, G: Gate + Sync, L: RunLog>(
     run_sections::<R, G, L>(rt, alloc, machine, gate, trace.lines.as_slice())
 }
 
-/// The replies of a parallel run of a trace: between two quiet lines each processor that has lines on
-/// a store runs them in a thread of its own. They are a good run.
+/// The replies of a parallel run of a trace: between two quiet lines each processor that has lines
+/// on a store runs them in a thread of its own. They are a good run.
 pub fn run_parallel<R: Threads + Wait + Sync, G: Gate + Sync>(
     rt: &R,
     alloc: Global,
@@ -149,8 +149,8 @@ pub fn run_parallel<R: Threads + Wait + Sync, G: Gate + Sync>(
     run_logged::<R, G, ReplyQueue>(rt, alloc, trace, gate)
 }
 
-/// The text of a parallel run of a trace: each worker writes the text of its own lines. The run is a
-/// good one.
+/// The text of a parallel run of a trace: each worker writes the text of its own lines. The run is
+/// a good one.
 pub fn parallel_to_text<R: Threads + Wait + Sync, G: Gate + Sync>(
     rt: &R,
     alloc: Global,

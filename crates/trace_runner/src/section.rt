@@ -25,8 +25,8 @@ fn joined(table: &LockTable, one: Option<Pass>, other: Option<Pass>) -> Option<P
     Some(both)
 }
 
-/// Joins all passes in the order of processors, and takes the processors and their logs out. It can't
-/// fail: there is room for them.
+/// Joins all passes in the order of processors, and takes the processors and their logs out. It
+/// can't fail: there is room for them.
 pub fn join_workers<L: RunLog>(
     table: &LockTable,
     workers: Vec<Worker<L>>,

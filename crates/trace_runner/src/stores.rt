@@ -8,8 +8,8 @@ use crate::windows::{WindowEntries, place_of};
 use std::alloc::{AllocError, Global};
 use trace_line::{Act, TraceLine};
 
-/// The number of the store that a line is on: 0 is the page table's, and each window has one more than
-/// its place.
+/// The number of the store that a line is on: 0 is the page table's, and each window has one more
+/// than its place.
 pub fn store_of(windows: &[WindowEntries], act: &Act) -> usize
     ensures store { result ≡ store_of (windows_of windows.now) act.now }
     ensures in_range { result ≤ length windows.now }

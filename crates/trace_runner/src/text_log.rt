@@ -13,8 +13,8 @@ use trace_reply::ReplyPlace;
 /// Room in the text of a run for the line of a common reply. Longer texts make theirs as they grow.
 const COMMON_ROOM: usize = 128;
 
-/// The text of the replies, one behind the other, and where the text of each ends. That of the first
-/// one begins at `start`.
+/// The text of the replies, one behind the other, and where the text of each ends. That of the
+/// first one begins at `start`.
 #[derive(Drop)]
 pub struct ReplyText {
     text: String,

@@ -46,8 +46,8 @@ pub fn run_workers<R: Threads + Wait + Sync, G: Gate + Sync, L: ReplyLog + Send>
     run_from(rt, table, gate, around, lines, 0, workers);
 }
 
-/// Runs the lines of these workers, of which the first has this number. Where only one half of them has
-/// passes, that half runs in this thread, and the other stays as it is.
+/// Runs the lines of these workers, of which the first has this number. Where only one half of them
+/// has passes, that half runs in this thread, and the other stays as it is.
 #[cycle(halves)]
 fn run_from<R: Threads + Wait + Sync, G: Gate + Sync, L: ReplyLog + Send>(
     rt: &R,

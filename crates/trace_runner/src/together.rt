@@ -18,8 +18,8 @@ use trace_line::TraceLine;
 use vcpu::Cpu;
 
 /// Runs the lines by these workers, each with lines in a thread of its own, joins their passes, and
-/// closes the table. It is given no allocator, and can't fail: all room was made before. It gives the
-/// states at the end, and puts the processors and their logs into these lists.
+/// closes the table. It is given no allocator, and can't fail: all room was made before. It gives
+/// the states at the end, and puts the processors and their logs into these lists.
 pub fn run_together<R: Threads + Wait + Sync, G: Gate + Sync, L: RunLog>(
     rt: &R,
     table: LockTable,

@@ -23,8 +23,9 @@ use trace_line::TraceLine;
 use trace_reply::ReplyPlace;
 use vcpu::Cpu;
 
-/// A processor in a section: what it keeps from line to line, what it was before the section's first
-/// line, its pass, the indices of its own lines among the section's, and the log of their replies.
+/// A processor in a section: what it keeps from line to line, what it was before the section's
+/// first line, its pass, the indices of its own lines among the section's, and the log of their
+/// replies.
 #[derive(Drop)]
 pub struct Worker<L> {
     /// The processor as it now is.
@@ -83,8 +84,8 @@ fn answer<R: Wait, G: Gate>(
     waiting.into_pass()
 }
 
-/// Runs the worker's own lines among these, in file order, and looks at no other. It takes no memory:
-/// the log has room for their replies, which have one place after the other.
+/// Runs the worker's own lines among these, in file order, and looks at no other. It takes no
+/// memory: the log has room for their replies, which have one place after the other.
 pub fn work<R: Wait, G: Gate, L: ReplyLog>(
     rt: &R,
     table: &LockTable,

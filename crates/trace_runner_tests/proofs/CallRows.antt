@@ -78,7 +78,8 @@ unfolding digits exact text_from head_text code_text run_on line_result hcall_pl
     row_says key_rows outcome_of
 one_is_tried = refl
 
--- The last page of main storage and the one behind it, a device cached and not, and words that are stored as others.
+-- The last page of main storage and the one behind it, a device cached and not, and words that are
+-- stored as others.
 placed : List TraceLine
 placed =
     calls 4 0x08 (0 ∷ 0 ∷ 0x1001 ∷ 0x3FFFF012 ∷ [])
@@ -124,7 +125,8 @@ unfolding digits tested text_from head_text code_text run_on line_result hcall_p
     permission rows row_says key_rows outcome_of
 removed_once = refl
 
--- All bits that H_PROTECT sets; the four entries of H_READ; calls by their numbers, which the line doesn't spell; and a number that is none.
+-- All bits that H_PROTECT sets; the four entries of H_READ; calls by their numbers, which the line
+-- doesn't spell; and a number that is none.
 protected : List TraceLine
 protected =
     calls 4 0x08 (0 ∷ 0 ∷ 0x1001 ∷ 0x3012 ∷ [])
@@ -197,7 +199,8 @@ unfolding digits nowhere text_from head_text code_text run_on line_result hcall_
     row_says key_rows outcome_of
 nothing_there = refl
 
--- The page of VSID 0x7FE and index 1 has hash 0x7FF: its secondary group is the first. There the entry has H, without which it is none of the page.
+-- The page of VSID 0x7FE and index 1 has hash 0x7FF: its secondary group is the first. There the
+-- entry has H, without which it is none of the page.
 second : List TraceLine
 second =
     mte 4 0x8000000 0x7FE000

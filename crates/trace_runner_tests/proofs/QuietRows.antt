@@ -44,7 +44,8 @@ abbrev dumps : ℕ → TraceLine
 dumps n = record { number = n; cpu = 0; act = Dump }
 
 -- ---- dumps
--- The valid entries alone, with R and C in doubleword 1; and the line behind a dump goes on where the one before it ended.
+-- The valid entries alone, with R and C in doubleword 1; and the line behind a dump goes on where
+-- the one before it ended.
 shown : List TraceLine
 shown =
     mte 4 0x8000000 0x1000
@@ -105,7 +106,9 @@ unfolding digits tight asked text_from head_text code_text run_on run_quiet_line
 resizes_refused = refl
 
 -- ---- a resize
--- A bolted entry of the page of VSID 0x801 and index 1, whose hash is 0x800; a bolted one that stands in a group of none of its pages; and one that isn't bolted. After the commit no table is pending, and there are 0x8000 entries.
+-- A bolted entry of the page of VSID 0x801 and index 1, whose hash is 0x800; a bolted one that
+-- stands in a group of none of its pages; and one that isn't bolted. After the commit no table is
+-- pending, and there are 0x8000 entries.
 resized : List TraceLine
 resized =
     calls 4 0x08 (0x8000000000 ∷ 0 ∷ 0x801011 ∷ 0x3192 ∷ [])
@@ -167,7 +170,8 @@ old =
     }
     ∷ []
 
--- The first goes to the first entry of the group 0x800 with its doublewords, R and C; no other goes to where one of the three stood.
+-- The first goes to the first entry of the group 0x800 with its doublewords, R and C; no other goes
+-- to where one of the three stood.
 carried :
     map (entry_at 18 19 old) (0x4000 ∷ 0 ∷ 0x1 ∷ 0x8 ∷ [])
     ≡ record {
@@ -185,7 +189,8 @@ carried :
 unfolding old entry_at first_with target_of carried_page page_at group_of tag_of
 carried = refl
 
--- In a table of 0x8000 entries the bolted ones of VSID 1 and of VSID 0x801, each of the page with index 1, which meet in one of 0x4000.
+-- In a table of 0x8000 entries the bolted ones of VSID 1 and of VSID 0x801, each of the page with
+-- index 1, which meet in one of 0x4000.
 at_1 : ℕ → State
 at_1 dword0 =
     record {
@@ -204,7 +209,8 @@ unfolding at_1 collision_at first_with target_of carried_page page_at group_of t
 they_meet = refl
 
 -- ---- after a commit
--- The table of the next number at the place that was prepared; the old block is free again, and no table is pending.
+-- The table of the next number at the place that was prepared; the old block is free again, and no
+-- table is pending.
 ready : TableMemory
 ready =
     record (memory_of old) {

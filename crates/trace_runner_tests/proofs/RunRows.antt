@@ -60,7 +60,8 @@ unfolding digits stored text_from head_text code_text run_on line_result hcall_p
 a_store_shows = refl
 
 -- ---- authority masks
--- The entry has key 1. AMR refuses its stores and allows its loads, by the cached line too; IAMR refuses its fetches; and H_PROTECT gives it key 0.
+-- The entry has key 1. AMR refuses its stores and allows its loads, by the cached line too; IAMR
+-- refuses its fetches; and H_PROTECT gives it key 0.
 masked : List TraceLine
 masked =
     mte 4 0x8000000 0x1000
@@ -110,7 +111,8 @@ unfolding digits shared text_from head_text code_text run_on line_result hcall_p
     permission rows row_says key_rows outcome_of
 a_line_is_gone = refl
 
--- As Linux does it: a bolted page, R and C set from the start, the key of problem state, and a bulk removal of one entry.
+-- As Linux does it: a bolted page, R and C set from the start, the key of problem state, and a bulk
+-- removal of one entry.
 linux : List TraceLine
 linux =
     mte 4 0x8000000 0x1400
@@ -132,7 +134,8 @@ unfolding digits linux text_from head_text code_text run_on line_result hcall_pl
     group_of tag_of has_base permission rows row_says key_rows outcome_of
 user_is_denied = refl
 
--- Five pages of one set in five segments: the fifth line puts the first out, and the first page's new line the second.
+-- Five pages of one set in five segments: the fifth line puts the first out, and the first page's
+-- new line the second.
 five : List TraceLine
 five =
     mte 4 0x8000000 0x1000

@@ -104,7 +104,8 @@ unfolding digits far whole dump_head table_text entry_text shown_of run_quiet_li
     row_says key_rows outcome_of
 the_last_group = refl
 
--- An entry that is valid at first, with R and C: a load uses it, and a dump shows it with its words.
+-- An entry that is valid at first, with R and C: a load uses it, and a dump shows it with its
+-- words.
 opened : AcceptedTrace
 opened = record whole {
   config =

@@ -154,6 +154,16 @@ extern "C" {
     /// What protection bits allow an access with this key.
     pub fn papr_rights(protection: u8, key: bool) -> u8;
 
+    /// Writes the indexes of marked entries from `first` on, and takes these marks.
+    pub fn papr_take_changed(
+        entries: *mut papr_entry,
+        count: usize,
+        order: u8,
+        first: u32,
+        indexes: *mut u32,
+        indexes_room: usize,
+    ) -> papr_taken;
+
     /// Carries the bolted entries of one table to another.
     pub fn papr_rehash(
         entries: *const papr_entry,

@@ -16,6 +16,20 @@ pub struct papr_entry {
     pub referenced: bool,
     /// C.
     pub changed: bool,
+    /// It was changed since its mark was last taken.
+    pub marked: bool,
+}
+
+/// How far entries were asked for their marks.
+#[repr(C)]
+#[derive(Clone, Copy, Debug, Default, PartialEq, Eq)]
+pub struct papr_taken {
+    /// `PAPR_H_SUCCESS` or `PAPR_H_PARAMETER`.
+    pub rc: i64,
+    /// How many indexes were written.
+    pub count: u32,
+    /// The index from which to go on: the count of entries, if none is left.
+    pub next: u32,
 }
 
 /// One operation on one entry, with its doublewords from before.

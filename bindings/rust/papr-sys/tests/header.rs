@@ -60,7 +60,8 @@ fn assert_in_c(told: &mut String, what: &str, value: impl std::fmt::Display) {
 /// The assertions of all structs, and the structs' names.
 fn structs() -> (String, BTreeSet<String>) {
     assertions! {
-        papr_entry { dword0, dword1, stamp, valid, referenced, changed }
+        papr_entry { dword0, dword1, stamp, valid, referenced, changed, marked }
+        papr_taken { rc, count, next }
         papr_receipt { dword0, dword1, entry, stamp, bits, answer }
         papr_reply { rc, words, receipts, stale }
         papr_grant { logical, machine, length, is_io }

@@ -1,10 +1,20 @@
 //! Entries, and what their doublewords say.
 
 use crate::walk::Rights;
+use alloc::vec::Vec;
 use papr_sys::{papr_entry, papr_page};
 
 /// One entry of a table. Doubleword 1 has R and C clear; they are `referenced` and `changed`.
 pub type Entry = papr_entry;
+
+/// Which entries were changed since their marks were last taken.
+#[derive(Clone, Debug, PartialEq, Eq)]
+pub struct Taken {
+    /// Their indexes, in ascending order.
+    pub indexes: Vec<u32>,
+    /// The index from which to go on: the number of entries, if none is left.
+    pub next: u32,
+}
 
 /// Why two doublewords translate no page at an index: the first of these that holds.
 #[derive(Clone, Copy, Debug, PartialEq, Eq, Hash)]

@@ -47,7 +47,7 @@ mod walk;
 mod window;
 
 pub use answers::{Answer, Receipt, Receipts};
-pub use entry::{decode, protection_rights, Entry, NoPage, Page};
+pub use entry::{decode, protection_rights, Entry, NoPage, Page, Taken};
 pub use errors::{BadOrder, BadWindow, Error};
 pub use grants::{Grant, GrantRefusal, Grants, GrantsRefused, Range};
 pub use reply::Reply;

@@ -1,7 +1,7 @@
 //! The hashed page table: the calls on its entries, the walk, the rehash and the resize calls.
 
 use crate::answers::{ReceiptRoom, RECEIPTS};
-use crate::entry::{decode, Entry, NoPage, Page};
+use crate::entry::{decode, Entry, NoPage, Page, Taken};
 use crate::errors::{BadOrder, Error};
 use crate::grants::Grants;
 use crate::reply::{Reply, WORDS};
@@ -379,6 +379,27 @@ impl Table {
                 Err(CommitRefused::Error(error))
             }
         }
+    }
+
+    /// The entries from `first` on that were changed since their marks were last taken, `room` of
+    /// them at most. Takes the marks of those that it tells. `None` if `first` is above the number
+    /// of entries.
+    pub fn take_changed(&mut self, first: u32, room: usize) -> Option<Taken> {
+        let mut indexes = vec![0; room.min(self.entries.len())];
+        // SAFETY: the entries and the indexes are ours, each as many, and nothing overlaps.
+        let taken = unsafe {
+            papr_sys::papr_take_changed(
+                self.entries.as_mut_ptr(),
+                self.entries.len(),
+                self.order,
+                first,
+                indexes.as_mut_ptr(),
+                indexes.len(),
+            )
+        };
+        indexes.truncate(taken.count as usize);
+        let next = taken.next;
+        (taken.rc == papr_sys::PAPR_H_SUCCESS).then_some(Taken { indexes, next })
     }
 
     /// The entries of a range as 16 bytes each, R and C in them.

@@ -6,7 +6,7 @@ use common::{given, grants};
 use papr::{
     decode, flags, library_version, protection_rights, Access, Answer, BadOrder, Collision,
     CommitRefused, Entry, Error, Grant, GrantRefusal, Grants, Layout, NoPage, Outcome, Prepared,
-    Range, Receipt, Table, TransferRefusal, Want,
+    Range, Receipt, Table, Taken, TransferRefusal, Want,
 };
 
 /// Doubleword 0 of a page of a segment of 1 TB.
@@ -50,6 +50,7 @@ fn entry(dword0: u64, dword1: u64, stamp: u32, referenced: bool, changed: bool) 
         valid: true,
         referenced,
         changed,
+        marked: true,
     }
 }
 
@@ -128,6 +129,22 @@ fn enter() {
         table.entries()[0x22],
         entry(0x1001, 0x3012, 1, false, false)
     );
+}
+
+#[test]
+fn entries_that_changed() {
+    let mut table = table();
+    let taken = |indexes: &[u32], next| {
+        let indexes = indexes.to_vec();
+        Some(Taken { indexes, next })
+    };
+    assert_eq!(table.take_changed(0, 1), taken(&[0x21], 0x22));
+    assert_eq!(table.take_changed(0x22, 9), taken(&[0x22], 1 << 14));
+    table.h_read(0, 0x21);
+    assert_eq!(table.take_changed(0, usize::MAX), taken(&[], 1 << 14));
+    table.walk(&LOAD);
+    assert_eq!(table.take_changed(0, 9), taken(&[0x22], 1 << 14));
+    assert_eq!(table.take_changed((1 << 14) + 1, 9), None);
 }
 
 #[test]

@@ -41,8 +41,8 @@ fn assert_load(rt: &impl Abort, reply: &AccessReply, by: By, stamp: u32, referen
     assert_eq!(rt; told, Some((GROUP, stamp, referenced)));
 }
 
-/// A cached translation serves until another pass changes its entry: the next access walks, and finds
-/// the entry at its new stamp; then the new translation serves.
+/// A cached translation serves until another pass changes its entry: the next access walks, and
+/// finds the entry at its new stamp; then the new translation serves.
 #[test]
 fn a_cached_translation_of_two_passes(rt: HostRuntime) -> Result<(), Fail> {
     let grants = memory();

@@ -1,4 +1,5 @@
-//! A guest that enters and removes a page in one thread, and a processor that stores to it in another.
+//! A guest that enters and removes a page in one thread, and a processor that stores to it in
+//! another.
 
 ghost use Rattle.std.specs.Prelude.{◌≡◌};
 ghost use Rattle.tlb_model.specs.Cache.{empty_cache};
@@ -36,7 +37,8 @@ fn enter_and_remove<T: EntryStore>(store: &mut T, grants: &Grants) -> u32 {
     wrong
 }
 
-/// A store is at the page, at a stamp at which the entry has it, or it finds none of sixteen entries.
+/// A store is at the page, at a stamp at which the entry has it, or it finds none of sixteen
+/// entries.
 fn is_possible(reply: &AccessReply) -> bool {
     match reply.outcome {
         Outcome::At(address) => {

@@ -1,5 +1,5 @@
-//! An entry at its last stamp, over a plain table and over a pass: no call changes it, and an access still
-//! uses it.
+//! An entry at its last stamp, over a plain table and over a pass: no call changes it, and an
+//! access still uses it.
 
 ghost use Rattle.std.specs.Prelude.{◌≡◌, IfOk, vec_len};
 ghost use Rattle.hpte_fields.specs.TableSize.{entry_count};

@@ -1,5 +1,5 @@
-//! More calls of more processors than a group has entries. Which of them get one is the schedule's choice,
-//! and each reply is known but for that.
+//! More calls of more processors than a group has entries. Which of them get one is the schedule's
+//! choice, and each reply is known but for that.
 
 use super::gates::{answered, judged_input};
 use super::par::together;

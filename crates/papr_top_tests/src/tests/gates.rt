@@ -1,5 +1,5 @@
-//! Runs of the program under `par` that a gate of the caller's holds or watches, and one run of each other
-//! command through the same call.
+//! Runs of the program under `par` that a gate of the caller's holds or watches, and one run of
+//! each other command through the same call.
 mod calls;
 mod commands;
 mod held;
@@ -13,7 +13,8 @@ use std::test::Fail;
 use std::thread::Threads;
 use trace_io::{SteadySink, SteadySource};
 
-/// The status of these words over an input, and the text that was written, of so many bytes at most.
+/// The status of these words over an input, and the text that was written, of so many bytes at
+/// most.
 fn answered_within<R: Threads + Wait + Sync, G: Gate + Sync>(
     rt: &R,
     alloc: Global,

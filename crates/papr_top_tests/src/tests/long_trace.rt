@@ -1,5 +1,6 @@
-//! A trace of some thousand lines on large tables, with as many processors as there may be. What its
-//! lines are answered is written down here line by line, and each way to run it must give that text.
+//! A trace of some thousand lines on large tables, with as many processors as there may be. What
+//! its lines are answered is written down here line by line, and each way to run it must give that
+//! text.
 ghost use Rattle.std.specs.Prelude.{◌≡◌, ◌<◌, length};
 
 use super::{list, text_in};

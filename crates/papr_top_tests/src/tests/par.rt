@@ -9,8 +9,8 @@ use std::test::Fail;
 use std::thread::Threads;
 use trace_io::{MemorySink, MemorySource};
 
-/// The status and the text of an input under `par`, from a source of pieces of 16 bytes to a sink of
-/// pieces of 8.
+/// The status and the text of an input under `par`, from a source of pieces of 16 bytes to a sink
+/// of pieces of 8.
 pub fn together<R: Threads + Wait + Sync>(
     rt: &R,
     alloc: Global,

@@ -120,8 +120,8 @@ fn processors_write_their_texts_beside_each_other(rt: HostRuntime) -> Result<(),
     Ok(())
 }
 
-/// Holds processor 1 before line 6 until processor 0 reached `step` in line 5, and that step until line
-/// 6 was answered.
+/// Holds processor 1 before line 6 until processor 0 reached `step` in line 5, and that step until
+/// line 6 was answered.
 #[derive(Drop)]
 struct HoldStep {
     reached: Flag,
@@ -202,8 +202,8 @@ begin
     Ok(())
 }
 
-/// Holds processors 1 and 2 before their lines until processor 0 holds its entry in line 5, and there
-/// until line 6 was answered, line 7 was begun, and some turns have passed.
+/// Holds processors 1 and 2 before their lines until processor 0 holds its entry in line 5, and
+/// there until line 6 was answered, line 7 was begun, and some turns have passed.
 #[derive(Drop)]
 struct HoldHeld {
     reached: Flag,
@@ -307,7 +307,8 @@ fn quiet_lines_cut_a_parallel_run(rt: HostRuntime) -> Result<(), Fail> {
     Ok(())
 }
 
-/// Two processors, each of which has lines on the page table and on a window of its own, in two sections.
+/// Two processors, each of which has lines on the page table and on a window of its own, in two
+/// sections.
 const WINDOWS: &str = "order 18
 cpus 2
 ram 0x0 0x2000000000 0x40000000

@@ -213,6 +213,15 @@ fn entry_of(receipt: &Receipt) -> Entry {
         valid: receipt.dword0 & 1 != 0,
         referenced: receipt.referenced,
         changed: receipt.changed,
+        marked: false,
+    }
+}
+
+/// The entry without its mark, of which a history tells nothing.
+fn unmarked(entry: &Entry) -> Entry {
+    Entry {
+        marked: false,
+        ..*entry
     }
 }
 
@@ -269,6 +278,7 @@ fn after(entry: &Entry, operation: &Operation) -> Entry {
             valid: true,
             referenced: dword1 & R != 0,
             changed: dword1 & C != 0,
+            marked: false,
         },
         Operation::Remove(..) => Entry {
             stamp,
@@ -309,7 +319,7 @@ pub fn faults(opening: &[Entry], closing: &[Entry], mut made: Vec<Made>) -> Vec<
 
 /// What is wrong with the history of one entry.
 fn fault(opening: &Entry, closing: &Entry, history: &[Made]) -> Option<String> {
-    let mut state = *opening;
+    let mut state = unmarked(opening);
     for it in history {
         let is_next = entry_of(&it.receipt) == state;
         if !is_next || it.receipt.answer != answer_of(&state, &it.operation) {
@@ -317,5 +327,6 @@ fn fault(opening: &Entry, closing: &Entry, history: &[Made]) -> Option<String> {
         }
         state = after(&state, &it.operation);
     }
-    (state != *closing).then(|| format!("it closes as {closing:?}, after {state:?}"))
+    let closing = unmarked(closing);
+    (state != closing).then(|| format!("it closes as {closing:?}, after {state:?}"))
 }

@@ -4,7 +4,8 @@ use Rattle.lpar_set.specs.SetTrace.{NumberedTrace}
 use Rattle.lpar_set.specs.SetRun.{opening_pool, opening_members}
 use Rattle.lpar_set.proofs.members.open_members.Given as goal
 
--- The partitions so far and those that are left are all, the pool is theirs, and it has room for the tables that are left.
+-- The partitions so far and those that are left are all, the pool is theirs, and it has room for
+-- the tables that are left.
 abbrev pub invariant-loop-partition : goal.invariant-loop-partition
 invariant-loop-partition l = record {
   told :

@@ -7,7 +7,8 @@ use Rattle.lpar_set.specs.SetRead.{partition_or}
 use Rattle.lpar_set.proofs.ReadEnds.{AreLeft}
 use Rattle.lpar_set.proofs.set_end.partitions_read.Given as goal
 
--- The readings of the numbers so far are the partitions, and those of the numbers to come are still there.
+-- The readings of the numbers so far are the partitions, and those of the numbers to come are still
+-- there.
 abbrev pub invariant-loop-number : goal.invariant-loop-number
 invariant-loop-number l = record {
   read :

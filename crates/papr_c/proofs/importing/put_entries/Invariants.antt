@@ -1,4 +1,5 @@
-use Rattle.std.proofs.Common.{◌≡◌}
+use Rattle.std.proofs.Common.{◌≡◌, ◌+◌, drop}
+use Rattle.c_layout.specs.Entries.{states_of, AreMarked}
 use Rattle.c_layout.specs.Grants.{listed}
 use Rattle.papr_c.specs.Transfers.{replaced, entries_of_bytes}
 use Rattle.papr_c.proofs.importing.put_entries.Given as goal
@@ -6,5 +7,11 @@ use Rattle.papr_c.proofs.importing.put_entries.Given as goal
 abbrev pub invariant-loop-i : goal.invariant-loop-i
 invariant-loop-i l =
     let grants = listed l.grants.grants l.grants.count in
-    l.entries
-    ≡ replaced l.initial.entries l.first (entries_of_bytes grants l.layout l.bytes l.i)
+    record {
+      states :
+          states_of l.entries
+          ≡ replaced (states_of l.initial.entries) l.first
+          (entries_of_bytes grants l.layout l.bytes l.i);
+      marks : AreMarked l.initial.entries l.entries;
+      rest : drop (l.first + l.i) l.entries ≡ drop (l.first + l.i) l.initial.entries;
+    }

@@ -1,11 +1,11 @@
 use Rattle.std.proofs.Common.{◌≡◌, ◌<◌, ◌≤◌, length, true, false, arith, refl, ap, sym, ◌∙◌}
-use Rattle.std.proofs.lemmas.List.{get_or_read}
-use Rattle.entry_model.specs.State.{empty_state}
 use Rattle.entry_model.specs.Receipt.{receipt_of, is_no_match}
 use Rattle.entry_model.specs.Trial.{Call, call, receipt_at}
 use Rattle.call_trials.proofs.BegunLaws.{at_end, at_has, at_inside}
 use Rattle.call_plan.specs.PageCalls.{calls_of}
+use Rattle.papr_c.proofs.LentEntries.{state_read}
 use Rattle.papr_c.proofs.FoundAsIs.{asked_on, asked_off, asked_none}
+use Rattle.c_layout.specs.Entries.{Entry, states_of}
 use Rattle.papr_c.proofs.probing.find.Goals as goal
 
 pub loop-made-init : goal.loop-made-init
@@ -18,12 +18,12 @@ pub returns-in_default : goal.returns-in_default
 returns-in_default c =
     sym
     (c.loop-made.invariant.none
-    ∙ asked_none (calls_of c.args.calls.now) c.loop-made.made c.args.entries.now
+    ∙ asked_none (calls_of c.args.calls.now) c.loop-made.made (states_of c.args.entries.now)
     (sym c.call_at.ensures ∙ c.in_default.is))
 
 pub returns-then-not-goes_on_after : goal.returns-then-not-goes_on_after
 returns-then-not-goes_on_after c =
-    let a = c.args.entries.now in
+    let a = states_of c.args.entries.now in
     let e = c.in-Some.entry in
     let r = c.asked-receipt.result.0 in
     let inside : e < length a = at_has (λ (d : Call). d.entry < length a)
@@ -32,8 +32,8 @@ returns-then-not-goes_on_after c =
     let is : r ≡ receipt_at a (call c.in-Some.op e) =
     c.asked-receipt.ensures.receipt
     ∙ ap (λ s. receipt_of e s c.in-Some.op)
-    (get_or_read a e c.index-entries-entry.result inside c.index-entries-entry.is
-    (empty_state 0)) in
+    (state_read c.args.entries.now e c.index-entries-entry.result c.state-before.result inside
+    (c.state-before.ensures ∙ ap (λ (x : Entry). x.state) c.index-entries-entry.is)) in
     let off : is_no_match r.answer ≡ false = let x = c.if-not-goes_on_after.ensures in
     let y = c.goes_on_after.ensures in
     cc in
@@ -44,7 +44,7 @@ returns-then-not-goes_on_after c =
 
 pub loop-made-preserved : goal.loop-made-preserved
 loop-made-preserved c =
-    let a = c.args.entries.now in
+    let a = states_of c.args.entries.now in
     let e = c.in-Some.entry in
     let r = c.asked-receipt.result.0 in
     let at = sym c.call_at.ensures ∙ c.in-Some.is in
@@ -53,8 +53,8 @@ loop-made-preserved c =
     let is : r ≡ receipt_at a (call c.in-Some.op e) =
     c.asked-receipt.ensures.receipt
     ∙ ap (λ s. receipt_of e s c.in-Some.op)
-    (get_or_read a e c.index-entries-entry.result inside c.index-entries-entry.is
-    (empty_state 0)) in
+    (state_read c.args.entries.now e c.index-entries-entry.result c.state-before.result inside
+    (c.state-before.ensures ∙ ap (λ (x : Entry). x.state) c.index-entries-entry.is)) in
     let on : is_no_match r.answer ≡ true = let x = c.if-not-goes_on_after.ensures in
     let y = c.goes_on_after.ensures in
     cc in
@@ -73,5 +73,5 @@ returns c =
     in
     sym
     (c.loop-made.invariant.none
-    ∙ asked_none (calls_of c.args.calls.now) c.loop-made.made c.args.entries.now
+    ∙ asked_none (calls_of c.args.calls.now) c.loop-made.made (states_of c.args.entries.now)
     (at_end (calls_of c.args.calls.now) c.loop-made.made past))

@@ -1,39 +1,32 @@
-use Rattle.std.proofs.Common.{◌≡◌, ◌++◌, [], length, replicate, take, drop, get_or, refl, sym, ◌∙◌, arith}
-use Rattle.std.proofs.lemmas.List.{length-replicate, get_or-replicate, take_all, drop_all, append-nil}
+use Rattle.std.proofs.Common.{◌<◌, ◌≤◌, length, set, get_or, ap, ◌∙◌, arith}
 use Rattle.entry_model.specs.State.{empty_state}
-use Rattle.c_layout.proofs.Filling.{fill_more}
+use Rattle.c_layout.specs.Entries.{Entry, entry_with}
+use Rattle.papr_c.proofs.Ranges.{between, between_none, between_read, between_next, emptied_is}
 use Rattle.papr_c.proofs.rehashing.clear.Goals as goal
+
+pub loop-i-init : goal.loop-i-init
+loop-i-init c =
+    between_none (λ e. entry_with e (empty_state 0)) c.args.first c.args.entries.now
 
 pub loop-i-preserved : goal.loop-i-preserved
 loop-i-preserved c =
-    let same : length (replicate (length c.args.entries.now) (empty_state 0)) ≡ length
-    c.args.entries.now = length-replicate (length c.args.entries.now) (empty_state 0) in
-    let item :
-    c.empty.result
-    ≡ get_or (replicate (length c.args.entries.now) (empty_state 0)) c.loop-i.i (empty_state 0)
-    =
-    c.empty.ensures
-    ∙ sym
-    (get_or-replicate (length c.args.entries.now) c.loop-i.i (empty_state 0) (empty_state 0)
-    c.loop-i-test.true) in
-    fill_more (replicate (length c.args.entries.now) (empty_state 0)) c.args.entries.now
-    c.loop-i.entries c.loop-i.i (empty_state 0) c.empty.result
-    (omega (arith, same, c.loop-i-test.true)) c.loop-i-test.true c.loop-i.invariant item
+    let f = λ (e : Entry). entry_with e (empty_state 0) in
+    let old = c.args.entries.now in
+    let d = c.index-entries-i.result in
+    let i = c.loop-i.i in
+    let low : c.args.first ≤ i = omega (arith, c.loop-i.auto) in
+    let below : i < length old = omega (arith, c.loop-i-test.true, c.requires.high) in
+    ap (set c.loop-i.entries i)
+    (c.hold.ensures
+    ∙ (λ k. entry_with (get_or (c.loop-i.invariant k) i d) (c.empty.ensures k))
+    ∙ ap f (between_read f c.args.first i old d low below))
+    ∙ ap (λ es. set es i (f (get_or old i d))) c.loop-i.invariant
+    ∙ between_next f c.args.first i old d low below
 
 pub returns : goal.returns
 returns c =
-    let same = length-replicate (length c.args.entries.now) (empty_state 0) in
-    let i_is : c.loop-i.i ≡ length c.args.entries.now = omega
-    (arith, c.loop-i-test.false, c.loop-i.auto.i-end) in
-    let whole : take (length c.args.entries.now)
-    (replicate (length c.args.entries.now) (empty_state 0)) ≡ replicate
-    (length c.args.entries.now) (empty_state 0) = take_all (length c.args.entries.now)
-    (replicate (length c.args.entries.now) (empty_state 0)) (omega (arith, same)) in
-    let gone : drop (length c.args.entries.now) c.args.entries.now ≡ [] = drop_all
-    (length c.args.entries.now) c.args.entries.now (omega arith) in
-    let full :
-    take c.loop-i.i (replicate (length c.args.entries.now) (empty_state 0))
-    ++ drop c.loop-i.i c.args.entries.now
-    ≡ replicate (length c.args.entries.now) (empty_state 0) =
-    rw (i_is, whole, gone, append-nil) refl in
-    c.loop-i.invariant ∙ full
+    c.loop-i.invariant
+    ∙ ap
+    (λ k. between (λ e. entry_with e (empty_state 0)) c.args.first k c.args.entries.now)
+    (omega (arith, c.loop-i-test.false, c.loop-i.auto, c.requires.low))
+    ∙ emptied_is c.args.first c.args.end c.args.entries.now

@@ -1,8 +1,9 @@
-use Rattle.std.proofs.Common.{◌≡◌, ◌++◌, length, replicate, take, drop}
+use Rattle.std.proofs.Common.{◌≡◌}
 use Rattle.entry_model.specs.State.{empty_state}
+use Rattle.c_layout.specs.Entries.{entry_with}
+use Rattle.papr_c.proofs.Ranges.{between}
 use Rattle.papr_c.proofs.rehashing.clear.Given as goal
 
 abbrev pub invariant-loop-i : goal.invariant-loop-i
 invariant-loop-i l =
-    l.entries
-    ≡ take l.i (replicate (length l.initial.entries) (empty_state 0)) ++ drop l.i l.initial.entries
+    l.entries ≡ between (λ e. entry_with e (empty_state 0)) l.first l.i l.initial.entries

@@ -20,6 +20,8 @@ use Rattle.c_layout.proofs.Filling.{placed_filled}
 use Rattle.papr_c.proofs.Outcomes.{alone, call_tried, calls_inside}
 use Rattle.papr_c.proofs.Reading.{read_all, reads, words-length}
 use Rattle.papr_c.proofs.StaleTrials.{stale_alone, stale_entered}
+use Rattle.c_layout.specs.Entries.{states_of}
+use Rattle.c_layout.proofs.Marks.{passed_marked}
 use Rattle.papr_c.proofs.running.try_trial.Goals as goal
 
 -- Whether the receipt that ended a trial says so.
@@ -28,16 +30,16 @@ ends_so ending = option_map_or (λ (r : Receipt). is_stale r.answer) ending fals
 
 pub try_lent-tried-requires-clause-in_table : goal.try_lent-tried-requires-clause-in_table
 try_lent-tried-requires-clause-in_table c =
-    calls_inside c.args.order c.args.entries.now _ c.requires.table
+    calls_inside c.args.order (states_of c.args.entries.now) _ c.requires.table
     (trial_in c.args.order c.args.trial.now c.requires.fits)
 
 pub try_lent-tried-requires-clause-few : goal.try_lent-tried-requires-clause-few
 try_lent-tried-requires-clause-few c = (trial_in c.args.order c.args.trial.now c.requires.fits).few
 
-pub returns-in-Entered : goal.returns-in-Entered
-returns-in-Entered c =
+pub returns-in-Entered-clause-told : goal.returns-in-Entered-clause-told
+returns-in-Entered-clause-told c =
     let t = c.args.trial.now in
-    let x = trial_run (goes_after (goes_of t.told)) c.args.entries.now
+    let x = trial_run (goes_after (goes_of t.told)) (states_of c.args.entries.now)
     (calls_from t.op t.first t.count) in
     let goes : goes_after (goes_of t.told) ≡ is_taken = ap (λ d. goes_after (goes_of d))
     c.in-Entered.is in
@@ -46,13 +48,16 @@ returns-in-Entered c =
     ∙ ap ends_so
     (c.try_lent-tried.ensures.ending
     ∙ ap
-    (λ g. ending_of g (trial_run g c.args.entries.now (calls_from t.op t.first t.count)).0)
+    (λ g.
+    ending_of g (trial_run g (states_of c.args.entries.now) (calls_from t.op t.first t.count)).0)
     goes)
-    ∙ stale_entered c.args.entries.now (calls_from t.op t.first t.count)
-    ∙ ap (λ g. any_stale (trial_run g c.args.entries.now (calls_from t.op t.first t.count)).0)
+    ∙ stale_entered (states_of c.args.entries.now) (calls_from t.op t.first t.count)
+    ∙ ap
+    (λ g.
+    any_stale (trial_run g (states_of c.args.entries.now) (calls_from t.op t.first t.count)).0)
     (sym goes) in
     call_tried _ _ _ x c.registers.result.rc c.registers.result.words c.hand_over.result
-    c.hand_over.new.words c.try_lent-tried.new.receipts c.try_lent-tried.new.entries
+    c.hand_over.new.words c.try_lent-tried.new.receipts (states_of c.try_lent-tried.new.entries)
     c.requires.table
     refl
     (c.registers.ensures
@@ -65,19 +70,19 @@ returns-in-Entered c =
     c.try_lent-tried.ensures.receipts
     c.try_lent-tried.ensures.entries
 
-pub returns-in-Answer : goal.returns-in-Answer
-returns-in-Answer c =
+pub returns-in-Answer-clause-told : goal.returns-in-Answer-clause-told
+returns-in-Answer-clause-told c =
     let t = c.args.trial.now in
     let r = c.make-receipt.result in
     let few : t.count ≤ 1 = subst (λ d. t.count ≤ most_of d) c.in-Answer.is c.requires.fits.few in
     let one : t.count ≡ 1 = omega (arith, few, c.requires.fits.some) in
-    call_tried _ (plan_of_trial t) _ (r ∷ [], states_after c.args.entries.now r)
+    call_tried _ (plan_of_trial t) _ (r ∷ [], states_after (states_of c.args.entries.now) r)
     c.registers-in-Answer.result.rc c.registers-in-Answer.result.words
     c.hand_over-in-Answer.result c.hand_over-in-Answer.new.words c.make-receipt.new.receipts
-    c.make-receipt.new.entries
+    (states_of c.make-receipt.new.entries)
     c.requires.table
-    (alone t.op t.first c.args.entries.now r c.make-receipt.ensures.receipt
-    ∙ λ k. trial_run (goes_after (goes_of (sym c.in-Answer.is k))) c.args.entries.now
+    (alone t.op t.first (states_of c.args.entries.now) r c.make-receipt.ensures.receipt
+    ∙ λ k. trial_run (goes_after (goes_of (sym c.in-Answer.is k))) (states_of c.args.entries.now)
     (calls_from t.op t.first (sym one k)))
     (c.registers-in-Answer.ensures ∙ ap (λ d. told_of d (r ∷ [])) (sym c.in-Answer.is))
     (rw (c.is_stale-stale.ensures, stale_alone r) at c.hand_over-in-Answer.ensures.reply)
@@ -88,7 +93,7 @@ returns-in-Answer c =
 pub try_lent-tried-requires-in-Contents-clause-in_table :
     goal.try_lent-tried-requires-in-Contents-clause-in_table
 try_lent-tried-requires-in-Contents-clause-in_table c =
-    calls_inside c.args.order c.args.entries.now _ c.requires.table
+    calls_inside c.args.order (states_of c.args.entries.now) _ c.requires.table
     (trial_in c.args.order c.args.trial.now c.requires.fits)
 
 pub try_lent-tried-requires-in-Contents-clause-few :
@@ -96,10 +101,10 @@ pub try_lent-tried-requires-in-Contents-clause-few :
 try_lent-tried-requires-in-Contents-clause-few c =
     (trial_in c.args.order c.args.trial.now c.requires.fits).few
 
-pub returns-in-Contents : goal.returns-in-Contents
-returns-in-Contents c =
+pub returns-in-Contents-clause-told : goal.returns-in-Contents-clause-told
+returns-in-Contents-clause-told c =
     let t = c.args.trial.now in
-    let entries = c.args.entries.now in
+    let entries = states_of c.args.entries.now in
     let x = read_all t.first t.count entries in
     let ws = words_of_entries entries t.first t.count in
     let read = reads entries t.first t.count in
@@ -107,7 +112,7 @@ returns-in-Contents c =
     let same : trial_run (goes_after (goes_of t.told)) entries (calls_from t.op t.first t.count) ≡ x
     = λ k. trial_run (goes_after (goes_of (c.in-Contents.is k))) entries
     (calls_from (op k) t.first t.count) in
-    let stays : c.try_lent-tried-in-Contents.new.entries ≡ entries =
+    let stays : (states_of c.try_lent-tried-in-Contents.new.entries) ≡ entries =
     c.try_lent-tried-in-Contents.ensures.entries ∙ ap (λ z. z.1) same ∙ read.entries in
     let shown : c.put_entries-shown.result ≡ min (length c.args.words.now) (length ws) =
     c.put_entries-shown.ensures.count ∙ ap (min (length c.args.words.now))
@@ -116,7 +121,7 @@ returns-in-Contents c =
     let filled : c.filled_count.result ≡ min (length c.args.receipts.now) (length x.0) = many ∙ ap
     (λ z. min (length c.args.receipts.now) (length z.0)) same in
     call_tried _ (plan_of_trial t) _ x Success ws c.told.result c.put_entries-shown.new.places
-    c.try_lent-tried-in-Contents.new.receipts c.try_lent-tried-in-Contents.new.entries
+    c.try_lent-tried-in-Contents.new.receipts (states_of c.try_lent-tried-in-Contents.new.entries)
     c.requires.table
     (sym same)
     (ap (λ z. (Success, z)) (sym read.words) ∙ ap (λ d. told_of d x.0) (sym c.in-Contents.is))
@@ -133,3 +138,16 @@ returns-in-Contents c =
     (c.try_lent-tried-in-Contents.ensures.receipts
     ∙ ap (λ z. placed c.args.receipts.now 0 (map shown_receipt z.0)) same)
     (c.try_lent-tried-in-Contents.ensures.entries ∙ ap (λ z. z.1) same)
+
+pub returns-in-Entered-clause-marks : goal.returns-in-Entered-clause-marks
+returns-in-Entered-clause-marks c =
+    passed_marked c.args.entries.now c.try_lent-tried.new.entries c.try_lent-tried.ensures.passed
+
+pub returns-in-Answer-clause-marks : goal.returns-in-Answer-clause-marks
+returns-in-Answer-clause-marks c =
+    passed_marked c.args.entries.now c.make-receipt.new.entries c.make-receipt.ensures.passed
+
+pub returns-in-Contents-clause-marks : goal.returns-in-Contents-clause-marks
+returns-in-Contents-clause-marks c =
+    passed_marked c.args.entries.now c.try_lent-tried-in-Contents.new.entries
+    c.try_lent-tried-in-Contents.ensures.passed

@@ -1,6 +1,7 @@
 use Rattle.std.proofs.Common.{List}
 use Rattle.entry_model.specs.declared.receipt.Receipt.{Receipt}
 use Rattle.papr_c.proofs.SoFar.{IsSoFar}
+use Rattle.c_layout.specs.Entries.{states_of, ArePassed}
 use Rattle.papr_c.proofs.trying.try_lent.Given as goal
 
 -- The calls before this one were made, and each answer went on.
@@ -8,6 +9,8 @@ abbrev pub invariant-loop-made : goal.invariant-loop-made
 invariant-loop-made g l = record {
   so_far :
       (rs : List Receipt)
-      × IsSoFar (g.C.CallList.goes_on l.calls) (g.C.CallList.calls l.calls) l.made l.fn.entries
-      l.entries l.fn.receipts l.receipts rs;
+      × IsSoFar (g.C.CallList.goes_on l.calls) (g.C.CallList.calls l.calls) l.made
+      (states_of l.fn.entries)
+      (states_of l.entries) l.fn.receipts l.receipts rs;
+  passed : ArePassed l.fn.entries l.entries;
 }

@@ -1,18 +1,21 @@
 use Rattle.std.proofs.Common.{◌<◌, length, refl, sym, ◌∙◌}
 use Rattle.entry_model.specs.Trial.{Call}
 use Rattle.call_trials.proofs.BegunLaws.{at_has}
+use Rattle.c_layout.specs.Entries.{states_of}
+use Rattle.c_layout.proofs.Marks.{passed_none}
 use Rattle.papr_c.proofs.trying.try_next.Goals as goal
 
-pub returns-in_default : goal.returns-in_default
-returns-in_default g c = (sym c.call_at.ensures ∙ c.in_default.is, (refl, (refl, refl)))
+pub returns-in_default-clause-next : goal.returns-in_default-clause-next
+returns-in_default-clause-next g c = (sym c.call_at.ensures ∙ c.in_default.is, (refl, (refl, refl)))
 
 pub make-receipt-requires : goal.make-receipt-requires
 make-receipt-requires g c =
-    at_has (λ (d : Call). d.entry < length c.args.entries.now) _ c.args.made c.in-Some.entry
+    at_has (λ (d : Call). d.entry < length (states_of c.args.entries.now)) _ c.args.made
+    c.in-Some.entry
     c.in-Some.op c.requires.in_table (sym c.call_at.ensures ∙ c.in-Some.is)
 
-pub returns-then-goes_on_after : goal.returns-then-goes_on_after
-returns-then-goes_on_after g c = (
+pub returns-then-goes_on_after-clause-next : goal.returns-then-goes_on_after-clause-next
+returns-then-goes_on_after-clause-next g c = (
   c.make-receipt.result,
   record {
     entry = c.in-Some.entry;
@@ -25,8 +28,8 @@ returns-then-goes_on_after g c = (
   },
 )
 
-pub returns : goal.returns
-returns g c = (
+pub returns-clause-next : goal.returns-clause-next
+returns-clause-next g c = (
   record {
     entry = c.in-Some.entry;
     op = c.in-Some.op;
@@ -38,3 +41,6 @@ returns g c = (
   },
   refl,
 )
+
+pub returns-in_default-clause-passed : goal.returns-in_default-clause-passed
+returns-in_default-clause-passed g c = passed_none c.args.entries.now

@@ -10,15 +10,17 @@ use Rattle.papr_c.specs.Calls.{memory}
 use Rattle.papr_c.proofs.Outcomes.{call_tried}
 use Rattle.papr_c.proofs.StaleTrials.{stale_alone}
 use Rattle.papr_c.proofs.Tces.{one_call}
+use Rattle.c_layout.proofs.Marks.{passed_marked}
+use Rattle.c_layout.specs.Entries.{states_of}
 use Rattle.papr_c.proofs.windows.clear.Goals as goal
 
-pub returns : goal.returns
-returns c =
+pub returns-clause-told : goal.returns-clause-told
+returns-clause-told c =
     let r = c.make-removed.result in
-    let entries = c.args.entries.now in
+    let entries = states_of c.args.entries.now in
     call_tried true (clear_plan c.args.entry) (memory entries [] c.args.receipts.now)
     (r ∷ [], states_after entries r) c.code_of.result [] c.told.result []
-    c.make-removed.new.receipts c.make-removed.new.entries
+    c.make-removed.new.receipts (states_of c.make-removed.new.entries)
     refl
     (one_call (λ answer. not (is_worn answer)) (Remove no_test) c.args.entry entries r
     c.make-removed.ensures.receipt)
@@ -33,3 +35,7 @@ returns c =
     refl
     c.make-removed.ensures.receipts
     c.make-removed.ensures.entries
+
+pub returns-clause-marks : goal.returns-clause-marks
+returns-clause-marks c =
+    passed_marked c.args.entries.now c.make-removed.new.entries c.make-removed.ensures.passed

@@ -16,6 +16,8 @@ use Rattle.c_layout.specs.Stale.{any_stale}
 use Rattle.papr_c.proofs.Outcomes.{call_tried}
 use Rattle.papr_c.proofs.StaleTrials.{stale_alone, stale_pair}
 use Rattle.papr_c.proofs.Tces.{first_ends, two_calls}
+use Rattle.c_layout.proofs.Marks.{passed_marked, passed_both}
+use Rattle.c_layout.specs.Entries.{states_of}
 use Rattle.papr_c.proofs.windows.replace.Goals as goal
 
 -- The code after a worn entry.
@@ -23,14 +25,14 @@ worn_code : (answer : Answer) → is_worn answer ≡ true → Hardware ≡ code_
 worn_code Worn is = refl
 worn_code other is = cc
 
-pub returns-then-is_worn : goal.returns-then-is_worn
-returns-then-is_worn c =
+pub returns-then-is_worn-clause-told : goal.returns-then-is_worn-clause-told
+returns-then-is_worn-clause-told c =
     let r = c.make-removed.result in
-    let entries = c.args.entries.now in
+    let entries = states_of c.args.entries.now in
     let worn : is_worn r.answer ≡ true = sym c.is_worn.ensures ∙ c.if-is_worn.true in
     call_tried true (replace_plan c.args.entry c.args.op.now)
     (memory entries [] c.args.receipts.now) (r ∷ [], states_after entries r) Hardware []
-    c.told.result [] c.make-removed.new.receipts c.make-removed.new.entries
+    c.told.result [] c.make-removed.new.receipts (states_of c.make-removed.new.entries)
     refl
     (first_ends (λ answer. not (is_worn answer)) (Remove no_test) c.args.op.now c.args.entry entries
     r c.make-removed.ensures.receipt (ap not worn))
@@ -46,11 +48,11 @@ returns-then-is_worn c =
     c.make-removed.ensures.receipts
     c.make-removed.ensures.entries
 
-pub returns : goal.returns
-returns c =
+pub returns-clause-told : goal.returns-clause-told
+returns-clause-told c =
     let r = c.make-removed.result in
     let s = c.make-entered.result in
-    let entries = c.args.entries.now in
+    let entries = states_of c.args.entries.now in
     let goes : is_worn r.answer ≡ false = sym c.is_worn.ensures ∙ c.if-is_worn.false in
     let stale : c.either_stale-stale.result ≡ any_stale (r ∷ s ∷ []) = c.either_stale-stale.ensures
     ∙ stale_pair r s in
@@ -61,7 +63,7 @@ returns c =
     call_tried true (replace_plan c.args.entry c.args.op.now)
     (memory entries [] c.args.receipts.now)
     (r ∷ s ∷ [], states_after (states_after entries r) s) c.code_of.result [] c.told-2.result []
-    c.make-entered.new.receipts c.make-entered.new.entries
+    c.make-entered.new.receipts (states_of c.make-entered.new.entries)
     refl
     (two_calls (λ answer. not (is_worn answer)) (Remove no_test) c.args.op.now c.args.entry entries
     r s c.make-removed.ensures.receipt (ap not goes) next)
@@ -78,3 +80,13 @@ returns c =
     ∙ ap (λ ps. set ps 1 (shown_receipt s)) c.make-removed.ensures.receipts)
     (c.make-entered.ensures.entries
     ∙ ap (λ (xs : List State). states_after xs s) c.make-removed.ensures.entries)
+
+pub returns-then-is_worn-clause-marks : goal.returns-then-is_worn-clause-marks
+returns-then-is_worn-clause-marks c =
+    passed_marked c.args.entries.now c.make-removed.new.entries c.make-removed.ensures.passed
+
+pub returns-clause-marks : goal.returns-clause-marks
+returns-clause-marks c =
+    passed_marked c.args.entries.now c.make-entered.new.entries
+    (passed_both c.args.entries.now c.make-removed.new.entries c.make-entered.new.entries
+    c.make-removed.ensures.passed c.make-entered.ensures.passed)

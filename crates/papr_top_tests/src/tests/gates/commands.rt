@@ -1,4 +1,5 @@
-//! Each command that isn't `par`, by the call that may start threads: it is answered, and calls no gate.
+//! Each command that isn't `par`, by the call that may start threads: it is answered, and calls no
+//! gate.
 use super::calls::Calls;
 use super::{answered, judged_input};
 use papr_top::Status;

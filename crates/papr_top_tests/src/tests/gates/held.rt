@@ -76,8 +76,8 @@ begin
     run_held(&rt, rt.alloc(), &row)
 }
 
-/// Processor 2 is held before line 6 until processor 1 reaches `step` in line 5, and that step until
-/// line 6 was answered.
+/// Processor 2 is held before line 6 until processor 1 reaches `step` in line 5, and that step
+/// until line 6 was answered.
 #[test]
 fn an_entry_is_made_between_two_pairs_of_a_bulk_removal(rt: HostRuntime) -> Result<(), Fail> {
     let row = Held {

@@ -10,7 +10,8 @@ const EACH: u32 = 20_000;
 
 const PROCESSORS: u32 = 2;
 
-/// Each processor makes its entry and removes it again, over and over. Both entries are of one group.
+/// Each processor makes its entry and removes it again, over and over. Both entries are of one
+/// group.
 fn trace(alloc: Global) -> Result<String, Fail> {
     let mut text = String::from_str(alloc, "cpus 2\nram 0x0 0x2000000000 0x40000000\nbegin\n")?;
     for _ in 0..EACH / 2 {

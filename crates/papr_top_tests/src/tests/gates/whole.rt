@@ -4,8 +4,8 @@ use super::calls::Calls;
 use papr_top::Status;
 use std::test::Fail;
 
-/// Calls of one operation, of four and of none; a walk, a hit, and a walk past a line that is gone; lines
-/// that use no entry; a window's lines between those on the page table; and a quiet line.
+/// Calls of one operation, of four and of none; a walk, a hit, and a walk past a line that is gone;
+/// lines that use no entry; a window's lines between those on the page table; and a quiet line.
 const TRACE: &str = "order 18
 cpus 3
 ram 0x0 0x2000000000 0x40000000
@@ -46,9 +46,9 @@ const REPLIES: &str = "6 2 slbmte ok
 20 2 load nosegment
 ";
 
-/// Before and after each line; at a step before each operation but the line's first; held at each operation
-/// but accesses, which take no lock. The lines on the page table come first in a section, and then those on
-/// the window. The quiet line 18 isn't run by a thread.
+/// Before and after each line; at a step before each operation but the line's first; held at each
+/// operation but accesses, which take no lock. The lines on the page table come first in a section,
+/// and then those on the window. The quiet line 18 isn't run by a thread.
 const CALLS: &str = "before 2 6
 after 2 6
 before 2 8

@@ -52,15 +52,15 @@ class Applied(TreeTest):
         return Counter(re.findall(r"\bpapr_[a-z_]+(?=\()", "".join(self.text(name) for name in PUT)))
 
     def test_each_call_stands_so_often(self) -> None:
-        often = {"papr_answers": 2, "papr_shadow_walk": 3}
+        often = {"papr_answers": 2, "papr_searched": 3}
         once = (
             "papr_add_options",
             "papr_answer_call",
             "papr_answer_walk",
             "papr_highest_order",
+            "papr_make_call",
             "papr_search_begins",
             "papr_search_ends",
-            "papr_shadow_call",
             "papr_table_freed",
             "papr_table_loaded",
             "papr_table_loading",
@@ -78,16 +78,16 @@ class Applied(TreeTest):
 
     def test_a_walk_is_answered_or_searched_and_then_told_of(self) -> None:
         walk = self.text("target/ppc/mmu-hash64.c").partition("bool ppc_hash64_xlate")[2]
-        steps = r"answer_walk|search_begins|htab_lookup|search_ends|pr\(mmu_idx\), [012]|deposit64"
-        told = [f"pr(mmu_idx), {number}" for number in (2, 1, 0)]
+        steps = r"answer_walk|search_begins|htab_lookup|search_ends|outcome = [012]|deposit64"
+        told = [f"outcome = {number}" for number in (2, 1, 0)]
         search = ["search_begins", "htab_lookup", "search_ends"]
         order = ["answer_walk", *search, told[0], told[1], "deposit64", told[2]]
         self.assertEqual(re.findall(steps, walk), order)
 
-    def test_the_first_call_of_a_function_is_compared_and_the_second_is_qemus(self) -> None:
+    def test_the_first_call_of_a_function_is_made_by_us_and_the_second_is_qemus(self) -> None:
         text = self.text("hw/ppc/spapr_hcall.c")
         calls = re.findall(r"return (\w+)\(cpu, spapr, opcode, args(?:, fn)?\);", text)
-        self.assertEqual(calls, ["papr_shadow_call", "fn"])
+        self.assertEqual(calls, ["papr_make_call", "fn"])
 
     def test_a_table_ends_before_it_is_freed(self) -> None:
         lines = self.text("hw/ppc/spapr.c").splitlines()

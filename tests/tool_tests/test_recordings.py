@@ -15,9 +15,10 @@ from .support import needs_library, needs_program, needs_shared_table, run
 OWN = TOOLS / "qemu-papr"
 JUDGE, BAD_LINE = OWN / "judge-recording", TOOLS / "bad-line"
 THREADS = DATA / "qemu-papr" / "threads"
+RECORDED = DATA / "qemu-papr" / "recorded"  # the first records of parts of two boots; the heads have the entries that occur
 HEADERS = ("qemu/error-report.h", "qemu/thread.h", "qemu/atomic.h", "qemu/timer.h", "cpu.h", "hw/ppc/spapr.h")
 CALL, WALK, MASKS, MARK, PART = range(1, 6)
-H_REMOVE, H_ENTER, H_BULK_REMOVE, PREPARE, COMMIT = 0x04, 0x08, 0x124, 0x36C, 0x370
+H_REMOVE, H_ENTER, H_PROTECT, H_BULK_REMOVE, PREPARE, COMMIT = 0x04, 0x08, 0x18, 0x124, 0x36C, 0x370
 ANSWERS = "entered taken removed protected was read notfound nomatch denied at worn masked".split()
 LOAD, STORE, FETCH = range(3)
 AT, DENIED, NO_PAGE = range(3)
@@ -220,6 +221,30 @@ class Order(RecordingTest):
         enter(self.it)
         self.assertEqual(self.lines(), ["1 load", "0 H_ENTER"])
 
+    def test_a_search_beside_a_call_takes_the_stamp_that_fits(self) -> None:
+        """The search read the stamp before the call, and found what the call had entered."""
+        enter(self.it)
+        header = WALK | STORE << 24 | 12 << 32 | 1 << 41
+        self.it.put(1, header, [PAGE, SEGMENT, FRAME], "0x20.0.0.at", late=-15)
+        self.assertEqual(self.lines(), ["0 H_ENTER", "1 store"])
+        self.assertIn("0x20.1.0.at", self.text("replies"))
+
+    def test_a_search_beside_a_call_whose_bits_do_not_fit_stays_as_it_was(self) -> None:
+        enter(self.it)
+        header = WALK | STORE << 24 | 12 << 32 | 1 << 41
+        self.it.put(1, header, [PAGE, SEGMENT, FRAME], "0x20.0.3.at")
+        self.lines()
+        self.assertIn("0x20.0.3.at", self.text("replies"))
+
+    def test_a_search_beside_a_call_comes_behind_the_call_if_it_fits_there_too(self) -> None:
+        enter(self.it)
+        header = WALK | STORE << 24 | 12 << 32 | 1 << 41
+        self.it.put(1, header, [PAGE, SEGMENT, FRAME], "0x20.1.0.at")
+        self.it.call(0, H_PROTECT, [2, 0x20, 0], 0, receipts="0x20.1.0.protected")
+        self.it.call(0, H_PROTECT, [2, 0x20, 0], 0, receipts="0x20.2.3.protected")
+        self.assertEqual(self.lines(), ["0 H_ENTER", "0 H_PROTECT", "1 store", "0 H_PROTECT"])
+        self.assertIn("0x20.2.0.at", self.text("replies"))
+
     def test_an_entry_that_a_bulk_removal_names_twice(self) -> None:
         enter(self.it)
         pairs = [1 << 62 | 0x20, 0, 1 << 62 | 0x20, 0, 3 << 62, 0, 0, 0]
@@ -234,6 +259,37 @@ class Order(RecordingTest):
         self.it.quiet(0, PREPARE, 18, 0)
         self.it.walk(0, LOAD, PAGE, NO_PAGE, no_match(0))
         self.assertEqual(self.lines(), ["1 load", "0 H_RESIZE_HPT_PREPARE", "0 load"])
+
+
+class Pieces(ToolTest):
+    """Beginnings of parts that a QEMU recorded, of a boot with four processors."""
+
+    def told(self, name: str, *words: str, status: int = 0) -> str:
+        """The tool's line of one of them."""
+        ran = run(JUDGE, RECORDED / name, "--parts", self.folder, *words)
+        self.assert_ran(ran, out=None, status=status)
+        return ran.out
+
+    @for_each("good", "calls", "stale")
+    def test_a_piece_becomes_a_trace_of_which_each_line_has_a_reply(self, name: str) -> None:
+        self.told(name, "--unjudged")
+        trace = (self.folder / "part-1.trace").read_text(encoding="ascii").splitlines()
+        replies = [line.split() for line in (self.folder / "part-1.replies").read_text(encoding="ascii").splitlines()]
+        begin = trace.index("begin") + 1
+        self.assertEqual([int(words[0]) for words in replies], list(range(begin + 1, len(trace) + 1)))
+        self.assertEqual([words[1:3] for words in replies], [line.split()[:2] for line in trace[begin:]])
+
+    @needs_program
+    @for_each("good", "calls")
+    def test_what_papr_answered_is_good(self, name: str) -> None:
+        self.assertTrue(self.told(name).endswith(": good\n"))
+
+    @needs_program
+    def test_a_stale_translation_that_was_planted_is_bad_and_its_line_is_named(self) -> None:
+        self.assertTrue(self.told("stale", status=1).endswith(": bad section 1\n"))
+        found = run(BAD_LINE, self.folder / "part-1.trace", self.folder / "part-1.replies")
+        self.assert_ran(found, out=None, status=1)
+        self.assertIn("0 store at 0x40000000043170c hit | 0x3d3b8.0.3.at", found.out.splitlines()[-1])
 
 
 @needs_program

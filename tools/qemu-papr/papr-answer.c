@@ -36,7 +36,7 @@ static struct papr_entry *pending;
 static void *hidden;
 static size_t hidden_size;
 
-static unsigned actors_of(SpaprMachineState *spapr)
+unsigned papr_actors(SpaprMachineState *spapr)
 {
     return MACHINE(spapr)->smp.max_cpus + 1;
 }
@@ -77,8 +77,7 @@ static void replace_memory(SpaprMachineState *spapr, int order)
 
 /* ---- the table */
 
-/* RAM and plugged memory are main storage, and all other addresses are a device's. */
-static void grant_memory(SpaprMachineState *spapr)
+void papr_grant_memory(SpaprMachineState *spapr)
 {
     const uint64_t end = 1ULL << 57, machine = 1ULL << 58;
     DeviceMemoryState *plugged = MACHINE(spapr)->device_memory;
@@ -95,8 +94,7 @@ static void grant_memory(SpaprMachineState *spapr)
     papr_table_grant(given, count);
 }
 
-/* The highest order that the guest may ask for. */
-static uint8_t limit_of(SpaprMachineState *spapr)
+uint8_t papr_limit(SpaprMachineState *spapr)
 {
     uint64_t ram = MACHINE(spapr)->ram_size + get_plugged_memory_size();
     int limit = MIN(PAPR_HIGHEST_ORDER, spapr_hpt_shift_for_ramsize(ram) + 1);
@@ -109,7 +107,7 @@ static void begin_part(SpaprMachineState *spapr)
     if (!papr_options.record)
         return;
     struct papr_rest rest = papr_table_take();
-    papr_record_part(&rest, papr_table_grants(), actors_of(spapr), limit_of(spapr));
+    papr_record_part(&rest, papr_table_grants(), papr_actors(spapr), papr_limit(spapr));
     papr_table_give(&rest);
 }
 
@@ -121,8 +119,8 @@ void papr_answer_made(SpaprMachineState *spapr)
         exit(1);
     }
     hide(spapr);
-    grant_memory(spapr);
-    papr_table_put(g_new0(struct papr_entry, (size_t)1 << (order - 4)), order, actors_of(spapr));
+    papr_grant_memory(spapr);
+    papr_table_put(g_new0(struct papr_entry, (size_t)1 << (order - 4)), order, papr_actors(spapr));
     tables++;
     begin_part(spapr);
 }
@@ -190,13 +188,16 @@ static void drop_translations(CPUState *cs)
         tlb_flush_all_cpus(cs);
 }
 
+/* The global lock keeps a reset and a migration away. */
 static void part_at_rest(CPUState *cs, run_on_cpu_data data)
 {
+    qemu_mutex_lock_iothread();
     /* (A pending table isn't carried from part to part.) */
-    if (resize.pending)
+    if (resize.pending || !papr_table_is_there())
         papr_record_later();
     else
         begin_part(SPAPR_MACHINE(qdev_get_machine()));
+    qemu_mutex_unlock_iothread();
 }
 
 /* Begins another part of the recording soon, if one is due. */
@@ -240,7 +241,7 @@ static int64_t prepare(SpaprMachineState *spapr, uint64_t flags, uint64_t shift)
                   !(resize.pending && resize.order == shift);
     size_t count = shift <= PAPR_HIGHEST_ORDER && shift ? (size_t)1 << shift >> 4 : 0;
     struct papr_entry *lent = is_new ? g_try_new0(struct papr_entry, count) : pending;
-    int64_t rc = papr_resize_prepare(&resize, limit_of(spapr), flags, shift, lent, lent ? count : 0);
+    int64_t rc = papr_resize_prepare(&resize, papr_limit(spapr), flags, shift, lent, lent ? count : 0);
     if (is_new) {
         bool is_taken = rc == PAPR_H_SUCCESS || rc == PAPR_H_LONG_BUSY;
         g_free(is_taken ? pending : lent);
@@ -373,8 +374,7 @@ static uint64_t data_error(const struct papr_walk *walk, int want)
     return error | (walk->causes & PAPR_CAUSE_AMR ? DSISR_AMR : 0);
 }
 
-/* The processor's masks, if it has them. */
-static void put_masks(PowerPCCPU *cpu, struct papr_access *access)
+void papr_put_masks(PowerPCCPU *cpu, struct papr_access *access)
 {
     CPUPPCState *env = &cpu->env;
     if (!ppc_hash64_has(cpu, PPC_HASH64_AMR))
@@ -388,7 +388,7 @@ static void put_masks(PowerPCCPU *cpu, struct papr_access *access)
 static unsigned actor_of(PowerPCCPU *cpu)
 {
     bool is_own = current_cpu == CPU(cpu);
-    return is_own ? CPU(cpu)->cpu_index : actors_of(SPAPR_MACHINE(qdev_get_machine())) - 1;
+    return is_own ? CPU(cpu)->cpu_index : papr_actors(SPAPR_MACHINE(qdev_get_machine())) - 1;
 }
 
 bool papr_answer_walk(PowerPCCPU *cpu, uint64_t slb, int shift, uint64_t ea, int want, bool problem,
@@ -398,13 +398,13 @@ bool papr_answer_walk(PowerPCCPU *cpu, uint64_t slb, int shift, uint64_t ea, int
     struct papr_access access = papr_access_of(slb, shift, ea, want, problem);
     struct papr_walk walk = {.outcome = PAPR_WALK_NO_PAGE};
     unsigned actor = actor_of(cpu);
-    put_masks(cpu, &access);
+    papr_put_masks(cpu, &access);
     if (papr_table_is_there()) {
         uint64_t begun = papr_search_begins();
         walk = papr_table_walk(actor, &access, made);
         papr_search_ends(cpu, begun);
         if (papr_options.record) {
-            bool is_due = papr_record_walk(actor, slb, problem, &access, &walk, made);
+            bool is_due = papr_record_walk(actor, slb, problem ? PAPR_IN_PROBLEM_STATE : 0, &access, &walk, made);
             record_on(CPU(cpu), is_due);
         }
     }

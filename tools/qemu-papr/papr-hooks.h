@@ -27,9 +27,9 @@ int papr_highest_order(void);
 bool papr_answer_call(struct ArchCPU *cpu, struct SpaprMachineState *spapr, uint64_t number,
                       uint64_t *args, uint64_t *rc);
 
-/* Makes a call by QEMU's function, and compares it if papr answers it a second time. */
-uint64_t papr_shadow_call(struct ArchCPU *cpu, struct SpaprMachineState *spapr, uint64_t number,
-                          uint64_t *args, papr_hcall_fn *fn);
+/* Makes a call by QEMU's function, and compares or records it. */
+uint64_t papr_make_call(struct ArchCPU *cpu, struct SpaprMachineState *spapr, uint64_t number,
+                        uint64_t *args, papr_hcall_fn *fn);
 
 /* QEMU has carried its table into another one of 2^order bytes, with this answer. */
 void papr_table_resized(struct ArchCPU *cpu, const void *htab, int order, int64_t rc);
@@ -66,8 +66,17 @@ bool papr_answer_walk(struct ArchCPU *cpu, uint64_t slb, int shift, uint64_t ea,
 uint64_t papr_search_begins(void);
 void papr_search_ends(struct ArchCPU *cpu, uint64_t begun);
 
-/* Compares the outcome of a search of QEMU's, as papr.h numbers it: once for each search. */
-void papr_shadow_walk(uint64_t slb, int shift, uint64_t ea, int want, bool problem, unsigned outcome,
-                      uint64_t at);
+/* What a search of QEMU's came to. */
+struct papr_search {
+    uint64_t slb;               /* the second word of the segment */
+    uint64_t ea, address;
+    uint64_t ptex, dword1;      /* the entry that was found, and its second word as it was loaded */
+    unsigned outcome;           /* as papr.h numbers it */
+    int shift, want;
+    bool problem;
+};
+
+/* Compares or records it: once for each search, when R and C are set. */
+void papr_searched(struct ArchCPU *cpu, const struct papr_search *search);
 
 #endif

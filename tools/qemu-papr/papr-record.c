@@ -1,4 +1,4 @@
-/* Recording in mode answer: papr-record.h has the format. */
+/* Recording: papr-record.h has the format. */
 #include "qemu/osdep.h"
 #include "qemu/atomic.h"
 #include "qemu/error-report.h"
@@ -214,7 +214,7 @@ bool papr_record_call(unsigned actor, uint64_t number, const uint64_t *asked, co
     return is_full(a);
 }
 
-bool papr_record_walk(unsigned actor, uint64_t slb, bool problem, const struct papr_access *access,
+bool papr_record_walk(unsigned actor, uint64_t slb, enum papr_record_flags flags, const struct papr_access *access,
                       const struct papr_walk *walk, const struct papr_receipt *made)
 {
     struct actor *a = &actors[actor];
@@ -225,7 +225,7 @@ bool papr_record_walk(unsigned actor, uint64_t slb, bool problem, const struct p
         put_two(a, MASKS, a->amr, a->iamr);
     }
     words[0] = WALK | walk->receipts << 8 | walk->outcome << 16 | (uint64_t)access->want << 24 |
-               (uint64_t)access->shift << 32 | (uint64_t)problem << 40;
+               (uint64_t)access->shift << 32 | (uint64_t)flags << 40;
     words[1] = cpu_get_host_ticks();
     words[2] = access->ea;
     words[3] = slb;

@@ -1,5 +1,5 @@
 /*
- * Recording what papr answers: each actor writes its calls and walks, with their receipts, into a buffer of
+ * Recording what a table answers, which is papr's or QEMU's own: each actor writes its calls and walks, with their receipts, into a buffer of
  * its own. judge-recording makes of a recording traces with replies, which `papr check` judges.
  *
  * A recording is a folder. It has `part-N.head`, the configuration of a trace as text, for each part, and
@@ -10,8 +10,9 @@
  *   a call    in word 0 bits 16 to 23 the number of words of the answer; then the call's number, its code,
  *             its eight arguments, the words, and the receipts
  *   a walk    in word 0 bits 16 to 23 the outcome, 24 to 31 what it wants, 32 to 39 the base page's shift,
- *             and bit 40 for problem state; then the address, the segment's second word, the logical
- *             address, and the receipts
+ *             bit 40 for problem state, and bit 41 if each stamp may be one more or less (a search of QEMU's
+ *             beside a call); then the address, the segment's second word, the logical address, and the
+ *             receipts
  *   masks     AMR and IAMR of the walks from here on, which are 0 at first in each part
  *   a mark    a number, which all actors have: what is before it was made before all that is after it in
  *             any actor. A resize call is the only record between two marks
@@ -42,7 +43,8 @@ void papr_record_end(void);
 
 bool papr_record_call(unsigned actor, uint64_t number, const uint64_t *asked, const struct papr_reply *reply,
                       const uint64_t *words, const struct papr_receipt *made);
-bool papr_record_walk(unsigned actor, uint64_t slb, bool problem, const struct papr_access *access,
+enum papr_record_flags { PAPR_IN_PROBLEM_STATE = 1, PAPR_BESIDE_A_CALL = 2 };
+bool papr_record_walk(unsigned actor, uint64_t slb, enum papr_record_flags flags, const struct papr_access *access,
                       const struct papr_walk *walk, const struct papr_receipt *made);
 
 #endif

@@ -381,8 +381,7 @@ uint64_t papr_shadow_call(PowerPCCPU *cpu, SpaprMachineState *spapr, uint64_t nu
 {
     uint64_t before[9], rc;
     size_t kind = kind_of(number);
-    bool compares = papr_options.mode == PAPR_CALLS || papr_options.mode == PAPR_WALKS;
-    if (!compares || kind == ARRAY_SIZE(calls))
+    if (kind == ARRAY_SIZE(calls))
         return fn(cpu, spapr, number, args);
     qemu_mutex_lock(&one_at_a_time);
     memcpy(before, args, sizeof before);
@@ -400,21 +399,20 @@ void papr_shadow_walk_begin(void)
     qemu_mutex_lock(&one_at_a_time);
 }
 
-void papr_shadow_walk(uint64_t slb, int shift, uint64_t ea, int want, bool problem, unsigned outcome,
-                      uint64_t at)
+void papr_shadow_walk(const struct papr_search *q)
 {
     struct papr_receipt made[PAPR_MOST_RECEIPTS];
-    if (papr_options.mode != PAPR_WALKS)
-        return;
     if (s.table) {
-        struct papr_access a = papr_access_of(slb, shift, ea, want, problem);
+        struct papr_access a = papr_access_of(q->slb, q->shift, q->ea, q->want, q->problem);
         struct papr_walk w = papr_walk(s.table, s.count, s.order, &a, made, PAPR_MOST_RECEIPTS);
+        bool is_other = w.outcome != q->outcome || (q->outcome == PAPR_WALK_AT && w.logical != q->address);
         n.walks++;
-        n.outcomes[outcome & 3]++;
-        if ((w.outcome != outcome || (outcome == PAPR_WALK_AT && w.logical != at)) && !known[K_REFUSED].seen) {
+        n.outcomes[q->outcome & 3]++;
+        if (is_other && !known[K_REFUSED].seen) {
             n.walks_differ++;
             differ("walk: segment 0x%" PRIx64 " ea 0x%" PRIx64 " want %d; QEMU %u 0x%" PRIx64
-                   ", papr %" PRIu32 " 0x%" PRIx64, slb, ea, want, outcome, at, w.outcome, w.logical);
+                   ", papr %" PRIu32 " 0x%" PRIx64, q->slb, q->ea, q->want, q->outcome, q->address, w.outcome,
+                   w.logical);
         }
     }
     qemu_mutex_unlock(&one_at_a_time);

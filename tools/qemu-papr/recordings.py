@@ -16,6 +16,7 @@ ENTERED, REMOVED, PROTECTED, WAS, NOMATCH, AT = 0, 2, 3, 4, 7, 9  # answers of r
 H_CLEAR_MOD = 0x10
 REFERENCED, CHANGED = 2, 1
 STORE = 1
+BESIDE_A_CALL = 1 << 41
 ENTRY, STAMP = 2**24 - 1, 2**32 - 1
 
 ENTRY_LINE = re.compile(r"entry old (0x[0-9a-f]+) [0-9a-f]{16}([0-9a-f]{16})")
@@ -45,6 +46,11 @@ class Record:
     def code(self) -> int:
         """Of a call: its answer, with its sign."""
         return self.words[1] - 2**64 if self.words[1] >> 63 else self.words[1]
+
+    @property
+    def is_beside(self) -> bool:
+        """Whether it is a search beside a call, of whose stamps each may be one more or less."""
+        return self.kind == WALK and self.header & BESIDE_A_CALL != 0
 
     @property
     def is_commit(self) -> bool:
@@ -163,18 +169,30 @@ class States:
         for receipt in record.receipts:
             entry = receipt & ENTRY
             before = own[entry] if entry in own else self.places.get(entry, 0)
-            if before != (receipt >> 24 & STAMP) << 2 | receipt >> 56 & 3:
+            away = (before >> 2) - (receipt >> 24 & STAMP)
+            if abs(away) > record.is_beside or before & 3 != receipt >> 56 & 3:
                 return False
             if record.kind == CALL:
                 own[entry] = place_after(record, receipt, before)
         return True
 
     def take(self, record: Record) -> None:
-        """Goes on by a record's receipts."""
+        """Goes on by a record's receipts. Where its stamps aren't known, they become those of the entries."""
+        if record.is_beside and self.has(record):
+            record.receipts = [self.settled(receipt) for receipt in record.receipts]
         for receipt in record.receipts:
             if receipt >> 60 != NOMATCH:
                 before = (receipt >> 24 & STAMP) << 2 | receipt >> 56 & 3
                 self.places[receipt & ENTRY] = place_after(record, receipt, before)
+
+    def can_wait(self, record: Record) -> bool:
+        """Whether a search beside a call would fit too when the entry that it came to has changed once more."""
+        last = record.receipts[-1] if record.is_beside and record.receipts else 0
+        return record.is_beside and self.places.get(last & ENTRY, 0) >> 2 <= last >> 24 & STAMP
+
+    def settled(self, receipt: int) -> int:
+        """A receipt with the stamp that its entry has."""
+        return receipt & ~(STAMP << 24) | self.places.get(receipt & ENTRY, 0) >> 2 << 24
 
     def clear(self) -> None:
         """Forgets all: a resize was committed. (What the new table has isn't known.)"""
@@ -205,7 +223,8 @@ def in_order(records: list[list[Record]], states: States) -> Iterator[Record]:
     heapq.heapify(heads)
     while heads:
         at = 0
-        if not states.has(records[heads[0][1]][places[heads[0][1]]]):
+        first = records[heads[0][1]][places[heads[0][1]]]
+        if not states.has(first) or states.can_wait(first):
             at = first_ready(heads, records, places, states)
         actor = heads[at][1]
         record = records[actor][places[actor]]
@@ -223,7 +242,9 @@ def in_order(records: list[list[Record]], states: States) -> Iterator[Record]:
 def first_ready(
     heads: list[tuple[int, int]], records: list[list[Record]], places: list[int], states: States
 ) -> int:
-    """The place of the earliest head whose receipts fit; of the earliest of all, if none does."""
+    """The place of the earliest head whose receipts fit, and that can't wait; else of the earliest one that fits; of
+    the earliest of all, if none does."""
     order = sorted(range(len(heads)), key=lambda at: heads[at])
-    ready = (at for at in order if states.has(records[heads[at][1]][places[heads[at][1]]]))
-    return next(ready, order[0])
+    ready = [at for at in order if states.has(records[heads[at][1]][places[heads[at][1]]])]
+    urgent = (at for at in ready if not states.can_wait(records[heads[at][1]][places[heads[at][1]]]))
+    return next(urgent, ready[0] if ready else order[0])

@@ -12,6 +12,7 @@ typedef uint64_t target_ulong;
 typedef struct Object Object;
 typedef struct ArchCPU PowerPCCPU;
 typedef struct SpaprMachineState { int patb_entry, htab_shift, htab_fd; void *htab; } SpaprMachineState;
+typedef struct { uint64_t pte0, pte1; } Words;
 typedef struct { uint64_t vsid; struct { int page_shift; } *sps; } Segment;
 
 void qemu_vfree(void *memory);

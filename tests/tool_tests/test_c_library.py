@@ -128,7 +128,7 @@ class Shared(ToolTest):
         cls.objects = make_shared(Path(work.name), HERE)
         cls.shared = cls.objects["SHARED"]
 
-    @for_each(("SHARED", 43), ("BYTES_SHARED", 1))
+    @for_each(("SHARED", 44), ("BYTES_SHARED", 1))
     def test_it_exports_the_functions_of_the_headers_and_nothing_else(self, case: tuple[str, int]) -> None:
         variable, count = case
         told = run("nm", "-D", "--defined-only", self.objects[variable]).out.splitlines()

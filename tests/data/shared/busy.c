@@ -1,9 +1,6 @@
 /*
  * What is answered while another thread is at an entry. A signal stops the other thread inside a call, at a moment
  * when a try on its entry is busy; there it stays until it is let go, and so the entry is busy for certain.
- *
- * With the argument `calls` no walk is busy. Valgrind stops a thread only between blocks of code, and a call that stores
- * an entry's words does so in one of them.
  */
 #include "expect.h"
 
@@ -11,7 +8,6 @@
 #include <signal.h>
 #include <stdatomic.h>
 #include <stdlib.h>
-#include <string.h>
 #include <time.h>
 
 enum { ENTRY = 0x22, GROUP = 0x20, PASSES = 4, SECONDS = 60 };
@@ -35,19 +31,13 @@ static void nap(void)
     nanosleep(&(struct timespec){.tv_nsec = 50000}, NULL);
 }
 
-/* A tool that runs threads in turns of one length would stop this one at the same few places again and again. So it
- * goes on a little later each time. */
 static void stop_here(int number)
 {
-    static unsigned stops;
     (void)number;
     atomic_store(&is_stopped, true);
     while (!atomic_load(&may_go_on))
         nap();
     atomic_store(&is_stopped, false);
-    stops++;
-    for (volatile unsigned i = 0; i < stops; i++)
-        continue;
 }
 
 /* Protects ENTRY over and over. Its own calls may be busy with those of the main thread. */
@@ -339,9 +329,8 @@ static void split(void)
     IS(papr_join(&pass, &fourth), PAPR_H_SUCCESS);
 }
 
-int main(int count, char **arguments)
+int main(void)
 {
-    bool has_walks = count < 2 || strcmp(arguments[1], "calls");
     grant(&grants);
     papr_h_enter(table, COUNT, ORDER, &grants, PAPR_EXACT, 0x20, 0x1001, 0x3012, ROOM);
     papr_h_enter(table, COUNT, ORDER, &grants, PAPR_EXACT, ENTRY, 0x3001, 0x6012, ROOM);
@@ -352,8 +341,7 @@ int main(int count, char **arguments)
         return 1;
     nothing_else();
     four_entries();
-    if (has_walks)
-        walk();
+    walk();
     split();
     by_number();
     give_up();

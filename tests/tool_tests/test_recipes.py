@@ -39,7 +39,7 @@ LEFT_OUT = {
     "rt new": "needs the toolchain: test_library makes that crate and runs it",
     "make library": "proves the libraries: minutes; test_c_library links them",
     "cargo run": "needs the library for C: test_rust_binding runs it",
-    "two-threads": "links what is installed; test_shared_table builds the program",
+    "shared/two-threads.c": "links what is installed; test_shared_table builds the program",
     "bytes/call.c": "links what is installed; test_c_library builds the program",
     "tools/qemu-papr/build": "needs a network, and builds QEMU",
     "--until": "boots a guest in the QEMU that was built",

@@ -13,7 +13,10 @@ from .support import DATA, TOOLS, ToolTest, for_each, needs, run
 OWN = TOOLS / "qemu-papr"
 PUT_IN = OWN / "put-in"
 STAND_INS = DATA / "qemu-papr"
-PUT = ("hw/ppc/spapr.c", "hw/ppc/spapr_hcall.c", "hw/ppc/spapr_softmmu.c", "target/ppc/mmu-hash64.c")
+PUT = (
+    *("hw/ppc/spapr.c", "hw/ppc/spapr_hcall.c", "hw/ppc/spapr_softmmu.c"),
+    *("target/ppc/machine.c", "target/ppc/mmu-hash64.c"),
+)
 HOOKS = "papr-hooks.h"
 
 
@@ -98,6 +101,13 @@ class Applied(TreeTest):
         lines = [line.strip() for line in self.text("hw/ppc/spapr_softmmu.c").splitlines()]
         told = lines.index("papr_table_resized(cpu, pending->hpt, pending->shift, rc);")
         self.assertEqual(lines[told + 1], "if (rc == 0) {")
+
+    def test_the_decrementer_is_saved_and_is_set_when_it_is_loaded(self) -> None:
+        lines = [line.strip() for line in self.text("target/ppc/machine.c").splitlines()]
+        saved = lines.index("env->spr[SPR_DECR] = cpu_ppc_load_decr(env);")
+        self.assertEqual(lines[saved - 2 : saved], ["env->hflags_compat_nmsr = 0;", "if (tcg_enabled()) {"])
+        set_again = lines.index("cpu_ppc_store_decr(env, env->spr[SPR_DECR]);")
+        self.assertEqual(lines[set_again + 1], "pmu_mmcr01_updated(env);")
 
     def test_the_build_has_the_libraries_and_the_tree_our_files(self) -> None:
         build = self.text("hw/ppc/meson.build")

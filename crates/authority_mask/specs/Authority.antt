@@ -1,4 +1,5 @@
--- What the authority masks of a processor refuse: a table, looked up by the two bits of a page's key.
+-- What the authority masks of a processor refuse: a table, looked up by the two bits of a page's
+-- key.
 use Rattle.std.specs.Prelude.{◌≡◌, ℕ, ◌-◌, ◌*◌, ◌/◌, ◌%◌, ◌^◌, ◌==◌, Bool, true, false, if◌then◌else◌, List, [], ◌∷◌, find, Option, Some, None}
 use Rattle.std.specs.Option.{option_map_or}
 use Rattle.storage_prot.specs.declared.want.Want.{Want}
@@ -29,7 +30,8 @@ pub record Row : Type 0 where
   pub loads : Bool
   pub fetches : Bool
 
--- In AMR the first bit, which counts 2, refuses stores and the second loads. In IAMR the second refuses fetches.
+-- In AMR the first bit, which counts 2, refuses stores and the second loads. In IAMR the second
+-- refuses fetches.
 unfoldable pub key_rows : List Row
 key_rows =
     record { bits = 0; stores = false; loads = false; fetches = false }

@@ -9,8 +9,9 @@ const FIRST: u8 = 2;
 /// The second bit of a key in a mask.
 const SECOND: u8 = 1;
 
-/// The mask that refuses this access to a page with this key, if one does: AMR refuses stores by the
-/// key's first bit and loads by its second, and IAMR instruction fetches by the key's second bit.
+/// The mask that refuses this access to a page with this key, if one does: AMR refuses stores by
+/// the key's first bit and loads by its second, and IAMR instruction fetches by the key's second
+/// bit.
 ///
 /// Power ISA Book III, virtual page class key protection.
 #[tactic(auto, using(crate::proofs::Bits::first_is, crate::proofs::Bits::second_is, crate::proofs::Bits::fetch_is))]

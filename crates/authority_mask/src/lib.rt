@@ -1,7 +1,7 @@
 //! The authority masks of a processor: AMR and IAMR.
 //!
-//! Power ISA Book III, virtual page class key protection: each page has one of 32 keys, and each mask
-//! has two bits for each key. The masks refuse accesses that the page's own protection allows.
+//! Power ISA Book III, virtual page class key protection: each page has one of 32 keys, and each
+//! mask has two bits for each key. The masks refuse accesses that the page's own protection allows.
 #![tactic(auto)]
 
 mod forbidding;

@@ -1,4 +1,5 @@
--- Words that contracts of several crates cite: equal truth values, and the first of a table of refusals.
+-- Words that contracts of several crates cite: equal truth values, and the first of a table of
+-- refusals.
 use Rattle.std.specs.Prelude.{Bool, true, false, not, List, find, Option, option_map}
 
 -- The two truth values are the same.
@@ -6,7 +7,8 @@ abbrev pub bool_eq : Bool → Bool → Bool
 bool_eq true b = b
 bool_eq false b = not b
 
--- Of these tests, which are tried in their order, the first that holds says why something is refused.
+-- Of these tests, which are tried in their order, the first that holds says why something is
+-- refused.
 abbrev pub first_refusal : {E : Type 0} → List (Bool × E) → Option E
 first_refusal {E} tests =
     option_map (λ (test : Bool × E). test.1) (find (λ (test : Bool × E). test.0) tests)

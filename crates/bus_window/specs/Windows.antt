@@ -1,7 +1,8 @@
 -- Windows of a bus: which there can be, and the entry of a bus address.
 use Rattle.std.specs.Prelude.{◌≡◌, ℕ, ◌+◌, ◌-◌, ◌*◌, ◌/◌, ◌%◌, ◌^◌, ◌<◌, ◌≤◌, ◌==◌, ◌&&◌, Bool, Option, Some, None, nat_le, nat_lt, if◌then◌else◌}
 
--- The number by which calls name the window, the bus address at which it begins, and how many pages it has.
+-- The number by which calls name the window, the bus address at which it begins, and how many pages
+-- it has.
 pub record BusWindow : Type 0 where
   pub liobn : ℕ
   pub base : ℕ

@@ -1,4 +1,5 @@
--- Lists of calls of one operation on entries that stand one behind the other, and two lists one behind the other.
+-- Lists of calls of one operation on entries that stand one behind the other, and two lists one
+-- behind the other.
 use Rattle.std.proofs.Common.{◌≡◌, ℕ, zero, suc, ◌+◌, ◌<◌, ◌≤◌, List, [], ◌∷◌, ◌++◌, Some, None, length, refl, ap, ◌∙◌, arith}
 use Rattle.std.specs.List.{AllByRecursion}
 use Rattle.hpte_fields.specs.TableSize.{entry_count}

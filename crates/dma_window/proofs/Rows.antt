@@ -17,7 +17,8 @@ use Rattle.dma_window.specs.Entries.{first_word, second_word, tce_of, no_test}
 use Rattle.dma_window.specs.Calls.{put_tce_plan}
 use Rattle.dma_window.specs.Devices.{outcome_by}
 
--- ---- words: the page at 0x3000, to be read and written; bits of neither address nor permission are dropped
+-- ---- words: the page at 0x3000, to be read and written; bits of neither address nor permission
+-- are dropped
 both_permissions : first_word 0x3003 ≡ 0x19
 both_permissions = refl
 

@@ -1,4 +1,5 @@
--- H_PUT_TCE and H_GET_TCE: the operations on entries that each makes, and the reply that their receipts give.
+-- H_PUT_TCE and H_GET_TCE: the operations on entries that each makes, and the reply that their
+-- receipts give.
 use Rattle.std.specs.Prelude.{ℕ, true, false, not, ◌||◌, List, [], ◌∷◌, map, if◌then◌else◌}
 use Rattle.std.specs.Option.{option_map_or}
 use Rattle.frame_grants.specs.declared.grant.Grant.{Grant}
@@ -45,7 +46,8 @@ replace_plan entry op = record {
   told = λ rs. (code_by_last rs, []);
 }
 
--- A TCE that permits nothing empties its entry. Any other has to have its page in one grant of ram, and replaces what the entry has.
+-- A TCE that permits nothing empties its entry. Any other has to have its page in one grant of ram,
+-- and replaces what the entry has.
 abbrev pub put_plan_at : List Grant → ℕ → ℕ → Plan
 put_plan_at grants tce entry =
     if permits tce false || permits tce true

@@ -39,7 +39,8 @@ NeverBusyAlone =
     (grants : List Grant) (window : BusWindow) (ioba tce : ℕ) (states : List State)
     → (plan_run (put_tce_plan grants window ioba tce) states).0.rc ≢ Busy
 
--- The operation empties an entry, whatever it has, or enters the words of this TCE, whose page lies in one grant of ram.
+-- The operation empties an entry, whatever it has, or enters the words of this TCE, whose page lies
+-- in one grant of ram.
 abbrev pub IsTceCall : List Grant → ℕ → Op → Type 0
 IsTceCall grants tce op =
     (op ≡ Remove no_test)
@@ -65,7 +66,8 @@ KeptWordsAreReadBack =
     (tce : ℕ) → IsKept tce (tce_of (entered_state (first_word tce) (second_word tce)))
 
 -- ---- a device's access
--- An access that is permitted ends outside the grants exactly where no single grant of ram holds its page.
+-- An access that is permitted ends outside the grants exactly where no single grant of ram holds
+-- its page.
 abbrev pub UngrantedExactlyWhere : Type 0
 UngrantedExactlyWhere =
     (grants : List Grant) (ioba tce : ℕ) (write : Bool)
@@ -73,7 +75,8 @@ UngrantedExactlyWhere =
     → (outcome_by grants ioba write tce ≡ Ungranted (logical_of ioba tce))
     ↔ (is_ram grants (address_of tce) ≡ false)
 
--- The access is permitted, one grant of ram holds its page, and its logical address has this machine address.
+-- The access is permitted, one grant of ram holds its page, and its logical address has this
+-- machine address.
 pub record Lands (grants : List Grant) (ioba : ℕ) (write : Bool) (tce address : ℕ) : Type 0 where
   pub permitted : permits tce write ≡ true
   pub ram : is_ram grants (address_of tce) ≡ true

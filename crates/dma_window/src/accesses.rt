@@ -53,8 +53,8 @@ pub fn device_into<T: EntryStore>(
     outcome_by(grants, tce_of(&read.before), ioba, write)
 }
 
-/// An access of a device at a bus address, a read or a write, by the TCE of the page there. It leaves
-/// the window as it is.
+/// An access of a device at a bus address, a read or a write, by the TCE of the page there. It
+/// leaves the window as it is.
 pub fn device<T: EntryStore>(
     store: &mut T,
     grants: &Grants,

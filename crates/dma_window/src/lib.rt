@@ -1,8 +1,9 @@
-//! DMA windows: a device reaches memory through translation control entries (TCE) that the guest sets.
+//! DMA windows: a device reaches memory through translation control entries (TCE) that the guest
+//! sets.
 //!
-//! LoPAR, H_PUT_TCE and H_GET_TCE. A window's entries are kept in a store of page table entries, so they
-//! have stamps, receipts and histories as those have. A call whose name ends in `_into` puts its
-//! receipts in its caller's place; the same call without that ending gives a whole reply.
+//! LoPAR, H_PUT_TCE and H_GET_TCE. A window's entries are kept in a store of page table entries, so
+//! they have stamps, receipts and histories as those have. A call whose name ends in `_into` puts
+//! its receipts in its caller's place; the same call without that ending gives a whole reply.
 #![tactic(auto)]
 
 mod accesses;

@@ -118,8 +118,8 @@ pub fn get_tce_into<T: EntryStore>(
 /// permits nothing empties the entry. Between its two steps the entry is empty: another call that
 /// enters a TCE there meanwhile makes this one H_BUSY.
 ///
-/// H_PARAMETER where the address lies outside the window, or the TCE permits something and no single
-/// grant of ram holds its page. H_HARDWARE where the entry's stamp is at its last value.
+/// H_PARAMETER where the address lies outside the window, or the TCE permits something and no
+/// single grant of ram holds its page. H_HARDWARE where the entry's stamp is at its last value.
 pub fn put_tce<T: EntryStore>(
     store: &mut T,
     grants: &Grants,
@@ -135,7 +135,8 @@ pub fn put_tce<T: EntryStore>(
     registers.into_reply(receipts)
 }
 
-/// H_GET_TCE (LoPAR): the TCE of the page at a bus address, in register 4. It is 0 where none is set.
+/// H_GET_TCE (LoPAR): the TCE of the page at a bus address, in register 4. It is 0 where none is
+/// set.
 ///
 /// H_PARAMETER where the address lies outside the window.
 pub fn get_tce<T: EntryStore>(store: &mut T, window: &Window, ioba: u64) -> HReply

@@ -1,4 +1,5 @@
--- How far receipts raise an entry's stamp. A removal pays with the entry that it empties, so that only other receipts count.
+-- How far receipts raise an entry's stamp. A removal pays with the entry that it empties, so that
+-- only other receipts count.
 use Rattle.std.specs.Prelude.{if◌then◌else◌, ◌==◌, filter, MatchBool}
 use Rattle.std.proofs.Common.{◌≡◌, ℕ, ◌+◌, ◌≤◌, List, [], ◌∷◌, ◌++◌, Bool, true, false, cond, ap, ◌∙◌, refl, arith}
 use Rattle.std.proofs.lemmas.Bool.{and_parts, eqb-true}

@@ -1,4 +1,5 @@
--- What operations leave of lines: a line that holds of its entry's state holds from then on, and what has left its stamp never comes back.
+-- What operations leave of lines: a line that holds of its entry's state holds from then on, and
+-- what has left its stamp never comes back.
 use Rattle.std.specs.Prelude.{IsTrue, ◌==◌}
 use Rattle.std.proofs.Common.{◌≡◌, ℕ, ◌<◌, List, [], ◌∷◌, All, true, ap, sym, ◌∙◌, refl, subst, inl, inr, arith}
 use Rattle.std.proofs.lemmas.Bool.{eq-eqb}
@@ -37,7 +38,8 @@ pub run_holds :
     → Holds line (state_at b line.entry)
 run_holds a b rs line run h = holds_on line _ _ (run_follows a b rs line.entry run) h
 
--- The line of an entry that answered At, Masked or Denied holds of the state that the receipt leaves.
+-- The line of an entry that answered At, Masked or Denied holds of the state that the receipt
+-- leaves.
 shown_here :
     (a b : List State) (r : Receipt) (line : Line)
     → IsStep a r b

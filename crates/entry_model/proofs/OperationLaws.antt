@@ -1,4 +1,5 @@
--- What each operation does to an entry: accesses on one side, and the operations of hypervisor calls on the other.
+-- What each operation does to an entry: accesses on one side, and the operations of hypervisor
+-- calls on the other.
 use Rattle.std.specs.Prelude.{◌≡◌, ℕ, ◌+◌, ◌<◌, ◌^◌, ◌⊎◌, Bool, true, false, if◌then◌else◌, ◌==◌, ◌||◌, bit_and}
 use Rattle.std.proofs.Common.{arith, inl, inr, refl, ◌∙◌, ap, sym, subst}
 use Rattle.std.specs.Int.Bits.{and_zero_r}
@@ -217,7 +218,8 @@ still_with_bits s r c tag base key no_execute want masks f g =
     (λ e. (refl, refl)))
     (λ e. (refl, refl))
 
--- An access that changes nothing on a state changes nothing, with the same answer, on the same entry with further bits.
+-- An access that changes nothing on a state changes nothing, with the same answer, on the same
+-- entry with further bits.
 pub access_still :
     (s t : State) (op : Op)
     → is_access op ≡ true

@@ -1,4 +1,5 @@
--- Plans of hypervisor calls: what they enter, how far they raise stamps, and when they give H_HARDWARE.
+-- Plans of hypervisor calls: what they enter, how far they raise stamps, and when they give
+-- H_HARDWARE.
 use Rattle.std.specs.Prelude.{◌≢◌, MatchBool}
 use Rattle.std.proofs.Common.{◌≡◌, ℕ, zero, suc, ◌+◌, ◌*◌, ◌≤◌, List, [], ◌∷◌, Bool, true, false, sym, subst, map, arith}
 use Rattle.std.specs.List.{AllByRecursion, range_with_len}
@@ -21,7 +22,8 @@ EntersOnly W other = Unit {0}
 abbrev pub NoneWorn : List Receipt → Type 0
 NoneWorn rs = AllByRecursion (λ (r : Receipt). is_worn r.answer ≡ false) rs
 
--- The plan enters no other words than these, raises few stamps, and gives H_HARDWARE only where an entry was worn.
+-- The plan enters no other words than these, raises few stamps, and gives H_HARDWARE only where an
+-- entry was worn.
 pub record IsTame (W : ℕ → ℕ → Type 0) (plan : Plan) : Type 0 where
   pub enters : AllByRecursion (λ (c : Call). EntersOnly W c.op) plan.calls
   pub few : calls_cost plan.calls ≤ 32

@@ -1,4 +1,5 @@
--- The history doesn't depend on the order in which receipts are listed, but for receipts that tie; and these may change places.
+-- The history doesn't depend on the order in which receipts are listed, but for receipts that tie;
+-- and these may change places.
 use Rattle.std.specs.Prelude.{filter}
 use Rattle.std.proofs.Common.{◌≡◌, ℕ, ◌*◌, ◌<◌, List, [], ◌∷◌, Bool, true, false, cond, arith, ap, sym, ◌∙◌, refl, subst, ◌⊎◌, inl, inr, eqb}
 use Rattle.std.proofs.lemmas.Bool.{cases_Bool, cond_both}

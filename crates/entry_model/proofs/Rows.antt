@@ -223,7 +223,8 @@ place_of_a_store :
 unfolding entry place pair_of state_eq has_base permission rows row_says key_rows
 place_of_a_store = refl
 
--- ---- a history: three receipts of entry 0x20, listed from the last to the first, and one of its neighbor
+-- ---- a history: three receipts of entry 0x20, listed from the last to the first, and one of its
+-- neighbor
 first : Receipt
 first = receipt_of 0x20 (empty_state 3) (Enter 0x1011 0x3196)
 

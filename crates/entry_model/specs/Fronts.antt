@@ -27,7 +27,8 @@ pub record AreBelow (fronts others : List ℕ) : Type 0 where
   pub size : length others ≡ length fronts
   pub low : (e : ℕ) → front_at fronts e ≤ front_at others e
 
--- From these fronts, by these receipts in the order of their making, to those fronts. Fronts may rise without a receipt.
+-- From these fronts, by these receipts in the order of their making, to those fronts. Fronts may
+-- rise without a receipt.
 abbrev pub KeepsFronts : List ℕ → List Receipt → List ℕ → Type 0
 KeepsFronts fronts [] later = AreBelow fronts later
 KeepsFronts fronts (r ∷ rs) later = IsAhead fronts r × KeepsFronts (fronts_after fronts r) rs later

@@ -19,7 +19,8 @@ state_eq s t =
     (bool_eq s.valid t.valid && (s.dword0 == t.dword0) && (s.dword1 == t.dword1))
     && (bool_eq s.referenced t.referenced && bool_eq s.changed t.changed && (s.stamp == t.stamp))
 
--- The place: the stamp before, the number of bits before, and 0 where nothing changed, else 1; compared from the left.
+-- The place: the stamp before, the number of bits before, and 0 where nothing changed, else 1;
+-- compared from the left.
 unfoldable pub place : Receipt → ℕ
 place r = pair_of r.before * 2 + (if state_eq (after_of r) r.before then 0 else 1)
 
@@ -38,7 +39,8 @@ abbrev pub by_place : List Receipt → List Receipt
 by_place [] = []
 by_place (x ∷ xs) = put_in x (by_place xs)
 
--- The history of an entry over receipts that are listed by processor, each processor's in the order of its making: sorted by place, and those that tie stay as they are listed.
+-- The history of an entry over receipts that are listed by processor, each processor's in the order
+-- of its making: sorted by place, and those that tie stay as they are listed.
 abbrev pub history : ℕ → List Receipt → List Receipt
 history e all = by_place (filter (λ r. r.entry == e) all)
 

@@ -1,4 +1,5 @@
--- The laws of replies, of histories and of fronts. Whoever changes the words of an entry one at a time rests on these, and on nothing else of the table of operations.
+-- The laws of replies, of histories and of fronts. Whoever changes the words of an entry one at a
+-- time rests on these, and on nothing else of the table of operations.
 use Rattle.std.specs.Prelude.{ℕ, ◌==◌, ◌&&◌, ◌||◌, nat_lt, nat_le, if◌then◌else◌, List, filter, ◌≡◌, ◌+◌, ◌++◌, ◌⊎◌, ◌<◌, ◌^◌, ◌↔◌, Bool, true, false, IsTrue}
 use Rattle.entry_model.specs.CachedLines.{AllLater}
 use Rattle.entry_model.specs.History.{IsLegal, bits, state_eq, precedes, history, Regrouped}
@@ -33,7 +34,8 @@ abbrev pub EmptyStaysEmpty : Type 0
 EmptyStaysEmpty =
     (s : State) (op : Op) → is_access op ≡ true → s.valid ≡ false → (reply_of s op).1 ≡ s
 
--- One that leaves a state as it is leaves the state with further bits as it is, with the same answer.
+-- One that leaves a state as it is leaves the state with further bits as it is, with the same
+-- answer.
 abbrev pub StillAccessesStayStill : Type 0
 StillAccessesStayStill =
     (s t : State) (op : Op)
@@ -59,7 +61,8 @@ OthersIgnoreBits =
     → (reply_of (with_these_bits s referenced changed) op).1 ≡ with_these_bits s referenced changed
 
 -- ---- masks
--- The entry translates the page, its protection allows the access, and a mask refuses it for the entry's key.
+-- The entry translates the page, its protection allows the access, and a mask refuses it for the
+-- entry's key.
 abbrev pub IsForbidden : State → ℕ → ℕ → AccessMode → Type 0
 IsForbidden s tag base mode =
     IsTrue (is_match s tag base)
@@ -91,7 +94,8 @@ ZeroMasksChangeNothing =
 abbrev pub DecidedIsValid : Type 0
 DecidedIsValid = (s : State) (op : Op) → is_decided (reply_of s op).0 ≡ true → s.valid ≡ true
 
--- A canonical state stays canonical: R and C stand apart, and an entry that isn't valid has nothing.
+-- A canonical state stays canonical: R and C stand apart, and an entry that isn't valid has
+-- nothing.
 abbrev pub RepliesStayCanonical : Type 0
 RepliesStayCanonical =
     (s : State) (op : Op) → IsCanonicalState s → IsCanonicalState (reply_of s op).1
@@ -105,7 +109,8 @@ StampsStayLow = (s : State) (op : Op) → s.stamp < 2 ^ 32 → (reply_of s op).1
 abbrev pub change_of : Receipt → ℕ
 change_of r = if state_eq (after_of r) r.before then 0 else 1
 
--- By the stamp before; of one stamp by the number of bits before; of one number, what changes nothing comes first.
+-- By the stamp before; of one stamp by the number of bits before; of one number, what changes
+-- nothing comes first.
 abbrev pub compares_before : Receipt → Receipt → Bool
 compares_before x y =
     nat_lt x.before.stamp y.before.stamp
@@ -118,7 +123,8 @@ abbrev pub PlacesCompareFromTheLeft : Type 0
 PlacesCompareFromTheLeft = (x y : Receipt) → precedes x y ≡ compares_before x y
 
 -- ---- histories
--- Receipts of an entry that were made one after the other are a legal history, in whatever order all receipts are listed.
+-- Receipts of an entry that were made one after the other are a legal history, in whatever order
+-- all receipts are listed.
 abbrev pub LoggedHistoriesAreLegal : Type 0
 LoggedHistoriesAreLegal =
     (e : ℕ) (a b : State) (log listed : List Receipt)

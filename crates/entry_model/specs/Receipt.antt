@@ -77,7 +77,8 @@ abbrev pub is_access : Op → Bool
 is_access (Access tag base key no_execute want masks) = true
 is_access other = false
 
--- The mask that refuses this operation for an entry in this state, where it is an access that a mask refuses.
+-- The mask that refuses this operation for an entry in this state, where it is an access that a
+-- mask refuses.
 abbrev pub mask_against_op : State → Op → Option MaskName
 mask_against_op s (Access tag base key no_execute want masks) = mask_against s masks want
 mask_against_op s other = None

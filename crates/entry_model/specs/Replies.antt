@@ -1,4 +1,5 @@
--- Replies in their two parts: what a call or an access tells of its end, and the receipts that it made.
+-- Replies in their two parts: what a call or an access tells of its end, and the receipts that it
+-- made.
 use Rattle.std.specs.Prelude.{List, []}
 use Rattle.entry_model.specs.declared.receipt.Receipt.{Receipt}
 use Rattle.entry_model.specs.declared.hreply.HReply.{HReply}

@@ -46,7 +46,8 @@ change_to s answer next =
 abbrev pub change_where : Bool → State → Answer → State → Answer × State
 change_where found s answer next = if found then change_to s answer next else (NotFound, s)
 
--- What H_ENTER makes of an empty entry, but for the stamp: R and C are those of the given doubleword.
+-- What H_ENTER makes of an empty entry, but for the stamp: R and C are those of the given
+-- doubleword.
 abbrev pub entered_state : ℕ → ℕ → State
 entered_state dword0 dword1 = record {
   valid = true;
@@ -58,7 +59,8 @@ entered_state dword0 dword1 = record {
 }
 
 -- ---- accesses
--- What an access asks of protection: what it wants, by which key, whether its segment refuses fetches, and with which masks of its processor.
+-- What an access asks of protection: what it wants, by which key, whether its segment refuses
+-- fetches, and with which masks of its processor.
 pub record AccessMode : Type 0 where
   pub want : Want
   pub key : Bool
@@ -98,7 +100,8 @@ is_store Fetch = false
 abbrev pub touched_state : State → Want → State
 touched_state s want = record s { referenced = true; changed = s.changed || is_store want }
 
--- The mode is one that the entry's protection allows: its own N or G refuses fetches as the segment's N does.
+-- The mode is one that the entry's protection allows: its own N or G refuses fetches as the
+-- segment's N does.
 abbrev pub is_allowed : State → AccessMode → Bool
 is_allowed s mode =
     allowed (pp_of s.dword1) mode.key (mode.no_execute || is_no_execute s.dword1) mode.want

@@ -12,7 +12,8 @@ state_at states entry = slice_index_or states entry (empty_state 0)
 abbrev pub states_after : List State → Receipt → List State
 states_after states r = slice_set states r.entry (after_of r)
 
--- One receipt: its entry is in the table, its state before is the entry's, and the entry then has its state after.
+-- One receipt: its entry is in the table, its state before is the entry's, and the entry then has
+-- its state after.
 pub record IsStep (old : List State) (r : Receipt) (new : List State) : Type 0 where
   pub in_table : r.entry < length old
   pub before : r.before ≡ state_at old r.entry

@@ -2,7 +2,8 @@
 use Rattle.std.specs.Prelude.{◌≡◌, ℕ, Bool, false, bit_and, true}
 use Rattle.hpte_fields.specs.Fields.{rc_bits}
 
--- The two doublewords without R and C, the two bits, and the stamp: how often the entry has changed, but for R and C that accesses set.
+-- The two doublewords without R and C, the two bits, and the stamp: how often the entry has
+-- changed, but for R and C that accesses set.
 pub record State : Type 0 where
   pub valid : Bool
   pub dword0 : ℕ
@@ -11,7 +12,8 @@ pub record State : Type 0 where
   pub changed : Bool
   pub stamp : ℕ
 
--- R and C stand apart from doubleword 1, and an entry that isn't valid has nothing: each state is written in one way.
+-- R and C stand apart from doubleword 1, and an entry that isn't valid has nothing: each state is
+-- written in one way.
 pub record IsCanonical (valid : Bool) (dword0 dword1 : ℕ) (referenced changed : Bool) : Type 0 where
   pub apart : bit_and dword1 rc_bits ≡ 0
   pub no_first : valid ≡ false → dword0 ≡ 0

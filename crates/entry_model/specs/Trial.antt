@@ -1,4 +1,5 @@
--- Trials: the calls on entries that a hypervisor call names, made in turn as long as the answers go on, and the reply that their receipts give.
+-- Trials: the calls on entries that a hypervisor call names, made in turn as long as the answers go
+-- on, and the reply that their receipts give.
 use Rattle.std.specs.Prelude.{◌≡◌, ℕ, List, [], ◌∷◌, Bool, true, if◌then◌else◌, MatchBool, Option, not, find, drop, length}
 use Rattle.entry_model.specs.State.{State}
 use Rattle.entry_model.specs.declared.operation.Op.{Op}
@@ -56,7 +57,8 @@ trial_run goes states (c ∷ cs) =
     if goes r.answer then (r ∷ rest.0, rest.1) else (r ∷ [], states_after states r)
 
 -- ---- hypervisor calls
--- What a hypervisor call with its arguments is: the calls on entries that it names, after which answers the next of them is made, and the code and the words that their receipts give.
+-- What a hypervisor call with its arguments is: the calls on entries that it names, after which
+-- answers the next of them is made, and the code and the words that their receipts give.
 pub record Plan : Type 0 where
   pub calls : List Call
   pub goes_on : Answer → Bool

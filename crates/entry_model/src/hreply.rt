@@ -39,8 +39,8 @@ impl Registers {
     }
 }
 
-/// The reply of a hypervisor call: its return code, the words in register 4 and those behind it, and
-/// the receipts of the operations that it made, in their order.
+/// The reply of a hypervisor call: its return code, the words in register 4 and those behind it,
+/// and the receipts of the operations that it made, in their order.
 #[derive(Drop)]
 pub struct HReply {
     /// Register 3.

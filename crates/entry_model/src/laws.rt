@@ -1,5 +1,5 @@
-//! Laws of replies, and of receipts in histories. Each function does nothing, and its contract is the
-//! law.
+//! Laws of replies, and of receipts in histories. Each function does nothing, and its contract is
+//! the law.
 
 ghost use Rattle.entry_model.specs.Laws.{AccessesOnlyRaiseBits, OnlyAtTouches, EmptyStaysEmpty, StillAccessesStayStill, OthersRaiseStamps, OthersIgnoreBits, DecidedIsValid, MaskedExactlyWhere, ZeroMasksChangeNothing, RepliesStayCanonical, StampsStayLow, PlacesCompareFromTheLeft, LoggedHistoriesAreLegal, FrontsCompose, FrontsNeverFall, ReceiptsOfGoneLinesAreLater};
 
@@ -66,8 +66,8 @@ pub fn places_compare_from_the_left()
     ensures { PlacesCompareFromTheLeft }
 {}
 
-/// Receipts of an entry that were made one after the other are a legal history, however all receipts
-/// are listed.
+/// Receipts of an entry that were made one after the other are a legal history, however all
+/// receipts are listed.
 pub fn logged_histories_are_legal()
     ensures { LoggedHistoriesAreLegal }
 {}

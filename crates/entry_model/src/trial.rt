@@ -34,9 +34,9 @@ impl GoesOn {
     }
 }
 
-/// Makes an operation on `count` entries, one behind the other from `first` on, as long as the answers
-/// go on. The receipts are put behind those that are there. Gives back the receipt that ended the
-/// trial, or `None` where the answers went on to the last entry.
+/// Makes an operation on `count` entries, one behind the other from `first` on, as long as the
+/// answers go on. The receipts are put behind those that are there. Gives back the receipt that
+/// ended the trial, or `None` where the answers went on to the last entry.
 pub fn try_entries<T: EntryStore>(
     store: &mut T,
     op: Op,

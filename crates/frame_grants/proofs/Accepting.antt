@@ -1,4 +1,5 @@
--- A grant that is not refused: the list stays apart, and the place that the code counts is the grant's.
+-- A grant that is not refused: the list stays apart, and the place that the code counts is the
+-- grant's.
 use Rattle.std.specs.Prelude.{option_map}
 use Rattle.std.proofs.Common.{◌≡◌, ℕ, ◌<◌, get_or, Bool, true, false, not, nat_le, List, [], ◌∷◌, ◌++◌, length, filter, find, insert, count_by, All, AllPairs, None, refl, sym, ap, ◌∙◌, subst, arith}
 use Rattle.std.specs.List.{list_any, AllByRecursion}
@@ -199,7 +200,8 @@ room_left granted grant none =
     let room = (accepted granted grant none).room in grind (arith, nat_tests, room)
 
 -- ---- what the code makes of the grants before
--- They are `now` to the caller, and the list becomes `items` by an insert at the place that was counted.
+-- They are `now` to the caller, and the list becomes `items` by an insert at the place that was
+-- counted.
 pub record IsInserted (before now : GrantedMemory) (grant : Grant) (place : ℕ) (items : List Grant)
     :
     Type 0 where

@@ -1,4 +1,5 @@
--- What the machine range of a logical range is: it lies in one grant, off the pool, and no other grant holds the range.
+-- What the machine range of a logical range is: it lies in one grant, off the pool, and no other
+-- grant holds the range.
 use Rattle.std.specs.Prelude.{option_map}
 use Rattle.std.proofs.Common.{◌≡◌, ℕ, ◌+◌, ◌-◌, ◌<◌, ◌≤◌, ◌^◌, ◌==◌, if◌then◌else◌, Bool, true, false, List, length, get_or, find, All, Contains, Option, Some, None, IfSome, refl, sym, ap, subst, ◌∙◌, inl, inr, ◌⊎◌, arith}
 use Rattle.std.proofs.lemmas.Bool.{cases_lt}
@@ -35,7 +36,8 @@ found_holds granted logical length =
     (find-Some (holds logical length) granted.grants grant found).0)
 
 -- ---- what a machine range is
--- A grant of the list that holds the logical range; the machine range lies at the same distance in the grant's own.
+-- A grant of the list that holds the logical range; the machine range lies at the same distance in
+-- the grant's own.
 pub record IsWithinGrant (granted : GrantedMemory) (logical length machine : ℕ) (kind : Kind)
     (grant : Grant) :
     Type 0 where

@@ -1,4 +1,5 @@
--- The memory granted to the guest: which grant is refused, where one is put, and the machine range of a logical range.
+-- The memory granted to the guest: which grant is refused, where one is put, and the machine range
+-- of a logical range.
 use Rattle.std.specs.Prelude.{◌≡◌, ◌<◌, ◌≤◌, ℕ, ◌+◌, ◌-◌, ◌%◌, ◌^◌, ◌==◌, Bool, false, not, ◌&&◌, ◌||◌, if◌then◌else◌, nat_lt, nat_le, List, [], ◌∷◌, ◌++◌, length, filter, find, All, AllPairs, Option, None, option_map}
 use Rattle.std.specs.List.{list_any}
 use Rattle.pool_range.specs.Ranges.{IsPoolRange, address_end}

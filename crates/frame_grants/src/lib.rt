@@ -1,7 +1,8 @@
 //! The memory that is granted to the guest.
 //!
 //! A guest names memory by logical addresses. The hypervisor grants it ranges of these, each with a
-//! machine range of the same length. A page of the guest's page table must lie wholly within one grant.
+//! machine range of the same length. A page of the guest's page table must lie wholly within one
+//! grant.
 #![tactic(auto)]
 
 mod error;

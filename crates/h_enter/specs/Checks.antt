@@ -12,7 +12,9 @@ abbrev pub words_plan : ℕ → ℕ → Option (ℕ × ℕ) → Plan
 words_plan flags ptex None = plan_of_code Parameter
 words_plan flags ptex (Some w) = enter_plan flags ptex w.0 w.1
 
--- H_ENTER. H_PARAMETER comes where the index is past the table, where the doublewords can't be stored, or where no single grant holds the page with these storage control bits; nothing is tried then.
+-- H_ENTER. H_PARAMETER comes where the index is past the table, where the doublewords can't be
+-- stored, or where no single grant holds the page with these storage control bits; nothing is tried
+-- then.
 unfoldable pub h_enter_plan : ℕ → List Grant → ℕ → ℕ → ℕ → ℕ → Plan
 h_enter_plan order grants flags ptex pteh ptel =
     if nat_lt ptex (entry_count order)

@@ -17,12 +17,14 @@ candidates flags ptex =
     then range_with_len ptex 1
     else range_with_len (ptex / group_size * group_size) group_size
 
--- By the receipt of the entry that wasn't taken: Entered gives H_SUCCESS and the index, Worn gives H_HARDWARE. With none the group is full.
+-- By the receipt of the entry that wasn't taken: Entered gives H_SUCCESS and the index, Worn gives
+-- H_HARDWARE. With none the group is full.
 abbrev pub told_by_ending : Option Receipt → Rc × List ℕ
 told_by_ending None = (PtegFull, [])
 told_by_ending (Some r) = if is_worn r.answer then (Hardware, []) else (Success, r.entry ∷ [])
 
--- The last receipt decides: Entered gives H_SUCCESS and the index, Worn gives H_HARDWARE. Where each was Taken the group is full.
+-- The last receipt decides: Entered gives H_SUCCESS and the index, Worn gives H_HARDWARE. Where
+-- each was Taken the group is full.
 abbrev pub enter_told : List Receipt → Rc × List ℕ
 enter_told [] = (PtegFull, [])
 enter_told (r ∷ rs) = if is_taken r.answer then enter_told rs else told_by_ending (Some r)

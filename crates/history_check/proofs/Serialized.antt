@@ -60,7 +60,8 @@ ascending_of e (x ∷ xs) h = at (cases_Bool (eqb x.entry e)) (ascending_of e xs
   at (inl own) rest = rw own (not_before_of e x xs h.0, rest)
   at (inr other) rest = rw other rest
 
--- ---- legal histories, sorted, are a run; and a run has legal histories, however its receipts are listed
+-- ---- legal histories, sorted, are a run; and a run has legal histories, however its receipts are
+-- listed
 pub sorted_run :
     (a b : List State) (rs ms : List Receipt)
     → Regrouped rs ms

@@ -104,7 +104,8 @@ IsSomeAnd-some :
 IsSomeAnd-some P None h = elim h [ ]
 IsSomeAnd-some P (Some x) h = (x, refl, h)
 
--- How the page of an entry is found: the size that the doublewords encode, and the page that this size makes, of the entry's tag and group.
+-- How the page of an entry is found: the size that the doublewords encode, and the page that this
+-- size makes, of the entry's tag and group.
 record IsMade (order index dword0 dword1 : ℕ) (p : VirtualPage) : Type 0 where
   valid : is_valid dword0 ≡ true
   size : PageSize
@@ -273,7 +274,8 @@ page_at-exact order index dword0 dword1 found low range same p is = (to, back) w
       ∙ page_at-complete order index dword0 dword1 p low is
       (suited-page order index dword0 dword1 p is range suits)
 
--- Doublewords of a page are those of the same page in each group of that page, in a table of any size.
+-- Doublewords of a page are those of the same page in each group of that page, in a table of any
+-- size.
 pub page_at-moved :
     (from to index target dword0 dword1 : ℕ) (p : VirtualPage)
     → 18 ≤ from

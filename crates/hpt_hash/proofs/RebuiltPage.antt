@@ -1,4 +1,5 @@
--- A page comes back from its segment size, its address bits from weight 2 ^ 23 up, its base page size and the low bits of its hash.
+-- A page comes back from its segment size, its address bits from weight 2 ^ 23 up, its base page
+-- size and the low bits of its hash.
 use Rattle.std.proofs.Common.{◌≡◌, ℕ, ◌+◌, ◌-◌, ◌*◌, ◌/◌, ◌%◌, ◌^◌, ◌<◌, Bool, true, false, arith, ap, sym, ◌∙◌, bit_and, bit_xor, Some}
 use Rattle.std.specs.Int.Bits.{and_mask, xor_mod, xor_assoc, xor_comm, xor_self, xor_zero_l, xor_zero_r}
 use Rattle.std.proofs.Math.Pow.{mod-mod-pow}

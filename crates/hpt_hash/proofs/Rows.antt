@@ -23,7 +23,8 @@ wider_secondary : group_of (virtual_page false 0x801 12 5) 19 true ≡ 0x7FB
 unfolding group_of
 wider_secondary = refl
 
--- In a segment of 1 TB: 0x12345 shifted by 25 bits is 0x2468A000000, of which 39 bits are 0x468A000000; 0x12345 xor 0xABCDEF is 0xAAEEAA.
+-- In a segment of 1 TB: 0x12345 shifted by 25 bits is 0x2468A000000, of which 39 bits are
+-- 0x468A000000; 0x12345 xor 0xABCDEF is 0xAAEEAA.
 large_hash : hash_of (virtual_page true 0x12345 12 0xABCDEF) ≡ 0x468AAAEEAA
 large_hash = refl
 
@@ -48,7 +49,8 @@ third_page : page_at 18 0x28 0x1001 0x3012 ≡ Some (virtual_page false 1 12 4)
 unfolding page_at group_of tag_of
 third_page = refl
 
--- The tag leaves open seven bits of a 64 KB page's index, so 1 xor the index is below 0x80, and its group isn't 0x80.
+-- The tag leaves open seven bits of a 64 KB page's index, so 1 xor the index is below 0x80, and its
+-- group isn't 0x80.
 no_page : page_at 18 0x400 0x1015 0x11012 ≡ None
 unfolding page_at group_of tag_of
 no_page = refl

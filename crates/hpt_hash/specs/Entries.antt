@@ -7,7 +7,8 @@ use Rattle.hpte_fields.specs.Fields.{is_valid, is_secondary, is_one_tb, segment_
 use Rattle.power_addr.specs.Pages.{VirtualPage, offset_bits, page_of_address, segment_code_of, tag_of}
 use Rattle.hpt_hash.specs.Hash.{group_of}
 
--- An entry with these doublewords, at this index of a table of 2 ^ order bytes, is one of the page p.
+-- An entry with these doublewords, at this index of a table of 2 ^ order bytes, is one of the page
+-- p.
 pub record IsPageOf (order index dword0 dword1 : ℕ) (p : VirtualPage) : Type 0 where
   -- V is set.
   pub valid : IsTrue (is_valid dword0)
@@ -32,7 +33,8 @@ pub record SuitsPage (order index dword0 dword1 : ℕ) (p : VirtualPage) : Type 
 abbrev pub number_field : ℕ → ℕ
 number_field dword0 = dword0 / 2 ^ 7 % 2 ^ 55
 
--- The low eleven bits of the hash of a page that has this group. A table has at least 2 ^ 11 groups, so the group has them, or their complement where it is the secondary one.
+-- The low eleven bits of the hash of a page that has this group. A table has at least 2 ^ 11
+-- groups, so the group has them, or their complement where it is the secondary one.
 abbrev pub low_hash : ℕ → Bool → ℕ
 low_hash group false = group % 2 ^ 11
 low_hash group true = 2 ^ 11 - 1 - group % 2 ^ 11
@@ -41,13 +43,15 @@ low_hash group true = 2 ^ 11 - 1 - group % 2 ^ 11
 abbrev pub rebuilt_vsid : Bool → ℕ → ℕ
 rebuilt_vsid one_tb number = number / 2 ^ (offset_bits one_tb - 23)
 
--- The offset in the segment: its bits from weight 2 ^ 23 up are those that the tag holds, and below them stand those of the index, which is mixed into the hash with the segment's number.
+-- The offset in the segment: its bits from weight 2 ^ 23 up are those that the tag holds, and below
+-- them stand those of the index, which is mixed into the hash with the segment's number.
 abbrev pub rebuilt_offset : Bool → ℕ → ℕ → ℕ → ℕ
 rebuilt_offset one_tb number shift low =
     number % 2 ^ (offset_bits one_tb - 23) * 2 ^ 23
     + bit_xor low (rebuilt_vsid one_tb number % 2 ^ 11) * 2 ^ shift % 2 ^ 23
 
--- The only page that can have this segment size, these address bits from weight 2 ^ 23 up, this base page size, and these low bits of its hash.
+-- The only page that can have this segment size, these address bits from weight 2 ^ 23 up, this
+-- base page size, and these low bits of its hash.
 abbrev pub rebuilt_page : Bool → ℕ → ℕ → ℕ → Option VirtualPage
 rebuilt_page one_tb number shift low =
     page_of_address

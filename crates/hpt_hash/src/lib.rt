@@ -1,8 +1,9 @@
 //! The hash of the hashed page table: the two groups in which a page's entry may stand, and the
 //! page that an entry translates.
 //!
-//! Power ISA 2.07 Book III-S, virtual to real translation: a table of 2^order bytes has 2^(order - 7) groups of
-//! eight entries. An entry leaves out the low bits of its page's index; its group gives them back.
+//! Power ISA 2.07 Book III-S, virtual to real translation: a table of 2^order bytes has 2^(order -
+//! 7) groups of eight entries. An entry leaves out the low bits of its page's index; its group
+//! gives them back.
 #![tactic(auto)]
 
 mod entry;

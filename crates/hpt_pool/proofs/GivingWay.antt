@@ -17,7 +17,8 @@ use Rattle.hpt_pool.proofs.Subtrees.{tree_at, end_at, sizes, tree_whole, left-tr
 use Rattle.hpt_pool.proofs.Ways.{Steps, inside_nodes, way_on, mended_on, mended_none, to_left, to_right, double_rows}
 use Rattle.hpt_pool.proofs.Giving.{GivesBack, GivesIn, gives_in, held_left, held_right, gives_whole, gives_left, gives_right}
 
--- At a node on the way: the block is taken in its tree, and where it is given back there and the nodes above are mended, it is in the whole tree.
+-- At a node on the way: the block is taken in its tree, and where it is given back there and the
+-- nodes above are mended, it is in the whole tree.
 pub record GivesBelow (height place given order : ℕ) (nodes : List Node)
     (lower index turns first : ℕ) :
     Type 0 where

@@ -1,4 +1,5 @@
--- The blocks of two halves, one after the other: where a block overlaps one of them, and what taking and giving change.
+-- The blocks of two halves, one after the other: where a block overlaps one of them, and what
+-- taking and giving change.
 use Rattle.std.proofs.Common.{◌≡◌, ℕ, ◌+◌, ◌^◌, ◌<◌, ◌≤◌, ◌==◌, ◌||◌, get_or, Bool, true, false, not, List, [], ◌∷◌, ◌++◌, filter, All, Contains, refl, sym, ap, ◌∙◌, append_assoc, inl, inr, ◌⊎◌, arith}
 use Rattle.std.proofs.lemmas.Bool.{or_parts}
 use Rattle.std.proofs.lemmas.Bool.Decides.{nat_tests}

@@ -1,4 +1,5 @@
--- Lists: tests of some element, filters, the first that passes, and what holds between each element and a later one.
+-- Lists: tests of some element, filters, the first that passes, and what holds between each element
+-- and a later one.
 use Rattle.std.proofs.Common.{◌≡◌, ℕ, suc, zero, ◌<◌, get_or, length, Bool, true, false, List, [], ◌∷◌, find, All, Some, None, refl, inl, inr, ◌⊎◌, arith}
 use Rattle.std.specs.List.{list_any}
 use Rattle.std.proofs.lemmas.Bool.{cases_Bool}

@@ -1,4 +1,5 @@
--- The lowest place that fits: the first among the multiples, as each place that fits is one of them.
+-- The lowest place that fits: the first among the multiples, as each place that fits is one of
+-- them.
 use Rattle.std.proofs.Common.{◌≡◌, ℕ, ◌+◌, ◌-◌, ◌*◌, ◌%◌, ◌^◌, ◌<◌, ◌≤◌, ◌&&◌, ◌==◌, nat_le, get_or, Bool, true, false, not, length, Some, None, refl, ap, ◌∙◌, subst, inl, inr, ◌⊎◌, arith}
 use Rattle.std.specs.List.{list_any}
 use Rattle.std.proofs.lemmas.Bool.{cases_Bool, and_parts}

@@ -1,4 +1,5 @@
--- The part of a list of nodes that is the tree below one of them, and what is left of it where others are written.
+-- The part of a list of nodes that is the tree below one of them, and what is left of it where
+-- others are written.
 use Rattle.std.proofs.Common.{◌≡◌, ℕ, suc, ◌+◌, ◌-◌, ◌^◌, ◌<◌, ◌≤◌, List, length, take, drop, get_or, set, refl, sym, ap, ◌∙◌, arith}
 use Rattle.std.proofs.lemmas.Nat.{pow_pos}
 use Rattle.std.proofs.lemmas.List.{length-set, length-take-le, length-drop, get_or-take, get_or-drop, get_or-set_same, take_all, take-take, take-set-le, drop-drop, drop-set-lt, drop-set-add, drop-take}

@@ -11,7 +11,8 @@ use Rattle.hpt_pool.proofs.Subtrees.{tree_at, end_at, sizes, tree_whole, root-tr
 use Rattle.hpt_pool.proofs.Ways.{Steps, inside_nodes, HasHalvesIn, has_halves, way_on, mended_on, mended_none, to_left, to_right}
 use Rattle.hpt_pool.proofs.Taking.{TakesFirst, TakesIn, right_some, takes_whole, takes_left, takes_right}
 
--- At a node on the way: its tree has such a block, and where its first one is taken and the nodes above are mended, the first one of the whole tree is.
+-- At a node on the way: its tree has such a block, and where its first one is taken and the nodes
+-- above are mended, the first one of the whole tree is.
 pub record TakesBelow (height place order : ℕ) (nodes : List Node) (lower index turns first : ℕ) :
     Type 0 where
   pub low : lower ≤ height

@@ -1,4 +1,5 @@
--- What a truthful tree says of its blocks: where its numbers let a block of some order be, and where they don't.
+-- What a truthful tree says of its blocks: where its numbers let a block of some order be, and
+-- where they don't.
 use Rattle.std.proofs.Common.{◌≡◌, ℕ, zero, suc, ◌+◌, ◌-◌, ◌*◌, ◌^◌, ◌<◌, ◌≤◌, List, [], ◌∷◌, ◌++◌, All, refl, arith}
 use Rattle.std.proofs.lemmas.Nat.{pow_pos}
 use Rattle.std.proofs.lemmas.List.Elements.{All-nil, All-cons, All-append, All-weaker}

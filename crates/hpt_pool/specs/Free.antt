@@ -1,4 +1,5 @@
--- Where in a tree's block a block of some order overlaps no taken one. A tree of this height has 2 ^ (18 + height) bytes from its place.
+-- Where in a tree's block a block of some order overlaps no taken one. A tree of this height has 2
+-- ^ (18 + height) bytes from its place.
 use Rattle.std.specs.Prelude.{◌≡◌, ◌<◌, ◌≤◌, ℕ, ◌+◌, ◌-◌, ◌*◌, ◌^◌, Bool, true, false, List}
 use Rattle.std.specs.List.{list_any}
 use Rattle.hpt_pool.specs.Pool.{Block, block_at, overlap}

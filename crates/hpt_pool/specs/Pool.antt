@@ -1,4 +1,5 @@
--- A pool of memory, as the list of the blocks that are taken: where a further block fits, and what taking and giving change.
+-- A pool of memory, as the list of the blocks that are taken: where a further block fits, and what
+-- taking and giving change.
 use Rattle.std.specs.Prelude.{◌≡◌, ◌<◌, ◌≤◌, ℕ, ◌+◌, ◌-◌, ◌*◌, ◌%◌, ◌^◌, ◌==◌, Bool, true, false, not, ◌&&◌, nat_lt, nat_le, List, [], ◌∷◌, ◌++◌, filter, find, map, All, AllPairs, Option, option_map}
 use Rattle.std.specs.List.{list_any, range_with_len}
 use Rattle.pool_range.specs.Ranges.{IsPoolRange, range_refusal}
@@ -54,7 +55,8 @@ fits pool_state order place =
     && nat_le (place + 2 ^ order) (pool_state.base + 2 ^ pool_state.order)
     && not (list_any (overlap (block_at place order)) pool_state.taken)
 
--- The places in the pool, in rising order, that are multiples of 2 ^ order: the pool begins at one, and where the order is above the pool's, that is the only one.
+-- The places in the pool, in rising order, that are multiples of 2 ^ order: the pool begins at one,
+-- and where the order is above the pool's, that is the only one.
 unfoldable pub multiples : PoolState → ℕ → List ℕ
 multiples pool_state order =
     map (λ n. pool_state.base + n * 2 ^ order) (range_with_len 0 (2 ^ (pool_state.order - order)))

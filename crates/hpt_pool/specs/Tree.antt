@@ -5,7 +5,8 @@ use Rattle.hpt_pool.specs.Free.{IsLargestFree}
 use Rattle.hpt_pool.specs.declared.tree.Node.{Node}
 use Rattle.hpt_pool.specs.declared.tree.Node.TheVariants.{Taken, Open}
 
--- A tree of this height has 2 ^ height leaves. Its nodes stand in one list: the root, then those of the left half, then those of the right half.
+-- A tree of this height has 2 ^ height leaves. Its nodes stand in one list: the root, then those of
+-- the left half, then those of the right half.
 abbrev pub root_of : List Node → Node
 root_of nodes = slice_index_or nodes 0 Taken
 
@@ -44,7 +45,8 @@ abbrev pub largest_of : Node → ℕ
 largest_of Taken = 0
 largest_of (Open largest) = largest
 
--- The largest order that the blocks of the halves leave free. Below a taken block nothing else is taken, so that this is the node's own order.
+-- The largest order that the blocks of the halves leave free. Below a taken block nothing else is
+-- taken, so that this is the node's own order.
 abbrev pub free_below : Node → ℕ → ℕ
 free_below Taken order = order
 free_below (Open largest) order = largest
@@ -58,7 +60,8 @@ IsTruthful (suc height) nodes =
     × IsTruthful height (left_of (suc height) nodes)
     × IsTruthful height (right_of (suc height) nodes)
 
--- What two halves of this order leave free: their whole where both are free as a whole, and otherwise the larger of the two.
+-- What two halves of this order leave free: their whole where both are free as a whole, and
+-- otherwise the larger of the two.
 pub record JoinsHalves (order left right largest : ℕ) : Type 0 where
   pub whole : left ≡ order → right ≡ order → largest ≡ order + 1
   pub left_part : left < order → largest ≡ max left right

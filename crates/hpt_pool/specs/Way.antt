@@ -9,7 +9,8 @@ abbrev pub node_at : List Node → ℕ → Node
 node_at nodes index = slice_index_or nodes index Taken
 
 -- ---- the way
--- A node of this height is a half of the one above it: the left half follows that one at once, the right half the left one. The lowest of the turns says which half.
+-- A node of this height is a half of the one above it: the left half follows that one at once, the
+-- right half the left one. The lowest of the turns says which half.
 pub record IsHalf (height index turns above : ℕ) : Type 0 where
   pub left : turns % 2 ≡ 0 → index ≡ above + 1
   pub right : turns % 2 ≡ 1 → index ≡ above + 2 ^ suc height
@@ -27,7 +28,8 @@ JoinsAt height index nodes largest =
     JoinsHalves (17 + height) (largest_of (node_at nodes (index + 1)))
     (largest_of (node_at nodes (index + 2 ^ height))) largest
 
--- Each node above the one at this index, from the lowest on, is made to say what its halves leave free.
+-- Each node above the one at this index, from the lowest on, is made to say what its halves leave
+-- free.
 unfoldable pub AreMended : ℕ → ℕ → ℕ → ℕ → List Node → List Node → Type 0
 AreMended zero height index turns nodes after = after ≡ nodes
 AreMended (suc count) height index turns nodes after =

@@ -1,7 +1,8 @@
 //! The memory of page tables: a pool that is handed out in blocks whose size is a power of two.
 //!
-//! A hashed page table of `2^k` bytes begins at a multiple of `2^k` (Power ISA Book III, the table's
-//! base and size in SDR1 or in a partition table entry), so each block is aligned to its size.
+//! A hashed page table of `2^k` bytes begins at a multiple of `2^k` (Power ISA Book III, the
+//! table's base and size in SDR1 or in a partition table entry), so each block is aligned to its
+//! size.
 #![tactic(auto)]
 
 mod error;

@@ -7,8 +7,8 @@ use pool_range::{PoolRange, RangeError};
 use std::alloc::{AllocError, Global};
 use std::marker::Model;
 
-/// A pool of memory for page tables. Each block that is taken from it has a power of two of bytes and
-/// begins at a multiple of its size.
+/// A pool of memory for page tables. Each block that is taken from it has a power of two of bytes
+/// and begins at a multiple of its size.
 #[derive(Drop)]
 pub struct Pool {
     base: u64,

@@ -1,4 +1,5 @@
--- On states that nobody else changes, a walk finds the first entry that the list of translations pairs with the page.
+-- On states that nobody else changes, a walk finds the first entry that the list of translations
+-- pairs with the page.
 use Rattle.std.specs.Prelude.{◌==◌, ◌&&◌, ◌||◌, if◌then◌else◌, map, find, option_map}
 use Rattle.std.proofs.Common.{◌≡◌, ℕ, zero, suc, ◌+◌, ◌*◌, ◌/◌, ◌<◌, ◌≤◌, List, [], ◌∷◌, length, Bool, true, false, Option, Some, None, ap, sym, ◌∙◌, refl, subst, ◌⊎◌, inl, inr, arith, set, get_or}
 use Rattle.std.specs.List.{AllByRecursion, range_with_len}

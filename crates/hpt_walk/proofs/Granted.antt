@@ -1,4 +1,5 @@
--- The page of each valid entry lies in a grant, and no operation changes that but one that enters words of another page.
+-- The page of each valid entry lies in a grant, and no operation changes that but one that enters
+-- words of another page.
 use Rattle.std.specs.Prelude.{if◌then◌else◌, ◌==◌}
 use Rattle.std.proofs.Common.{◌≡◌, ℕ, ◌+◌, ◌^◌, ◌<◌, List, Bool, true, false, Option, Some, ap, sym, subst, arith}
 use Rattle.std.specs.Option.{option_map_or}

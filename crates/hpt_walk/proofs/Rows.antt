@@ -148,7 +148,8 @@ unfolding outcome_of machine_range tag_of has_base permission rows row_says key_
 not_granted = refl
 
 -- ---- translations
--- Entry 1 is one of page 0 of segment 0. Entry 0 is one of no page, since its words encode 16 GB, and entry 2 is empty.
+-- Entry 1 is one of page 0 of segment 0. Entry 0 is one of no page, since its words encode 16 GB,
+-- and entry 2 is empty.
 listed :
     translations 18
     (record mapped { dword0 = 0x5 } ∷ record mapped { dword0 = 0x1 } ∷ empty_state 0 ∷ [])

@@ -28,7 +28,8 @@ use Rattle.entry_model.specs.Trial.{Call, IsTrial, call}
 use Rattle.hpt_walk.specs.Walk.{access_op, walk_calls}
 use Rattle.entry_model.specs.Reply.{AccessMode, access_mode}
 
--- What the accesses of a run have in common: the table has 2 ^ order bytes, and this memory is granted.
+-- What the accesses of a run have in common: the table has 2 ^ order bytes, and this memory is
+-- granted.
 pub record AccessContext : Type 0 where
   pub order : ℕ
   pub grants : List Grant
@@ -37,7 +38,8 @@ pub record AccessContext : Type 0 where
 abbrev pub access_context : ℕ → List Grant → AccessContext
 access_context order grants = record { order = order; grants = grants }
 
--- What an access asks: what it wants, the effective address, whether the processor is in problem state, and the processor's masks.
+-- What an access asks: what it wants, the effective address, whether the processor is in problem
+-- state, and the processor's masks.
 abbrev pub request : Want → ℕ → Bool → Masks → Request
 request want ea user masks = record { want = want; ea = ea; user = user; masks = masks }
 
@@ -54,7 +56,8 @@ mode_for seg a = access_mode (key_for seg a.user) seg.no_execute a.want a.masks
 abbrev pub actual_size : State → ℕ
 actual_size s = option_map_or (λ (size : PageSize). size.actual) (size_of s.dword0 s.dword1) 12
 
--- The address in the real page, whose frame gives the bits from the page's size up, and the effective address those below.
+-- The address in the real page, whose frame gives the bits from the page's size up, and the
+-- effective address those below.
 abbrev pub logical_of : ℕ → State → ℕ
 logical_of ea s = frame_of s.dword1 (actual_size s) + ea % 2 ^ actual_size s
 
@@ -90,7 +93,8 @@ abbrev pub hit_calls : Segment → Request → Line → List Call
 hit_calls seg a line =
     call (access_op seg.page (mode_for seg a) (is_secondary line.dword0)) line.entry ∷ []
 
--- One receipt, of the line's entry, on a state at which the line is current, which says At, Masked or Denied.
+-- One receipt, of the line's entry, on a state at which the line is current, which says At, Masked
+-- or Denied.
 pub record IsHit
     (context : AccessContext)
     (seg : Segment)
@@ -121,14 +125,16 @@ pub record IsWalk
 abbrev pub no_segment_reply : AccessReply
 no_segment_reply = record { outcome = NoSegment; by = None; receipts = [] }
 
--- In a segment, with the line of its page that is cached: by Hit only where there is one, or by Walk.
+-- In a segment, with the line of its page that is cached: by Hit only where there is one, or by
+-- Walk.
 abbrev pub IsByWay :
     AccessContext → Segment → Request → Option Line → Option By → AccessReply → Type 0
 IsByWay context seg a (Some line) (Some Hit) r = IsHit context seg a line r
 IsByWay context seg a line (Some Walk) r = IsWalk context seg a r
 IsByWay context seg a line way r = ⊥
 
--- The reply of a processor by the segment of the address. What the processor's cache has of a page is given as a function.
+-- The reply of a processor by the segment of the address. What the processor's cache has of a page
+-- is given as a function.
 abbrev pub IsAccessReply :
     AccessContext → (VirtualPage → Option Line) → Request → Option Segment → AccessReply → Type 0
 IsAccessReply context cached a None r = r ≡ no_segment_reply

@@ -32,7 +32,8 @@ pub record IsEntryState (s : State) : Type 0 where
   pub canonical : IsCanonicalState s
   pub fits : s.dword0 < 2 ^ 64
 
--- The answer used the entry's translation exactly where the entry is one of the page, and is NoMatch exactly where it isn't.
+-- The answer used the entry's translation exactly where the entry is one of the page, and is
+-- NoMatch exactly where it isn't.
 pub record TellsPage
     (order entry : ℕ)
     (page : VirtualPage)
@@ -54,7 +55,8 @@ AccessTellsPage =
     → TellsPage order entry page s (reply_of s (access_op page mode secondary)).0
 
 -- ---- a base page inside a larger one
--- An access of any other page by an entry of that page's group is NoMatch, also where both are base pages of the actual page that the entry maps.
+-- An access of any other page by an entry of that page's group is NoMatch, also where both are base
+-- pages of the actual page that the entry maps.
 abbrev pub OtherPagesDontMatch : Type 0
 OtherPagesDontMatch =
     (order entry : ℕ) (page other : VirtualPage) (mode : AccessMode) (secondary : Bool) (s : State)
@@ -67,7 +69,8 @@ OtherPagesDontMatch =
     → IsEntryState s
     → (reply_of s (access_op other mode secondary)).0 ≡ NoMatch
 
--- The logical address of an access has the real page number's bits from the actual size up, and the effective address's bits below it.
+-- The logical address of an access has the real page number's bits from the actual size up, and the
+-- effective address's bits below it.
 pub record LiesInActualPage (ea : ℕ) (s : State) : Type 0 where
   pub page : logical_of ea s / 2 ^ actual_size s ≡ page_bits s.dword1 / 2 ^ actual_size s
   pub offset : logical_of ea s % 2 ^ actual_size s ≡ ea % 2 ^ actual_size s
@@ -85,7 +88,8 @@ WasOfPage order page r = IsPageOf order r.entry r.before.dword0 r.before.dword1 
 abbrev pub HasFirstWord : Receipt → Type 0
 HasFirstWord r = IsTrue r.before.valid → r.before.dword0 < 2 ^ 64
 
--- In a walk of the page an answer that used an entry's translation used one of an entry of the page.
+-- In a walk of the page an answer that used an entry's translation used one of an entry of the
+-- page.
 abbrev pub WalksUseTheirPage : Type 0
 WalksUseTheirPage =
     (order : ℕ) (page : VirtualPage) (mode : AccessMode) (rs : List Receipt)
@@ -117,14 +121,16 @@ OnlyAtChangesEntries =
     → new ≡ old
 
 -- ---- masks
--- Protection allows the access by the entry that was found, as it was before, and this mask refuses it for the entry's key.
+-- Protection allows the access by the entry that was found, as it was before, and this mask refuses
+-- it for the entry's key.
 abbrev pub IsRefusedByMask : Option Segment → Request → MaskName → Option Receipt → Type 0
 IsRefusedByMask (Some seg) a name (Some r) =
     IsTrue (is_allowed r.before (mode_for seg a))
     × (mask_against r.before a.masks a.want ≡ Some name)
 IsRefusedByMask segment a name found = ⊥
 
--- An access ends refused by a mask exactly where the last of its receipts, and the first that doesn't say NoMatch, is of such an entry.
+-- An access ends refused by a mask exactly where the last of its receipts, and the first that
+-- doesn't say NoMatch, is of such an entry.
 abbrev pub MaskedExactlyWhereRefused : Type 0
 MaskedExactlyWhereRefused =
     (context : AccessContext) (cached : VirtualPage → Option Line) (a : Request)
@@ -142,7 +148,8 @@ ZeroMasksRefuseNoAccess =
     → AllByRecursion (λ (r : Receipt). is_masked r.answer ≡ false) reply.receipts
 
 -- ---- a walk and the translations of a table
--- On states that nobody else changes, a walk of the page finds the first entry, in walk order, that the list of translations pairs with the page, and none where it pairs none.
+-- On states that nobody else changes, a walk of the page finds the first entry, in walk order, that
+-- the list of translations pairs with the page, and none where it pairs none.
 abbrev pub WalkFindsFirst : Type 0
 WalkFindsFirst =
     (order : ℕ) (page : VirtualPage) (mode : AccessMode) (a b : List State) (rs : List Receipt)
@@ -155,7 +162,8 @@ WalkFindsFirst =
     ≡ find (is_paired (translations order a) page) (walk_entries order page)
 
 -- ---- lines of a cache
--- In a walk of the page, a receipt that says Denied, Masked or At gives a line that translates the page.
+-- In a walk of the page, a receipt that says Denied, Masked or At gives a line that translates the
+-- page.
 abbrev pub WalksGiveLines : Type 0
 WalksGiveLines =
     (order : ℕ) (page : VirtualPage) (mode : AccessMode) (rs : List Receipt)
@@ -171,7 +179,8 @@ LinesMatchAccesses =
     → TranslatesItsPage line
     → IsAccessOf line (access_op line.page mode (is_secondary line.dword0))
 
--- An access that matches a line is answered Denied, Masked or At on a state at which the line is current.
+-- An access that matches a line is answered Denied, Masked or At on a state at which the line is
+-- current.
 abbrev pub CurrentLinesDecide : Type 0
 CurrentLinesDecide =
     (line : Line) (op : Op) (s : State)

@@ -40,12 +40,14 @@ is_paired ts page entry =
     list_any (λ (t : Translation). same_page t.page page && (t.entry == entry)) ts
 
 -- ---- a cached line
--- The line's doublewords translate its page: they have the page's tag and base size, with V, and H as it is.
+-- The line's doublewords translate its page: they have the page's tag and base size, with V, and H
+-- as it is.
 pub record TranslatesItsPage (line : Line) : Type 0 where
   pub tag : tag_of line.page + h_bit (is_secondary line.dword0) + 1 ≡ compared_bits line.dword0
   pub size : IsTrue (has_base line.dword0 line.dword1 line.page.shift)
 
--- The line's entry stands in its page's primary group, or with H in its doubleword 0 in the secondary one.
+-- The line's entry stands in its page's primary group, or with H in its doubleword 0 in the
+-- secondary one.
 abbrev pub StandsInItsGroup : ℕ → Line → Type 0
 StandsInItsGroup order line =
     group_of line.page order (is_secondary line.dword0) ≡ line.entry / 8

@@ -1,5 +1,6 @@
 -- The search of a page's two groups for an entry that translates the page.
--- Power ISA 2.07 Book III-S, hashed page table search: first the primary group, then the secondary one.
+-- Power ISA 2.07 Book III-S, hashed page table search: first the primary group, then the secondary
+-- one.
 use Rattle.std.specs.Prelude.{◌≡◌, ℕ, ◌+◌, ◌*◌, Bool, true, false, if◌then◌else◌, IsTrue, List, length, ◌++◌, map}
 use Rattle.std.specs.List.{AllByRecursion, range_with_len}
 use Rattle.power_addr.specs.Pages.{VirtualPage, tag_of}
@@ -15,7 +16,8 @@ use Rattle.entry_model.specs.Reply.{AccessMode}
 abbrev pub h_bit : Bool → ℕ
 h_bit secondary = if secondary then 2 else 0
 
--- The access of a page by an entry: the tag has V, and H where the entry stands in the secondary group.
+-- The access of a page by an entry: the tag has V, and H where the entry stands in the secondary
+-- group.
 abbrev pub access_op : VirtualPage → AccessMode → Bool → Op
 access_op page mode secondary =
     Access
@@ -30,7 +32,8 @@ access_op page mode secondary =
 abbrev pub group_calls : Op → ℕ → List Call
 group_calls op group = map (call op) (range_with_len (group * 8) 8)
 
--- The walk order: the eight entries of the primary group with H clear, then the eight of the secondary group with H set.
+-- The walk order: the eight entries of the primary group with H clear, then the eight of the
+-- secondary group with H set.
 unfoldable pub walk_calls : ℕ → VirtualPage → AccessMode → List Call
 walk_calls order page mode =
     group_calls (access_op page mode false) (group_of page order false)

@@ -20,7 +20,8 @@ pub fn addresses_lie_in_actual_pages()
     ensures { AddressesLieInActualPages }
 {}
 
-/// In a walk of a page, an answer that used an entry's translation used one of an entry of the page.
+/// In a walk of a page, an answer that used an entry's translation used one of an entry of the
+/// page.
 pub fn walks_use_their_page()
     ensures { WalksUseTheirPage }
 {}
@@ -35,8 +36,8 @@ pub fn only_at_changes_entries()
     ensures { OnlyAtChangesEntries }
 {}
 
-/// An access ends refused by a mask exactly where protection allows it by the entry that it ended with,
-/// and the mask refuses it for the entry's key.
+/// An access ends refused by a mask exactly where protection allows it by the entry that it ended
+/// with, and the mask refuses it for the entry's key.
 pub fn masked_exactly_where_refused()
     ensures { MaskedExactlyWhereRefused }
 {}

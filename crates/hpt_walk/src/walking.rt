@@ -18,7 +18,8 @@ use storage_prot::Want;
 /// What a walk found, and the receipts that it made, in their order.
 #[derive(Drop)]
 pub struct WalkAnswer {
-    /// The receipt of the entry that translates the page: the last one, which says At, Masked or Denied.
+    /// The receipt of the entry that translates the page: the last one, which says At, Masked or
+    /// Denied.
     pub found: Option<Receipt>,
     /// One for each entry that was tried, in walk order: at most sixteen.
     pub receipts: Receipts,

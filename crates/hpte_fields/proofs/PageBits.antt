@@ -1,4 +1,5 @@
--- The bits of doubleword 1 that say which real page an entry maps, and what leaves them as they are.
+-- The bits of doubleword 1 that say which real page an entry maps, and what leaves them as they
+-- are.
 use Rattle.std.proofs.Common.{◌≡◌, ℕ, ◌+◌, ◌*◌, ◌/◌, ◌^◌, ◌<◌, arith, ap, sym, ◌∙◌, refl, lit<, bit_and, bit_or}
 use Rattle.std.specs.Int.Bits.{and_zero_l, and_zero_r, or_zero_r}
 use Rattle.std.proofs.lemmas.Nat.{and_block}

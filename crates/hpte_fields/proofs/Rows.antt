@@ -61,7 +61,8 @@ apart = refl
 put_back : with_rc 0x3012 true false ≡ 0x3112
 put_back = refl
 
--- Every bit of the flags set, and none: R, C, the storage control bits and the real page number stay.
+-- Every bit of the flags set, and none: R, C, the storage control bits and the real page number
+-- stay.
 protected : protected_word 0x3192 0xFFFFFFFFFFFFFFFF ≡ 0xB000000000003F97
 protected = refl
 

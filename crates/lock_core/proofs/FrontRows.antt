@@ -35,7 +35,8 @@ access want = Access 0x1001 12 false false want no_masks
 removal : Op
 removal = Remove (record { avpn = None; andcond = None })
 
--- The fronts of three actors on two entries, valid at stamp 1 and empty at stamp 7, after steps in their order. A pair counts four for a stamp and one for a bit.
+-- The fronts of three actors on two entries, valid at stamp 1 and empty at stamp 7, after steps in
+-- their order. A pair counts four for a stamp and one for a bit.
 fronts : List (ℕ × Step) → List (List ℕ)
 fronts steps = run_fronts (opening_machine (entry 1 ∷ empty_state 7 ∷ []) 3) (reverse steps)
 
@@ -53,7 +54,8 @@ unfolding fronts run opening_machine after_step after_allowed_step step_result s
     removal has_base permission rows row_says key_rows made_by fronts_after_step run_fronts pair_of
 after_a_store = refl
 
--- A removal raises the other's front by a stamp. The join of an actor that has seen less leaves the larger fronts.
+-- A removal raises the other's front by a stamp. The join of an actor that has seen less leaves the
+-- larger fronts.
 after_a_join :
     fronts
     ((0, Split 1)

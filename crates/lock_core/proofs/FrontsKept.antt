@@ -1,4 +1,5 @@
--- Fronts along every list of steps: no front of an actor is above the pair of the state that the entry counts with.
+-- Fronts along every list of steps: no front of an actor is above the pair of the state that the
+-- entry counts with.
 use Rattle.std.specs.Prelude.{slice_get, if◌then◌else◌, All}
 use Rattle.std.proofs.Common.{◌≡◌, ◌⊎◌, ℕ, zero, suc, ◌≢◌, ◌≤◌, true, false, List, [], ◌∷◌, length, replicate, set, inl, inr, ⊎_elim, refl, sym, ap, ◌∙◌, subst, arith, Option, Some, None}
 use Rattle.std.proofs.lemmas.Bool.{cond_both}

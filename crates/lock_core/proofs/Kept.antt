@@ -69,7 +69,8 @@ pub record HasMoreBits (k l : Control) : Type 0 where
   pub referenced : k.referenced ≡ true → l.referenced ≡ true
   pub changed : k.changed ≡ true → l.changed ≡ true
 
--- What one that looked loaded or has seen is there as long as the entry is still at the noted stamp.
+-- What one that looked loaded or has seen is there as long as the entry is still at the noted
+-- stamp.
 pub record LookedOk (d : Doing) (x : Entry) : Type 0 where
   pub older : d.noted.stamp ≤ x.control.stamp
   pub op : is_access d.op ≡ true

@@ -22,7 +22,8 @@ use Rattle.lock_core.proofs.Steps.{looks_on, receipt_entry, receipt_before, rece
 use Rattle.lock_core.proofs.Looks.{looked_ok, no_lock, idle_change}
 
 -- ---- what one that looked knows
--- While the entry is at the noted stamp and isn't shut, its state is that of the word found and of the known words.
+-- While the entry is at the noted stamp and isn't shut, its state is that of the word found and of
+-- the known words.
 published_is :
     (d : Doing) (x : Entry)
     → EntryOk x

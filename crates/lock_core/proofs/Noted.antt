@@ -169,7 +169,8 @@ raised d other change = at (other_rises (noted_state d) d.op other) where
   at (inl same) = absurd (false≢true (sym (still_if d same) ∙ change))
   at (inr up) = let e = noted_stamp d in omega arith
 
--- By another control word of the same stamp it changes the entry as well, or as little: R and C don't count.
+-- By another control word of the same stamp it changes the entry as well, or as little: R and C
+-- don't count.
 still_alike :
     (d : Doing) (k : Control)
     → is_access d.op ≡ false

@@ -101,7 +101,8 @@ unfolding after told run opening_machine after_step after_allowed_step step_resu
     removal has_base permission rows row_says key_rows
 store_finds_the_lock = refl
 
--- So does one whose mark comes after the shut; and while it is shut the entry counts with its old state.
+-- So does one whose mark comes after the shut; and while it is shut the entry counts with its old
+-- state.
 store_finds_it_shut :
     told
     (after
@@ -150,7 +151,8 @@ unfolding after told run opening_machine after_step after_allowed_step step_resu
     removal has_base permission rows row_says key_rows
 another_entry_at_the_mark = refl
 
--- An actor that has seen the entry at its stamp needn't load: by the opening state the first access, and a second look also where another bit came between.
+-- An actor that has seen the entry at its stamp needn't load: by the opening state the first
+-- access, and a second look also where another bit came between.
 seen_words_serve :
     told
     (after

@@ -40,7 +40,8 @@ StatesAreInWords =
     → (let x : Entry = entry_at (run (opening_machine states actors) steps) e in
     x.control.shut ≡ false → x.published ≡ state_of x.control x.dword0 x.dword1)
 
--- A step that makes a receipt leaves the state after in place of the state before, and every other state as it is; a step that makes none leaves all states.
+-- A step that makes a receipt leaves the state after in place of the state before, and every other
+-- state as it is; a step that makes none leaves all states.
 abbrev pub StatesChangeByReceipts : Type 0
 StatesChangeByReceipts =
     (states : List State) (actors : ℕ) (older : List (ℕ × Step))
@@ -53,7 +54,8 @@ StatesChangeByReceipts =
     (λ r. IsStep (published_states m) r (published_states (after_step m i step))))
 
 -- ---- histories
--- Each entry's history over the receipts of all actors leads from its opening state to the state that it counts with.
+-- Each entry's history over the receipts of all actors leads from its opening state to the state
+-- that it counts with.
 abbrev pub EveryHistoryIsLegal : Type 0
 EveryHistoryIsLegal =
     (states : List State) (actors : ℕ) (steps : List (ℕ × Step))

@@ -11,7 +11,8 @@ use Rattle.lock_core.specs.declared.phase.Phase.TheVariants.{Idle}
 use Rattle.lock_core.specs.declared.sighting.Sighting.{Sighting}
 use Rattle.lock_core.specs.Words.{unheld_entry}
 
--- An actor: whether it is live, where it stands in its operation, the receipts that it made, and the lines that it has seen.
+-- An actor: whether it is live, where it stands in its operation, the receipts that it made, and
+-- the lines that it has seen.
 pub record Actor : Type 0 where
   pub live : Bool
   pub phase : Phase
@@ -64,7 +65,8 @@ in_table m e = nat_lt e (length m.entries)
 abbrev pub sighting_of : ℕ → State → Sighting
 sighting_of e s = record { entry = e; stamp = s.stamp; dword0 = s.dword0; dword1 = s.dword1 }
 
--- The lines that a receipt shows: its entry's in the state before, where the answer used the translation.
+-- The lines that a receipt shows: its entry's in the state before, where the answer used the
+-- translation.
 abbrev pub shown_sightings : Receipt → List Sighting
 shown_sightings r = if is_decided r.answer then sighting_of r.entry r.before ∷ [] else []
 
@@ -80,7 +82,8 @@ words_in line = (line.dword0, line.dword1)
 abbrev pub words_at : State → ℕ → Option (ℕ × ℕ)
 words_at s stamp = if s.valid && (s.stamp == stamp) then Some (s.dword0, s.dword1) else None
 
--- The doublewords at this stamp of an entry with this opening state, as an actor with these lines has seen them: in a line of its list, or in the opening state.
+-- The doublewords at this stamp of an entry with this opening state, as an actor with these lines
+-- has seen them: in a line of its list, or in the opening state.
 unfoldable pub words_seen_in : List Sighting → State → ℕ → ℕ → Option (ℕ × ℕ)
 words_seen_in lines start e stamp =
     option_or (option_map words_in (find (is_at e stamp) lines)) (words_at start stamp)

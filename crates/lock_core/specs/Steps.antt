@@ -96,7 +96,8 @@ marked_entry x s = record x {
   published = s;
 }
 
--- A second look decides where it finds the very word that was noted, and where the data words were seen and the entry is still at the noted stamp: the bits found are then those before.
+-- A second look decides where it finds the very word that was noted, and where the data words were
+-- seen and the entry is still at the noted stamp: the bits found are then those before.
 unfoldable pub second_look : Entry → Doing → StepResult
 second_look x d =
     if is_noted x.control d.noted
@@ -106,7 +107,8 @@ second_look x d =
     then result_with_receipt x (receipt (with_noted d x.control))
     else result_without_receipt x Idle)
 
--- A step on an entry, of an actor that has seen these doublewords of it. A lock that is taken and an entry that is shut leave the actor idle.
+-- A step on an entry, of an actor that has seen these doublewords of it. A lock that is taken and
+-- an entry that is shut leave the actor idle.
 unfoldable pub step_result : Option (ℕ × ℕ) → Entry → Phase → Step → StepResult
 step_result seen x Idle (Lock e op) =
     if x.control.locked
@@ -187,7 +189,8 @@ abbrev pub is_idle : Phase → Bool
 is_idle Idle = true
 is_idle phase = false
 
--- The actor is live. The other one of a split is there and isn't live; that of a join is another one, and live.
+-- The actor is live. The other one of a split is there and isn't live; that of a join is another
+-- one, and live.
 unfoldable pub may_act : Machine → ℕ → Step → Bool
 may_act m i (Split to) =
     (actor_at m i).live && (nat_lt to (length m.actors) && not (actor_at m to).live)

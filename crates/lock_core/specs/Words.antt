@@ -21,7 +21,8 @@ use Rattle.lock_core.specs.declared.entry.Entry.{Entry}
 abbrev pub without_bits : ℕ → ℕ
 without_bits dword1 = bit_xor dword1 (bit_and dword1 rc_bits)
 
--- The state that a control word and two data words stand for. Where valid is clear it has nothing, whatever the data words are.
+-- The state that a control word and two data words stand for. Where valid is clear it has nothing,
+-- whatever the data words are.
 abbrev pub state_of : Control → ℕ → ℕ → State
 state_of k dword0 dword1 = record {
   valid = k.valid;

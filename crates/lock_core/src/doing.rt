@@ -22,8 +22,8 @@ pub struct Doing {
 }
 
 impl Doing {
-    /// An operation that begins at this control word. `seen` is what the actor has seen of the entry
-    /// at its stamp.
+    /// An operation that begins at this control word. `seen` is what the actor has seen of the
+    /// entry at its stamp.
     pub fn new(entry: u32, op: Op, noted: Control, seen: Option<(u64, u64)>) -> Doing
         ensures { result ≡ new_doing entry op noted seen }
     {

@@ -1,5 +1,5 @@
-//! What holds over every list of steps of any actors. Each function does nothing, and its contract is
-//! the law.
+//! What holds over every list of steps of any actors. Each function does nothing, and its contract
+//! is the law.
 
 ghost use Rattle.lock_core.specs.Laws.{EveryHistoryIsLegal, EveryReceiptKeepsItsFront, EveryReceiptIsListed, SeenLinesHold, StatesAreInWords, StatesChangeByReceipts};
 
@@ -8,14 +8,14 @@ pub fn states_are_in_words()
     ensures { StatesAreInWords }
 {}
 
-/// A step that makes a receipt leaves the receipt's state after in place of its state before, and no
-/// other step changes the state that an entry counts with.
+/// A step that makes a receipt leaves the receipt's state after in place of its state before, and
+/// no other step changes the state that an entry counts with.
 pub fn states_change_by_receipts()
     ensures { StatesChangeByReceipts }
 {}
 
-/// Each entry's history over the receipts of all actors is legal, from its opening state to the state
-/// that it counts with: while it is shut, the one from before.
+/// Each entry's history over the receipts of all actors is legal, from its opening state to the
+/// state that it counts with: while it is shut, the one from before.
 pub fn every_history_is_legal()
     ensures { EveryHistoryIsLegal }
 {}

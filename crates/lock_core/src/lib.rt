@@ -1,11 +1,11 @@
-//! The protocol of the shared page table: what actors may do, one atomic step at a time, to the words
-//! of its entries, and what holds whatever steps they take.
+//! The protocol of the shared page table: what actors may do, one atomic step at a time, to the
+//! words of its entries, and what holds whatever steps they take.
 //!
-//! An entry has a control word (lock, shut, valid, R, C, stamp) and two data words. An operation of a
-//! hypervisor call takes the lock, and shuts an entry before it changes it. An access of a processor
-//! takes no lock: it looks at the control word, and sets R and C where it finds that word again.
-//! `specs/Steps.antt` has the table of steps. Nothing here takes a step: `entry_lock` takes them on
-//! atomic words, and `lock_machine` one after another on a table of its own.
+//! An entry has a control word (lock, shut, valid, R, C, stamp) and two data words. An operation of
+//! a hypervisor call takes the lock, and shuts an entry before it changes it. An access of a
+//! processor takes no lock: it looks at the control word, and sets R and C where it finds that word
+//! again. `specs/Steps.antt` has the table of steps. Nothing here takes a step: `entry_lock` takes
+//! them on atomic words, and `lock_machine` one after another on a table of its own.
 #![tactic(auto)]
 
 mod actor;

@@ -3,8 +3,8 @@ use entry_model::Op;
 /// One atomic step of an actor, on one word of one entry; a split or a join is on none.
 #[derive(Clone, Copy, PartialEq, Eq, Debug)]
 pub enum Step {
-    /// Sets the lock bit, for an operation other than an access. The actor holds the entry where the
-    /// bit was clear.
+    /// Sets the lock bit, for an operation other than an access. The actor holds the entry where
+    /// the bit was clear.
     Lock { entry: u32, op: Op },
     /// Loads the control word, for an access: to begin it, or to decide an access that sets no bit.
     Look { entry: u32, op: Op },

@@ -78,8 +78,8 @@ fn copied(alloc: Global, states: &[EntryState]) -> Result<Vec<EntryState>, Alloc
 }
 
 impl Core {
-    /// A table of entries in these states, and this many actors, of which actor 0 is live and the others
-    /// are not. `Actors` where there are none or more than 64.
+    /// A table of entries in these states, and this many actors, of which actor 0 is live and the
+    /// others are not. `Actors` where there are none or more than 64.
     pub fn new(alloc: Global, states: &[EntryState], actors: u32) -> Result<Core, CoreError>
         ensures refused { MatchBool
             (actors == 0 || nat_lt 64 actors)
@@ -319,8 +319,9 @@ impl Core {
         }
     }
 
-    /// Takes a step of an actor. A step that is refused changes nothing, and so does one for which there
-    /// is not enough memory. Only a split, a join and a step that makes a receipt take memory.
+    /// Takes a step of an actor. A step that is refused changes nothing, and so does one for which
+    /// there is not enough memory. Only a split, a join and a step that makes a receipt take
+    /// memory.
     pub fn step(&mut self, alloc: Global, actor: u32, step: Step) -> Result<(), CoreError>
         ensures refused { MatchOption
             (refusal_of self.old actor step)
@@ -338,8 +339,8 @@ impl Core {
         }
     }
 
-    /// The receipts of an actor, in the order of their making; those that a join brought stand behind
-    /// those that were there.
+    /// The receipts of an actor, in the order of their making; those that a join brought stand
+    /// behind those that were there.
     pub fn receipts(&self, actor: u32) -> &[Receipt]
         requires { actor < length self.now.actors }
         ensures { result.now ≡ (actor_at self.now actor).receipts }

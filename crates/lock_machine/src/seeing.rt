@@ -29,8 +29,8 @@ fn line_at(lines: &[Sighting], entry: u32, stamp: u32) -> Option<Sighting>
     lines.iter().copied().find(|line| is_at(line, entry, stamp))
 }
 
-/// The doublewords of an entry at a stamp, as who has these lines has seen them: in one of the lines,
-/// or in the entry's opening state.
+/// The doublewords of an entry at a stamp, as who has these lines has seen them: in one of the
+/// lines, or in the entry's opening state.
 #[tactic(auto, unfolding(lock_core::specs::Machine::words_seen_in))]
 pub fn seen_in(lines: &[Sighting], start: &EntryState, entry: u32, stamp: u32) -> Option<(u64, u64)>
     ensures { result ≡ seen_in_of lines.now start.now entry stamp }

@@ -43,7 +43,8 @@ pub fn fits(entry: &Entry, phase: &Phase, step: &Step) -> bool
         (Phase::Held(doing), Step::Shut) => is_read(&doing) && changes(&doing),
         (Phase::Held(doing), Step::Release) => is_read(&doing) && !changes(&doing),
         (Phase::HeldShut(_), Step::StoreData { second: _ }) => true,
-        // Both words are stored before the entry opens: who sees its new stamp may read no old word.
+        // Both words are stored before the entry opens: who sees its new stamp may read no old
+        // word.
         (Phase::HeldShut(doing), Step::Settle) => is_stored(entry, &next_state(&doing)),
         (Phase::Looked(doing), Step::LoadData { second: _ }) => doing.noted.valid,
         (Phase::Looked(doing), Step::Look { entry: e, op }) => {
@@ -165,8 +166,8 @@ fn settle(entry: &Entry, doing: Doing) -> StepResult
     ends(next, receipt(&doing))
 }
 
-/// The second look: it decides on the very word that was noted, and where the words were seen also on
-/// one of the same stamp.
+/// The second look: it decides on the very word that was noted, and where the words were seen also
+/// on one of the same stamp.
 #[tactic(auto, unfolding(lock_core::specs::Steps::second_look))]
 fn second_look(entry: &Entry, doing: Doing) -> StepResult
     ensures { result ≡ second_look_of entry.now doing }

@@ -1,4 +1,5 @@
-//! Tests of [`lock_machine`], in a crate of their own: the gate proves a crate that has tests twice.
+//! Tests of [`lock_machine`], in a crate of their own: the gate proves a crate that has tests
+//! twice.
 #![tactic(auto)]
 
 #[cfg(test)]

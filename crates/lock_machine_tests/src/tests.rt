@@ -151,8 +151,8 @@ fn a_look_before_the_lock_gives_no_receipt(rt: HostRuntime) -> Result<(), Fail> 
     Ok(())
 }
 
-/// C is cleared while a store marks between lock and shut: the receipt of the clearing has the bit, and
-/// R stays.
+/// C is cleared while a store marks between lock and shut: the receipt of the clearing has the bit,
+/// and R stays.
 #[test]
 fn a_bit_raised_between_lock_and_shut_is_told(rt: HostRuntime) -> Result<(), Fail> {
     let mut core = machine(rt.alloc())?;
@@ -178,8 +178,8 @@ fn a_bit_raised_between_lock_and_shut_is_told(rt: HostRuntime) -> Result<(), Fai
     Ok(())
 }
 
-/// A removal and a new entry with the same words between look and mark: the stamp is another one, and
-/// the access makes no receipt.
+/// A removal and a new entry with the same words between look and mark: the stamp is another one,
+/// and the access makes no receipt.
 #[test]
 fn another_entry_at_the_mark(rt: HostRuntime) -> Result<(), Fail> {
     let mut core = machine(rt.alloc())?;
@@ -216,8 +216,8 @@ fn another_entry_at_the_mark(rt: HostRuntime) -> Result<(), Fail> {
     Ok(())
 }
 
-/// Two readers and a writer: the readers' words are those of before, the second lock finds the entry
-/// taken, and a join brings the receipts of the other actor behind those that are there.
+/// Two readers and a writer: the readers' words are those of before, the second lock finds the
+/// entry taken, and a join brings the receipts of the other actor behind those that are there.
 #[test]
 fn two_readers_and_a_writer(rt: HostRuntime) -> Result<(), Fail> {
     let mut core = machine(rt.alloc())?;

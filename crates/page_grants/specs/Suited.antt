@@ -9,7 +9,8 @@ use Rattle.frame_grants.specs.declared.grant.Kind.{Kind}
 use Rattle.frame_grants.specs.declared.grant.Kind.TheVariants.{Ram, Io}
 use Rattle.frame_grants.specs.Grants.{machine_range}
 
--- The storage control bits W, I, M and G that suit what is granted. Main storage takes M alone, or W, I and M, which is strong access ordering; a device's registers take I, with G or without it.
+-- The storage control bits W, I, M and G that suit what is granted. Main storage takes M alone, or
+-- W, I and M, which is strong access ordering; a device's registers take I, with G or without it.
 abbrev pub suits_kind : ℕ → Kind → Bool
 suits_kind wimg Ram = (wimg == 0x2) || (wimg == 0xE)
 suits_kind wimg Io = (wimg == 0x4) || (wimg == 0x5)
@@ -32,6 +33,7 @@ abbrev pub suited_words : List Grant → Option (ℕ × ℕ) → Option (ℕ × 
 suited_words grants None = None
 suited_words grants (Some w) = if suits_grants grants w.0 w.1 then Some w else None
 
--- The doublewords that H_ENTER stores for those of a guest. There are none where these can't be stored, or where no single grant holds the page that they map with these storage control bits.
+-- The doublewords that H_ENTER stores for those of a guest. There are none where these can't be
+-- stored, or where no single grant holds the page that they map with these storage control bits.
 abbrev pub entered_words : List Grant → ℕ → ℕ → Option (ℕ × ℕ)
 entered_words grants pteh ptel = suited_words grants (normal_words pteh ptel)

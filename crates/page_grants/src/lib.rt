@@ -1,5 +1,5 @@
-//! Which pages a guest may map: those that one grant holds whole, with storage control bits that suit
-//! what lies there.
+//! Which pages a guest may map: those that one grant holds whole, with storage control bits that
+//! suit what lies there.
 #![tactic(auto)]
 
 mod granted;

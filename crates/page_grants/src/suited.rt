@@ -42,8 +42,8 @@ pub fn suits_grants<G: GrantedMemory>(grants: &G, dword0: u64, dword1: u64) -> b
 }
 
 /// The doublewords that H_ENTER stores for those of a guest. `None` where these can't be stored, or
-/// where no single grant holds the whole page that they map with these storage control bits. Of what
-/// it stores H_ENTER stores the same.
+/// where no single grant holds the whole page that they map with these storage control bits. Of
+/// what it stores H_ENTER stores the same.
 pub fn entered_words<G: GrantedMemory>(grants: &G, pteh: u64, ptel: u64) -> Option<(u64, u64)>
     ensures value { result ≡ suited.entered_words (G.grants grants.now) pteh ptel }
     ensures again { IfSome result (λ w. normal_words w.0 w.1 ≡ Some w) }

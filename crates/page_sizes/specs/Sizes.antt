@@ -3,7 +3,8 @@ use Rattle.std.specs.Prelude.{if◌then◌else◌, ℕ, ◌/◌, ◌%◌, ◌^�
 use Rattle.std.specs.Option.{option_map}
 use Rattle.page_sizes.specs.declared.size.PageSize.{PageSize}
 
--- One row: the base and the actual page size, as binary logarithms, and the low part of the real page number that encodes them.
+-- One row: the base and the actual page size, as binary logarithms, and the low part of the real
+-- page number that encodes them.
 pub record Row : Type 0 where
   pub base : ℕ
   pub actual : ℕ
@@ -13,7 +14,8 @@ pub record Row : Type 0 where
 abbrev pub row_of : ℕ → ℕ → ℕ → Row
 row_of base actual low = record { base = base; actual = actual; low = low }
 
--- The rows of an actual page larger than 4 KB: 64 KB, 16 MB and 16 GB with a base page as large, then 4 KB in 64 KB, 4 KB in 16 MB and 64 KB in 16 MB.
+-- The rows of an actual page larger than 4 KB: 64 KB, 16 MB and 16 GB with a base page as large,
+-- then 4 KB in 64 KB, 4 KB in 16 MB and 64 KB in 16 MB.
 abbrev pub large_rows : List Row
 large_rows =
     row_of 16 16 1

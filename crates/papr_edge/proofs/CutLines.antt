@@ -16,7 +16,8 @@ use Rattle.papr_edge.specs.Inputs.{is_replies_line, cut_lines}
 abbrev pub behind : List ℕ → List ℕ × List ℕ → List ℕ × List ℕ
 behind front parts = (front ++ parts.0, parts.1)
 
--- The first lines were looked at, and none of them is the one that is looked for; the rest begins behind these bytes.
+-- The first lines were looked at, and none of them is the one that is looked for; the rest begins
+-- behind these bytes.
 pub record IsCutTo (bytes : List ℕ) (start : ℕ) (left : Option (Bor (List ℕ))) : Type 0 where
   pub cut :
       cut_lines (slice_split is_lf bytes)

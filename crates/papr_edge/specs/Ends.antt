@@ -97,7 +97,8 @@ EndsReading reads says run WriteFault = Stops reads says run
 EndsReading reads says run Memory = Writes run []
 EndsReading reads says run Usage = ⊥
 
--- The same; but for an input that is taken too the status may be Refused, and then a text that may be written with it was.
+-- The same; but for an input that is taken too the status may be Refused, and then a text that may
+-- be written with it was.
 abbrev pub EndsAnswered :
     {A : Type 0}
     → (List ℕ → Result A (ℕ × Reason))

@@ -22,7 +22,8 @@ Finishes status text taken taken_after faults faults_after result =
 abbrev pub WritesNothing : Status → Option (List ℕ) → Option (List ℕ) → Status → Type 0
 WritesNothing status taken taken_after result = (result ≡ status) × Put taken [] taken_after
 
--- A refused input is answered by its line, unless memory ends; a fault and want of memory are answered by nothing.
+-- A refused input is answered by its line, unless memory ends; a fault and want of memory are
+-- answered by nothing.
 abbrev pub EndsRefused :
     NoInput → Option (List ℕ) → Option (List ℕ) → ℕ → ℕ → Status → Type 0
 EndsRefused (missing.Refused line reason) taken taken_after faults faults_after result =

@@ -43,7 +43,8 @@ pub record JudgedInput : Type 0 where
 abbrev pub is_replies_line : List ℕ → Bool
 is_replies_line line = bytes_eq (without_cr line) (codes "replies")
 
--- The lines before the first such line, each with its LF, and what stands behind it; none where there is no such line.
+-- The lines before the first such line, each with its LF, and what stands behind it; none where
+-- there is no such line.
 abbrev pub cut_lines : List (List ℕ) → Option (List ℕ × List ℕ)
 cut_lines [] = None
 cut_lines (line ∷ rest) =
@@ -66,7 +67,8 @@ abbrev pub judged_parts : ℕ → Option (List ℕ × List ℕ) → Result Judge
 judged_parts lines None = Err (lines + 1, reasons.NoReplies)
 judged_parts lines (Some parts) = with_text parts.1 (trace_input parts.0)
 
--- The trace and the text that an input is, or its first refused line and the reason. More bytes than may be are refused before all else.
+-- The trace and the text that an input is, or its first refused line and the reason. More bytes
+-- than may be are refused before all else.
 unfoldable pub judged_input : List ℕ → Result JudgedInput (ℕ × Reason)
 judged_input bytes =
     if nat_lt most_bytes (length bytes)

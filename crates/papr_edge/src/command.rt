@@ -17,10 +17,11 @@ pub enum Command {
     Par,
     /// Judges whether the text behind a trace is that of a good run of it.
     Check,
-    /// Runs the set of partitions that is read, whose tables share one pool, one line after the other.
+    /// Runs the set of partitions that is read, whose tables share one pool, one line after the
+    /// other.
     Set,
-    /// Runs the trace that is read, one line after the other, and writes the table at its end, in this
-    /// layout.
+    /// Runs the trace that is read, one line after the other, and writes the table at its end, in
+    /// this layout.
     Image(Layout),
     /// Runs a generated trace: its seed, and how many lines are drawn, at most 100,000.
     Drill { seed: u64, lines: u32 },

@@ -1,5 +1,5 @@
-//! The edge of the program `papr`: what its words ask for, how its input is read and cut, how a text is
-//! written and an input refused, and the statuses.
+//! The edge of the program `papr`: what its words ask for, how its input is read and cut, how a
+//! text is written and an input refused, and the statuses.
 #![tactic(auto)]
 
 mod answer;

@@ -11,7 +11,8 @@ pub record TableState : Type 0 where
   pub states : List State
   pub order : ℕ
 
--- These receipts were made one after the other on the states, by each entry's own reply, and no other entry changed.
+-- These receipts were made one after the other on the states, by each entry's own reply, and no
+-- other entry changed.
 pub record IsMade (old new : TableState) (receipts : List Receipt) : Type 0 where
   pub run : IsRun old.states receipts new.states
   pub order : new.order ≡ old.order

@@ -1,8 +1,8 @@
 //! Takes and gives blocks of a pool, to be timed by `bench/pool`.
 //!
-//! With no words it makes a few calls at pools of order 22. With the words ORDER, STATE, LARGEST and
-//! CALLS it makes so many pairs of a take and a give at one pool, of blocks up to the order LARGEST. It
-//! writes how many places it was given, and their sum.
+//! With no words it makes a few calls at pools of order 22. With the words ORDER, STATE, LARGEST
+//! and CALLS it makes so many pairs of a take and a give at one pool, of blocks up to the order
+//! LARGEST. It writes how many places it was given, and their sum.
 #![tactic(auto)]
 
 mod state;

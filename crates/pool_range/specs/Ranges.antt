@@ -14,7 +14,8 @@ pub record IsPoolRange (base order : ℕ) : Type 0 where
   pub aligned : base % 2 ^ order ≡ 0
   pub to_end : base + 2 ^ order ≤ address_end
 
--- What is wrong with two numbers: the tests are tried in this order, and the first that fails says why.
+-- What is wrong with two numbers: the tests are tried in this order, and the first that fails says
+-- why.
 unfoldable pub range_refusal : ℕ → ℕ → Option RangeError
 range_refusal base order =
     if nat_lt order 18 || nat_lt 34 order then Some Order

@@ -1,7 +1,7 @@
 //! The range of machine memory that is kept for page tables: which numbers can be one, tested once.
 //!
-//! LoPAR leaves to the hypervisor where a partition's page table lies. Here tables are blocks of one
-//! range, whose size is a power of two and which begins at a multiple of its size.
+//! LoPAR leaves to the hypervisor where a partition's page table lies. Here tables are blocks of
+//! one range, whose size is a power of two and which begins at a multiple of its size.
 #![tactic(auto)]
 
 mod range;

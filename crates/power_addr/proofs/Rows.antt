@@ -11,7 +11,8 @@ small_tag : tag_of (virtual_page false 1 12 5) ≡ 0x1000
 unfolding tag_of
 small_tag = refl
 
--- Page 5 of 16 GB in the 1 TB segment 0x12345: the offset is 5 * 2 ^ 34 = 0x1400000000, in ten hexadecimal digits behind the segment's number.
+-- Page 5 of 16 GB in the 1 TB segment 0x12345: the offset is 5 * 2 ^ 34 = 0x1400000000, in ten
+-- hexadecimal digits behind the segment's number.
 huge_address : virtual_address (virtual_page true 0x12345 34 5) ≡ 0x123451400000000
 huge_address = refl
 
@@ -20,7 +21,8 @@ huge_tag : tag_of (virtual_page true 0x12345 34 5) ≡ 0x4000012345140000
 unfolding tag_of
 huge_tag = refl
 
--- The last page of each kind of segment is a page, and the next is none; 16 GB fit no segment of 256 MB.
+-- The last page of each kind of segment is a page, and the next is none; 16 GB fit no segment of
+-- 256 MB.
 last_small : is_page (virtual_page false (2 ^ 50 - 1) 12 0xFFFF) ≡ true
 last_small = refl
 
@@ -36,7 +38,8 @@ past_huge = refl
 no_huge : is_page (virtual_page false 0 34 0) ≡ false
 no_huge = refl
 
--- The effective address 0x1234567890 lies 0x4567890 deep in its 256 MB segment, in page 0x4567 of 4 KB, 0x456 of 64 KB, and 4 of 16 MB.
+-- The effective address 0x1234567890 lies 0x4567890 deep in its 256 MB segment, in page 0x4567 of 4
+-- KB, 0x456 of 64 KB, and 4 of 16 MB.
 at_4k : page_at_address false 9 12 0x1234567890 ≡ virtual_page false 9 12 0x4567
 at_4k = refl
 

@@ -1,10 +1,12 @@
 -- Pages of the virtual address space: which there are, where they lie, and their tags.
--- Power ISA 2.07 Book III-S, storage addressing: a virtual address has 78 bits, the segment's number (VSID) and then the offset in the segment.
+-- Power ISA 2.07 Book III-S, storage addressing: a virtual address has 78 bits, the segment's
+-- number (VSID) and then the offset in the segment.
 use Rattle.std.specs.Prelude.{ℕ, ◌+◌, ◌-◌, ◌*◌, ◌/◌, ◌%◌, ◌^◌, ◌<◌, ◌==◌, ◌&&◌, nat_lt, Bool, true, false, if◌then◌else◌, IsTrue, List, [], ◌∷◌, Option, Some, None, bit_and}
 use Rattle.std.specs.List.{list_any}
 use Rattle.basics.specs.Words.{bool_eq}
 
--- A page: whether its segment is one of 1 TB (else one of 256 MB), the segment's number, the binary logarithm of the page's size, and the number of pages before it in the segment.
+-- A page: whether its segment is one of 1 TB (else one of 256 MB), the segment's number, the binary
+-- logarithm of the page's size, and the number of pages before it in the segment.
 pub record VirtualPage : Type 0 where
   pub one_tb : Bool
   pub vsid : ℕ
@@ -90,7 +92,8 @@ abbrev pub segment_code_of : Bool → ℕ
 segment_code_of false = 0
 segment_code_of true = 1
 
--- The tag of the page's entries, as in doubleword 0: B in the top two bits, and the abbreviated virtual page number, which holds the address bits from weight 2 ^ 23 up.
+-- The tag of the page's entries, as in doubleword 0: B in the top two bits, and the abbreviated
+-- virtual page number, which holds the address bits from weight 2 ^ 23 up.
 unfoldable pub tag_of : VirtualPage → ℕ
 tag_of p =
     segment_code_of p.one_tb * 2 ^ 62 + bit_and (virtual_address p / 2 ^ 16) 0x3FFFFFFFFFFFFF80

@@ -35,7 +35,8 @@ any = record { avpn = None; andcond = None }
 reached : ℕ → Op
 reached tag = ops.Access tag 12 false false Store no_masks
 
--- Each answer, with the entry in hexadecimal digits, the stamp in decimal ones, and R as 2 and C as 1.
+-- Each answer, with the entry in hexadecimal digits, the stamp in decimal ones, and R as 2 and C as
+-- 1.
 each_answer :
     receipts_text
     (receipt_of 0 (empty_state 7) (ops.Enter 0x1001 0x3013)

@@ -95,9 +95,9 @@ fn spelt_marks(text: &[u8]) -> Option<Marks>
 /// has none.
 ///
 /// `None` where what stands there isn't 1 to 16 marks, each behind a space and spelt
-/// `ENTRY.STAMP.BITS.ANSWER`: the entry's index as `0x` and lower-case hexadecimal digits, its stamp
-/// in decimal ones, both below 2^32 and without leading zeros; `0` to `3` for R and C; the answer's
-/// word.
+/// `ENTRY.STAMP.BITS.ANSWER`: the entry's index as `0x` and lower-case hexadecimal digits, its
+/// stamp in decimal ones, both below 2^32 and without leading zeros; `0` to `3` for R and C; the
+/// answer's word.
 pub fn marks_of(line: &[u8]) -> Option<Marks>
     ensures some { IfSome result (λ ms. HasMarks line.now ms) }
     ensures none { IfNone result ((ms : List Mark) → HasMarks line.now ms → ⊥) }

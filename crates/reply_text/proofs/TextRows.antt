@@ -197,7 +197,8 @@ unfolding digits device_lines device_made text_from head_text
 devices_told = refl
 
 -- ---- the summary
--- Of no replies, of four, and of those above. A hit that is denied is a hit; an access that is ungranted is an access alone.
+-- Of no replies, of four, and of those above. A hit that is denied is a hit; an access that is
+-- ungranted is an access alone.
 of_none :
     summary_text 0 [] []
     ≡ codes

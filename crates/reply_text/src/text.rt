@@ -293,9 +293,9 @@ fn put_size(out: &mut String, shown: &Shown, count: usize) -> Result<(), AllocEr
     out.push_str("\n")
 }
 
-/// Appends the first line of a dump: the line's number, and the table's number, order and place, and
-/// how many entries it has. Where memory ends, the text that was there stands, with perhaps a part of
-/// the line behind it.
+/// Appends the first line of a dump: the line's number, and the table's number, order and place,
+/// and how many entries it has. Where memory ends, the text that was there stands, with perhaps a
+/// part of the line behind it.
 pub fn put_table(out: &mut String, line: u32, shown: &Shown) -> Result<(), AllocError>
     ensures text { OnOk
         result

@@ -5,7 +5,8 @@ use Rattle.slb_model.specs.declared.slot.Slot.{Slot}
 use Rattle.slb_model.specs.Slots.{covers}
 use Rattle.slb_model.specs.Buffer.{valid_slots}
 
--- Slot number `place` is valid, has this content and covers the address; no valid slot below it does.
+-- Slot number `place` is valid, has this content and covers the address; no valid slot below it
+-- does.
 pub record IsLowest (slots : List (Option Slot)) (ea place : ℕ) (slot : Slot) : Type 0 where
   pub inside : place < length slots
   pub content : get_or slots place None ≡ Some slot

@@ -1,4 +1,5 @@
--- The segment lookaside buffer: 32 slots, what an slbmte makes of them, and the segment of an address.
+-- The segment lookaside buffer: 32 slots, what an slbmte makes of them, and the segment of an
+-- address.
 use Rattle.std.specs.Prelude.{◌≡◌, ℕ, if◌then◌else◌, List, length, filter_map, find, slice_set, replicate, All, IfSome, Option, None, option_and_then}
 use Rattle.slb_model.specs.declared.segment.Segment.{Segment}
 use Rattle.slb_model.specs.declared.slot.Slot.{Slot}

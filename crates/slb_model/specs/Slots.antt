@@ -1,4 +1,5 @@
--- One slot of the segment lookaside buffer: what the words of an slbmte describe, and the segment of an address in it.
+-- One slot of the segment lookaside buffer: what the words of an slbmte describe, and the segment
+-- of an address in it.
 use Rattle.std.specs.Prelude.{ℕ, ◌/◌, ◌%◌, ◌^◌, ◌<◌, ◌==◌, Bool, false, if◌then◌else◌, bit_and, IsTrue, List, [], ◌∷◌, Option, option_map, find}
 use Rattle.std.specs.Option.{option_map_or}
 use Rattle.power_addr.specs.Pages.{VirtualPage, is_vsid, is_base_shift, page_of_address}

@@ -23,7 +23,8 @@ const BASE_PAGE: u64 = 0x130;
 /// A valid slot.
 #[derive(Clone, Copy)]
 pub struct Slot {
-    /// The upper 36 bits of the effective addresses in the segment; of a 1 TB segment the upper 24 count.
+    /// The upper 36 bits of the effective addresses in the segment; of a 1 TB segment the upper 24
+    /// count.
     pub esid: u64,
     /// B: whether the segment has 1 TB; else it has 256 MB.
     pub one_tb: bool,

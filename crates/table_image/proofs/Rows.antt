@@ -31,7 +31,8 @@ new_digits_full :
 unfolding entry_digits hex_on_literals
 new_digits_full = refl
 
--- The lowest and the highest of the ten bits that the newer layout has no place for; the two of doubleword 1 where it puts B.
+-- The lowest and the highest of the ten bits that the newer layout has no place for; the two of
+-- doubleword 1 where it puts B.
 past_low : entry_digits New (0x0010000000001001, 0x3012) ≡ None
 unfolding entry_digits
 past_low = refl
@@ -94,7 +95,8 @@ new_with_cleared : entry_words New (codes "00000000000010014000000000003012") �
 unfolding entry_words hex_on_literals
 new_with_cleared = refl
 
--- Doubleword 0 has the lowest and the highest of the twelve bits that the newer layout leaves out; the older one has them.
+-- Doubleword 0 has the lowest and the highest of the twelve bits that the newer layout leaves out;
+-- the older one has them.
 new_past_low : entry_words New (codes "00100000000010010000000000003012") ≡ None
 unfolding entry_words hex_on_literals
 new_past_low = refl

@@ -1,4 +1,5 @@
--- The image of a table: a line with its order and how many entries follow, then a line for each entry.
+-- The image of a table: a line with its order and how many entries follow, then a line for each
+-- entry.
 use Rattle.std.specs.Prelude.{◌≡◌, ℕ, ◌^◌, ◌<◌, ⊤, bit_and, Bool, List, [], ◌++◌, length, find, codes, Option, Some, None, is_none, unwrap_or, Result, Ok, Err}
 use Rattle.std.specs.List.{flat_map}
 use Rattle.std.specs.Fmt.{decimal}
@@ -49,7 +50,8 @@ abbrev pub text_unless : Option ImageEntry → List ℕ → Result (List ℕ) �
 text_unless None text = Ok text
 text_unless (Some e) text = Err e.index
 
--- The image of a table of 2 ^ order bytes with these valid entries; or the index of the first that the layout can't hold.
+-- The image of a table of 2 ^ order bytes with these valid entries; or the index of the first that
+-- the layout can't hold.
 unfoldable pub image_of : Layout → ℕ → List ImageEntry → Result (List ℕ) ℕ
 image_of layout order entries =
     text_unless
@@ -62,7 +64,8 @@ TellsOf (errors.Layout index) image = image ≡ Err index
 TellsOf errors.Memory image = ⊤
 
 -- ---- the law
--- What a layout holds is read back: the digits of doublewords without the bit that H_ENTER clears spell these doublewords.
+-- What a layout holds is read back: the digits of doublewords without the bit that H_ENTER clears
+-- spell these doublewords.
 pub record IsReadBack : Type 0 where
   pub words :
       (layout : Layout) (dword0 dword1 : ℕ) (digits : List ℕ)

@@ -9,7 +9,8 @@ use Rattle.table_image.specs.declared.layout.Layout.{Layout}
 use Rattle.table_image.specs.declared.layout.Layout.TheVariants.{Old, New}
 
 -- ---- digits
--- Two doublewords as digits: each as eight bytes, the most significant first, in lower-case hexadecimal.
+-- Two doublewords as digits: each as eight bytes, the most significant first, in lower-case
+-- hexadecimal.
 abbrev pub digits_of_words : ℕ × ℕ → List ℕ
 digits_of_words w = encode_lower (big_bytes 8 w.0 ++ big_bytes 8 w.1)
 
@@ -17,7 +18,8 @@ digits_of_words w = encode_lower (big_bytes 8 w.0 ++ big_bytes 8 w.1)
 abbrev pub words_of_bytes : List ℕ → ℕ × ℕ
 words_of_bytes bytes = (big_number 8 bytes, big_number 8 (drop 8 bytes))
 
--- The doublewords that 32 digits of either case spell: none where there are more or fewer, or one is no digit.
+-- The doublewords that 32 digits of either case spell: none where there are more or fewer, or one
+-- is no digit.
 abbrev pub words_of_digits : List ℕ → Option (ℕ × ℕ)
 words_of_digits digits = option_map words_of_bytes (result_ok (decode_sized digits 16))
 
@@ -30,11 +32,13 @@ unheld = 0x3FF0000000000000
 abbrev pub segment_place : ℕ
 segment_place = 0x0C00000000000000
 
--- The newer layout can hold the entry: the ten bits are clear, and so are those of doubleword 1 where it puts B.
+-- The newer layout can hold the entry: the ten bits are clear, and so are those of doubleword 1
+-- where it puts B.
 abbrev pub fits_new : ℕ × ℕ → Bool
 fits_new w = (bit_and w.0 unheld == 0) && (bit_and w.1 segment_place == 0)
 
--- The newer layout's doublewords of an entry that it can hold: B stands in the second, and the first has 52 bits.
+-- The newer layout's doublewords of an entry that it can hold: B stands in the second, and the
+-- first has 52 bits.
 abbrev pub new_words : ℕ × ℕ → ℕ × ℕ
 new_words w = (w.0 % 2 ^ 52, w.1 + segment_code w.0 * 2 ^ 58)
 
@@ -56,7 +60,8 @@ cleared_bit = 0x4000000000000000
 abbrev pub left_out : ℕ
 left_out = 0xFFF0000000000000
 
--- The older layout's doublewords of those that were read in this layout: none where the bit is set that H_ENTER clears, or, in the newer layout, one of the twelve that it leaves out.
+-- The older layout's doublewords of those that were read in this layout: none where the bit is set
+-- that H_ENTER clears, or, in the newer layout, one of the twelve that it leaves out.
 abbrev pub read_words : Layout → ℕ × ℕ → Option (ℕ × ℕ)
 read_words Old w = if bit_and w.1 cleared_bit == 0 then Some w else None
 read_words New w =

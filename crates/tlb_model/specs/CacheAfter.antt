@@ -15,7 +15,8 @@ use Rattle.entry_model.specs.Receipt.{found_of}
 use Rattle.entry_model.specs.CachedLines.{line_of}
 
 -- ---- the line that a walk gives
--- The line that a walk of the page gives the cache: that of the entry found, where the walk ended At.
+-- The line that a walk of the page gives the cache: that of the entry found, where the walk ended
+-- At.
 abbrev pub kept_line : VirtualPage → Outcome → Option Receipt → Option Line
 kept_line page (At address) (Some r) = Some (line_of page r)
 kept_line page other found = None

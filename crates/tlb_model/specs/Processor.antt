@@ -1,4 +1,5 @@
--- What a processor keeps from one line of a trace to the next: its segments, its authority masks, and its cached translations.
+-- What a processor keeps from one line of a trace to the next: its segments, its authority masks,
+-- and its cached translations.
 use Rattle.std.specs.Prelude.{List, Option}
 use Rattle.slb_model.specs.declared.slot.Slot.{Slot}
 use Rattle.slb_model.specs.Buffer.{no_slots}
@@ -7,7 +8,8 @@ use Rattle.tlb_model.specs.Cache.{empty_cache}
 use Rattle.authority_mask.specs.declared.masks.Masks.{Masks}
 use Rattle.authority_mask.specs.Authority.{no_masks}
 
--- The 32 slots of its segment lookaside buffer, its masks, and the sets of its cache of translations.
+-- The 32 slots of its segment lookaside buffer, its masks, and the sets of its cache of
+-- translations.
 pub record Processor : Type 0 where
   pub slots : List (Option Slot)
   pub masks : Masks

@@ -1,4 +1,5 @@
--- The sets of a processor's cache of translations: what holds of them at all times, and what changes one of them.
+-- The sets of a processor's cache of translations: what holds of them at all times, and what
+-- changes one of them.
 use Rattle.std.specs.Prelude.{◌≡◌, ℕ, ◌≤◌, List, [], ◌∷◌, length, false, slice_index_or, slice_set}
 use Rattle.power_addr.specs.Pages.{VirtualPage}
 use Rattle.entry_model.specs.declared.line.Line.{Line}

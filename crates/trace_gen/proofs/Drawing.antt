@@ -14,7 +14,8 @@ use Rattle.trace_gen.specs.Generated.{line_of, segment_line, segment_lines, line
 abbrev pub stream_at : List ℕ → Stream
 stream_at state = stream_of (steps_u64_high plus_plus) state
 
--- After some lines were drawn the generator answers as one in some state does, and with the lines that this one would give the list is the whole.
+-- After some lines were drawn the generator answers as one in some state does, and with the lines
+-- that this one would give the list is the whole.
 pub record IsDrawn (rng : List ℕ) (items : List TraceLine) (number left : ℕ)
     (whole : List TraceLine) :
     Type 0 where

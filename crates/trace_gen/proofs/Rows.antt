@@ -1,4 +1,5 @@
--- Worked values, which the checker computes. Those of the generator were drawn by a program in another language.
+-- Worked values, which the checker computes. Those of the generator were drawn by a program in
+-- another language.
 use Rattle.std.proofs.Common.{◌≡◌, true, false, [], ◌∷◌, length, refl}
 use Rattle.rand_core.specs.Stream.{fill_bytes}
 use Rattle.rand_core.specs.Steps.{first_words, word_bytes, stream_of, u32_at}

@@ -66,7 +66,8 @@ entry_of word = group_start word + slot_of word
 abbrev pub named_call : Hcall → List ℕ → Act
 named_call hcall args = acts.Call (hcall_number hcall) (args ++ replicate (8 - length args) 0) true
 
--- What a line of each kind asks for. An H_ENTER lets the page be read and written, M set and R and C clear; an H_PROTECT lets it be read alone.
+-- What a line of each kind asks for. An H_ENTER lets the page be read and written, M set and R and
+-- C clear; an H_PROTECT lets it be read alone.
 abbrev pub acts_of_word : ℕ → List Act
 acts_of_word word =
     named_call Enter (0 ∷ group_start word ∷ 0x1001 ∷ (frame_of word * 4096 + 0x12) ∷ [])

@@ -8,7 +8,8 @@ abbrev pub fails_next : List ℕ → ℕ → Bool
 fails_next fails calls = list_any (λ call. call == counted calls) fails
 
 -- ---- the source
--- The bytes left, how many a call gives at most, the numbers of the calls that fail, and the counts of calls and of faults.
+-- The bytes left, how many a call gives at most, the numbers of the calls that fail, and the counts
+-- of calls and of faults.
 pub record SourceState : Type 0 where
   pub left : List ℕ
   pub piece : ℕ
@@ -45,8 +46,8 @@ after_read source (Some n) = record source {
 }
 
 -- ---- the sink
--- The bytes kept, whether they are all that were taken, how many are kept at most, how many a call takes at most,
--- the numbers of the calls that fail, and the counts of calls and of faults.
+-- The bytes kept, whether they are all that were taken, how many are kept at most, how many a call
+-- takes at most, the numbers of the calls that fail, and the counts of calls and of faults.
 pub record SinkState : Type 0 where
   pub kept : List ℕ
   pub whole : Bool
@@ -77,7 +78,8 @@ abbrev pub write_count : SinkState → ℕ → Option ℕ
 write_count sink size =
     if fails_next sink.fails sink.calls then None else Some (min sink.piece size)
 
--- The sink after a write that took this many bytes of a piece, or failed. What passes the room is dropped.
+-- The sink after a write that took this many bytes of a piece, or failed. What passes the room is
+-- dropped.
 abbrev pub after_write : SinkState → List ℕ → Option ℕ → SinkState
 after_write sink piece None = record sink {
   calls = counted sink.calls;

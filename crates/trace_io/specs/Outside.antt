@@ -1,14 +1,16 @@
 -- Bytes that go in and out, where an object tells them, and the count of its faults.
 use Rattle.std.specs.Prelude.{◌≡◌, ℕ, ◌+◌, ◌<◌, ◌≤◌, ◌^◌, ◌-◌, min, ◌⊎◌, List, [], ◌++◌, length, Option, Some, None}
 
--- These bytes were taken, the first of those that were left. An object tells what is left always or never.
+-- These bytes were taken, the first of those that were left. An object tells what is left always or
+-- never.
 abbrev pub Took : Option (List ℕ) → List ℕ → Option (List ℕ) → Type 0
 Took None bytes None = Unit {0}
 Took None bytes (Some new) = ⊥
 Took (Some old) bytes None = ⊥
 Took (Some old) bytes (Some new) = old ≡ bytes ++ new
 
--- These bytes were put behind those that were there. An object may stop telling what it took, and never begins to.
+-- These bytes were put behind those that were there. An object may stop telling what it took, and
+-- never begins to.
 abbrev pub Put : Option (List ℕ) → List ℕ → Option (List ℕ) → Type 0
 Put old bytes None = Unit {0}
 Put None bytes (Some new) = ⊥

@@ -45,7 +45,8 @@ abbrev pub IsSpelt : Act → Type 0
 IsSpelt (acts.Call number args spelt) = spelt ≡ true → IsTrue (is_named (hcall_of number))
 IsSpelt other = Unit {0}
 
--- Each line has one of the processors; there are at most 2 ^ 17 lines, of these at most 256 quiet ones, and of these at most 16 dumps.
+-- Each line has one of the processors; there are at most 2 ^ 17 lines, of these at most 256 quiet
+-- ones, and of these at most 16 dumps.
 pub record IsTrace (cpus : ℕ) (lines : List TraceLine) : Type 0 where
   pub on_cpus : AllByRecursion (λ (l : TraceLine). l.cpu < cpus) lines
   pub spelt : AllByRecursion (λ (l : TraceLine). IsSpelt l.act) lines

@@ -46,8 +46,8 @@ pub enum Act {
 impl Act {
     ghost use Rattle.trace_line.specs.Lines.{is_quiet, is_dump, bus_of};
 
-    /// Whether no call of a processor runs at this line: the resize calls, by name or by number, and
-    /// dumps.
+    /// Whether no call of a processor runs at this line: the resize calls, by name or by number,
+    /// and dumps.
     #[tactic(auto, unfolding(crate::specs::Lines::is_quiet))]
     pub fn is_quiet(&self) -> bool
         ensures { result ≡ is_quiet self.now }
@@ -67,8 +67,8 @@ impl Act {
     {
         matches!(self, Act::Dump)
     }
-    /// The number of the DMA window that the line names: that of a TCE call, by name or by number, or of
-    /// a device's access. `None` for any other line.
+    /// The number of the DMA window that the line names: that of a TCE call, by name or by number,
+    /// or of a device's access. `None` for any other line.
     #[tactic(auto, unfolding(crate::specs::Lines::bus_of))]
     pub fn bus(&self) -> Option<u64>
         ensures { result ≡ bus_of self.now }

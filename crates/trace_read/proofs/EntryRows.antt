@@ -1,4 +1,5 @@
--- Lines of entries of the opening table on worked inputs: what is accepted, and each cause for which one is refused.
+-- Lines of entries of the opening table on worked inputs: what is accepted, and each cause for
+-- which one is refused.
 use Rattle.std.proofs.Common.{◌≡◌, ℕ, List, [], ◌∷◌, ◌++◌, refl, Result, Ok, Err}
 use Rattle.std.specs.Prelude.{codes, ⊤}
 use Rattle.hex.proofs.OnLiterals.{hex_on_literals}
@@ -205,7 +206,8 @@ refused_left_out_high :
 unfolding config_on_literals entry_of
 refused_left_out_high = refl
 
--- What H_ENTER refuses: B, of either layout; the page size; memory that no grant holds; the storage control bits.
+-- What H_ENTER refuses: B, of either layout; the page size; memory that no grant holds; the storage
+-- control bits.
 refused_segment :
     trace_of (granted (codes "entry old 0x20 80000000000010010000000000003012"))
     ≡ Err (3, whys.Entry)

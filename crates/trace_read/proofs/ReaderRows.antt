@@ -1,4 +1,5 @@
--- Lines with their numbers on worked inputs: what each gives, and what is told where one is refused.
+-- Lines with their numbers on worked inputs: what each gives, and what is told where one is
+-- refused.
 use Rattle.std.proofs.Common.{◌≡◌, ℕ, [], ◌∷◌, Some, None, refl, Ok, Err}
 use Rattle.std.specs.Prelude.{codes, true, false, ⊤}
 use Rattle.frame_grants.specs.declared.grant.Grant.{Grant}

@@ -388,7 +388,8 @@ unfolding trace_of after_lines after_line after_text after_words after_form form
     is_quiet hcall_of row_of
 refused_begin_words = refl
 
--- A number without digits, one of 17 hexadecimal digits, and a processor that is none; before a wrong mode.
+-- A number without digits, one of 17 hexadecimal digits, and a processor that is none; before a
+-- wrong mode.
 refused_number : trace_of (codes "begin\n0 H_ENTER 0x0 0x20 0x1001 0x\n") ≡ Err (2, whys.Number)
 unfolding trace_of after_lines after_line after_text after_words after_form form_of form_named
     run_form verb_of call_named other_verb number_within with_order with_limit with_cpus pool_named

@@ -87,7 +87,8 @@ suits_same :
 suits_same grants None l m page control = refl
 suits_same grants (Some size) l m page control = rw (same_frame m l size.actual page, control) refl
 
--- Another second doubleword with the same page, the same storage control bits and the reserved bit clear is stored as it is too.
+-- Another second doubleword with the same page, the same storage control bits and the reserved bit
+-- clear is stored as it is too.
 pub same_stored :
     (grants : List Grant) (dword0 dword1 other : ℕ)
     → page_bits other ≡ page_bits dword1

@@ -8,7 +8,9 @@ use Rattle.frame_grants.specs.Grants.{GrantedMemory}
 use Rattle.page_grants.specs.Suited.{entered_words}
 use Rattle.table_image.specs.declared.entry.ImageEntry.{ImageEntry}
 
--- The order of the opening table, the highest order that the guest may ask for, the number of processors, the grants beside the pool of table memory, the entries that are valid in the opening table, and the windows through which devices reach memory.
+-- The order of the opening table, the highest order that the guest may ask for, the number of
+-- processors, the grants beside the pool of table memory, the entries that are valid in the opening
+-- table, and the windows through which devices reach memory.
 pub record Configuration : Type 0 where
   pub order : ℕ
   pub limit : ℕ
@@ -17,7 +19,8 @@ pub record Configuration : Type 0 where
   pub entries : List ImageEntry
   pub windows : List BusWindow
 
--- Orders are from 18 to 22, there are 1 to 64 processors, and the pool is the one that the grants stand beside.
+-- Orders are from 18 to 22, there are 1 to 64 processors, and the pool is the one that the grants
+-- stand beside.
 pub record AreSettings
     (order limit cpus pool_base pool_order : ℕ)
     (granted : GrantedMemory)
@@ -41,7 +44,8 @@ pub record IsConfigured
     pub room : order ≤ pool_order
 
 -- ---- the entries of the opening table
--- The entry may lie in the opening table: its index is one of the table's, and H_ENTER would store just these doublewords, R and C among them.
+-- The entry may lie in the opening table: its index is one of the table's, and H_ENTER would store
+-- just these doublewords, R and C among them.
 pub record IsOpeningEntry (order : ℕ) (grants : List Grant) (e : ImageEntry) : Type 0 where
   pub in_table : e.index < entry_count order
   pub stored : entered_words grants e.dword0 e.dword1 ≡ Some (e.dword0, e.dword1)

@@ -25,7 +25,8 @@ layout_named word = find (λ (layout : Layout). bytes_eq (layout_word layout) wo
 abbrev pub is_above : List ImageEntry → ℕ → Bool
 is_above entries index = list_all (λ (e : ImageEntry). nat_lt e.index index) entries
 
--- H_ENTER would store just these doublewords: what it would change of them, and what it refuses, is no entry's.
+-- H_ENTER would store just these doublewords: what it would change of them, and what it refuses, is
+-- no entry's.
 abbrev pub is_stored : List Grant → ℕ × ℕ → Bool
 is_stored grants w =
     option_map_or
@@ -33,7 +34,8 @@ is_stored grants w =
     (entered_words grants w.0 w.1)
     false
 
--- The entry that a line names: its second word names the layout, the third is the index, and the last has the digits.
+-- The entry that a line names: its second word names the layout, the third is the index, and the
+-- last has the digits.
 unfoldable pub entry_named : Configuration → List (List ℕ) → Result ImageEntry Why
 entry_named c ws = do
   counted ← guard (length ws == 4) Count

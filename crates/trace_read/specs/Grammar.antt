@@ -126,7 +126,8 @@ after_lines r (l ∷ ls) = go_on (r.taken + 1) (after_line r l) (λ s. after_lin
 abbrev pub most_bytes : ℕ
 most_bytes = 2 ^ 24
 
--- The accepted trace, or the first refused line and the reason. More bytes than may be are refused as line 0.
+-- The accepted trace, or the first refused line and the reason. More bytes than may be are refused
+-- as line 0.
 unfoldable pub trace_of : List ℕ → Result AcceptedTrace (ℕ × Why)
 trace_of bytes =
     if nat_lt most_bytes (length bytes)
@@ -134,7 +135,9 @@ trace_of bytes =
     else after_lines opening_reading (raw_lines bytes)
 
 -- ---- what holds of a reading at all times
--- Before the first line the limit is the highest. There are no entries while grants may come. Run lines come behind `begin` alone, where the pool has room for the table; they are a trace's, and no more than the lines that were read.
+-- Before the first line the limit is the highest. There are no entries while grants may come. Run
+-- lines come behind `begin` alone, where the pool has room for the table; they are a trace's, and
+-- no more than the lines that were read.
 pub record IsReading (r : Reading) : Type 0 where
   pub highest : is_first r.stage ≡ true → r.config.limit ≡ 22
   pub empty : may_have_entries r.stage ≡ false → r.config.entries ≡ []

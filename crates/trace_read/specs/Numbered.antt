@@ -14,7 +14,8 @@ AreNumbered taken (x ∷ xs) = (taken < x.0) × (x.0 ≤ 2 ^ 17) × AreNumbered 
 abbrev pub remarks : ℕ → List (List ℕ)
 remarks count = replicate count (35 ∷ [])
 
--- The lines behind the first so many: each of these at its number, and a remark at each number between.
+-- The lines behind the first so many: each of these at its number, and a remark at each number
+-- between.
 abbrev pub numbered : ℕ → List (ℕ × List ℕ) → List (List ℕ)
 numbered taken [] = []
 numbered taken (x ∷ xs) = remarks (x.0 - (taken + 1)) ++ x.1 ∷ numbered x.0 xs

@@ -14,13 +14,16 @@ use Rattle.trace_read.specs.Grammar.{Reading}
 use Rattle.trace_read.specs.Places.{is_running}
 use Rattle.trace_read.specs.Trace.{AcceptedTrace}
 
--- What there is after a line is as the line says, and so is what is handed back. A line that is refused, or for which there is no memory, leaves all as it was.
+-- What there is after a line is as the line says, and so is what is handed back. A line that is
+-- refused, or for which there is no memory, leaves all as it was.
 abbrev pub ReadsTo : {A G : Type 0} → Result A Why → G → Result G Stop → A → A → Type 0
 ReadsTo said given (Ok x) old new = (said ≡ Ok new) × (x ≡ given)
 ReadsTo said given (Err stops.Memory) old new = new ≡ old
 ReadsTo said given (Err (stops.Refused why)) old new = (said ≡ Err why) × (new ≡ old)
 
--- A line with these words is taken as it says, and gives what it should; or it is refused as it says, with the grant that goes with the reason; or there is no memory. In the last two cases the reading stays.
+-- A line with these words is taken as it says, and gives what it should; or it is refused as it
+-- says, with the grant that goes with the reason; or there is no memory. In the last two cases the
+-- reading stays.
 abbrev pub Reads :
     Result Reading Why
     → List (List ℕ)

@@ -5,7 +5,9 @@ use Rattle.trace_read.specs.Grammar.{Reading, reading_beside, after_text, after_
 use Rattle.trace_read.specs.Numbered.{AreNumbered, numbered, after_each, trace_given}
 use Rattle.trace_read.specs.TextLines.{is_printable, without_cr, words_of}
 
--- Lines that are given with their numbers are read just as the whole input that has them at these numbers, and remarks between: both give the same trace, or refuse the same line for the same reason.
+-- Lines that are given with their numbers are read just as the whole input that has them at these
+-- numbers, and remarks between: both give the same trace, or refuse the same line for the same
+-- reason.
 abbrev pub ReadsAsTheInput : Type 0
 ReadsAsTheInput =
     (pool_base pool_order : ℕ) (lines : List (ℕ × List ℕ))
@@ -13,7 +15,8 @@ ReadsAsTheInput =
     → after_lines (reading_beside pool_base pool_order) (numbered 0 lines)
     ≡ trace_given (reading_beside pool_base pool_order) lines
 
--- Where the lines so far are accepted, a further one is refused just where and as the whole input is that ends with it; and where it is accepted, the input ends as its reading does.
+-- Where the lines so far are accepted, a further one is refused just where and as the whole input
+-- is that ends with it; and where it is accepted, the input ends as its reading does.
 abbrev pub RefusesAsTheInput : Type 0
 RefusesAsTheInput =
     (pool_base pool_order : ℕ)

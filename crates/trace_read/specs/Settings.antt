@@ -11,7 +11,8 @@ use Rattle.trace_read.specs.Acts.{number_at}
 use Rattle.trace_read.specs.Configuration.{Configuration}
 use Rattle.trace_read.specs.Whys.{◌>>=◌, guard, why_of_grant}
 
--- A table of 2 ^ 18 bytes that may grow to 2 ^ 22, one processor, no grant beside this pool, no entry, and no window.
+-- A table of 2 ^ 18 bytes that may grow to 2 ^ 22, one processor, no grant beside this pool, no
+-- entry, and no window.
 abbrev pub settings_beside : ℕ → ℕ → Configuration
 settings_beside pool_base pool_order = record {
   order = 18;

@@ -10,7 +10,9 @@ pub record AcceptedTrace : Type 0 where
   pub config : Configuration
   pub lines : List TraceLine
 
--- What each accepted trace has: the configuration lines were accepted, the grants stand beside the pool, the entries may lie in the opening table, the windows differ in their numbers, and the run lines keep the limits.
+-- What each accepted trace has: the configuration lines were accepted, the grants stand beside the
+-- pool, the entries may lie in the opening table, the windows differ in their numbers, and the run
+-- lines keep the limits.
 pub record IsAccepted (t : AcceptedTrace) : Type 0 where
   pub configured :
       IsConfigured

@@ -1,4 +1,5 @@
--- The reasons for which a line is refused, and how a line is read with reasons that are tried in their order.
+-- The reasons for which a line is refused, and how a line is read with reasons that are tried in
+-- their order.
 use Rattle.std.specs.Prelude.{ℕ, Bool, true, false, List, codes, Option, Some, None, Result, Ok, Err}
 use Rattle.frame_grants.specs.declared.error.GrantError.{GrantError}
 use Rattle.frame_grants.specs.declared.error.GrantError.TheVariants as grants

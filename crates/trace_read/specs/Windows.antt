@@ -12,7 +12,8 @@ use Rattle.trace_read.specs.Whys.{◌>>=◌, guard, required}
 abbrev pub has_number : List BusWindow → ℕ → Bool
 has_number windows liobn = list_any (λ (w : BusWindow). w.liobn == liobn) windows
 
--- The window that a line names: its second word is the number, the third the base, and the last says how many pages it has.
+-- The window that a line names: its second word is the number, the third the base, and the last
+-- says how many pages it has.
 unfoldable pub window_named : Configuration → List (List ℕ) → Result BusWindow Why
 window_named c ws = do
   counted ← guard (length ws == 4) Count

@@ -4,9 +4,10 @@
 ghost use Rattle.trace_read.specs.ReaderLaws.{ReadsAsTheInput, RefusesAsTheInput, TextIsReadByWords};
 ghost use Rattle.trace_read.specs.RefusalLaws.{TablesNameAGrant, NoneIsRefusedForAPartition};
 
-/// Lines that a [`crate::TraceReader`] is given with rising numbers are read just as the whole input
-/// that has these lines at their numbers and a remark at each number between: both give the same
-/// trace, or refuse the same line for the same reason. So does a further line behind accepted ones.
+/// Lines that a [`crate::TraceReader`] is given with rising numbers are read just as the whole
+/// input that has these lines at their numbers and a remark at each number between: both give the
+/// same trace, or refuse the same line for the same reason. So does a further line behind accepted
+/// ones.
 pub fn reads_as_the_input()
     ensures whole { ReadsAsTheInput }
     ensures further { RefusesAsTheInput }

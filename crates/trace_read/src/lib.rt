@@ -1,5 +1,5 @@
-//! Traces: the configuration of a partition, and the lines that its processors run, as they are read
-//! from the bytes of an input.
+//! Traces: the configuration of a partition, and the lines that its processors run, as they are
+//! read from the bytes of an input.
 #![tactic(auto)]
 
 mod acts;

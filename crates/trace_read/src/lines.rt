@@ -6,7 +6,8 @@ ghost use Rattle.trace_read.specs.Rest.{parts_left, rest_size};
 use memchr::memchr;
 use std::alloc::AllocError;
 
-/// The lines of an input that are still to be read, if there are any: one LF at its end ends the last.
+/// The lines of an input that are still to be read, if there are any: one LF at its end ends the
+/// last.
 pub fn lines_of(bytes: &[u8]) -> Option<&[u8]>
     ensures { parts_left result ≡ raw_lines bytes.now }
 {

@@ -31,7 +31,8 @@ fn error_at(line: u32, refused: LineRefused) -> TraceError
     }
 }
 
-/// The trace that the bytes give, which keeps the limits, or the first refused line with its reason.
+/// The trace that the bytes give, which keeps the limits, or the first refused line with its
+/// reason.
 #[tactic(auto, unfolding(crate::specs::Grammar::trace_of, crate::specs::Grammar::after_lines))]
 pub fn parse(alloc: Global, bytes: &[u8]) -> Result<Trace, TraceError>
     ensures parsed { IsParsed result (trace_of bytes.now) }

@@ -29,7 +29,8 @@ use std::alloc::Global;
 use std::marker::Model;
 use trace_line::{Act, TraceLine};
 
-/// What the lines so far have given, and what may come next. A line that is refused changes nothing.
+/// What the lines so far have given, and what may come next. A line that is refused changes
+/// nothing.
 #[derive(Drop)]
 pub struct Reader {
     taken: u32,

@@ -24,8 +24,8 @@ pub const POOL_BASE: u64 = 0x10_0000_0000;
 /// The binary logarithm of the size of that range in bytes.
 pub const POOL_ORDER: u8 = 24;
 
-/// Reads the lines of a trace, each with its number. A line that is refused, or for which there is no
-/// memory, leaves the reader as it was.
+/// Reads the lines of a trace, each with its number. A line that is refused, or for which there is
+/// no memory, leaves the reader as it was.
 #[derive(Drop)]
 pub struct TraceReader<'a> {
     reader: Reader,
@@ -93,9 +93,9 @@ impl<'a> TraceReader<'a> {
         self.reader.grants()
     }
 
-    /// Takes a line, without the LF at its end; one CR there is dropped. Its number is above those of
-    /// the lines before, and at most [`MOST_LINES`]: the numbers between have no lines. Whether the
-    /// input has too many bytes is for the caller to test.
+    /// Takes a line, without the LF at its end; one CR there is dropped. Its number is above those
+    /// of the lines before, and at most [`MOST_LINES`]: the numbers between have no lines. Whether
+    /// the input has too many bytes is for the caller to test.
     #[tactic(auto, unfolding(crate::specs::Grammar::after_line))]
     pub fn line(&mut self, number: u32, line: &'a [u8]) -> Result<Given, LineRefused>
         requires next { self.old.taken < number }
@@ -120,8 +120,8 @@ impl<'a> TraceReader<'a> {
         self.reader.take(number, &self.room)
     }
 
-    /// Takes a line as [`TraceReader::line`] does, that has tabs and printable ASCII alone and is cut
-    /// into its words.
+    /// Takes a line as [`TraceReader::line`] does, that has tabs and printable ASCII alone and is
+    /// cut into its words.
     pub fn words(&mut self, number: u32, words: &[&[u8]]) -> Result<Given, LineRefused>
         requires next { self.old.taken < number }
         requires few { number ≤ 2 ^ 17 }
@@ -135,7 +135,8 @@ impl<'a> TraceReader<'a> {
         self.reader.take(number, words)
     }
 
-    /// The trace that the lines have given, or [`Why::Begin`] where the configuration has not ended.
+    /// The trace that the lines have given, or [`Why::Begin`] where the configuration has not
+    /// ended.
     pub fn end(self) -> Result<Trace, Why>
         ensures ends { Ends self.entry result }
         ensures accepted { IfOk result IsAccepted }

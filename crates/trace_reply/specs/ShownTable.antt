@@ -9,7 +9,8 @@ valid_from entry [] = []
 valid_from entry (s ∷ ss) =
     if s.valid then (entry, s) ∷ valid_from (entry + 1) ss else valid_from (entry + 1) ss
 
--- What a dump shows of the table of this number, order and place: of these states the valid ones, each with its index.
+-- What a dump shows of the table of this number, order and place: of these states the valid ones,
+-- each with its index.
 abbrev pub table_shown : ℕ → ℕ → ℕ → List State → Shown
 table_shown number order place states = record {
   number = number;

@@ -24,8 +24,8 @@ pub enum ReplyEnd {
     Dump(Shown),
 }
 
-/// A place that the replies to many lines take one after the other, so that the room for receipts is
-/// made once. Where the reply has none, what lies in `receipts` isn't part of it.
+/// A place that the replies to many lines take one after the other, so that the room for receipts
+/// is made once. Where the reply has none, what lies in `receipts` isn't part of it.
 #[derive(Drop)]
 pub struct ReplyPlace {
     /// How the reply ended, without its receipts.

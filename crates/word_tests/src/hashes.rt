@@ -43,7 +43,8 @@ fn groups_of_pages(rt: HostRuntime) -> Result<(), Fail> {
 /// An entry's index in a table of order 18 and its doublewords, and the parts of its page.
 type EntryRow = (u32, u64, u64, bool, u64, u8, u64);
 
-/// The pages of entries: a tag is the virtual address without its low 23 bits, from bit 7 on, and B.
+/// The pages of entries: a tag is the virtual address without its low 23 bits, from bit 7 on, and
+/// B.
 const ENTRIES: [EntryRow; 7] = [
     // 1 * 2^28 + 5 * 2^12 = 0x1000_5000 has the tag 0x1000; group 4
     (0x20, 0x1001, 0x3012, false, 1, 12, 5),

@@ -1,6 +1,6 @@
 //! Tests of the crates of words: [`page_sizes`], [`power_addr`], [`storage_prot`], [`papr_codes`],
-//! [`hpte_fields`], [`hpt_hash`], [`slb_model`] and [`tlb_model`]. They stand here since the gate proves a
-//! crate that has tests twice.
+//! [`hpte_fields`], [`hpt_hash`], [`slb_model`] and [`tlb_model`]. They stand here since the gate
+//! proves a crate that has tests twice.
 #![tactic(auto)]
 
 #[cfg(test)]

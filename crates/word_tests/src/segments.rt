@@ -20,7 +20,8 @@ fn words_are_refused(rt: HostRuntime) {
     assert_eq!(rt; slb.segment(0x5000), None);
 }
 
-/// The second word of an `slbmte`, an address, its page's B, VSID, shift and index, and Ks, Kp and N.
+/// The second word of an `slbmte`, an address, its page's B, VSID, shift and index, and Ks, Kp and
+/// N.
 type SegmentRow = (u64, u64, (bool, u64, u8, u64), (bool, bool, bool));
 
 const SEGMENTS: [SegmentRow; 2] = [

@@ -1,5 +1,5 @@
-//! Four actors on a table of three entries, past ten thousand receipts. Each receipt and each state is
-//! compared with what it has to be.
+//! Four actors on a table of three entries, past ten thousand receipts. Each receipt and each state
+//! is compared with what it has to be.
 
 ghost use Rattle.std.specs.Prelude.{◌≡◌, ◌<◌, length, bit_and, IfOk};
 ghost use Rattle.hpte_fields.specs.Fields.{rc_bits};
@@ -60,7 +60,8 @@ fn look(entry: u32, op: Op) -> Step {
     Step::Look { entry, op }
 }
 
-/// The state of a turn's entry before the turn: C was cleared once in each turn before on this entry.
+/// The state of a turn's entry before the turn: C was cleared once in each turn before on this
+/// entry.
 fn state_before(turn: u32) -> EntryState {
     let (dword0, dword1) = words_of(turn % 3);
     EntryState {
@@ -136,8 +137,8 @@ fn play(rt: &impl Abort, alloc: Global, core: &mut Core, turn: u32, lines: &[Lin
     }
 }
 
-/// A store, a load and a clearing of C on the turn's entry, and a reading of the next turn's, all of
-/// which are under way at once.
+/// A store, a load and a clearing of C on the turn's entry, and a reading of the next turn's, all
+/// of which are under way at once.
 fn take_turn(rt: &impl Abort, alloc: Global, core: &mut Core, turn: u32)
     requires { turn < TURNS }
     ensures entries { length core.new.entries ≡ length core.old.entries }
@@ -199,8 +200,8 @@ fn compare(rt: &impl Abort, receipts: &[Receipt]) {
     }
 }
 
-/// After the turns: a store by the actor that has all receipts, and one by its child, which knows the
-/// words and loads none.
+/// After the turns: a store by the actor that has all receipts, and one by its child, which knows
+/// the words and loads none.
 fn go_on(rt: &impl Abort, alloc: Global, core: &mut Core)
     requires { 3 < length core.old.actors }
     ensures { length core.new.actors ≡ length core.old.actors }

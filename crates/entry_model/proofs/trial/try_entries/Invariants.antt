@@ -4,7 +4,8 @@ use Rattle.entry_model.specs.Trial.{IsTrial, ending_of, goes_after, receipts_add
 use Rattle.entry_model.proofs.TrialSteps.{calls_from}
 use Rattle.entry_model.proofs.trial.try_entries.Given as goal
 
--- The receipts so far are of the entries before this one, and each answer went on: what completes the rest completes the whole.
+-- The receipts so far are of the entries before this one, and each answer went on: what completes
+-- the rest completes the whole.
 abbrev pub invariant-loop-i : goal.invariant-loop-i
 invariant-loop-i g l = record {
   behind : l.receipts ≡ l.fn.receipts ++ receipts_added l.fn.receipts l.receipts;

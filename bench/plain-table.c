@@ -9,7 +9,7 @@
 
 static bool is_table(size_t count, uint8_t order)
 {
-    return order >= 18 && order <= 22 && count == (size_t)1 << (order - 4);
+    return order >= 18 && order <= 34 && count == (size_t)1 << (order - 4);
 }
 
 static struct papr_reply answered(int64_t rc, uint32_t words, uint32_t receipts)

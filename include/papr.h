@@ -9,8 +9,8 @@
  * pointer is kept, and no call waits. In all calls
  *
  *   entries   is an array of `count` entries, the whole table. A guest's table of 2^order bytes has
- *             entries of 16 bytes, so `count` is 2^(order - 4). `order` is from 18 to 22: 256 KB to
- *             4 MB.
+ *             entries of 16 bytes, so `count` is 2^(order - 4). `order` is from 18 to 34: 256 KB to
+ *             16 GB.
  *   ptex      is the index of an entry in the table.
  *   words     is an array of `words_room` elements for the words that a call returns in register 4
  *             and the following ones: at most 8.
@@ -19,7 +19,7 @@
  *             says how many elements were filled; the others are unchanged. With a room of 0 the
  *             pointer may be NULL.
  *
- * If the order isn't from 18 to 22, or the count isn't that of the order, the answer is
+ * If the order isn't from 18 to 34, or the count isn't that of the order, the answer is
  * PAPR_H_PARAMETER, and nothing changes.
  *
  * The functions can't check these conditions, so the caller has to ensure them: one call at a time on
@@ -368,7 +368,7 @@ struct papr_rehash {
  * translates a page goes to that page's group there, at its old slot and at stamp 0. The old content
  * of `into` is lost; at PAPR_H_PTEG_FULL it is empty. In `into` each entry is marked that is valid then
  * or had another state than an empty one, and at PAPR_H_PTEG_FULL each. PAPR_H_PARAMETER: an order
- * isn't from 18 to 22, or a count isn't that of its order; nothing changes. */
+ * isn't from 18 to 34, or a count isn't that of its order; nothing changes. */
 struct papr_rehash papr_rehash(const struct papr_entry *entries, size_t count, uint8_t order,
                                struct papr_entry *into, size_t into_count, uint8_t into_order);
 
@@ -385,7 +385,7 @@ struct papr_resize {
 /* H_RESIZE_HPT_PREPARE with these flags and this shift; `limit` is the highest shift that is allowed.
  * Makes a table of 2^shift bytes ready in `into`, 16,384 entries at each call, which are empty then.
  * PAPR_H_SUCCESS if all are ready, else PAPR_H_LONG_BUSY. PAPR_H_PARAMETER: there is a flag, or the
- * shift isn't 0 nor from 18 to 46; PAPR_H_RESOURCE: it is above the limit or above 22; nothing changes
+ * shift isn't 0 nor from 18 to 46; PAPR_H_RESOURCE: it is above the limit or above 34; nothing changes
  * then. Shift 0 drops what is pending; a shift other than that of the pending table drops it and begins
  * a new one. PAPR_H_NO_MEM: `into_count` isn't 2^(shift - 4); nothing is pending then. The memory is
  * lent for this call only: lend the same at each call up to the commit. */
@@ -396,7 +396,7 @@ int64_t papr_resize_prepare(struct papr_resize *resize, uint8_t limit, uint64_t 
  * to the pending one, as papr_rehash does. At PAPR_H_SUCCESS `into` is the current table from then on,
  * and no cached translation is valid any more. At PAPR_H_PTEG_FULL the current table stays. After both
  * nothing is pending. PAPR_H_PARAMETER: there is a flag, the shift isn't from 18 to 46, the current
- * table's order isn't from 18 to 22, its count isn't 2^(order - 4), or `into_count` isn't
+ * table's order isn't from 18 to 34, its count isn't 2^(order - 4), or `into_count` isn't
  * 2^(shift - 4); PAPR_H_CLOSED: no table of that shift is pending; PAPR_H_BUSY: it isn't ready. At
  * these three nothing changes. */
 struct papr_rehash papr_resize_commit(struct papr_resize *resize, const struct papr_entry *entries,

@@ -1,7 +1,7 @@
 // The proved library's decoding of entries: `papr_decode` and `papr_rights` of include/papr.h, which the page's module has.
 
 const PAGE_BYTES = 40; // of struct papr_page
-const [LEAST_ORDER, GREATEST_ORDER] = [18, 22];
+const [LEAST_ORDER, GREATEST_ORDER] = [18, 34];
 const GROUP = 8n;
 export const REASONS = [
   "",

@@ -339,7 +339,7 @@ static int resize(void)
     IS(papr_resize_prepare(&r, 20, 1, LARGE_ORDER, into, LARGE), PAPR_H_PARAMETER);
     IS(papr_resize_prepare(&r, 20, 0, 17, into, LARGE), PAPR_H_PARAMETER);
     IS(papr_resize_prepare(&r, 20, 0, 21, into, LARGE), PAPR_H_RESOURCE);
-    IS(papr_resize_prepare(&r, 46, 0, 23, into, LARGE), PAPR_H_RESOURCE);
+    IS(papr_resize_prepare(&r, 46, 0, 35, into, LARGE), PAPR_H_RESOURCE);
     IS(papr_resize_prepare(&r, 20, 0, LARGE_ORDER, into, LARGE), PAPR_H_LONG_BUSY);
     IS(r.ready, 16384);
     IS(r.order, LARGE_ORDER);

@@ -235,6 +235,18 @@ class Marks(ToolTest):
 
 @needs("cc")
 @needs_library
+class Orders(ToolTest):
+    """A program that makes random calls on tables of the orders 18 to 34, by papr.h and by hand, and resizes some."""
+
+    def test_a_table_of_each_size_answers_as_the_calls_by_hand(self) -> None:
+        program, bench = self.folder / "orders", TOP / "bench"
+        sources = (DATA / "orders.c", bench / "plain-table.c")
+        self.assert_ran(run("cc", "-std=gnu11", *STRICT, f"-I{bench}", "-O1", "-o", program, *sources, LIBRARY))
+        self.assert_ran(run(program))
+
+
+@needs("cc")
+@needs_library
 class Sanitized(ToolTest):
     """The replayer and the program of fields with the compiler's checks of addresses and of undefined behaviour."""
 

@@ -60,7 +60,6 @@ class Applied(TreeTest):
             "papr_add_options",
             "papr_answer_call",
             "papr_answer_walk",
-            "papr_highest_order",
             "papr_make_call",
             "papr_search_begins",
             "papr_search_ends",

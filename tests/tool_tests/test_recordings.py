@@ -201,6 +201,21 @@ class Lines(RecordingTest):
         self.assert_text(self.text("replies", 2), "7 1 slbmte ok\n8 1 load at 0x2000003000 walk | 0x20.0.2.at\n")
 
 
+class Unrecorded(RecordingTest):
+    """Parts of which nothing was recorded, since no trace has such a table."""
+
+    def test_it_is_said_of_the_part_and_the_others_are_written(self) -> None:
+        enter(self.it)
+        self.it.part("unrecorded 23\n")
+        self.it.part()
+        enter(self.it)
+        counts = "1 lines, 1 sections, 1 calls, 0 walks, 0 hits, 0 segments"
+        why = "not recorded, so that it can't be judged: no trace has what was done with a table of order 23"
+        text = f"part 1: {counts}\npart 2: {why}\npart 3: {counts}\n"
+        self.assert_ran(self.convert("--unjudged"), text, status=2)
+        self.assertEqual(sorted(path.name for path in self.parts.glob("*.trace")), ["part-1.trace", "part-3.trace"])
+
+
 class Order(RecordingTest):
     """The order of the lines of several processors."""
 
@@ -366,8 +381,9 @@ class Threads(ToolTest):
     @for_each(0, 1)
     def test_what_the_threads_did_is_a_good_run_with_lock(self, lock: int) -> None:
         ran = self.record(lock, 0, 1000)
-        self.assert_ran(ran, out=None)
-        self.assertEqual([line.rpartition(": ")[2] for line in ran.out.splitlines()], ["good", "good"])
+        self.assert_ran(ran, out=None, status=2)
+        told = [line.rpartition(": ")[2] for line in ran.out.splitlines()]
+        self.assertEqual(told, ["good", "good", "no trace has what was done with a table of order 23", "good"])
 
     @for_each((1, r"H_REMOVE 0 0x\w+ 0x\w+$"), (2, r"H_REMOVE 0 0x\w+ 0x\w+ \| "), (3, r"(load|store|fetch) at "))
     def test_an_error_that_is_planted_is_found_in_its_line(self, told: tuple[int, str]) -> None:

@@ -23,6 +23,7 @@ PROGRAMS = {
     "alike": [DATA / "shared" / "alike.c"],
     "busy": [DATA / "shared" / "busy.c"],
     "resize": [DATA / "shared" / "resize.c"],
+    "orders": [DATA / "shared" / "orders.c"],
     "marks": [DATA / "shared" / "marks.c"],
     "memory": [DATA / "shared" / "memory.c"],
     "hammer": HAMMER,
@@ -116,6 +117,9 @@ class OneThread(SharedTest):
 
     def test_a_table_is_resized_as_the_document_says(self) -> None:
         self.assert_ran(run(self.built("resize")))
+
+    def test_larger_tables_answer_as_serial_ones_do(self) -> None:
+        self.assert_ran(run(self.built("orders")))
 
     def test_a_closed_table_has_marks_where_it_was_changed(self) -> None:
         self.assert_ran(run(self.built("marks")))

@@ -96,16 +96,18 @@ void papr_grant_memory(SpaprMachineState *spapr)
 
 uint8_t papr_limit(SpaprMachineState *spapr)
 {
-    uint64_t ram = MACHINE(spapr)->ram_size + get_plugged_memory_size();
-    int limit = MIN(PAPR_HIGHEST_ORDER, spapr_hpt_shift_for_ramsize(ram) + 1);
-    return MAX(limit, (int)spapr->htab_shift);
+    return spapr_hpt_shift_for_ramsize(MACHINE(spapr)->ram_size + get_plugged_memory_size()) + 1;
 }
 
-/* Begins a part of the recording with the table as it is. */
+/* Begins a part of the recording with the table as it is, or with nothing if no trace has such a table. */
 static void begin_part(SpaprMachineState *spapr)
 {
     if (!papr_options.record)
         return;
+    if (spapr->htab_shift > PAPR_HIGHEST_IN_TRACE) {
+        papr_record_pause(papr_actors(spapr), spapr->htab_shift);
+        return;
+    }
     struct papr_rest rest = papr_table_take();
     papr_record_part(&rest, papr_table_grants(), papr_actors(spapr), papr_limit(spapr));
     papr_table_give(&rest);
@@ -115,7 +117,7 @@ void papr_answer_made(SpaprMachineState *spapr)
 {
     uint8_t order = spapr->htab_shift;
     if (order < PAPR_LOWEST_ORDER || order > PAPR_HIGHEST_ORDER) {
-        error_report("papr: order %d is not from 18 to 22", order);
+        error_report("papr: order %d is not from %d to %d", order, PAPR_LOWEST_ORDER, PAPR_HIGHEST_ORDER);
         exit(1);
     }
     hide(spapr);
@@ -237,11 +239,12 @@ struct resize_call {
 
 static int64_t prepare(SpaprMachineState *spapr, uint64_t flags, uint64_t shift)
 {
-    bool is_new = shift >= PAPR_LOWEST_ORDER && shift <= PAPR_HIGHEST_ORDER &&
-                  !(resize.pending && resize.order == shift);
-    size_t count = shift <= PAPR_HIGHEST_ORDER && shift ? (size_t)1 << shift >> 4 : 0;
-    struct papr_entry *lent = is_new ? g_try_new0(struct papr_entry, count) : pending;
-    int64_t rc = papr_resize_prepare(&resize, papr_limit(spapr), flags, shift, lent, lent ? count : 0);
+    uint8_t limit = papr_limit(spapr);
+    bool is_pending = resize.pending && resize.order == shift;
+    bool is_new = !is_pending && shift >= PAPR_LOWEST_ORDER && shift <= MIN(limit, PAPR_HIGHEST_ORDER);
+    size_t count = is_new || is_pending ? (size_t)1 << (shift - 4) : 0;
+    struct papr_entry *lent = is_new ? g_try_new0(struct papr_entry, count) : is_pending ? pending : NULL;
+    int64_t rc = papr_resize_prepare(&resize, limit, flags, shift, lent, lent ? count : 0);
     if (is_new) {
         bool is_taken = rc == PAPR_H_SUCCESS || rc == PAPR_H_LONG_BUSY;
         g_free(is_taken ? pending : lent);
@@ -254,25 +257,12 @@ static int64_t prepare(SpaprMachineState *spapr, uint64_t flags, uint64_t shift)
     return rc;
 }
 
-/* The library wants memory of the order that is named, also where no table of that order is pending. */
-static struct papr_rehash commit_to(const struct papr_rest *rest, uint64_t flags, uint64_t shift)
-{
-    bool is_pending = resize.pending && resize.order == shift;
-    if (flags == 0 && shift > PAPR_HIGHEST_ORDER && shift <= 46)
-        return (struct papr_rehash){.rc = PAPR_H_CLOSED};
-    size_t count = shift >= PAPR_LOWEST_ORDER && shift <= PAPR_HIGHEST_ORDER ? (size_t)1 << (shift - 4) : 0;
-    struct papr_entry *into = is_pending ? pending : g_new0(struct papr_entry, count);
-    struct papr_rehash done = papr_resize_commit(&resize, rest->entries, rest->count, rest->order, into, count,
-                                                 flags, shift);
-    if (!is_pending)
-        g_free(into);
-    return done;
-}
-
 static int64_t commit(CPUState *cs, SpaprMachineState *spapr, uint64_t flags, uint64_t shift)
 {
     struct papr_rest rest = papr_table_take();
-    struct papr_rehash done = commit_to(&rest, flags, shift);
+    size_t count = resize.pending ? (size_t)1 << (resize.order - 4) : 0;
+    struct papr_rehash done = papr_resize_commit(&resize, rest.entries, rest.count, rest.order, pending, count,
+                                                 flags, shift);
     if (done.rc == PAPR_H_SUCCESS) {
         g_free(rest.entries);
         rest = (struct papr_rest){pending, (size_t)1 << (shift - 4), shift};
@@ -288,6 +278,19 @@ static int64_t commit(CPUState *cs, SpaprMachineState *spapr, uint64_t flags, ui
     return done.rc;
 }
 
+/* What no trace has isn't recorded: an answer that it wouldn't give, and all with a larger table until it is
+ * gone. A part that is recorded begins when nothing is pending. */
+static void record_resize(CPUState *cs, SpaprMachineState *spapr, const struct resize_call *call, int64_t rc)
+{
+    uint8_t order = MAX(spapr->htab_shift, resize.pending ? resize.order : 0);
+    bool is_larger = order > PAPR_HIGHEST_IN_TRACE;
+    if (is_larger || !papr_record_has(call->number, call->shift, rc))
+        papr_record_pause(papr_actors(spapr), is_larger ? order : call->shift);
+    papr_record_quiet(cs->cpu_index, call->number, call->flags, call->shift, rc);
+    if (papr_record_is_paused() && !is_larger && !resize.pending)
+        begin_part(spapr);
+}
+
 static void make_resize(CPUState *cs, const struct resize_call *call)
 {
     SpaprMachineState *spapr = SPAPR_MACHINE(qdev_get_machine());
@@ -296,7 +299,7 @@ static void make_resize(CPUState *cs, const struct resize_call *call)
     resizes++;
     refused_resizes += rc != PAPR_H_SUCCESS && rc != PAPR_H_LONG_BUSY;
     if (papr_options.record)
-        papr_record_quiet(cs->cpu_index, call->number, call->flags, call->shift, rc);
+        record_resize(cs, spapr, call, rc);
     POWERPC_CPU(cs)->env.gpr[3] = rc;
 }
 

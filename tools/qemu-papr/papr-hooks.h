@@ -18,9 +18,6 @@ void papr_add_options(struct Object *machine);
 /* Whether the guest's table is papr's, so that none of QEMU's is used. */
 bool papr_answers(void);
 
-/* The highest order of a table that the machine may have. */
-int papr_highest_order(void);
-
 /* ---- calls */
 
 /* A hypervisor call that papr answers: `rc` is the answer, and `args` have its words. */

@@ -27,6 +27,8 @@ static unsigned actor_count;
 static uint64_t part, mark;
 static uint64_t all_made;       /* by all actors in this part, as far as it is counted */
 static bool is_due;             /* a part has been asked for */
+static bool is_paused;          /* nothing of this part is recorded */
+static uint8_t limit_of_part;
 
 /* ---- words */
 
@@ -93,9 +95,9 @@ static void open_actors(unsigned wanted)
     }
 }
 
-static void write_head(FILE *head, const struct papr_rest *rest, const struct papr_grants *grants, uint8_t limit)
+static void write_head(FILE *head, const struct papr_rest *rest, const struct papr_grants *grants)
 {
-    fprintf(head, "order %d\nlimit %d\ncpus %u\n", rest->order, limit, actor_count);
+    fprintf(head, "order %d\nlimit %d\ncpus %u\n", rest->order, limit_of_part, actor_count);
     for (uint32_t i = 0; i < grants->count; i++) {
         const struct papr_grant *g = &grants->grants[i];
         fprintf(head, "%s 0x%" PRIx64 " 0x%" PRIx64 " 0x%" PRIx64 "\n", g->is_io ? "io" : "ram", g->logical,
@@ -110,21 +112,54 @@ static void write_head(FILE *head, const struct papr_rest *rest, const struct pa
     fprintf(head, "begin\n");
 }
 
-void papr_record_part(struct papr_rest *rest, const struct papr_grants *grants, unsigned wanted, uint8_t limit)
+static FILE *begin_head(unsigned wanted)
 {
     open_actors(wanted);
     g_autofree char *name = g_strdup_printf("part-%" PRIu64 ".head", ++part);
-    FILE *head = open_file(name);
-    write_head(head, rest, grants, limit);
+    return open_file(name);
+}
+
+static void begin_part(FILE *head)
+{
     if (fclose(head) != 0)
         error_report("papr: part %" PRIu64 " of the recording can't be written: %s", part, strerror(errno));
     mark_all(PART, part);
-    for (size_t p = 0; p < rest->count; p++)
-        rest->entries[p].stamp = 0;
     for (unsigned i = 0; i < actor_count; i++)
         actors[i].made = actors[i].amr = actors[i].iamr = actors[i].stale_count = 0;
     qatomic_set(&all_made, 0);
     qatomic_set(&is_due, false);
+}
+
+void papr_record_part(struct papr_rest *rest, const struct papr_grants *grants, unsigned wanted, uint8_t limit)
+{
+    FILE *head = begin_head(wanted);
+    is_paused = false;
+    limit_of_part = MIN(PAPR_HIGHEST_IN_TRACE, MAX(limit, rest->order));
+    write_head(head, rest, grants);
+    begin_part(head);
+    for (size_t p = 0; p < rest->count; p++)
+        rest->entries[p].stamp = 0;
+}
+
+void papr_record_pause(unsigned wanted, uint64_t order)
+{
+    if (is_paused)
+        return;
+    FILE *head = begin_head(wanted);
+    is_paused = true;
+    fprintf(head, "unrecorded %" PRIu64 "\n", order);
+    begin_part(head);
+}
+
+bool papr_record_is_paused(void)
+{
+    return is_paused;
+}
+
+bool papr_record_has(uint64_t number, uint64_t shift, int64_t rc)
+{
+    return number != H_RESIZE_HPT_PREPARE || rc == PAPR_H_PARAMETER ||
+           (rc == PAPR_H_RESOURCE) == (shift > limit_of_part);
 }
 
 void papr_record_later(void)
@@ -136,6 +171,8 @@ void papr_record_quiet(unsigned actor, uint64_t number, uint64_t flags, uint64_t
 {
     const uint64_t asked[8] = {flags, shift};
     const struct papr_reply reply = {.rc = rc};
+    if (is_paused)
+        return;
     mark_all(MARK, ++mark);
     if (papr_record_call(actor, number, asked, &reply, NULL, NULL))
         papr_record_later();
@@ -191,6 +228,8 @@ bool papr_record_call(unsigned actor, uint64_t number, const uint64_t *asked, co
     uint64_t words[MOST_WORDS];
     unsigned receipts = reply->receipts;
     bool is_removal = number == H_REMOVE && reply->rc == PAPR_H_SUCCESS;
+    if (is_paused)
+        return false;
     a->calls++;
     if (is_removal && is_planted(PAPR_PLANT_DROP, a)) {
         receipts = 0;
@@ -219,6 +258,8 @@ bool papr_record_walk(unsigned actor, uint64_t slb, enum papr_record_flags flags
 {
     struct actor *a = &actors[actor];
     uint64_t words[MOST_WORDS];
+    if (is_paused)
+        return false;
     if (a->amr != access->amr || a->iamr != access->iamr) {
         a->amr = access->amr;
         a->iamr = access->iamr;

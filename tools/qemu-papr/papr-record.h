@@ -1,9 +1,11 @@
 /*
- * Recording what a table answers, which is papr's or QEMU's own: each actor writes its calls and walks, with their receipts, into a buffer of
- * its own. judge-recording makes of a recording traces with replies, which `papr check` judges.
+ * Recording what a table answers, which is papr's or QEMU's own: each actor writes its calls and walks, with their
+ * receipts, into a buffer of its own. judge-recording makes of a recording traces with replies, which `papr check` judges.
  *
  * A recording is a folder. It has `part-N.head`, the configuration of a trace as text, for each part, and
- * `actor-N`, words of 64 bits in the host's order, for each actor. A record of an actor is
+ * `actor-N`, words of 64 bits in the host's order, for each actor. No trace has a table above order 22: in a part
+ * where there is one, or one is prepared, the actors record nothing, and its head is `unrecorded` with the order. A
+ * record of an actor is
  *
  *   word 0    bits 0 to 7 its kind, 8 to 15 the number of its receipts
  *   word 1    the host's clock when it was made
@@ -29,6 +31,14 @@
 
 /* Begins a part with these entries, whose stamps become 0. */
 void papr_record_part(struct papr_rest *rest, const struct papr_grants *grants, unsigned actors, uint8_t limit);
+
+/* Begins a part of which nothing is recorded, since no trace has what is done with a table of this order; or goes
+ * on with one. */
+void papr_record_pause(unsigned actors, uint64_t order);
+bool papr_record_is_paused(void);
+
+/* Whether a trace gives this answer to a resize call: it has the limit of its head. */
+bool papr_record_has(uint64_t number, uint64_t shift, int64_t rc);
 
 /* The part that is due can't begin yet. */
 void papr_record_later(void);

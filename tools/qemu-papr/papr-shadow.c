@@ -197,7 +197,8 @@ static void take_table(const void *htab, int order, uint64_t ram)
     if (!htab)
         return;
     if (order < PAPR_LOWEST_ORDER || order > PAPR_HIGHEST_ORDER) {
-        warn_report("papr: order %d is not from 18 to 22, nothing is compared", order);
+        warn_report("papr: order %d is not from %d to %d, nothing is compared", order, PAPR_LOWEST_ORDER,
+                    PAPR_HIGHEST_ORDER);
         return;
     }
     s.order = order;

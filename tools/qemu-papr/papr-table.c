@@ -23,6 +23,12 @@ static struct {
 /* Round each call and walk in the locked form, and round those of the last actor in the other. */
 static QemuMutex lock;
 
+/* The places for receipts: none if nothing reads them. */
+static size_t room(void)
+{
+    return papr_options.record ? PAPR_MOST_RECEIPTS : 0;
+}
+
 void papr_table_grant(const struct papr_grant *given, size_t count)
 {
     struct papr_making made = papr_make_grants(given, count, 1ULL << 40, 24, &t.grants);
@@ -89,10 +95,10 @@ static struct papr_reply pass_call(unsigned actor, uint64_t number, uint64_t arg
                                    struct papr_receipt *made)
 {
     struct papr_pass *pass = &t.passes[actor];
-    struct papr_reply reply = papr_try_hcall(pass, &t.grants, number, args, made, PAPR_MOST_RECEIPTS);
+    struct papr_reply reply = papr_try_hcall(pass, &t.grants, number, args, made, room());
     for (unsigned tries = 0; reply.rc == PAPR_H_BUSY; tries++) {
         wait_for_entry(actor, tries);
-        reply = papr_again(pass, args, 8, made, PAPR_MOST_RECEIPTS);
+        reply = papr_again(pass, args, 8, made, room());
     }
     return reply;
 }
@@ -101,10 +107,10 @@ static struct papr_walk pass_walk(unsigned actor, const struct papr_access *acce
                                   struct papr_receipt *made)
 {
     struct papr_pass *pass = &t.passes[actor];
-    struct papr_walk walk = papr_try_walk(pass, access, made, PAPR_MOST_RECEIPTS);
+    struct papr_walk walk = papr_try_walk(pass, access, made, room());
     for (unsigned tries = 0; walk.outcome == PAPR_WALK_BUSY; tries++) {
         wait_for_entry(actor, tries);
-        walk = papr_walk_again(pass, made, PAPR_MOST_RECEIPTS);
+        walk = papr_walk_again(pass, made, room());
     }
     return walk;
 }
@@ -182,7 +188,7 @@ struct papr_reply papr_table_call(unsigned actor, uint64_t number, uint64_t args
         return pass_call(actor, number, args, made);
     qemu_mutex_lock(&lock);
     struct papr_reply reply = papr_hcall(t.entries, t.count, t.order, &t.grants, number, args, made,
-                                         PAPR_MOST_RECEIPTS);
+                                         room());
     qemu_mutex_unlock(&lock);
     return reply;
 }
@@ -194,7 +200,7 @@ struct papr_walk papr_table_walk(unsigned actor, const struct papr_access *acces
     if (is_guarded)
         qemu_mutex_lock(&lock);
     struct papr_walk walk = papr_options.is_locked
-        ? papr_walk(t.entries, t.count, t.order, access, made, PAPR_MOST_RECEIPTS)
+        ? papr_walk(t.entries, t.count, t.order, access, made, room())
         : pass_walk(actor, access, made);
     if (is_guarded)
         qemu_mutex_unlock(&lock);

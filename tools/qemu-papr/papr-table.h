@@ -33,7 +33,8 @@ void papr_table_give(const struct papr_rest *rest);
 
 /* ---- each actor on its own thread */
 
-/* A call by its number, with its words instead of its arguments. There are PAPR_MOST_RECEIPTS places. */
+/* A call by its number, with its words instead of its arguments. There are PAPR_MOST_RECEIPTS places, which are filled
+ * if a recording is made. */
 struct papr_reply papr_table_call(unsigned actor, uint64_t number, uint64_t args[8],
                                   struct papr_receipt *made);
 struct papr_walk papr_table_walk(unsigned actor, const struct papr_access *access,

@@ -20,6 +20,7 @@ BESIDE_A_CALL = 1 << 41
 ENTRY, STAMP = 2**24 - 1, 2**32 - 1
 
 ENTRY_LINE = re.compile(r"entry old (0x[0-9a-f]+) [0-9a-f]{16}([0-9a-f]{16})")
+UNRECORDED = re.compile(r"unrecorded ([0-9]+)")
 
 
 @dataclass
@@ -113,6 +114,12 @@ class Part:
     number: int
     head: list[str]
     sections: list[list[list[Record]]] = field(default_factory=list)
+
+    @property
+    def unrecorded(self) -> Optional[int]:
+        """The order of a table that no trace has, if therefore nothing was recorded."""
+        found = UNRECORDED.fullmatch(self.head[0]) if self.head else None
+        return int(found[1]) if found else None
 
 
 def actors_of(folder: Path) -> list[Actor]:

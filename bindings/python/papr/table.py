@@ -1,6 +1,8 @@
 """The hashed page table: the calls on its entries, the walk, the rehash and the resize calls."""
 
 from collections.abc import Iterable, Iterator
+from ctypes import sizeof
+from mmap import mmap
 from typing import Any, Optional
 
 from ._calls import Calls
@@ -13,7 +15,7 @@ from .grants import Grants, grants_of
 from .records import Access, Entry, Grant, Page, Rehash, Reply, Taken, Walk
 from .records import entry_of, page_of, rehash_of
 
-ORDERS = range(18, 23)
+ORDERS = range(18, 35)
 AN_ENTRY = 16  # bytes, in a guest's table and in an export
 
 
@@ -21,7 +23,9 @@ def entries_of(order: int) -> Any:
     """The empty entries of a table of 2^order bytes."""
     if order not in ORDERS:
         raise ValueError(f"the order is from {ORDERS[0]} to {ORDERS[-1]}, and not {order}")
-    return (CEntry * ((1 << order) // AN_ENTRY))()
+    entries = CEntry * ((1 << order) // AN_ENTRY)
+    # Memory that is made as it is touched: a large table of which little is used is a small one.
+    return entries.from_buffer(mmap(-1, sizeof(entries)))
 
 
 class Table(Calls):

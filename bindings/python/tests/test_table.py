@@ -58,8 +58,9 @@ class Calls(TableTest):
         self.assertEqual(library_version(), (0, 1, 0))
 
     def test_orders(self) -> None:
-        self.assertEqual([len(Table(order)) for order in range(18, 23)], [1 << order - 4 for order in range(18, 23)])
-        for order in (17, 23):
+        for order in (18, 19, 23, 24, 30):
+            self.assertEqual(len(Table(order)), 1 << order - 4)
+        for order in (17, 35):
             with self.assertRaises(ValueError):
                 Table(order)
 
@@ -274,7 +275,7 @@ class Resizes(unittest.TestCase):
         table = Table(18, GRANTS)
         self.assertEqual(table.h_resize_hpt_prepare(0, 19), Code.H_LONG_BUSY)
         self.assertEqual(table.h_resize_hpt_prepare(0, 21, limit=20), Code.H_RESOURCE)
-        self.assertEqual(table.h_resize_hpt_prepare(0, 23, limit=46), Code.H_RESOURCE)
+        self.assertEqual(table.h_resize_hpt_prepare(0, 35, limit=46), Code.H_RESOURCE)
         self.assertEqual(table.h_resize_hpt_prepare(1, 20), Code.H_PARAMETER)
         self.assertEqual(table.h_resize_hpt_prepare(0, 19), Code.H_SUCCESS)
         self.assertEqual(table.h_resize_hpt_commit(0, 19).code, Code.H_SUCCESS)

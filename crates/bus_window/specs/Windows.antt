@@ -1,5 +1,6 @@
 -- Windows of a bus: which there can be, and the entry of a bus address.
 use Rattle.std.specs.Prelude.{◌≡◌, ℕ, ◌+◌, ◌-◌, ◌*◌, ◌/◌, ◌%◌, ◌^◌, ◌<◌, ◌≤◌, ◌==◌, ◌&&◌, Bool, Option, Some, None, nat_le, nat_lt, if◌then◌else◌}
+use Rattle.pool_range.specs.Ranges.{address_end}
 
 -- The number by which calls name the window, the bus address at which it begins, and how many pages
 -- it has.
@@ -23,7 +24,7 @@ pub record IsWindow (w : BusWindow) : Type 0 where
   pub aligned : w.base % page_bytes ≡ 0
   pub some : 1 ≤ w.pages
   pub few : w.pages ≤ 2 ^ 14
-  pub end : w.base + w.pages * page_bytes ≤ 2 ^ 60
+  pub end : w.base + w.pages * page_bytes ≤ address_end
 
 -- The same as a test.
 abbrev pub is_window : BusWindow → Bool
@@ -32,7 +33,7 @@ is_window w =
     && (w.base % page_bytes == 0)
     && nat_le 1 w.pages
     && nat_le w.pages (2 ^ 14)
-    && nat_le (w.base + w.pages * page_bytes) (2 ^ 60)
+    && nat_le (w.base + w.pages * page_bytes) address_end
 
 -- The window with these parts, where there can be one.
 abbrev pub window_of_parts : ℕ → ℕ → ℕ → Option BusWindow

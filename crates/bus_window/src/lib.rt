@@ -7,4 +7,4 @@
 
 mod window;
 
-pub use window::Window;
+pub use window::{PAGE_BYTES, Window};

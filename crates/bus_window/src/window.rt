@@ -1,19 +1,17 @@
 ghost use Rattle.std.specs.Prelude.{◌≡◌, ◌≤◌, ◌<◌, ◌^◌, ◌==◌, Some, IfSome};
 ghost use Rattle.bus_window.specs.Windows.{IsWindow, bus_window, window_of_parts, entry_at};
 
+use pool_range::ADDRESS_END;
 use std::marker::Model;
 
 /// The bytes of a page of a window.
-const PAGE: u64 = 4096;
+pub const PAGE_BYTES: u64 = 4096;
 
 /// The binary logarithm of the bytes of a page.
 const PAGE_SHIFT: u32 = 12;
 
 /// The most pages that a window has.
 const MOST_PAGES: u64 = 1 << 14;
-
-/// Windows end here or below.
-const TOP: u64 = 1 << 60;
 
 /// A window of a bus: `pages` pages of 4,096 bytes from the bus address `base` on.
 #[derive(Clone, Copy, PartialEq, Eq, Debug)]
@@ -59,11 +57,11 @@ impl Window {
             → result ≡ Some (bus_window liobn base pages) }
     {
         let number = u32::try_from(liobn).ok()?;
-        if base % PAGE != 0 || pages < 1 || pages > MOST_PAGES {
+        if base % PAGE_BYTES != 0 || pages < 1 || pages > MOST_PAGES {
             return None;
         }
         let length = pages << PAGE_SHIFT;
-        if base > TOP - length {
+        if base > ADDRESS_END - length {
             return None;
         }
         Some(Window {

@@ -12,6 +12,7 @@ use Rattle.frame_grants.specs.declared.grant.Grant.{Grant}
 use Rattle.frame_grants.specs.Grants.{no_grant, holds, machine_at, machine_range, meets_logical, IsPlaced}
 use Rattle.c_layout.specs.declared.grants.PaprGrant.{PaprGrant}
 use Rattle.c_layout.specs.Grants.{fields_at, grant_of, no_fields, listed, IsInOrder, AreListed}
+use Rattle.pool_range.specs.Ranges.{address_end}
 
 -- ---- a list in which at most one element passes
 find_none :
@@ -152,7 +153,9 @@ in_order list grants room same apart = record { rising = rising; low = low } whe
       rw (← here j below, ← here k inside) at before
 
   low :
-      (k : ℕ) → k < length grants → (fields_at list k).machine + (fields_at list k).length ≤ 2 ^ 60
+      (k : ℕ)
+      → k < length grants
+      → (fields_at list k).machine + (fields_at list k).length ≤ address_end
   low k inside =
       let placed : IsPlaced (get_or grants k no_grant) = All-get_or IsPlaced grants k no_grant
       inside apart.placed in

@@ -5,6 +5,7 @@ use Rattle.frame_grants.specs.declared.grant.Kind.{Kind}
 use Rattle.frame_grants.specs.declared.grant.Kind.TheVariants.{Ram, Io}
 use Rattle.frame_grants.specs.Grants.{IsPlaced, meets_logical}
 use Rattle.c_layout.specs.declared.grants.PaprGrant.{PaprGrant}
+use Rattle.pool_range.specs.Ranges.{address_end}
 
 -- ---- one grant
 -- What lies behind it.
@@ -40,7 +41,7 @@ pub record IsInOrder (grants : List PaprGrant) (count : ℕ) : Type 0 where
   pub low :
       (k : ℕ)
       → k < count
-      → (fields_at grants k).machine + (fields_at grants k).length ≤ 2 ^ 60
+      → (fields_at grants k).machine + (fields_at grants k).length ≤ address_end
 
 -- Grants that make such a list: each is placed, they rise, and none meets another.
 pub record AreListed (grants : List Grant) : Type 0 where

@@ -1,5 +1,5 @@
 ghost use Rattle.std.specs.Prelude.{◌≡◌, ◌≤◌, ◌<◌, ℕ, length};
-ghost use Rattle.frame_grants.specs.Grants.{holds};
+ghost use Rattle.frame_grants.specs.Grants.{holds, most_grants};
 ghost use Rattle.c_layout.specs.Grants.{kind_of, grant_of, fields_at, listed, IsInOrder, AreListed};
 
 use frame_grants::{Grant, Kind};
@@ -86,7 +86,7 @@ pub struct PaprGrants {
 impl PaprGrants {
     /// The list of grants that stand apart.
     pub fn of(grants: &[Grant]) -> PaprGrants
-        requires few { length grants.now ≤ 64 }
+        requires few { length grants.now ≤ most_grants }
         requires apart { AreListed grants.now }
         ensures { listed result.grants result.count ≡ grants.now }
     {

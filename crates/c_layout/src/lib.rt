@@ -19,5 +19,5 @@ pub use receipts::{PaprReceipt, put_receipt, put_receipts};
 pub use reply::{PaprReply, filled_count, hand_over, put_word};
 pub use rights::{READ, WRITE};
 pub use stale::{any_stale, either_stale, ends_stale, is_stale};
-pub use tables::{GREATEST, LEAST, is_table};
+pub use tables::is_table;
 pub use walking::{NO_PAGE, PaprAccess, PaprWalk, want_of};

@@ -13,6 +13,7 @@ use Rattle.h_update.specs.Bulk.{Pair, pairs_of, asked_by, calls_before, bulk_cal
 use Rattle.h_update.proofs.BulkSteps.{pair, asked_at, first_pair}
 use Rattle.h_update.proofs.InTable.{h_bulk_remove_within}
 use Rattle.entry_model.specs.declared.operation.Op.TheVariants as ops
+use Rattle.hpte_fields.specs.TableSize.{least_order}
 
 -- ---- the call of a pair
 -- What a pair asks as a call, if it asks for one.
@@ -114,7 +115,7 @@ calls_normal order (p ∷ ps) =
 
 pub removals_in :
     (order : ℕ) (words : List ℕ)
-    → 18 ≤ order
+    → least_order ≤ order
     → length words ≡ 8
     → AreCallsIn order (h_bulk_remove_plan order words).calls
 unfolding h_bulk_remove_plan

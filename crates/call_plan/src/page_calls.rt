@@ -1,3 +1,4 @@
+ghost use Rattle.hpte_fields.specs.TableSize.{IsTableOrder, greatest_order, group_count};
 ghost use Rattle.std.specs.Prelude.{◌<◌, ◌^◌};
 
 use authority_mask::Masks;
@@ -17,8 +18,8 @@ pub struct PageCalls {
     early: Op,
     secondary: u32,
     late: Op,
-    ghost primary_small: { primary < 2 ^ 15 },
-    ghost secondary_small: { secondary < 2 ^ 15 },
+    ghost primary_small: { primary < group_count greatest_order },
+    ghost secondary_small: { secondary < group_count greatest_order },
 }
 
 impl PageCalls {
@@ -41,8 +42,7 @@ impl PageCalls {
         no_execute: bool,
         masks: Masks,
     ) -> PageCalls
-        requires low { 18 ≤ order }
-        requires high { order ≤ 22 }
+        requires order { IsTableOrder order }
         ensures calls { calls_of result
             ≡ walk_calls order page.now (access_mode key no_execute want masks) }
         ensures fits { AreCallsIn order (calls_of result) }

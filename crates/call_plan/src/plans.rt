@@ -1,3 +1,4 @@
+ghost use Rattle.hpte_fields.specs.TableSize.{IsTableOrder};
 ghost use Rattle.std.specs.Prelude.{◌≡◌, ◌≤◌};
 ghost use Rattle.h_enter.specs.Checks.{h_enter_plan};
 ghost use Rattle.h_update.specs.Single as single;
@@ -28,8 +29,7 @@ pub fn enter_plan<G: GrantedMemory>(
     pteh: u64,
     ptel: u64,
 ) -> CallPlan<'static>
-    requires low { 18 ≤ order }
-    requires high { order ≤ 22 }
+    requires order { IsTableOrder order }
     ensures plan { plan_of result ≡ h_enter_plan order (G.grants grants.now) flags ptex pteh ptel }
     ensures fits { Fits order result }
 {
@@ -53,8 +53,7 @@ pub fn enter_plan<G: GrantedMemory>(
 /// A call on the entry that the index names. H_PARAMETER for an index past the table.
 #[inline]
 fn single_plan(order: u8, ptex: u64, call: SingleCall) -> CallPlan<'static>
-    requires low { 18 ≤ order }
-    requires high { order ≤ 22 }
+    requires order { IsTableOrder order }
     requires normal { IsNormal call.op }
     ensures plan { plan_of result ≡ single.single_plan order ptex call.op (words_shown call.shown) }
     ensures fits { Fits order result }
@@ -75,8 +74,7 @@ fn single_plan(order: u8, ptex: u64, call: SingleCall) -> CallPlan<'static>
 #[inline]
 #[tactic(auto, unfolding(h_update::specs::Single::h_remove_plan))]
 pub fn remove_plan(order: u8, flags: u64, ptex: u64, avpn: u64) -> CallPlan<'static>
-    requires low { 18 ≤ order }
-    requires high { order ≤ 22 }
+    requires order { IsTableOrder order }
     ensures plan { plan_of result ≡ single.h_remove_plan order flags ptex avpn }
     ensures fits { Fits order result }
 {
@@ -87,8 +85,7 @@ pub fn remove_plan(order: u8, flags: u64, ptex: u64, avpn: u64) -> CallPlan<'sta
 #[inline]
 #[tactic(auto, unfolding(h_update::specs::Single::h_protect_plan))]
 pub fn protect_plan(order: u8, flags: u64, ptex: u64, avpn: u64) -> CallPlan<'static>
-    requires low { 18 ≤ order }
-    requires high { order ≤ 22 }
+    requires order { IsTableOrder order }
     ensures plan { plan_of result ≡ single.h_protect_plan order flags ptex avpn }
     ensures fits { Fits order result }
 {
@@ -99,8 +96,7 @@ pub fn protect_plan(order: u8, flags: u64, ptex: u64, avpn: u64) -> CallPlan<'st
 #[inline]
 #[tactic(auto, unfolding(h_update::specs::Single::h_clear_ref_plan))]
 pub fn clear_ref_plan(order: u8, ptex: u64) -> CallPlan<'static>
-    requires low { 18 ≤ order }
-    requires high { order ≤ 22 }
+    requires order { IsTableOrder order }
     ensures plan { plan_of result ≡ single.h_clear_ref_plan order ptex }
     ensures fits { Fits order result }
 {
@@ -111,8 +107,7 @@ pub fn clear_ref_plan(order: u8, ptex: u64) -> CallPlan<'static>
 #[inline]
 #[tactic(auto, unfolding(h_update::specs::Single::h_clear_mod_plan))]
 pub fn clear_mod_plan(order: u8, ptex: u64) -> CallPlan<'static>
-    requires low { 18 ≤ order }
-    requires high { order ≤ 22 }
+    requires order { IsTableOrder order }
     ensures plan { plan_of result ≡ single.h_clear_mod_plan order ptex }
     ensures fits { Fits order result }
 {
@@ -123,8 +118,7 @@ pub fn clear_mod_plan(order: u8, ptex: u64) -> CallPlan<'static>
 #[inline]
 #[tactic(auto, unfolding(h_update::specs::Single::h_read_plan))]
 pub fn read_plan(order: u8, flags: u64, ptex: u64) -> CallPlan<'static>
-    requires low { 18 ≤ order }
-    requires high { order ≤ 22 }
+    requires order { IsTableOrder order }
     ensures plan { plan_of result ≡ single.h_read_plan order flags ptex }
     ensures fits { Fits order result }
 {

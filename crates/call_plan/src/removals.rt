@@ -1,4 +1,5 @@
 ghost use Rattle.std.specs.Prelude.{◌≡◌, ◌≤◌, length};
+ghost use Rattle.hpte_fields.specs.TableSize.{IsTableOrder};
 
 use call_trials::CallList;
 use entry_model::{Answer, Op};
@@ -12,8 +13,7 @@ pub struct Removals<'a> {
     pub order: u8,
     /// The pairs.
     pub pairs: &'a [u64; 8],
-    pub ghost low: { 18 ≤ order },
-    pub ghost high: { order ≤ 22 },
+    pub ghost order_fits: { IsTableOrder order },
     pub ghost whole: { length pairs.now ≡ 8 },
 }
 

@@ -3,8 +3,8 @@ ghost use Rattle.entry_model.specs.Replies.{device_reply_with};
 ghost use Rattle.dma_window.specs.Devices as devices;
 
 use crate::making::make;
-use crate::tce::{PAGE, address, is_ram, permits, tce_of};
-use bus_window::Window;
+use crate::tce::{address, is_ram, permits, tce_of};
+use bus_window::{PAGE_BYTES, Window};
 use entry_model::{DeviceOutcome, DeviceReply, EntryStore, Op, Receipts};
 use frame_grants::Grants;
 
@@ -16,7 +16,7 @@ fn outcome_by(grants: &Grants, tce: u64, ioba: u64, write: bool) -> DeviceOutcom
         return DeviceOutcome::Denied;
     }
     let page = address(tce);
-    let logical = page + ioba % PAGE;
+    let logical = page + ioba % PAGE_BYTES;
     if !is_ram(grants, page) {
         return DeviceOutcome::Ungranted(logical);
     }

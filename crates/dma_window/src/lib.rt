@@ -17,5 +17,5 @@ pub use laws::{
     busy_exactly_where_taken, kept_words_are_read_back, never_busy_alone, permitted_accesses_land,
     tces_have_pages, ungranted_exactly_where,
 };
-pub use tce::{entering, tce_of};
+pub use tce::{address, entering, permits, tce_of};
 pub use tce_calls::{get_tce, get_tce_into, put_tce, put_tce_into};

@@ -4,8 +4,10 @@ ghost use Rattle.entry_model.specs.declared.operation.Op.TheVariants.{Enter, Rem
 ghost use Rattle.dma_window.specs.Entries as entries;
 ghost use Rattle.dma_window.specs.Pages.{is_ram};
 
+use bus_window::PAGE_BYTES;
 use entry_model::{EntryState, Op, Test};
 use frame_grants::{Grants, Kind};
+use hpte_fields::VALID;
 
 /// The logical address of the page.
 const ADDRESS: u64 = 0x0FFF_FFFF_FFFF_F000;
@@ -21,14 +23,8 @@ const KEPT_READ: u64 = 0x08;
 
 const KEPT_WRITE: u64 = 0x10;
 
-/// V, in doubleword 0.
-const VALID: u64 = 0x1;
-
 /// M, in doubleword 1: the page is coherent.
 const COHERENT: u64 = 0x10;
-
-/// The bytes of a page.
-pub const PAGE: u64 = 4096;
 
 /// Any valid entry passes it.
 const NO_TEST: Test = Test {
@@ -113,7 +109,7 @@ fn second_word(tce: u64) -> u64
 pub fn is_ram(grants: &Grants, page: u64) -> bool
     ensures { result ≡ is_ram grants.now.grants page }
 {
-    match grants.machine_of(page, PAGE) {
+    match grants.machine_of(page, PAGE_BYTES) {
         Some((_, Kind::Ram)) => true,
         _ => false,
     }

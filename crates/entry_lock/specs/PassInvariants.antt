@@ -1,6 +1,6 @@
 -- What holds of a table and of a pass between calls, and of a pass that takes a step.
 use Rattle.std.specs.Prelude.{◌≡◌, ℕ, ◌+◌, ◌*◌, ◌<◌, ◌≤◌, true, List, [], length}
-use Rattle.hpte_fields.specs.TableSize.{entry_count}
+use Rattle.hpte_fields.specs.TableSize.{IsTableOrder, entry_count}
 use Rattle.atomic_table.specs.Table.{Me}
 use Rattle.atomic_table.specs.Seated.{TableId}
 use Rattle.entry_model.specs.State.{State}
@@ -32,19 +32,22 @@ pub record IsSized (table : TableId) (key : Opening) (order : ℕ) : Type 0 wher
   pub none : table.slots ≡ 0
   pub words : table.words ≡ 3 * length (states_of key) + 1
   pub size : length (states_of key) ≡ entry_count order
-  pub low : 18 ≤ order
-  pub high : order ≤ 22
+  pub order_fits : IsTableOrder order
 
--- The pass has so many shares, of at most 64 in all.
+-- A table may have so many passes, and so many shares in all.
+abbrev pub most_passes : ℕ
+most_passes = 64
+
+-- The pass has so many of these shares.
 pub record HasShares (v : View) (shares : ℕ) : Type 0 where
   pub count : length v.numbers ≡ shares
-  pub few : v.passes ≤ 64
+  pub few : v.passes ≤ most_passes
 
 -- The table has its opening list, and room for the closing one, which is empty yet.
 pub record HasLists (key : Opening) (passes : ℕ) (opening closing : List State) (room_for : ℕ)
     : Type 0 where
   pub passes_are : key.passes ≡ passes
-  pub few : passes ≤ 64
+  pub few : passes ≤ most_passes
   pub opening_is : opening ≡ states_of key
   pub none : closing ≡ []
   pub room : length (states_of key) ≤ room_for

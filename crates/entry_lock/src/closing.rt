@@ -2,6 +2,7 @@
 ghost use Rattle.std.specs.Prelude.{◌≡◌, ◌≤◌};
 ghost use Rattle.entry_lock.specs.PassOfTable.{IsOf, view_of};
 ghost use Rattle.entry_lock.specs.Closing.{Closes};
+ghost use Rattle.hpte_fields.specs.TableSize.{IsTableOrder};
 
 use crate::control_word::control_of;
 use crate::layout::{CONTROL, FIRST, SECOND, WORDS_PER_ENTRY};
@@ -22,8 +23,7 @@ impl LockTable {
     /// The binary logarithm of the table's size in bytes.
     pub fn order(&self) -> u8
         ensures value { result ≡ self.now.order }
-        ensures low { 18 ≤ result }
-        ensures high { result ≤ 22 }
+        ensures order { IsTableOrder result }
     {
         self.order
     }

@@ -1,11 +1,12 @@
 //! Opening a table.
 ghost use Rattle.std.specs.Prelude.{◌≡◌, ◌+◌, ◌-◌, ◌*◌, ◌<◌, ◌≤◌, ◌^◌, [], ◌∷◌, length, All, IfOk, IfErr, vec_len, vec_capacity};
-ghost use Rattle.hpte_fields.specs.TableSize.{entry_count};
+ghost use Rattle.hpte_fields.specs.TableSize.{IsTableOrder, entry_count};
 ghost use Rattle.entry_model.specs.Fronts.{opening_fronts};
 ghost use Rattle.lock_core.specs.Laws.{IsFair};
 ghost use Rattle.entry_lock.specs.Layout.{entry_words};
 ghost use Rattle.entry_lock.specs.Views.{states_of, first_view};
 ghost use Rattle.entry_lock.specs.PassOfTable.{IsOf, view_of};
+ghost use Rattle.entry_lock.specs.PassInvariants.{most_passes};
 
 use crate::control_word::word_from;
 use crate::layout::WORDS_PER_ENTRY;
@@ -97,11 +98,10 @@ impl LockTable {
         order: u8,
         passes: u32,
     ) -> Result<(LockTable, Pass), OpenRefused>
-        requires low { 18 ≤ order }
-        requires high { order ≤ 22 }
+        requires order { IsTableOrder order }
         requires whole { vec_len states ≡ entry_count order }
         requires some_pass { 0 < passes }
-        requires few { passes ≤ 64 }
+        requires few { passes ≤ most_passes }
         ensures table { IfOk result (λ r. IsOf r.0 r.1) }
         ensures opening { IfOk result (λ r. r.0.opening.items ≡ states.items) }
         ensures order { IfOk result (λ r. r.0.order ≡ order) }

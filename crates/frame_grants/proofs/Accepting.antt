@@ -9,7 +9,7 @@ use Rattle.std.proofs.lemmas.List.Sums.{length-filter}
 use Rattle.std.proofs.Math.Seq.{take-append_seam, drop-append_seam}
 use Rattle.frame_grants.specs.declared.grant.Grant.{Grant}
 use Rattle.frame_grants.specs.declared.error.GrantError.{GrantError}
-use Rattle.frame_grants.specs.Grants.{GrantedMemory, IsPlaced, AreApart, IsSound, is_empty, is_aligned, ends_past, meets_logical, meets_machine, overlaps, meets_pool, starts_below, refusals, add_refusal, with_grant}
+use Rattle.frame_grants.specs.Grants.{GrantedMemory, IsPlaced, AreApart, IsSound, is_empty, is_aligned, ends_past, meets_logical, meets_machine, overlaps, meets_pool, starts_below, refusals, add_refusal, with_grant, most_grants}
 use Rattle.basics.proofs.Lists.{AllPairs-between, filters_join, list_any-false}
 
 -- ---- what a grant has that is not refused
@@ -17,7 +17,7 @@ pub record IsAccepted (granted : GrantedMemory) (grant : Grant) : Type 0 where
   pub has_bytes : is_empty grant ≡ false
   pub aligned : is_aligned grant ≡ true
   pub below_top : ends_past grant ≡ false
-  pub room : nat_le 64 (length granted.grants) ≡ false
+  pub room : nat_le most_grants (length granted.grants) ≡ false
   pub apart : list_any (overlaps grant) granted.grants ≡ false
   pub off_pool : meets_pool granted grant ≡ false
 
@@ -195,7 +195,7 @@ with_is granted grant = refl
 pub room_left :
     (granted : GrantedMemory) (grant : Grant)
     → add_refusal granted grant ≡ None
-    → length granted.grants < 64
+    → length granted.grants < most_grants
 room_left granted grant none =
     let room = (accepted granted grant none).room in grind (arith, nat_tests, room)
 

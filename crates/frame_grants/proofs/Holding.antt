@@ -11,6 +11,7 @@ use Rattle.frame_grants.specs.declared.grant.Kind.{Kind}
 use Rattle.frame_grants.specs.Ranges.{ranges_meet, range_within}
 use Rattle.frame_grants.specs.Grants.{GrantedMemory, IsPlaced, AreApart, meets_logical, meets_pool, holds, machine_at, machine_range}
 use Rattle.basics.proofs.Lists.{find-Some, find-None}
+use Rattle.pool_range.specs.Ranges.{address_end}
 
 -- ---- the grant that is found
 some_of : {A : Type 0} (o : Option A) (P : A → Type 0) → ((x : A) → o ≡ Some x → P x) → IfSome o P
@@ -46,7 +47,7 @@ pub record IsWithinGrant (granted : GrantedMemory) (logical length machine : ℕ
   pub holding : holds logical length grant ≡ true
   pub distance : machine + grant.logical ≡ logical + grant.machine
   pub within : range_within machine length grant.machine grant.length ≡ true
-  pub below_top : machine + length ≤ 2 ^ 60
+  pub below_top : machine + length ≤ address_end
   pub has_bytes : 0 < length
 
 within_of :
@@ -62,7 +63,7 @@ within_of granted logical length grant apart some holding here =
     let low : grant.logical ≤ logical = grind (arith, nat_tests, holding) in
     let high : logical + length ≤ grant.logical + grant.length = grind (arith, nat_tests, holding)
     in
-    let top : grant.machine + grant.length ≤ 2 ^ 60 = placed.machine_end in
+    let top : grant.machine + grant.length ≤ address_end = placed.machine_end in
     let machine_low : grant.machine ≤ grant.machine + (logical - grant.logical) = omega arith in
     let machine_high : grant.machine + (logical - grant.logical) + length ≤ grant.machine +
     grant.length = omega arith in

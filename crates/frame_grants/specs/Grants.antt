@@ -11,6 +11,10 @@ use Rattle.frame_grants.specs.declared.grant.Grant.{Grant}
 use Rattle.frame_grants.specs.declared.grant.Kind.{Kind}
 use Rattle.frame_grants.specs.declared.grant.Kind.TheVariants.{Ram}
 
+-- There may be so many grants.
+abbrev pub most_grants : ℕ
+most_grants = 64
+
 -- The grants beside the pool of page tables, which is a machine range of 2 ^ pool_order bytes.
 pub record GrantedMemory : Type 0 where
   pub pool_base : ℕ
@@ -70,7 +74,7 @@ refusals granted grant =
     (is_empty grant, Empty)
     ∷ (not (is_aligned grant), Unaligned)
     ∷ (ends_past grant, Past)
-    ∷ (nat_le 64 (length granted.grants), TooMany)
+    ∷ (nat_le most_grants (length granted.grants), TooMany)
     ∷ (list_any (overlaps grant) granted.grants, Overlap)
     ∷ (meets_pool granted grant, PoolOverlap)
     ∷ []

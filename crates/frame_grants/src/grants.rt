@@ -1,7 +1,7 @@
 ghost use Rattle.std.specs.Prelude.{◌≡◌, ◌+◌, ◌≤◌, ◌%◌, ◌^◌, true, Some, None, IfSome, find, count_by, length, MatchResult, OnOk, OnErr};
 ghost use Rattle.std.specs.List.{list_any};
 ghost use Rattle.pool_range.specs.Ranges.{IsPoolRange};
-ghost use Rattle.frame_grants.specs.Grants.{no_grants, overlaps, meets_pool, add_refusal, starts_below, with_grant, holds, machine_range, IsPlaced, AreApart, IsSound};
+ghost use Rattle.frame_grants.specs.Grants.{no_grants, overlaps, meets_pool, add_refusal, starts_below, with_grant, holds, machine_range, IsPlaced, AreApart, IsSound, most_grants};
 
 use crate::error::GrantError;
 use crate::grant::{Grant, Kind};
@@ -9,12 +9,15 @@ use crate::range::ranges_meet;
 use arrayvec::ArrayVec;
 use std::marker::Model;
 
+/// How many grants there can be.
+pub const MOST_GRANTS: usize = 64;
+
 /// The memory that is granted to the guest, beside the machine range of the pool of page tables.
 #[derive(Drop)]
 pub struct Grants {
     pool_base: u64,
     pool_order: u8,
-    items: ArrayVec<Grant, 64>,
+    items: ArrayVec<Grant, MOST_GRANTS>,
 }
 
 impl Model for Grants {
@@ -76,10 +79,10 @@ impl Grants {
         Some((grant.machine + (logical - grant.logical), grant.kind))
     }
 
-    /// The grants in order of logical address, at most 64.
+    /// The grants in order of logical address, at most [`MOST_GRANTS`].
     pub fn list(&self) -> &[Grant]
         ensures items { result.now ≡ self.now.grants }
-        ensures few { length result.now ≤ 64 }
+        ensures few { length result.now ≤ most_grants }
         ensures apart { AreApart self.now }
         ensures sound { IsSound self.now }
     {

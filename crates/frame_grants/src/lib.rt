@@ -12,4 +12,4 @@ mod range;
 
 pub use error::GrantError;
 pub use grant::{Grant, Kind};
-pub use grants::Grants;
+pub use grants::{Grants, MOST_GRANTS};

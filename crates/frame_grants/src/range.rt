@@ -1,5 +1,6 @@
 ghost use Rattle.std.specs.Prelude.{◌≡◌, ◌+◌, ◌^◌, ◌<◌, ◌↔◌, IsTrue, nat_lt};
 ghost use Rattle.frame_grants.specs.Ranges.{ShareAddress, ranges_meet, range_within};
+ghost use Rattle.pool_range.specs.Ranges.{address_end};
 
 use pool_range::ADDRESS_END;
 
@@ -30,7 +31,7 @@ pub fn range_within(start: u64, length: u64, outer: u64, outer_length: u64) -> b
 
 /// Whether a range ends above `2^60`.
 pub fn ends_past_top(start: u64, length: u64) -> bool
-    ensures { result ≡ nat_lt (2 ^ 60) (start + length) }
+    ensures { result ≡ nat_lt address_end (start + length) }
 {
     start > ADDRESS_END || length > ADDRESS_END - start
 }

@@ -13,6 +13,7 @@ use Rattle.page_grants.specs.Suited.{entered_words}
 use Rattle.h_enter.specs.Checks.{h_enter_plan, words_plan}
 use Rattle.entry_model.proofs.TrialSteps.{calls_from}
 use Rattle.h_enter.proofs.Search.{groups_of_eight}
+use Rattle.hpte_fields.specs.TableSize.{least_order}
 
 pub trials_within :
     (n : ℕ) (op : Op) (first count : ℕ) → first + count ≤ n → Within n (calls_from op first count)
@@ -22,7 +23,7 @@ trials_within n op first (suc count) h =
 
 candidates_within :
     (order : ℕ) (op : Op) (flags ptex : ℕ)
-    → 18 ≤ order
+    → least_order ≤ order
     → ptex < 2 ^ (order - 4)
     → Within (2 ^ (order - 4)) (map (call op) (candidates flags ptex))
 unfolding candidates
@@ -38,7 +39,7 @@ candidates_within order op flags ptex low inside =
 
 words_within :
     (order flags ptex : ℕ) (words : Option (ℕ × ℕ))
-    → 18 ≤ order
+    → least_order ≤ order
     → ptex < 2 ^ (order - 4)
     → Within (2 ^ (order - 4)) (words_plan flags ptex words).calls
 words_within order flags ptex None low inside = tt
@@ -47,7 +48,7 @@ words_within order flags ptex (Some w) low inside =
 
 pub h_enter_within :
     (order : ℕ) (grants : List Grant) (flags ptex pteh ptel : ℕ)
-    → 18 ≤ order
+    → least_order ≤ order
     → Within (2 ^ (order - 4)) (h_enter_plan order grants flags ptex pteh ptel).calls
 unfolding h_enter_plan
 h_enter_within order grants flags ptex pteh ptel low =

@@ -1,5 +1,5 @@
 ghost use Rattle.std.specs.Prelude.{◌≡◌, ◌≤◌, ◌<◌, ◌-◌, ◌+◌, ◌^◌, ℕ, Some, map, []};
-ghost use Rattle.hpte_fields.specs.TableSize.{entry_count};
+ghost use Rattle.hpte_fields.specs.TableSize.{entry_count, greatest_order, least_order};
 ghost use Rattle.std.specs.List.{range_with_len};
 ghost use Rattle.hpte_fields.specs.Fields.{normal_words};
 ghost use Rattle.entry_model.specs.declared.operation.Op.TheVariants.{Enter};
@@ -47,7 +47,7 @@ pub fn candidates(flags: u64, index: u32) -> (u32, u32)
     ensures some { 1 ≤ result.1 }
     ensures few { result.1 ≤ 8 }
     ensures in_table { (order : ℕ)
-        → 18 ≤ order
+        → least_order ≤ order
         → index < entry_count order
         → result.0 + result.1 ≤ entry_count order }
 {
@@ -68,7 +68,7 @@ fn search<T: EntryStore>(
 ) -> Registers
     requires few { count ≤ 8 }
     requires in_table { first + count ≤ entry_count (T.table_order store.old) }
-    requires small { first + count ≤ 2 ^ 22 }
+    requires small { first + count ≤ entry_count greatest_order }
     requires normal { IsNormal op }
     requires empty { receipts.old ≡ [] }
     ensures made { T.made store.old store.new receipts.new }

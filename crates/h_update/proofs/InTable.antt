@@ -15,6 +15,7 @@ use Rattle.h_update.specs.Bulk.{Pair, pairs_of, asked_by, calls_before, bulk_cal
 use Rattle.h_update.proofs.ReadSteps.{fours_in_table}
 use Rattle.h_update.proofs.BulkSteps.{asked_in_table}
 use Rattle.entry_model.specs.declared.operation.Op.TheVariants as ops
+use Rattle.hpte_fields.specs.TableSize.{least_order}
 
 -- ---- one entry
 single_within :
@@ -29,7 +30,7 @@ single_within order ptex op words = at (cases_Bool (nat_lt ptex (2 ^ (order - 4)
 
 pub h_remove_within :
     (order flags ptex avpn : ℕ)
-    → 18 ≤ order
+    → least_order ≤ order
     → Within (2 ^ (order - 4)) (h_remove_plan order flags ptex avpn).calls
 unfolding h_remove_plan
 h_remove_within order flags ptex avpn low =
@@ -37,26 +38,30 @@ h_remove_within order flags ptex avpn low =
 
 pub h_protect_within :
     (order flags ptex avpn : ℕ)
-    → 18 ≤ order
+    → least_order ≤ order
     → Within (2 ^ (order - 4)) (h_protect_plan order flags ptex avpn).calls
 unfolding h_protect_plan
 h_protect_within order flags ptex avpn low =
     single_within order ptex (ops.Protect (protect_test flags avpn) flags) (λ r. [])
 
 pub h_clear_ref_within :
-    (order ptex : ℕ) → 18 ≤ order → Within (2 ^ (order - 4)) (h_clear_ref_plan order ptex).calls
+    (order ptex : ℕ)
+    → least_order ≤ order
+    → Within (2 ^ (order - 4)) (h_clear_ref_plan order ptex).calls
 unfolding h_clear_ref_plan
 h_clear_ref_within order ptex low = single_within order ptex ops.ClearRef second_word
 
 pub h_clear_mod_within :
-    (order ptex : ℕ) → 18 ≤ order → Within (2 ^ (order - 4)) (h_clear_mod_plan order ptex).calls
+    (order ptex : ℕ)
+    → least_order ≤ order
+    → Within (2 ^ (order - 4)) (h_clear_mod_plan order ptex).calls
 unfolding h_clear_mod_plan
 h_clear_mod_within order ptex low = single_within order ptex ops.ClearMod second_word
 
 -- ---- H_READ
 reads_within :
     (order flags ptex : ℕ)
-    → 18 ≤ order
+    → least_order ≤ order
     → ptex < 2 ^ (order - 4)
     → Within (2 ^ (order - 4)) (map (call ops.Read) (read_entries flags ptex))
 reads_within order flags ptex low inside = at (cases_Bool (has_flag flags 0x2000000000)) where
@@ -70,7 +75,7 @@ reads_within order flags ptex low inside = at (cases_Bool (has_flag flags 0x2000
 
 pub h_read_within :
     (order flags ptex : ℕ)
-    → 18 ≤ order
+    → least_order ≤ order
     → Within (2 ^ (order - 4)) (h_read_plan order flags ptex).calls
 unfolding h_read_plan
 h_read_within order flags ptex low = at (cases_Bool (nat_lt ptex (2 ^ (order - 4)))) where
@@ -99,7 +104,7 @@ bulk_within order (p ∷ ps) =
 
 pub h_bulk_remove_within :
     (order : ℕ) (pairs : List ℕ)
-    → 18 ≤ order
+    → least_order ≤ order
     → Within (2 ^ (order - 4)) (h_bulk_remove_plan order pairs).calls
 unfolding h_bulk_remove_plan
 h_bulk_remove_within order pairs low = bulk_within order (pairs_of pairs)

@@ -1,3 +1,4 @@
+ghost use Rattle.hpte_fields.specs.TableSize.{IsTableOrder};
 ghost use Rattle.std.specs.Prelude.{◌≡◌, ◌≤◌, ◌+◌, ◌%◌, ◌++◌, length, if◌then◌else◌};
 ghost use Rattle.entry_model.specs.Receipt.{is_worn};
 ghost use Rattle.entry_model.specs.Replies.{reply_with};
@@ -79,8 +80,7 @@ fn test_of(request: u64, word: u64) -> Option<Test>
 /// What a pair asks of a table of this order.
 #[tactic(auto, using(crate::proofs::RequestBits::type_bits), unfolding(crate::specs::Bulk::asked_by))]
 pub fn asked_by(order: u8, request: u64, word: u64) -> Asked
-    requires low { 18 ≤ order }
-    requires high { order ≤ 22 }
+    requires order { IsTableOrder order }
     ensures { result ≡ plans.asked_by order (record { request = request; word = word }) }
 {
     if request & TYPE == END {
@@ -165,8 +165,7 @@ fn ended(rc: Rc, mut words: ReplyWords, unchanged: &[u64]) -> Registers
 /// What the receipts of a bulk removal tell: the code, and all eight words, with a response in
 /// place of each request that was taken up.
 pub fn removal_registers(order: u8, pairs: &[u64; 8], receipts: &[Receipt]) -> Registers
-    requires low { 18 ≤ order }
-    requires high { order ≤ 22 }
+    requires order { IsTableOrder order }
     ensures { (result.rc, result.words)
         ≡ plans.bulk_told order (plans.pairs_of pairs.now) receipts.now }
 {

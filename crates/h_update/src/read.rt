@@ -35,7 +35,7 @@ fn read_from<T: EntryStore>(
 ) -> Registers
     requires few { count ≤ 4 }
     requires in_table { first + count ≤ table.entry_count (T.table_order store.old) }
-    requires small { first + count ≤ 2 ^ 22 }
+    requires small { first + count ≤ table.entry_count table.greatest_order }
     requires empty { receipts.old ≡ [] }
     ensures made { T.made store.old store.new receipts.new }
     ensures trial { IsTrial
@@ -58,7 +58,7 @@ pub fn read_range(flags: u64, index: u32) -> (u32, u32)
     ensures some { 1 ≤ result.1 }
     ensures few { result.1 ≤ 4 }
     ensures in_table { (order : ℕ)
-        → 18 ≤ order
+        → table.least_order ≤ order
         → index < table.entry_count order
         → result.0 + result.1 ≤ table.entry_count order }
 {

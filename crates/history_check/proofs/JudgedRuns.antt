@@ -11,12 +11,7 @@ use Rattle.run_model.specs.Stores.{Store}
 use Rattle.run_model.specs.Sections.{section_end}
 use Rattle.history_check.specs.FoundSection.{Opening, opening_of, HasSection, HasNoSection, TellsSection}
 use Rattle.history_check.specs.StoreParts.{HasTablePart}
-
--- A table has at most 2 ^ 18 entries.
-pub entries_few : (n order : ℕ) → n ≡ 2 ^ (order - 4) → order ≤ 22 → n ≤ 262144
-entries_few n order size high =
-    let most : 2 ^ (order - 4) ≤ 2 ^ 18 = pow_mono {i = order - 4} {j = 18} (omega arith) in
-    omega (arith, size)
+use Rattle.hpte_fields.specs.TableSize.{entry_count, greatest_order}
 
 -- The run with these states of its table, and these processors.
 abbrev pub run_with : Store → List State → List Processor → Store

@@ -6,7 +6,7 @@ use Rattle.std.proofs.lemmas.List.{length-append}
 use Rattle.std.proofs.lemmas.List.Sums.{sum_by-cons}
 use Rattle.std.proofs.lemmas.Bool.{cases_Bool, le-leb, leb-true, lt-leb}
 use Rattle.trace_line.specs.declared.line.TraceLine.{TraceLine}
-use Rattle.trace_line.specs.Lines.{is_quiet}
+use Rattle.trace_line.specs.Lines.{is_quiet, most_lines}
 use Rattle.trace_read.specs.Trace.{AcceptedTrace, IsAccepted}
 use Rattle.trace_reply.specs.declared.reply.Reply.{Reply}
 use Rattle.trace_reply.specs.Replies.{RepliedLine, IsOfKind, lines_with_replies}
@@ -127,7 +127,7 @@ pub record AtSection (t : AcceptedTrace) (text : List ℕ) (k : ℕ) (w : AllSto
   pub plain : ArePlainStores w
   pub cpus : AreOnProcessors (length w.table.processors) ns
   pub count : k + quiet_count ns ≡ quiet_count t.lines
-  pub few : length ns ≤ 2 ^ 17
+  pub few : length ns ≤ most_lines
 
 pub at_first :
     (t : AcceptedTrace) (text : List ℕ)
@@ -155,7 +155,7 @@ pub front_few :
     (t : AcceptedTrace) (text : List ℕ) (k : ℕ) (w : AllStores) (ms : List TraceLine)
     (l : TraceLine) (ns : List TraceLine) (x : List ℕ)
     → AtSection t text k w (ms ++ l ∷ ns) x
-    → length ms ≤ 2 ^ 17
+    → length ms ≤ most_lines
 front_few t text k w ms l ns x h = omega (arith, h.few, length-append ms (l ∷ ns))
 
 pub few_standing :

@@ -15,13 +15,14 @@ use Rattle.history_check.specs.JudgedLines.{judged, AreReplied, TellsLines}
 use Rattle.history_check.specs.SectionMarks.{ReadMarks, NoMarks}
 use Rattle.history_check.proofs.Short.{LowStates}
 use Rattle.history_check.proofs.WholeSection.{told_section, no_marks, no_replies}
+use Rattle.hpte_fields.specs.TableSize.{entry_count, greatest_order}
 
 -- ---- what the parts tell of one opening
 -- What is asked of the opening.
 pub record IsOpening (o : Opening) (ls : List TraceLine) : Type 0 where
   pub plain : ArePlain ls
   pub cpus : AreOnProcessors (length o.processors) ls
-  pub few : length o.states ≤ 2 ^ 18
+  pub few : length o.states ≤ entry_count greatest_order
   pub low : LowStates o.states
 
 -- The marks that were read, and the states that their steps find.

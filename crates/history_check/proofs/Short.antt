@@ -16,7 +16,7 @@ use Rattle.entry_model.specs.Run.{state_at}
 use Rattle.entry_model.specs.History.{IsLegal, history}
 use Rattle.entry_model.proofs.OperationLaws.{stamp_fits}
 use Rattle.hpt_resize.specs.declared.carry.Collision.{Collision}
-use Rattle.hpte_fields.specs.TableSize.{entry_count}
+use Rattle.hpte_fields.specs.TableSize.{entry_count, greatest_order}
 use Rattle.hpt_resize.specs.Rehash.{at_stamp_0, first_with, entry_at, collision_of, rehashed_states}
 use Rattle.hpt_resize.specs.Pending.{PendingTable}
 use Rattle.hpt_resize.specs.Resize.{Table, CommitOutcome, commit_refusal, carry_outcome, complete_outcome, answer_outcome, outcome_of_commit}
@@ -50,7 +50,7 @@ LowStates states = AllByRecursion IsLow states
 
 pub record IsPlain (w : Store) : Type 0 where
   pub memory : MemoryStands w.memory
-  pub high : w.memory.table.order ≤ 22
+  pub high : w.memory.table.order ≤ greatest_order
   pub low : LowStates (states_of w)
 
 -- ---- a section
@@ -65,17 +65,17 @@ legal_low a b (r ∷ rs) h k =
     let rest = legal_low (after_of r) b rs h.1 (stamp_fits r.before r.op here) in
     ((here, rest.0), rest.1)
 
-pub small_table : (w : Store) → IsPlain w → length (states_of w) ≤ 2 ^ 18
+pub small_table : (w : Store) → IsPlain w → length (states_of w) ≤ entry_count greatest_order
 small_table w h =
     let size : length (states_of w) ≡ 2 ^ (w.memory.table.order - 4) = h.memory.size in
-    let high : w.memory.table.order ≤ 22 = h.high in
-    let less : w.memory.table.order - 4 ≤ 18 = omega arith in
-    subst (λ n. n ≤ 2 ^ 18) (sym size) (pow_mono less)
+    let high : w.memory.table.order ≤ greatest_order = h.high in
+    let less : w.memory.table.order - 4 ≤ greatest_order - 4 = omega arith in
+    subst (λ n. n ≤ entry_count greatest_order) (sym size) (pow_mono less)
 
 pub section_low :
     (s : Section) (closing : List State)
     → length closing ≡ length (states_of s.before)
-    → length (states_of s.before) ≤ 2 ^ 18
+    → length (states_of s.before) ≤ entry_count greatest_order
     → LowStates (states_of s.before)
     → IsLegalTo s closing
     → AreShort (made_in s) × LowStates closing
@@ -136,7 +136,7 @@ closed_plain w ts h low = closed_by w ts h (closed_size w ts) low
 pub lines_short :
     (s : Section)
     → OnCpus s
-    → length (states_of s.before) ≤ 2 ^ 18
+    → length (states_of s.before) ≤ entry_count greatest_order
     → LowStates (states_of s.before)
     → IsLegalTo s (closing_of s)
     → ShortLines s.replied_lines
@@ -149,7 +149,7 @@ lines_short s within few low g =
 
 -- ---- quiet lines
 abbrev CommitsLow : CommitOutcome → Type 0
-CommitsLow c = (c.table.order ≤ 22) × LowStates c.table.states
+CommitsLow c = (c.table.order ≤ greatest_order) × LowStates c.table.states
 
 carried_low :
     (states : List State) (index : Option ℕ)
@@ -172,7 +172,7 @@ rehashed_low from to states =
 over_low :
     (pending : PendingTable) (pool : PoolState) (table : Table) (collision : Option Collision)
     → IsAllowed pending
-    → table.order ≤ 22
+    → table.order ≤ greatest_order
     → LowStates table.states
     → CommitsLow (carry_outcome pending pool table collision)
 over_low pending pool table (Some collision) a o h = (o, h)
@@ -181,7 +181,7 @@ over_low pending pool table None a o h = (a.1, rehashed_low table.order pending.
 completed_low :
     (pending : Option PendingTable) (pool : PoolState) (table : Table)
     → IfSome pending IsAllowed
-    → table.order ≤ 22
+    → table.order ≤ greatest_order
     → LowStates table.states
     → CommitsLow (complete_outcome pending pool table)
 completed_low None pool table a o h = (o, h)
@@ -191,7 +191,7 @@ completed_low (Some pending) pool table a o h =
 answered_low :
     (refusal : Option Rc) (pending : Option PendingTable) (pool : PoolState) (table : Table)
     → IfSome pending IsAllowed
-    → table.order ≤ 22
+    → table.order ≤ greatest_order
     → LowStates table.states
     → CommitsLow (answer_outcome refusal pending pool table)
 answered_low (Some code) pending pool table a o h = (o, h)
@@ -200,9 +200,9 @@ answered_low None pending pool table a o h = completed_low pending pool table a 
 committed_low :
     (memory : TableMemory) (flags shift : ℕ)
     → MemoryStands memory
-    → memory.table.order ≤ 22
+    → memory.table.order ≤ greatest_order
     → LowStates memory.table.states
-    → ((commit_result memory flags shift).1.table.order ≤ 22)
+    → ((commit_result memory flags shift).1.table.order ≤ greatest_order)
     × LowStates (commit_result memory flags shift).1.table.states
 unfolding commit_result outcome_of_commit
 committed_low memory flags shift a o h =
@@ -211,9 +211,9 @@ committed_low memory flags shift a o h =
 
 prepared_low :
     (memory : TableMemory) (flags shift : ℕ)
-    → memory.table.order ≤ 22
+    → memory.table.order ≤ greatest_order
     → LowStates memory.table.states
-    → ((prepare_result memory flags shift).1.table.order ≤ 22)
+    → ((prepare_result memory flags shift).1.table.order ≤ greatest_order)
     × LowStates (prepare_result memory flags shift).1.table.states
 unfolding prepare_result
 prepared_low memory flags shift o h = (o, h)
@@ -249,11 +249,11 @@ unfolding page_table opening_memory
 opening_plain t is =
     let c = t.config in
     let below : c.order ≤ c.limit = is.configured.settings.within in
-    let most : c.limit ≤ 22 = is.configured.settings.at_most in
+    let most : c.limit ≤ greatest_order = omega (arith, is.configured.settings.at_most) in
     record {
       memory =
           opening_stands c.limit c.order c.granted.pool_base c.granted.pool_order c.entries
-          is.configured.settings.at_most is.configured.settings.at_least;
+          most is.configured.settings.at_least;
       high = omega arith;
       low = each_opening IsLow c (omega arith) (λ e h. omega arith) is.entries;
     }

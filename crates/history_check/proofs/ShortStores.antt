@@ -3,7 +3,7 @@ use Rattle.std.specs.Prelude.{None}
 use Rattle.std.proofs.Common.{◌≡◌, ◌<◌, ◌≤◌, ◌^◌, List, sym, subst, length, arith}
 use Rattle.std.specs.List.{AllByRecursion}
 use Rattle.std.proofs.lemmas.List.{length-replicate}
-use Rattle.hpte_fields.specs.TableSize.{entry_count}
+use Rattle.hpte_fields.specs.TableSize.{entry_count, greatest_order, least_order}
 use Rattle.entry_model.specs.State.{State, empty_state}
 use Rattle.tlb_model.specs.Processor.{new_processor}
 use Rattle.trace_line.specs.declared.act.Act.{Act}
@@ -25,9 +25,9 @@ use Rattle.history_check.proofs.Short.{IsLow, LowStates, IsPlain, ShortLines, sm
 use Rattle.history_check.proofs.GoodStores.{closed_states, mapped_to, each_pair}
 use Rattle.history_check.specs.FoundSection.{closing_of, IsGoodPart, IsLegalTo}
 
--- A store of at most 2 ^ 18 entries, with low stamps.
+-- A store of no more entries than the largest table has, with low stamps.
 pub record IsSmall (states : List State) : Type 0 where
-  pub few : length states ≤ 2 ^ 18
+  pub few : length states ≤ entry_count greatest_order
   pub low : LowStates states
 
 -- The page table and each window are such.
@@ -46,7 +46,7 @@ section_small s within h g =
     (states_of s.before) (made_in s) in (
       lines_short s within h.few h.low g,
       record {
-        few = subst (λ n. n ≤ 2 ^ 18) (sym size) h.few;
+        few = subst (λ n. n ≤ entry_count greatest_order) (sym size) h.few;
         low = (section_low s (closing_of s) size h.few h.low g).1;
       },
     )
@@ -120,11 +120,14 @@ quiet_stores_plain s act h = record { table = quiet_plain s.table act h.table; w
 
 opened_low : LowStates opening_window
 unfolding opening_window
-opened_low = each_replicate IsLow (entry_count 18) (empty_state 0) (omega arith)
+opened_low = each_replicate IsLow (entry_count least_order) (empty_state 0) (omega arith)
 
 opened_small : IsSmall opening_window
 opened_small =
-    record { few = subst (λ n. n ≤ 2 ^ 18) (sym opening_size) (omega arith); low = opened_low }
+    record {
+      few = subst (λ n. n ≤ entry_count greatest_order) (sym opening_size) (omega arith);
+      low = opened_low;
+    }
 
 pub opening_stores_plain :
     (t : AcceptedTrace) → IsAccepted t → ArePlainStores (opening_all t.config)

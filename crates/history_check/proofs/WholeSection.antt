@@ -37,6 +37,7 @@ use Rattle.history_check.proofs.TextMarks.{short_marks}
 use Rattle.history_check.proofs.Short.{LowStates, ShortLines, lines_short}
 use Rattle.history_check.proofs.LineSteps as shown
 use Rattle.history_check.proofs.FoundStates.{section_finds, found_section}
+use Rattle.hpte_fields.specs.TableSize.{entry_count, greatest_order}
 
 -- ---- fronts
 front_is : (a : List State) (e : ℕ) → front_at (opening_fronts a) e ≡ pair_of (state_at a e)
@@ -356,7 +357,7 @@ good_facts :
     (o : Opening) (ls : List TraceLine) (given : List ℕ) (rs : List Reply) (rest : List ℕ)
     → ArePlain ls
     → AreOnProcessors (length o.processors) ls
-    → length o.states ≤ 2 ^ 18
+    → length o.states ≤ entry_count greatest_order
     → LowStates o.states
     → IsFound o ls given rs rest
     → Good o ls given rs rest
@@ -414,7 +415,7 @@ pub no_marks :
     (o : Opening) (ls : List TraceLine) (given : List ℕ)
     → ArePlain ls
     → AreOnProcessors (length o.processors) ls
-    → length o.states ≤ 2 ^ 18
+    → length o.states ≤ entry_count greatest_order
     → LowStates o.states
     → NoMarks o.context (length o.states) ls given
     → HasNoSection o ls given
@@ -439,7 +440,7 @@ pub no_replies :
     (listed closing : List State)
     → ArePlain ls
     → AreOnProcessors (length o.processors) ls
-    → length o.states ≤ 2 ^ 18
+    → length o.states ≤ entry_count greatest_order
     → LowStates o.states
     → ReadMarks o.context (length o.states) ls given steps counts
     →

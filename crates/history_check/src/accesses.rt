@@ -1,3 +1,4 @@
+ghost use Rattle.hpte_fields.specs.TableSize.{IsTableOrder};
 ghost use Rattle.std.specs.Prelude.{◌≡◌, ◌≤◌, length, List, Some, IfSome, IfNone};
 ghost use Rattle.entry_model.specs.declared.receipt.Receipt.{Receipt};
 ghost use Rattle.entry_model.specs.Receipt.{is_no_match, found_of};
@@ -36,8 +37,7 @@ pub fn walk_on(
     masks: Masks,
     receipts: &mut Receipts,
 ) -> Option<Receipt>
-    requires low { 18 ≤ order }
-    requires high { order ≤ 22 }
+    requires order { IsTableOrder order }
     ensures trial { IsTrial
         is_no_match
         (walk_calls order page.now (access_mode key no_execute want masks))

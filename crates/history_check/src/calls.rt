@@ -1,3 +1,4 @@
+ghost use Rattle.hpte_fields.specs.TableSize.{IsTableOrder};
 ghost use Rattle.std.specs.Prelude.{◌≡◌, ◌≤◌, length};
 ghost use Rattle.entry_model.specs.declared.device_reply.DeviceReply.{DeviceReply};
 ghost use Rattle.entry_model.specs.declared.hreply.HReply.{HReply};
@@ -28,8 +29,7 @@ pub fn call_on(
     args: &[u64; 8],
     receipts: &mut Receipts,
 ) -> Registers
-    requires low { 18 ≤ order }
-    requires high { order ≤ 22 }
+    requires order { IsTableOrder order }
     ensures reply { IsReplyOf
         (hcall_plan (context_on order around.now) hcall args.now)
         (reply_with result receipts.new) }
@@ -55,8 +55,7 @@ pub fn device_on(
     write: bool,
     receipts: &mut Receipts,
 ) -> DeviceOutcome
-    requires low { 18 ≤ order }
-    requires high { order ≤ 22 }
+    requires order { IsTableOrder order }
     ensures reply { IsDeviceLine
         around.now.grants
         around.now.window

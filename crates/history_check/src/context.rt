@@ -7,7 +7,7 @@ use std::marker::Model;
 /// entries of the page table are no window's.
 #[derive(Drop)]
 pub struct Context<'a> {
-    /// 18 to 22.
+    /// That of a table.
     pub order: u8,
     /// The granted memory.
     pub grants: &'a Grants,
@@ -16,7 +16,7 @@ pub struct Context<'a> {
 }
 
 impl<'a> Model for Context<'a> {
-    ghost use Rattle.std.specs.Prelude.{◌≤◌};
+    ghost use Rattle.hpte_fields.specs.TableSize.{IsTableOrder};
     ghost use Rattle.run_model.specs.StoreContexts.{StoreContext};
 
     ghost Value = { StoreContext };
@@ -24,5 +24,5 @@ impl<'a> Model for Context<'a> {
     ghost view = { λ c.
         record { order = c.order; grants = c.grants.now.grants; window = c.window } };
 
-    ghost invariant = { λ c. (18 ≤ c.order) × (c.order ≤ 22) };
+    ghost invariant = { λ c. IsTableOrder c.order };
 }

@@ -2,7 +2,7 @@ ghost use Rattle.std.specs.Prelude.{◌≡◌, ◌≤◌, ◌<◌, ◌+◌, ◌-
 ghost use Rattle.std.specs.List.{list_any};
 ghost use Rattle.bus_window.specs.Windows.{BusWindow};
 ghost use Rattle.partition.specs.PartitionState.{HasStates};
-ghost use Rattle.trace_line.specs.Lines.{is_quiet};
+ghost use Rattle.trace_line.specs.Lines.{is_quiet, most_lines};
 ghost use Rattle.trace_line.specs.declared.line.TraceLine.{TraceLine};
 ghost use Rattle.trace_reply.specs.declared.reply.Reply.{Reply};
 ghost use Rattle.trace_reply.specs.Replies.{lines_with_replies};
@@ -150,7 +150,7 @@ fn table_found(
     requires has_states { HasStates partition.old }
     requires plain { ArePlain lines.now }
     requires cpus { AreOnProcessors (length processors.old.items) lines.now }
-    requires few { length lines.now ≤ 2 ^ 17 }
+    requires few { length lines.now ≤ most_lines }
     ensures within { IfOk result (λ found. IfSome found (λ count. count ≤ length text.now)) }
     ensures some { IfOk
         result
@@ -199,7 +199,7 @@ fn windows_found(
 ) -> Result<bool, AllocError>
     requires plain { ArePlain lines.now }
     requires cpus { AreOnProcessors cpus lines.now }
-    requires few { length lines.now ≤ 2 ^ 17 }
+    requires few { length lines.now ≤ most_lines }
     ensures some { IfOk
         result
         (λ found.
@@ -252,7 +252,7 @@ impl JudgedRun {
     ) -> Result<Option<usize>, AllocError>
         requires plain { ArePlain lines.now }
         requires cpus { AreOnProcessors (length self.old.table.processors) lines.now }
-        requires few { length lines.now ≤ 2 ^ 17 }
+        requires few { length lines.now ≤ most_lines }
         ensures within { IfOk result (λ found. IfSome found (λ count. count ≤ length text.now)) }
         ensures some { IfOk
             result

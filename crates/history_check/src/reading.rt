@@ -4,6 +4,7 @@ ghost use Rattle.receipt_text.specs.Cuts.{lacks};
 ghost use Rattle.receipt_text.specs.declared.mark.Mark.{Mark};
 ghost use Rattle.history_check.specs.FoundSection.{ArePlain};
 ghost use Rattle.history_check.specs.SectionMarks.{NoMarks, ReadMarks};
+ghost use Rattle.trace_line.specs.Lines.{most_lines};
 
 use crate::calls::names_few;
 use crate::context::Context;
@@ -56,7 +57,7 @@ pub fn read_section(
     text: &[u8],
 ) -> Result<Option<SectionSteps>, AllocError>
     requires plain { ArePlain lines.now }
-    requires few { length lines.now ≤ 2 ^ 17 }
+    requires few { length lines.now ≤ most_lines }
     ensures some { IfOk
         result
         (λ read.

@@ -1,3 +1,4 @@
+ghost use Rattle.hpte_fields.specs.TableSize.{IsTableOrder};
 ghost use Rattle.std.specs.Prelude.{◌≡◌, ◌≤◌, false};
 ghost use Rattle.entry_model.specs.State.{IsCanonicalState};
 ghost use Rattle.entry_model.specs.Receipt.{is_decided, IsReceiptOf};
@@ -16,7 +17,7 @@ pub struct Replay<'a> {
 }
 
 impl<'a> Model for Replay<'a> {
-    ghost use Rattle.std.specs.Prelude.{◌≤◌};
+    ghost use Rattle.hpte_fields.specs.TableSize.{IsTableOrder};
     ghost use Rattle.history_check.specs.Replay.{ReplayState};
 
     ghost Value = { ReplayState };
@@ -24,7 +25,7 @@ impl<'a> Model for Replay<'a> {
     ghost view = { λ r.
         record { order = r.order; states = r.states.now; decided = r.decided } };
 
-    ghost invariant = { λ r. (18 ≤ r.order) × (r.order ≤ 22) };
+    ghost invariant = { λ r. IsTableOrder r.order };
 }
 
 fn is_decided(answer: Answer) -> bool
@@ -53,8 +54,7 @@ fn state_past_end(op: &Op) -> EntryState
 impl<'a> Replay<'a> {
     /// A store of a table of `2^order` bytes that answers on these states.
     pub fn new(states: &'a [EntryState], order: u8) -> Replay<'a>
-        requires low { 18 ≤ order }
-        requires high { order ≤ 22 }
+        requires order { IsTableOrder order }
         ensures states { result.states ≡ states.now }
         ensures order { result.order ≡ order }
         ensures decided { result.decided ≡ false }

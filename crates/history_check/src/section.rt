@@ -4,6 +4,8 @@ ghost use Rattle.entry_model.specs.State.{State};
 ghost use Rattle.entry_model.specs.Fronts.{opening_fronts};
 ghost use Rattle.history_check.specs.FoundSection.{ArePlain, AreOnProcessors, TellsSection};
 ghost use Rattle.history_check.specs.SectionMarks.{ReadMarks};
+ghost use Rattle.hpte_fields.specs.TableSize.{entry_count, greatest_order};
+ghost use Rattle.trace_line.specs.Lines.{most_lines};
 
 use crate::context::Context;
 use crate::fronts::pair_of;
@@ -47,7 +49,7 @@ fn section_by_steps(
 ) -> Result<Option<usize>, AllocError>
     requires plain { ArePlain lines.now }
     requires cpus { AreOnProcessors (length processors.old.items) lines.now }
-    requires few { length states.old.items ≤ 2 ^ 18 }
+    requires few { length states.old.items ≤ entry_count greatest_order }
     requires low { AllByRecursion (λ (s : State). s.stamp < 2 ^ 32) states.old.items }
     requires opening { opening.now ≡ opening_fronts states.old.items }
     requires read { ReadMarks
@@ -103,8 +105,8 @@ pub fn section_found(
 ) -> Result<Option<usize>, AllocError>
     requires plain { ArePlain lines.now }
     requires cpus { AreOnProcessors (length processors.old.items) lines.now }
-    requires few { length states.old.items ≤ 2 ^ 18 }
-    requires few_lines { length lines.now ≤ 2 ^ 17 }
+    requires few { length states.old.items ≤ entry_count greatest_order }
+    requires few_lines { length lines.now ≤ most_lines }
     ensures told { IfOk
         result
         (λ found.

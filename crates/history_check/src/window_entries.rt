@@ -4,6 +4,8 @@ ghost use Rattle.run_model.specs.Stores.{opening_window};
 ghost use Rattle.history_check.specs.FoundSection.{ArePlain, AreOnProcessors, HasSection, HasNoSection};
 ghost use Rattle.history_check.specs.FoundStores.{window_opening};
 ghost use Rattle.history_check.specs.StoreParts.{HasPart, HasNoPart};
+ghost use Rattle.hpte_fields.specs.TableSize.{entry_count, greatest_order};
+ghost use Rattle.trace_line.specs.Lines.{most_lines};
 
 use crate::context::Context;
 use crate::parting::{Part, is_named, marked_part, marks_of_window};
@@ -12,12 +14,13 @@ use crate::section::section_found;
 use bus_window::Window;
 use entry_model::EntryState;
 use frame_grants::Grants;
+use hpte_fields::LEAST_ORDER;
 use std::alloc::{AllocError, Global};
 use std::marker::Model;
 use trace_line::TraceLine;
 
 /// The binary logarithm of the bytes of a window's entries.
-const ORDER: u8 = 18;
+const ORDER: u8 = LEAST_ORDER;
 
 /// How many entries a window has.
 const ENTRIES: usize = 0x4000;
@@ -30,14 +33,15 @@ pub struct WindowEntries {
 }
 
 impl Model for WindowEntries {
-    ghost use Rattle.std.specs.Prelude.{◌≤◌, ◌^◌, length};
+    ghost use Rattle.std.specs.Prelude.{◌≤◌, length};
+    ghost use Rattle.hpte_fields.specs.TableSize.{entry_count, greatest_order};
     ghost use Rattle.run_model.specs.AllStores.{WindowState};
 
     ghost Value = { WindowState };
 
     ghost view = { λ w. record { window = w.window; states = w.states.items } };
 
-    ghost invariant = { λ w. length w.states.items ≤ 2 ^ 18 };
+    ghost invariant = { λ w. length w.states.items ≤ entry_count greatest_order };
 }
 
 /// Finds the section of a window's part of the lines, with these entries.
@@ -51,8 +55,8 @@ fn part_found(
 ) -> Result<bool, AllocError>
     requires plain { ArePlain part.now.lines.items }
     requires cpus { AreOnProcessors cpus part.now.lines.items }
-    requires few { length states.old.items ≤ 2 ^ 18 }
-    requires few_lines { length part.now.lines.items ≤ 2 ^ 17 }
+    requires few { length states.old.items ≤ entry_count greatest_order }
+    requires few_lines { length part.now.lines.items ≤ most_lines }
     ensures some { IfOk
         result
         (λ found.
@@ -131,7 +135,7 @@ impl WindowEntries {
     ) -> Result<bool, AllocError>
         requires plain { ArePlain lines.now }
         requires cpus { AreOnProcessors cpus lines.now }
-        requires few { length lines.now ≤ 2 ^ 17 }
+        requires few { length lines.now ≤ most_lines }
         ensures some { IfOk
             result
             (λ found.

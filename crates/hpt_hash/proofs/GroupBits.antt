@@ -6,7 +6,7 @@ use Rattle.std.proofs.Math.Nat.{mod-lt, mod-eq_of_lt, div-add-mod, div-lt_iff_lt
 use Rattle.std.proofs.lemmas.Nat.{pow_pos, pow-add, mod-mul-add}
 use Rattle.power_addr.specs.Pages.{VirtualPage}
 use Rattle.hpt_hash.specs.Hash.{hash_of, group_of}
-use Rattle.hpte_fields.specs.TableSize.{group_count}
+use Rattle.hpte_fields.specs.TableSize.{group_count, least_order}
 use Rattle.hpt_hash.specs.Entries.{low_hash}
 
 -- ---- complements
@@ -66,7 +66,7 @@ group_of-apart p order h e =
 -- A group gives back the low bits of the hash.
 pub low_hash-group :
     (p : VirtualPage) (order : ℕ) (secondary : Bool)
-    → 18 ≤ order
+    → least_order ≤ order
     → low_hash (group_of p order secondary) secondary ≡ hash_of p % 2 ^ 11
 unfolding group_of
 low_hash-group p order false h = low_bits-mod (hash_of p) (order - 7) (omega arith)

@@ -14,13 +14,14 @@ use Rattle.hpt_hash.specs.Hash.{hash_of, group_of}
 use Rattle.hpt_hash.specs.Entries.{IsPageOf, SuitsPage, low_hash, number_field, rebuilt_page, confirmed_page, page_of_size, page_at}
 use Rattle.hpt_hash.proofs.GroupBits.{low_hash-group}
 use Rattle.hpt_hash.proofs.RebuiltPage.{rebuilt_page-is}
+use Rattle.hpte_fields.specs.TableSize.{least_order}
 
 -- Two pages of one tag, one base page size and one group are one page.
 pub same_page :
     (p q : VirtualPage) (order : ℕ) (secondary : Bool)
     → IsPage p
     → IsPage q
-    → 18 ≤ order
+    → least_order ≤ order
     → tag_of p ≡ tag_of q
     → p.shift ≡ q.shift
     → group_of p order secondary ≡ group_of q order secondary
@@ -171,7 +172,7 @@ made-page_at order index dword0 dword1 p e =
 -- The page of an entry is found.
 pub page_at-complete :
     (order index dword0 dword1 : ℕ) (p : VirtualPage)
-    → 18 ≤ order
+    → least_order ≤ order
     → IsPage p
     → IsPageOf order index dword0 dword1 p
     → page_at order index dword0 dword1 ≡ Some p
@@ -202,7 +203,7 @@ page_at-complete order index dword0 dword1 p low is entry =
 -- An entry is one of no two pages.
 pub one_page :
     (order index dword0 dword1 : ℕ) (p q : VirtualPage)
-    → 18 ≤ order
+    → least_order ≤ order
     → IsPage p
     → IsPage q
     → IsPageOf order index dword0 dword1 p
@@ -256,7 +257,7 @@ page_at-sound order index dword0 dword1 p range e =
 -- What is found is this page exactly where the four facts hold of it.
 pub page_at-exact :
     (order index dword0 dword1 : ℕ) (found : Option VirtualPage)
-    → 18 ≤ order
+    → least_order ≤ order
     → dword0 < 2 ^ 64
     → found ≡ page_at order index dword0 dword1
     → (p : VirtualPage)
@@ -278,8 +279,8 @@ page_at-exact order index dword0 dword1 found low range same p is = (to, back) w
 -- size.
 pub page_at-moved :
     (from to index target dword0 dword1 : ℕ) (p : VirtualPage)
-    → 18 ≤ from
-    → 18 ≤ to
+    → least_order ≤ from
+    → least_order ≤ to
     → page_at from index dword0 dword1 ≡ Some p
     → group_of p to (is_secondary dword0) ≡ target / 8
     → page_at to target dword0 dword1 ≡ Some p

@@ -1,6 +1,7 @@
 -- What is proved of the page that an entry translates.
 use Rattle.std.specs.Prelude.{◌≡◌, ℕ, ◌≤◌}
 use Rattle.power_addr.specs.Pages.{VirtualPage, IsPage}
+use Rattle.hpte_fields.specs.TableSize.{least_order}
 use Rattle.hpt_hash.specs.Entries.{IsPageOf}
 
 -- An entry translates one base page and no other, so none of the other base pages that lie in the
@@ -8,7 +9,7 @@ use Rattle.hpt_hash.specs.Entries.{IsPageOf}
 abbrev pub OnePageOfAnEntry : Type 0
 OnePageOfAnEntry =
     (order index dword0 dword1 : ℕ) (p q : VirtualPage)
-    → 18 ≤ order
+    → least_order ≤ order
     → IsPage p
     → IsPage q
     → IsPageOf order index dword0 dword1 p

@@ -1,16 +1,13 @@
 ghost use Rattle.std.specs.Prelude.{◌≡◌, ◌<◌, ◌≤◌, ◌↔◌, ◌-◌, ◌/◌, ◌^◌, IfSome, Some, None};
-ghost use Rattle.hpte_fields.specs.TableSize.{entry_count};
+ghost use Rattle.hpte_fields.specs.TableSize.{IsTableOrder, entry_count};
 ghost use Rattle.hpte_fields.specs.Fields.{is_secondary};
 ghost use Rattle.power_addr.specs.Pages.{VirtualPage, IsPage, offset_bits};
 ghost use Rattle.hpt_hash.specs.Entries.{IsPageOf, SuitsPage, confirmed_page, low_hash, number_field, page_at, rebuilt_page};
 
 use crate::hash::groups;
-use hpte_fields::{one_tb, secondary, tag_of};
+use hpte_fields::{VALID, one_tb, secondary, tag_of};
 use page_sizes::decode;
 use power_addr::Page;
-
-/// V, in doubleword 0: the entry is valid.
-const VALID: u64 = 0x01;
 
 /// The 55 bits of an abbreviated virtual page number, which stands above the low seven bits of
 /// doubleword 0.
@@ -34,8 +31,7 @@ const LARGE_OFFSET_BITS: u32 = 40;
 /// address of the tag, or the page's group is not the one of `index`.
 #[tactic(auto, unfolding(crate::specs::Entries::page_at))]
 pub fn page_of(order: u8, index: u32, dword0: u64, dword1: u64) -> Option<Page>
-    requires order_low { 18 ≤ order }
-    requires order_high { order ≤ 22 }
+    requires order { IsTableOrder order }
     requires in_table { index < entry_count order }
     ensures value { result ≡ page_at order index dword0 dword1 }
     ensures found { IfSome result (λ p. IsPage p × IsPageOf order index dword0 dword1 p) }
@@ -106,8 +102,7 @@ fn rebuilt(one_tb: bool, number: u64, shift: u8, low: u64) -> Option<Page>
 
 /// The page, where its tag and its group are the entry's.
 fn confirmed(page: Page, order: u8, index: u32, dword0: u64) -> Option<Page>
-    requires order_low { 18 ≤ order }
-    requires order_high { order ≤ 22 }
+    requires order { IsTableOrder order }
     ensures { result ≡ confirmed_page order index dword0 page }
 {
     let (first, second) = groups(&page, order);

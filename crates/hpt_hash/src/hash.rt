@@ -1,7 +1,7 @@
 ghost use Rattle.std.specs.Prelude.{◌≡◌, ◌≢◌, ◌<◌, ◌≤◌, ◌-◌, ◌^◌, true, false};
 ghost use Rattle.power_addr.specs.Pages.{vsid_bits};
 ghost use Rattle.hpt_hash.specs.Hash.{hash_of, mixed_bits, group_of};
-ghost use Rattle.hpte_fields.specs.TableSize.{group_count};
+ghost use Rattle.hpte_fields.specs.TableSize.{greatest_architected_order, group_count, least_order};
 
 use power_addr::Page;
 
@@ -13,8 +13,8 @@ const LARGE_SEGMENT_SHIFT: u32 = 25;
 
 /// The primary and the secondary group of a page in a table of `2^order` bytes.
 pub fn groups(page: &Page, order: u8) -> (u64, u64)
-    requires order_low { 18 ≤ order }
-    requires order_high { order ≤ 46 }
+    requires order_low { least_order ≤ order }
+    requires order_high { order ≤ greatest_architected_order }
     ensures primary { result.0 ≡ group_of page.now order false }
     ensures secondary { result.1 ≡ group_of page.now order true }
     ensures apart { result.0 ≢ result.1 }

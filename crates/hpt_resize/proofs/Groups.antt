@@ -9,7 +9,7 @@ use Rattle.std.proofs.lemmas.Nat.{pow_pos, pow-add, mod-mul-add, div-add-mod'}
 use Rattle.power_addr.specs.Pages.{VirtualPage}
 use Rattle.hpte_fields.specs.Fields.{is_bolted, is_secondary}
 use Rattle.hpt_hash.specs.Hash.{hash_of, group_of}
-use Rattle.hpte_fields.specs.TableSize.{group_count}
+use Rattle.hpte_fields.specs.TableSize.{group_count, least_order}
 use Rattle.hpt_hash.specs.Entries.{page_at}
 use Rattle.hpt_hash.proofs.GroupBits.{group_of-lt}
 use Rattle.hpt_hash.proofs.PageLemmas.{page_at-moved, page_at-group}
@@ -88,7 +88,7 @@ page_goes from to state index page e =
 -- An entry of a group of a table stands in that table.
 pub slot_in_table :
     (order group index : ℕ)
-    → 18 ≤ order
+    → least_order ≤ order
     → group < group_count order
     → group * 8 + index % 8 < 2 ^ (order - 4)
 slot_in_table order group index large below =
@@ -98,7 +98,7 @@ slot_in_table order group index large below =
 
 pub target_in_table :
     (from to : ℕ) (state : State) (index target : ℕ)
-    → 18 ≤ to
+    → least_order ≤ to
     → target_of from to state index ≡ Some target
     → target < entry_count to
 target_in_table from to state index target large e =
@@ -110,8 +110,8 @@ target_in_table from to state index target large e =
 -- There it is an entry of the same page.
 pub target_page :
     (from to : ℕ) (state : State) (index target : ℕ)
-    → 18 ≤ from
-    → 18 ≤ to
+    → least_order ≤ from
+    → least_order ≤ to
     → (e : target_of from to state index ≡ Some target)
     → page_at to target state.dword0 state.dword1
     ≡ Some (carried_is from to state index target e).page
@@ -165,7 +165,7 @@ complement_low low high h below small =
 
 pub larger_group :
     (page : VirtualPage) (from to : ℕ) (secondary : Bool)
-    → 18 ≤ from
+    → least_order ≤ from
     → from ≤ to
     → group_of page to secondary % group_count from ≡ group_of page from secondary
 unfolding group_of
@@ -185,7 +185,7 @@ larger_group page from to true large below =
 -- Two entries of one target are one.
 pub one_source :
     (from to : ℕ) (states : List State) (i j target : ℕ)
-    → 18 ≤ from
+    → least_order ≤ from
     → from ≤ to
     → target_at from to states i ≡ Some target
     → target_at from to states j ≡ Some target

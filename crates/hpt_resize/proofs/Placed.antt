@@ -10,7 +10,7 @@ use Rattle.entry_model.specs.State.{State, empty_state}
 use Rattle.entry_model.specs.Run.{state_at}
 use Rattle.hpt_resize.specs.declared.carry.Collision.{Collision}
 use Rattle.hpt_resize.specs.Rehash.{target_at, is_target, first_with, collision_at, collision_of, entry_at, rehashed_states, IsPlacedBelow, at_stamp_0}
-use Rattle.hpte_fields.specs.TableSize.{entry_count}
+use Rattle.hpte_fields.specs.TableSize.{entry_count, least_order}
 use Rattle.hpt_resize.proofs.Finds.{find_none, find_first, found_is, none_found}
 use Rattle.hpt_resize.proofs.Groups.{carried_is, one_source}
 
@@ -331,7 +331,7 @@ all_placed from to states into index placed all =
 -- ---- to an order that isn't lower
 pub never_collides :
     (from to : ℕ) (states : List State) (first second target : ℕ)
-    → 18 ≤ from
+    → least_order ≤ from
     → from ≤ to
     → target_at from to states second ≡ Some target
     → first_with from to states second target ≡ Some first

@@ -17,8 +17,7 @@ more_prepared order count capacity room states new before fits kept is =
     (replicate count (empty_state 0)) ∙ ap (λ n. length states + n)
     (length-replicate count (empty_state 0)) in
     record {
-      low = before.low;
-      high = before.high;
+      order_fits = before.order_fits;
       ready = omega arith;
       empty =
           is

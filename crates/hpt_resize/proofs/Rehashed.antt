@@ -10,7 +10,7 @@ use Rattle.std.proofs.lemmas.List.FromFn.{length-map-range_with_len, get_or-map-
 use Rattle.entry_model.specs.State.{State, empty_state}
 use Rattle.entry_model.specs.Run.{state_at}
 use Rattle.hpt_resize.specs.Rehash.{target_at, is_target, first_with, collision_at, collision_of, entry_at, rehashed_states, at_stamp_0, AreApartBelow, IsPlacedBelow}
-use Rattle.hpte_fields.specs.TableSize.{entry_count}
+use Rattle.hpte_fields.specs.TableSize.{entry_count, least_order}
 use Rattle.hpt_resize.proofs.Finds.{found_is, none_found}
 use Rattle.hpt_resize.proofs.Groups.{carried_is, target_in_table}
 use Rattle.hpt_resize.proofs.Placed.{target_is, target_true, first_is, first_none}
@@ -114,7 +114,7 @@ entry_none from to states target none = rw none refl
 -- Without a collision all entries of the old table are carried.
 pub rehashed_placed :
     (from to : ℕ) (states : List State)
-    → 18 ≤ to
+    → least_order ≤ to
     → collision_of from to states ≡ None
     → IsPlacedBelow from to states (rehashed_states from to states) (length states)
 rehashed_placed from to states large none = record {

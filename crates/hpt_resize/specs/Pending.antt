@@ -1,7 +1,7 @@
 -- A table that is made ready.
 use Rattle.std.specs.Prelude.{◌≡◌, ℕ, ◌+◌, ◌≤◌, ◌==◌, Bool, List, length, min, replicate}
 use Rattle.entry_model.specs.State.{State, empty_state}
-use Rattle.hpte_fields.specs.TableSize.{entry_count}
+use Rattle.hpte_fields.specs.TableSize.{IsTableOrder, entry_count}
 
 -- It has 2 ^ order bytes at place in the pool, and so many of its entries are ready.
 pub record PendingTable : Type 0 where
@@ -24,8 +24,7 @@ with_more_ready table = record table { ready = min (table.ready + 16384) (entry_
 -- Its order is one that a table can have, its ready entries are empty, and there is room for all
 -- entries and for no more.
 pub record IsPreparing (order : ℕ) (states : List State) (capacity : ℕ) : Type 0 where
-  pub low : 18 ≤ order
-  pub high : order ≤ 22
+  pub order_fits : IsTableOrder order
   pub ready : length states ≤ entry_count order
   pub empty : states ≡ replicate (length states) (empty_state 0)
   pub room : capacity ≡ entry_count order

@@ -9,7 +9,7 @@ use Rattle.hpt_resize.specs.declared.carry.Collision.{Collision}
 use Rattle.hpt_resize.specs.declared.current.Current.{Current}
 use Rattle.hpt_resize.specs.declared.current.CommitAnswer.{CommitAnswer}
 use Rattle.hpt_resize.specs.Rehash.{collision_of, rehashed_states}
-use Rattle.hpte_fields.specs.TableSize.{entry_count}
+use Rattle.hpte_fields.specs.TableSize.{IsTableOrder, entry_count, is_architected_order}
 use Rattle.hpt_resize.specs.Pending.{PendingTable, no_entries, is_ready, with_more_ready}
 
 -- The block of a pending table is taken in the pool.
@@ -30,7 +30,7 @@ prepare_outcome rc pending pool = record { rc = rc; pending = pending; pool = po
 
 -- No flag is known, and the order is 0 or one that the architecture has.
 abbrev pub is_prepare_request : ℕ → ℕ → Bool
-is_prepare_request flags shift = flags == 0 && (shift == 0 || (nat_le 18 shift && nat_le shift 46))
+is_prepare_request flags shift = flags == 0 && (shift == 0 || is_architected_order shift)
 
 -- The pool after the pending table is dropped: its block is given back.
 abbrev pub pool_without : Option PendingTable → PoolState → PoolState
@@ -126,8 +126,7 @@ table_of current = record {
 
 -- It has one of the orders that the project allows, and an entry at each index.
 pub record IsTable (current : Current) : Type 0 where
-  pub low : 18 ≤ current.order
-  pub high : current.order ≤ 22
+  pub order_fits : IsTableOrder current.order
   pub whole : length current.states.items ≡ entry_count current.order
 
 -- What the call answers, and the pending table, the pool and the current table after it.
@@ -150,7 +149,7 @@ commit_outcome answer pending pool table = record {
 
 -- No flag is known, and the order is one that the architecture has.
 abbrev pub is_commit_request : ℕ → ℕ → Bool
-is_commit_request flags shift = flags == 0 && nat_le 18 shift && nat_le shift 46
+is_commit_request flags shift = flags == 0 && is_architected_order shift
 
 -- The code where nothing is tried.
 abbrev pub pending_refusal : ℕ → Option PendingTable → Option Rc

@@ -1,5 +1,5 @@
 ghost use Rattle.std.specs.Prelude.{◌≡◌, ◌-◌, ◌^◌, ◌<◌, ◌≤◌, length, map, Option, Some, None, IsOk, IfErr, OnOk, MatchOption, MatchResult, replicate, vec_len, vec_capacity};
-ghost use Rattle.hpte_fields.specs.TableSize.{entry_count};
+ghost use Rattle.hpte_fields.specs.TableSize.{IsTableOrder, entry_count};
 ghost use Rattle.entry_model.specs.State.{State, empty_state};
 ghost use Rattle.entry_model.specs.Run.{state_at};
 ghost use Rattle.hpt_resize.specs.Holders.{all_holding};
@@ -30,10 +30,8 @@ pub fn rehash(
     states: &[EntryState],
     into: &mut Vec<EntryState>,
 ) -> Result<(), Collision>
-    requires from_low { 18 ≤ order_from }
-    requires from_high { order_from ≤ 22 }
-    requires to_low { 18 ≤ order_to }
-    requires to_high { order_to ≤ 22 }
+    requires from { IsTableOrder order_from }
+    requires to { IsTableOrder order_to }
     requires whole { length states.now ≡ entry_count order_from }
     requires empty { into.old.items ≡ replicate (entry_count order_to) (empty_state 0) }
     ensures told { MatchResult
@@ -62,10 +60,8 @@ pub fn rehash_into<H: StateHolder>(
     states: &[H],
     into: &mut [H],
 ) -> Result<(), Collision>
-    requires from_low { 18 ≤ order_from }
-    requires from_high { order_from ≤ 22 }
-    requires to_low { 18 ≤ order_to }
-    requires to_high { order_to ≤ 22 }
+    requires from { IsTableOrder order_from }
+    requires to { IsTableOrder order_to }
     requires whole { length (map H.held states.now) ≡ entry_count order_from }
     requires empty { map H.held into.old ≡ replicate (entry_count order_to) (empty_state 0) }
     ensures told { MatchResult
@@ -105,10 +101,8 @@ pub fn rehash_into<H: StateHolder>(
 #[inline(always)]
 #[tactic(auto, unfolding(crate::specs::Rehash::target_of, crate::specs::Rehash::carried_page))]
 fn target_index(order_from: u8, order_to: u8, state: &EntryState, index: usize) -> Option<usize>
-    requires from_low { 18 ≤ order_from }
-    requires from_high { order_from ≤ 22 }
-    requires to_low { 18 ≤ order_to }
-    requires to_high { order_to ≤ 22 }
+    requires from { IsTableOrder order_from }
+    requires to { IsTableOrder order_to }
     requires in_table { index < entry_count order_from }
     ensures value { result ≡ target_of order_from order_to state.now index }
     ensures in_new_table { MatchOption result (Unit {0}) (λ target. target < entry_count order_to) }
@@ -148,10 +142,8 @@ fn first<H: StateHolder>(
     second: usize,
     target: usize,
 ) -> usize
-    requires from_low { 18 ≤ order_from }
-    requires from_high { order_from ≤ 22 }
-    requires to_low { 18 ≤ order_to }
-    requires to_high { order_to ≤ 22 }
+    requires from { IsTableOrder order_from }
+    requires to { IsTableOrder order_to }
     requires whole { length (map H.held states.now) ≡ entry_count order_from }
     requires in_table { second < length (map H.held states.now) }
     requires taken { NoneBefore order_from order_to (map H.held states.now) second target → ⊥ }

@@ -1,5 +1,5 @@
 ghost use Rattle.std.specs.Prelude.{◌≡◌, ◌+◌, ◌-◌, ◌^◌, ◌<◌, ◌≤◌, [], ◌++◌, replicate, vec_len, vec_capacity};
-ghost use Rattle.hpte_fields.specs.TableSize.{entry_count};
+ghost use Rattle.hpte_fields.specs.TableSize.{IsTableOrder, entry_count};
 ghost use Rattle.entry_model.specs.State.{empty_state};
 ghost use Rattle.hpt_resize.specs.Pending.{no_entries, is_ready, with_more_ready};
 
@@ -33,8 +33,7 @@ impl Pending {
     /// A table of `2^order` bytes with no entry ready. `states` has room for all of them,
     /// and for no more.
     pub fn new(order: u8, place: u64, states: Vec<EntryState>) -> Pending
-        requires low { 18 ≤ order }
-        requires high { order ≤ 22 }
+        requires order { IsTableOrder order }
         requires none { states.items ≡ [] }
         requires room { vec_capacity states ≡ entry_count order }
         ensures { result ≡ no_entries order place }
@@ -49,8 +48,7 @@ impl Pending {
     /// The table has `2^order` bytes.
     pub fn order(&self) -> u8
         ensures value { result ≡ self.now.order }
-        ensures low { 18 ≤ result }
-        ensures high { result ≤ 22 }
+        ensures order { IsTableOrder result }
     {
         self.order
     }
@@ -93,8 +91,7 @@ impl Pending {
 
 /// A table of `2^order` bytes has entries of 16 bytes.
 pub fn entry_count(order: u8) -> usize
-    requires low { 18 ≤ order }
-    requires high { order ≤ 22 }
+    requires order { IsTableOrder order }
     ensures { result ≡ entry_count order }
 {
     1 << (order - 4)

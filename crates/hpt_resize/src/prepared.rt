@@ -2,7 +2,7 @@ ghost use Rattle.std.specs.Prelude.{◌≡◌, ◌≢◌, ◌+◌, ◌-◌, ◌^
 ghost use Rattle.std.specs.Option.{ForSome};
 ghost use Rattle.hpt_pool.specs.Pool.{block_at};
 ghost use Rattle.entry_model.specs.State.{empty_state};
-ghost use Rattle.hpte_fields.specs.TableSize.{entry_count};
+ghost use Rattle.hpte_fields.specs.TableSize.{IsTableOrder, entry_count};
 ghost use Rattle.hpt_resize.specs.Pending.{PendingTable, is_ready, with_more_ready};
 ghost use Rattle.hpt_resize.specs.Resize.{IsHeld, IsElsewhere, IsTable, prepare_outcome, is_prepare_request, is_commit_request, pool_without, is_pending, needs_table, start_outcome, outcome_of_prepare, table_of, commit_refusal, pending_refusal, complete_outcome, outcome_of_commit, commit_outcome, KeepsBlocks};
 
@@ -10,6 +10,7 @@ use crate::carry::rehash;
 use crate::current::{CommitAnswer, Current};
 use crate::pending::{Pending, entry_count};
 use hpt_pool::Pool;
+use hpte_fields::is_architected_order;
 use papr_codes::Rc;
 use std::alloc::{AllocError, Global};
 use std::marker::Model;
@@ -48,8 +49,7 @@ impl Resize {
         flags: u64,
         shift: u64,
     ) -> Result<Rc, AllocError>
-        requires limit_low { 18 ≤ limit }
-        requires limit_high { limit ≤ 22 }
+        requires limit { IsTableOrder limit }
         requires held { IsHeld self.old pool.old }
         ensures ok { IfOk
             result
@@ -118,7 +118,7 @@ impl Resize {
         ensures ready { OnOk result (ForSome self.now
             (λ table. table.ready ≡ entry_count table.order)) }
     {
-        if flags != 0 || shift < 18 || shift > 46 {
+        if flags != 0 || !is_architected_order(shift) {
             return Err(Rc::Parameter);
         }
         let Some(pending) = &self.pending else {
@@ -135,8 +135,7 @@ impl Resize {
 
     // Sees that a table of `2^order` bytes is pending, or says that there is no block for one.
     fn start(&mut self, alloc: Global, pool: &mut Pool, order: u8) -> Result<Rc, AllocError>
-        requires low { 18 ≤ order }
-        requires high { order ≤ 22 }
+        requires order { IsTableOrder order }
         requires held { IsHeld self.old pool.old }
         ensures ok { IfOk
             result
@@ -203,7 +202,7 @@ impl Resize {
 fn is_prepare_request(flags: u64, shift: u64) -> bool
     ensures { result ≡ is_prepare_request flags shift }
 {
-    flags == 0 && (shift == 0 || (18 <= shift && shift <= 46))
+    flags == 0 && (shift == 0 || is_architected_order(shift))
 }
 
 // Makes a table whose entries are all ready the current one, or drops it where two entries meet.

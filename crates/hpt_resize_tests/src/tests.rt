@@ -1,6 +1,6 @@
 ghost use Rattle.std.specs.Prelude.{◌≡◌, ◌≤◌, bit_and, length, replicate, vec_len, IfOk};
 ghost use Rattle.entry_model.specs.State.{empty_state};
-ghost use Rattle.hpte_fields.specs.TableSize.{entry_count};
+ghost use Rattle.hpte_fields.specs.TableSize.{entry_count, IsTableOrder};
 ghost use Rattle.hpt_resize.specs.Resize.{IsHeld};
 
 use entry_model::EntryState;
@@ -24,8 +24,7 @@ fn entry(dword0: u64, dword1: u64) -> EntryState
 }
 
 fn empty_table(alloc: Global, order: u8) -> Result<Vec<EntryState>, AllocError>
-    requires low { 18 ≤ order }
-    requires high { order ≤ 22 }
+    requires order { IsTableOrder order }
     ensures empty { IfOk result
         (λ states. states.items ≡ replicate (entry_count order) (empty_state 0)) }
     ensures long { IfOk result (λ states. vec_len states ≡ entry_count order) }
@@ -40,10 +39,8 @@ fn carried(
     to: u8,
     states: &[EntryState],
 ) -> Result<(Result<(), Collision>, Vec<EntryState>), AllocError>
-    requires from_low { 18 ≤ from }
-    requires from_high { from ≤ 22 }
-    requires to_low { 18 ≤ to }
-    requires to_high { to ≤ 22 }
+    requires from { IsTableOrder from }
+    requires to { IsTableOrder to }
     requires whole { length states.now ≡ entry_count from }
     ensures { IfOk result (λ answer. vec_len answer.1 ≡ entry_count to) }
 {

@@ -14,10 +14,11 @@ use Rattle.hpt_walk.specs.Walk.{access_op}
 use Rattle.hpt_walk.specs.Access.{actual_size}
 use Rattle.hpt_walk.specs.Laws.{IsEntryState, LiesInActualPage}
 use Rattle.hpt_walk.proofs.Telling.{tells_page}
+use Rattle.hpte_fields.specs.TableSize.{least_order}
 
 pub other_page :
     (order entry : ℕ) (page other : VirtualPage) (mode : AccessMode) (secondary : Bool) (s : State)
-    → 18 ≤ order
+    → least_order ≤ order
     → IsPage page
     → IsPage other
     → other ≢ page

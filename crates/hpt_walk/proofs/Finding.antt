@@ -24,6 +24,7 @@ use Rattle.hpt_walk.specs.Laws.{IsEntryState}
 use Rattle.hpt_walk.proofs.Found.{found-on, found-off, both_calls}
 use Rattle.hpt_walk.proofs.Decided.{match_of, no_match_or_decided}
 use Rattle.hpt_walk.proofs.Telling.{match_page, page_match, valid_of_page}
+use Rattle.hpte_fields.specs.TableSize.{least_order}
 
 -- ---- the list of translations
 -- The page is this one.
@@ -134,7 +135,7 @@ paired_page order e page s state h =
 
 page_paired :
     (order e : ℕ) (page : VirtualPage) (s : State)
-    → 18 ≤ order
+    → least_order ≤ order
     → IsPage page
     → IsEntryState s
     → IsPageOf order e s.dword0 s.dword1 page
@@ -176,7 +177,7 @@ answer_of page mode secondary r s op before =
 paired_found :
     (order : ℕ) (page : VirtualPage) (mode : AccessMode) (a : List State) (c : Call) (r : Receipt)
     (mid : List State)
-    → 18 ≤ order
+    → least_order ≤ order
     → IsPage page
     → AllByRecursion IsEntryState a
     → IsCallOf order page mode c
@@ -199,7 +200,7 @@ paired_found order page mode a c r mid low is states of receipt step off =
 unpaired_none :
     (order : ℕ) (page : VirtualPage) (mode : AccessMode) (a : List State) (c : Call) (r : Receipt)
     (mid : List State)
-    → 18 ≤ order
+    → least_order ≤ order
     → IsPage page
     → AllByRecursion IsEntryState a
     → IsCallOf order page mode c
@@ -262,7 +263,7 @@ Finds order page a cs rs =
 finds :
     (order : ℕ) (page : VirtualPage) (mode : AccessMode) (a b : List State) (cs : List Call)
     (rs : List Receipt)
-    → 18 ≤ order
+    → least_order ≤ order
     → IsPage page
     → AllByRecursion IsEntryState a
     → AllByRecursion (IsCallOf order page mode) cs
@@ -334,7 +335,7 @@ entries_of_walk order page mode = refl
 
 pub walk_finds :
     (order : ℕ) (page : VirtualPage) (mode : AccessMode) (a b : List State) (rs : List Receipt)
-    → 18 ≤ order
+    → least_order ≤ order
     → IsPage page
     → AllByRecursion IsEntryState a
     → IsTrial is_no_match (walk_calls order page mode) rs

@@ -22,6 +22,7 @@ use Rattle.hpt_walk.specs.Walk.{access_op, h_bit}
 use Rattle.hpt_walk.specs.Laws.{IsEntryState, TellsPage}
 use Rattle.hpt_walk.proofs.Tags.{HasTag, compared-has, has-compared}
 use Rattle.hpt_walk.proofs.Decided.{accessed_no_match}
+use Rattle.hpte_fields.specs.TableSize.{least_order}
 
 -- ---- sizes
 sized_base :
@@ -79,7 +80,7 @@ match_page order entry page secondary s is group fits same =
 -- H of an entry of the page says in which of the two groups it stands.
 h_of_group :
     (order entry : ℕ) (page : VirtualPage) (secondary own : Bool)
-    → 18 ≤ order
+    → least_order ≤ order
     → group_of page order secondary ≡ entry / 8
     → group_of page order own ≡ entry / 8
     → own ≡ secondary
@@ -104,7 +105,7 @@ valid_of_page order entry page s state of = at (cases_Bool s.valid) where
 
 pub page_match :
     (order entry : ℕ) (page : VirtualPage) (secondary : Bool) (s : State)
-    → 18 ≤ order
+    → least_order ≤ order
     → group_of page order secondary ≡ entry / 8
     → IsEntryState s
     → IsPageOf order entry s.dword0 s.dword1 page
@@ -127,7 +128,7 @@ no_match_is other h = cc
 
 pub tells_page :
     (order entry : ℕ) (page : VirtualPage) (mode : AccessMode) (secondary : Bool) (s : State)
-    → 18 ≤ order
+    → least_order ≤ order
     → IsPage page
     → group_of page order secondary ≡ entry / 8
     → IsEntryState s

@@ -4,7 +4,7 @@ use Rattle.std.proofs.Common.{◌≡◌, ℕ, ◌+◌, ◌-◌, ◌*◌, ◌^◌
 use Rattle.std.specs.List.{AllByRecursion, range_with_len}
 use Rattle.power_addr.specs.Pages.{VirtualPage}
 use Rattle.hpt_hash.specs.Hash.{group_of}
-use Rattle.hpte_fields.specs.TableSize.{group_count}
+use Rattle.hpte_fields.specs.TableSize.{group_count, least_order}
 use Rattle.entry_model.specs.declared.operation.Op.{Op}
 use Rattle.entry_model.specs.declared.receipt.Receipt.{Receipt}
 use Rattle.entry_model.specs.Receipt.{is_no_match, is_decided, found_of}
@@ -18,7 +18,10 @@ use Rattle.entry_model.specs.Reply.{AccessMode}
 
 -- The eight entries of a group lie in the table.
 pub group_in_table :
-    (order group : ℕ) → 18 ≤ order → group < group_count order → group * 8 + 8 ≤ 2 ^ (order - 4)
+    (order group : ℕ)
+    → least_order ≤ order
+    → group < group_count order
+    → group * 8 + 8 ≤ 2 ^ (order - 4)
 group_in_table order group low h =
     let split : order - 4 ≡ (order - 7) + 3 = omega arith in
     let eight : 2 ^ (order - 4) ≡ 2 ^ (order - 7) * 2 ^ 3 = ap (λ n. 2 ^ n) split ∙ pow-add 2

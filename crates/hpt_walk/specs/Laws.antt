@@ -3,6 +3,7 @@ use Rattle.std.specs.Prelude.{◌≡◌, ◌≢◌, ℕ, ◌/◌, ◌%◌, ◌^�
 use Rattle.std.specs.List.{AllByRecursion}
 use Rattle.power_addr.specs.Pages.{VirtualPage, IsPage}
 use Rattle.hpte_fields.specs.Fields.{is_secondary, page_bits}
+use Rattle.hpte_fields.specs.TableSize.{least_order}
 use Rattle.hpt_hash.specs.Hash.{group_of}
 use Rattle.hpt_hash.specs.Entries.{IsPageOf}
 use Rattle.slb_model.specs.declared.segment.Segment.{Segment}
@@ -48,7 +49,7 @@ pub record TellsPage
 abbrev pub AccessTellsPage : Type 0
 AccessTellsPage =
     (order entry : ℕ) (page : VirtualPage) (mode : AccessMode) (secondary : Bool) (s : State)
-    → 18 ≤ order
+    → least_order ≤ order
     → IsPage page
     → group_of page order secondary ≡ entry / 8
     → IsEntryState s
@@ -60,7 +61,7 @@ AccessTellsPage =
 abbrev pub OtherPagesDontMatch : Type 0
 OtherPagesDontMatch =
     (order entry : ℕ) (page other : VirtualPage) (mode : AccessMode) (secondary : Bool) (s : State)
-    → 18 ≤ order
+    → least_order ≤ order
     → IsPage page
     → IsPage other
     → other ≢ page
@@ -153,7 +154,7 @@ ZeroMasksRefuseNoAccess =
 abbrev pub WalkFindsFirst : Type 0
 WalkFindsFirst =
     (order : ℕ) (page : VirtualPage) (mode : AccessMode) (a b : List State) (rs : List Receipt)
-    → 18 ≤ order
+    → least_order ≤ order
     → IsPage page
     → AllByRecursion IsEntryState a
     → IsTrial is_no_match (walk_calls order page mode) rs

@@ -1,5 +1,5 @@
 ghost use Rattle.std.specs.Prelude.{◌≡◌, ◌≤◌, ◌<◌, ◌-◌, ◌+◌, ◌*◌, ◌^◌, ◌++◌, ◌↔◌, length, IsNone, IfSome};
-ghost use Rattle.hpte_fields.specs.TableSize.{entry_count};
+ghost use Rattle.hpte_fields.specs.TableSize.{entry_count, greatest_order, group_count};
 ghost use Rattle.entry_model.specs.Reply.{access_mode};
 ghost use Rattle.entry_model.specs.Receipt.{IsNormal, is_no_match, found_of};
 ghost use Rattle.entry_model.specs.Trial.{IsTrial, receipts_added};
@@ -97,7 +97,7 @@ fn search<T: EntryStore>(
     receipts: &mut Receipts,
 ) -> Option<Receipt>
     requires in_table { group * 8 + 8 ≤ entry_count (T.table_order store.old) }
-    requires small { group < 2 ^ 15 }
+    requires small { group < group_count greatest_order }
     requires normal { IsNormal op }
     requires room { length receipts.old ≤ 8 }
     ensures behind { receipts.new ≡ receipts.old ++ receipts_added receipts.old receipts.new }

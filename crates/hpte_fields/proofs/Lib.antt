@@ -3,3 +3,4 @@ pub mod Again
 pub mod KeptBits
 pub mod PageBits
 mod Rows
+pub mod TableSizes

@@ -1,9 +1,33 @@
 -- The size of a hashed page table: entries of 16 bytes, in groups of eight.
-use Rattle.std.specs.Prelude.{ℕ, ◌-◌, ◌^◌}
+use Rattle.std.specs.Prelude.{ℕ, ◌-◌, ◌^◌, ◌≤◌, ◌&&◌, Bool, nat_le}
+
+-- The order of the smallest table, which has 2 ^ 18 bytes.
+abbrev pub least_order : ℕ
+least_order = 18
+
+-- The order of the largest table, which has 2 ^ 34 bytes.
+abbrev pub greatest_order : ℕ
+greatest_order = 34
+
+-- There are tables of 2 ^ order bytes.
+abbrev pub IsTableOrder : ℕ → Type 0
+IsTableOrder order = (least_order ≤ order) × (order ≤ greatest_order)
+
+-- The same, as a test.
+abbrev pub is_table_order : ℕ → Bool
+is_table_order order = nat_le least_order order && nat_le order greatest_order
 
 -- A group has eight entries.
 abbrev pub group_size : ℕ
 group_size = 8
+
+-- The order of the largest table that the architecture has.
+abbrev pub greatest_architected_order : ℕ
+greatest_architected_order = 46
+
+-- The architecture has tables of 2 ^ order bytes.
+abbrev pub is_architected_order : ℕ → Bool
+is_architected_order order = nat_le least_order order && nat_le order greatest_architected_order
 
 -- A table of 2 ^ order bytes has 2 ^ (order - 4) entries of 16 bytes.
 abbrev pub entry_count : ℕ → ℕ

@@ -1,11 +1,11 @@
 //! The public constants. The function does nothing, and its contract is the law.
 
 ghost use Rattle.std.specs.Prelude.{◌≡◌};
-ghost use Rattle.hpte_fields.specs.TableSize.{group_size};
+ghost use Rattle.hpte_fields.specs.TableSize.{greatest_architected_order, greatest_order, group_size, least_order};
 ghost use Rattle.hpte_fields.specs.Fields as fields;
 
 use crate::bits::{BOLTED, CHANGED, REFERENCED, SECONDARY, TAG, VALID};
-use crate::table_size::GROUP_SIZE;
+use crate::table_size::{GREATEST_ARCHITECTED_ORDER, GREATEST_ORDER, GROUP_SIZE, LEAST_ORDER};
 
 /// Each constant is the bit, the mask or the number of the definitions.
 pub fn constants_are_as_defined()
@@ -16,4 +16,7 @@ pub fn constants_are_as_defined()
     ensures referenced { REFERENCED ≡ fields.referenced_bit }
     ensures changed { CHANGED ≡ fields.changed_bit }
     ensures group { GROUP_SIZE ≡ group_size }
+    ensures least { LEAST_ORDER ≡ least_order }
+    ensures greatest { GREATEST_ORDER ≡ greatest_order }
+    ensures architected { GREATEST_ARCHITECTED_ORDER ≡ greatest_architected_order }
 {}

@@ -15,4 +15,7 @@ pub use first::{bolted, one_tb, secondary, tag_of};
 pub use laws::constants_are_as_defined;
 pub use second::{frame, key, no_execute, pp, protected, wimg};
 pub use stored::normal;
-pub use table_size::{GROUP_SIZE, entry_count};
+pub use table_size::{
+    GREATEST_ARCHITECTED_ORDER, GREATEST_ORDER, GROUP_SIZE, LEAST_ORDER, entry_count,
+    is_architected_order, is_table_order,
+};

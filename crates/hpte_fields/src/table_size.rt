@@ -4,6 +4,29 @@ ghost use Rattle.hpte_fields.specs.TableSize as table;
 /// The entries of a page table entry group (PTEG).
 pub const GROUP_SIZE: u32 = 8;
 
+/// The order of the smallest table: it has 2^18 bytes.
+pub const LEAST_ORDER: u8 = 18;
+
+/// The order of the largest table: it has 2^34 bytes, and its 2^30 entries are counted by a `u32`.
+pub const GREATEST_ORDER: u8 = 34;
+
+/// The order of the largest table that the architecture has. A guest may ask for such a one.
+pub const GREATEST_ARCHITECTED_ORDER: u8 = 46;
+
+/// Whether there are tables of `2^order` bytes.
+pub fn is_table_order(order: u8) -> bool
+    ensures { result ≡ table.is_table_order order }
+{
+    LEAST_ORDER <= order && order <= GREATEST_ORDER
+}
+
+/// Whether the architecture has tables of `2^order` bytes.
+pub fn is_architected_order(order: u64) -> bool
+    ensures { result ≡ table.is_architected_order order }
+{
+    u64::from(LEAST_ORDER) <= order && order <= u64::from(GREATEST_ARCHITECTED_ORDER)
+}
+
 /// How many entries a table of `2^order` bytes has. An entry has 16 bytes.
 pub fn entry_count(order: u8) -> u32
     requires low { 4 ≤ order }

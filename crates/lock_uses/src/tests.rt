@@ -3,6 +3,7 @@
 ghost use Rattle.std.specs.Prelude.{◌≡◌, ◌<◌, ◌≤◌, IfOk};
 ghost use Rattle.tlb_model.specs.Cache.{empty_cache};
 ghost use Rattle.entry_lock.specs.PassOfTable.{IsOf};
+ghost use Rattle.entry_lock.specs.PassInvariants.{most_passes};
 
 mod accesses;
 mod calls;
@@ -58,7 +59,7 @@ fn processor(rt: &impl Abort) -> Cpu
 /// A table of empty entries, and a pass with all shares.
 fn open_table(alloc: Global, passes: u32) -> Result<(LockTable, Pass), AllocError>
     requires some_pass { 0 < passes }
-    requires few { passes ≤ 64 }
+    requires few { passes ≤ most_passes }
     ensures table { IfOk result (λ r. IsOf r.0 r.1) }
     ensures order { IfOk result (λ r. r.0.order ≡ 18) }
     ensures passes { IfOk result (λ r. r.0.passes ≡ passes) }

@@ -13,6 +13,7 @@ use Rattle.lpar_set.specs.SetTrace.{AreStrangers}
 use Rattle.lpar_set.specs.SetGrammar.{SetReading, grants_read, opening_set_reading, reading_of, set_beside}
 use Rattle.lpar_set.specs.SetReadings.{HasBegun, IsBeside, IsSetReading}
 use Rattle.lpar_set.proofs.SetPlaces.{beside_later}
+use Rattle.trace_line.specs.Lines.{most_lines}
 
 -- ---- no partition
 -- After so many lines none occurs yet.
@@ -51,7 +52,7 @@ no_strangers i j d before inside =
 pub empty_is :
     (base order taken : ℕ) (untouched : Bool)
     → IsPoolRange base order
-    → taken ≤ 2 ^ 17
+    → taken ≤ most_lines
     → IsSetReading (still_empty base order taken untouched)
 empty_is base order taken untouched pool few = record {
   pool = pool;
@@ -123,7 +124,7 @@ range_is base order none =
 pub counted_is :
     (r : SetReading)
     → IsSetReading r
-    → r.taken < 2 ^ 17
+    → r.taken < most_lines
     → IsSetReading (record r { taken = r.taken + 1 })
 counted_is r is few =
     let counted : length r.turns ≤ r.taken = is.counted in

@@ -7,7 +7,7 @@ use Rattle.std.proofs.lemmas.Bool.{cases_Bool}
 use Rattle.std.proofs.lemmas.List.Sums.{sum_by-take-le}
 use Rattle.bus_window.specs.Windows.{BusWindow}
 use Rattle.trace_line.specs.declared.line.TraceLine.{TraceLine}
-use Rattle.trace_line.specs.Lines.{IsTrace, IsSpelt, is_quiet, is_dump}
+use Rattle.trace_line.specs.Lines.{IsTrace, IsSpelt, is_quiet, is_dump, most_lines}
 use Rattle.trace_read.specs.Trace.{AcceptedTrace, IsAccepted}
 use Rattle.trace_reply.specs.declared.reply.Reply.{Reply}
 use Rattle.trace_reply.specs.Replies.{AreReplies}
@@ -36,7 +36,7 @@ count_take p n xs = sum_by-take-le (λ x. cond (p x) 1 0) xs n
 
 pub first_accepted : (n : ℕ) (t : AcceptedTrace) → IsAccepted t → IsAccepted (first_lines n t)
 first_accepted n t is =
-    let few : length t.lines ≤ 2 ^ 17 = is.lines.few in
+    let few : length t.lines ≤ most_lines = is.lines.few in
     let few_quiet : count_by (λ (l : TraceLine). is_quiet l.act) t.lines ≤ 256 = is.lines.few_quiet
     in
     let few_dumps : count_by (λ (l : TraceLine). is_dump l.act) t.lines ≤ 16 = is.lines.few_dumps in

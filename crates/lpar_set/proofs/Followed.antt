@@ -24,6 +24,7 @@ use Rattle.lpar_set.proofs.PlainLines.{none_begins, none_of_it, none_runs, remar
 use Rattle.lpar_set.proofs.SetLinesKept.{set_line_keeps}
 use Rattle.lpar_set.proofs.SetReadingsKept.{retaken}
 use Rattle.lpar_set.proofs.TurnOrder.{AreOrdered, counted_ordered, member_ordered, none_ordered}
+use Rattle.trace_line.specs.Lines.{most_lines}
 
 -- What has come of these lines.
 pub record IsFollowed (before : List (List ℕ)) (r : SetReading) : Type 0 where
@@ -119,7 +120,7 @@ own_more q r s number before line so more =
 -- A line of another is a remark.
 other_more :
     (q r : Reading) (number : ℕ) (before : List (List ℕ)) (line : List ℕ)
-    → r.taken < 2 ^ 17
+    → r.taken < most_lines
     → is_line_of number line ≡ false
     → after_all q (own_lines number before) ≡ Ok r
     → after_all q (own_lines number (before ++ line ∷ [])) ≡ Ok (record r { taken = r.taken + 1 })
@@ -193,7 +194,7 @@ remark_followed :
     (before : List (List ℕ)) (r s : SetReading) (line : List ℕ)
     → IsFollowed before r
     → IsSetReading s
-    → r.taken < 2 ^ 17
+    → r.taken < most_lines
     → is_remark_line line ≡ true
     → counted r ≡ s
     → IsFollowed (before ++ line ∷ []) s
@@ -226,7 +227,7 @@ shared_followed :
     (before : List (List ℕ)) (r s : SetReading) (line : List ℕ) (pool : ℕ × ℕ)
     → IsFollowed before r
     → IsSetReading s
-    → r.taken < 2 ^ 17
+    → r.taken < most_lines
     → is_remark_line line ≡ false
     → is_shared (words_in line) ≡ true
     → r.untouched ≡ true
@@ -460,7 +461,7 @@ takes_followed :
     (before : List (List ℕ)) (r s : SetReading) (line : List ℕ)
     → IsFollowed before r
     → IsSetReading s
-    → r.taken < 2 ^ 17
+    → r.taken < most_lines
     → list_all is_printable (without_cr line) ≡ true
     → Takes r (words_in line) s
     → IsFollowed (before ++ line ∷ []) s

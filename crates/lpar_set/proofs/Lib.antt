@@ -11,7 +11,6 @@ pub mod LinesOfTurns
 pub mod TurnKinds
 pub mod OwnAddresses
 pub mod Together
-pub mod Acting
 pub mod SmallSet
 pub mod SmallAccepted
 mod SetRows

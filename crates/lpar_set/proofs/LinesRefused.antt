@@ -31,6 +31,7 @@ use Rattle.lpar_set.proofs.OwnText.{own_line_read}
 use Rattle.lpar_set.proofs.SetLinesKept.{named_below}
 use Rattle.lpar_set.proofs.SetReadingsKept.{retaken}
 use Rattle.lpar_set.proofs.TakenSteps.{IsStopped, at_test, behind_test, guard_stopped, AreStopped, at_step, behind_step, steps_stopped, never_err, required_stopped, required_taken, last_guard}
+use Rattle.trace_line.specs.Lines.{most_lines}
 
 -- The set has something against the line, or its partition's own lines do.
 pub data IsFaulty (before : List (List ℕ)) (r : SetReading) (line : List ℕ) (why : Why) :
@@ -48,7 +49,7 @@ pub data IsFaulty (before : List (List ℕ)) (r : SetReading) (line : List ℕ) 
 -- What is known of the line of a partition.
 record IsOwn (before : List (List ℕ)) (r : SetReading) (line : List ℕ) (number : ℕ) : Type 0 where
   is : IsFollowed before r
-  few : r.taken < 2 ^ 17
+  few : r.taken < most_lines
   text : list_all is_printable (without_cr line) ≡ true
   below : number < 8
   words : is_remark (words_in line) ≡ false
@@ -292,7 +293,7 @@ member_faulty before r line number why own mine e =
 record AreWords (before : List (List ℕ)) (r : SetReading) (line w : List ℕ) (ws : List (List ℕ)) :
     Type 0 where
   is : IsFollowed before r
-  few : r.taken < 2 ^ 17
+  few : r.taken < most_lines
   text : list_all is_printable (without_cr line) ≡ true
   at : words_in line ≡ w ∷ ws
   words : is_remark (words_in line) ≡ false
@@ -399,7 +400,7 @@ allowed_faulty before r line w ws why are e =
 words_faulty :
     (before : List (List ℕ)) (r : SetReading) (line : List ℕ) (ws : List (List ℕ)) (why : Why)
     → IsFollowed before r
-    → r.taken < 2 ^ 17
+    → r.taken < most_lines
     → list_all is_printable (without_cr line) ≡ true
     → words_in line ≡ ws
     → after_set_words (counted r) ws ≡ Err why
@@ -426,12 +427,12 @@ pub line_faulty :
 unfolding after_set_line
 line_faulty before r line why is e =
     by
-    (guard_stopped (ltb r.taken (2 ^ 17)) whys.Lines why
+    (guard_stopped (ltb r.taken most_lines) whys.Lines why
     (guard (list_all is_printable (without_cr line)) whys.Ascii >>=
     (λ (done : Unit {0}). after_set_words (counted r) (words_of (without_cr line))))
     e) where
       text :
-          r.taken < 2 ^ 17
+          r.taken < most_lines
           → IsStopped (list_all is_printable (without_cr line)) whys.Ascii why
           (after_set_words (counted r) (words_of (without_cr line)))
           → IsFaulty before r line why
@@ -440,15 +441,15 @@ line_faulty before r line why is e =
           words_faulty before r line (words_of (without_cr line)) why is few all refl rest
 
       by :
-          IsStopped (ltb r.taken (2 ^ 17)) whys.Lines why
+          IsStopped (ltb r.taken most_lines) whys.Lines why
           (guard (list_all is_printable (without_cr line)) whys.Ascii >>=
           (λ (done : Unit {0}). after_set_words (counted r) (words_of (without_cr line))))
           → IsFaulty before r line why
       by (at_test many same) =
           let taken : r.taken ≡ length before = is.taken in
-          let most : 2 ^ 17 ≤ r.taken = ltb-false r.taken (2 ^ 17) many in
+          let most : most_lines ≤ r.taken = ltb-false r.taken most_lines many in
           against whys.Lines why same (past (omega (arith, taken, most)))
       by (behind_test few rest) =
-          text (ltb-true r.taken (2 ^ 17) few)
+          text (ltb-true r.taken most_lines few)
           (guard_stopped (list_all is_printable (without_cr line)) whys.Ascii why
           (after_set_words (counted r) (words_of (without_cr line))) rest)

@@ -27,6 +27,7 @@ use Rattle.lpar_set.proofs.OwnLines.{HasMoved, HasOpened, own_moves}
 use Rattle.lpar_set.proofs.PlainLines.{remark_numberless, shared_numberless}
 use Rattle.lpar_set.proofs.SetReadingsKept.{retaken}
 use Rattle.lpar_set.proofs.TakenSteps.{behind_guard}
+use Rattle.trace_line.specs.Lines.{most_lines}
 
 -- ---- which words are accepted
 shared_words : (ws : List (List ℕ)) → is_shared ws ≡ true → is_remark ws ≡ false
@@ -266,7 +267,7 @@ taken_never :
     → IsAgainstSet before line why
     → ⊥
 taken_never before r s line why is taken (past many) =
-    let few : r.taken < 2 ^ 17 = taken.few in
+    let few : r.taken < most_lines = taken.few in
     let size : r.taken ≡ length before = is.taken in
     omega (arith, few, size, many)
 taken_never before r s line why is taken (unprintable other) = both_ways _ other taken.text

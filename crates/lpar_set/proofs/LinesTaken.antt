@@ -28,6 +28,7 @@ use Rattle.lpar_set.proofs.RunsKept.{next_turn}
 use Rattle.lpar_set.proofs.SetLinesKept.{named_below}
 use Rattle.lpar_set.proofs.SetReadingsKept.{retaken}
 use Rattle.lpar_set.proofs.TakenSteps.{behind_guard, never_ok, required_taken, same_ok, steps_taken}
+use Rattle.trace_line.specs.Lines.{most_lines}
 
 -- The set once a line is counted.
 abbrev pub counted : SetReading → SetReading
@@ -168,7 +169,7 @@ words_taken r s (w ∷ ws) e = plain_taken (is_remark (w ∷ ws)) r s w ws refl 
 
 -- What an accepted line passed.
 pub record IsTakenLine (r : SetReading) (line : List ℕ) (s : SetReading) : Type 0 where
-  pub few : r.taken < 2 ^ 17
+  pub few : r.taken < most_lines
   pub text : list_all is_printable (without_cr line) ≡ true
   pub takes : Takes r (words_in line) s
 
@@ -176,10 +177,10 @@ pub set_line_taken :
     (r s : SetReading) (line : List ℕ) → after_set_line r line ≡ Ok s → IsTakenLine r line s
 unfolding after_set_line
 set_line_taken r s line e =
-    let few = behind_guard (ltb r.taken (2 ^ 17)) whys.Lines _ s e in
+    let few = behind_guard (ltb r.taken most_lines) whys.Lines _ s e in
     let text = behind_guard (list_all is_printable (without_cr line)) whys.Ascii _ s few.rest in
     record {
-      few = ltb-true r.taken (2 ^ 17) few.holds;
+      few = ltb-true r.taken most_lines few.holds;
       text = text.holds;
       takes = words_taken r s (words_of (without_cr line)) text.rest;
     }
@@ -381,7 +382,7 @@ member_added r s number new c ws e = added r s number new (given_of c ws) e
 pub record IsMemberLine (r s : SetReading) (line : List ℕ) (number : ℕ) (new : Reading)
     (given : Given) :
     Type 0 where
-  pub few : r.taken < 2 ^ 17
+  pub few : r.taken < most_lines
   pub text : list_all is_printable (without_cr line) ≡ true
   pub below : number < 8
   pub words : is_remark (words_in line) ≡ false

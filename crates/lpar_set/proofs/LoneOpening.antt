@@ -15,13 +15,14 @@ use Rattle.lpar_set.proofs.Openings.{placed_in, with_one}
 use Rattle.lpar_set.proofs.SetKept.{empty_sound}
 use Rattle.lpar_set.proofs.LoneBlocks.{IsAlone, with_new}
 use Rattle.lpar_set.proofs.RoomAlone.{some_place, clear_fits}
+use Rattle.hpte_fields.specs.TableSize.{least_order}
 
 -- ---- alone
 -- An empty pool has room for a table that is no larger.
 empty_room :
     (base size order : ℕ)
     → IsPoolRange base size
-    → 18 ≤ order
+    → least_order ≤ order
     → order ≤ size
     → lowest_place (no_blocks base size) order ≢ None
 empty_room base size order range large small =
@@ -36,7 +37,7 @@ empty_room base size order range large small =
 pub opens_alone :
     (c : Configuration)
     → IsPoolRange c.granted.pool_base c.granted.pool_order
-    → 18 ≤ c.order
+    → least_order ≤ c.order
     → c.order ≤ c.granted.pool_order
     → IsAlone (page_table c).memory
 unfolding page_table opening_memory

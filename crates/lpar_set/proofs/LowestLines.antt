@@ -25,6 +25,7 @@ use Rattle.lpar_set.proofs.PlainLines.{remarks_read}
 use Rattle.lpar_set.proofs.SetEnds.{set_read}
 use Rattle.lpar_set.proofs.SetReadingsKept.{retaken}
 use Rattle.lpar_set.proofs.Walked.{Reads, too_long, by_lines, Walk, walked, stopped, reads, walk_lines}
+use Rattle.trace_line.specs.Lines.{most_lines}
 
 -- It is refused at this line or one before.
 abbrev IsToldBy : ℕ → Result AcceptedSet (ℕ × Why) → Type 0
@@ -217,7 +218,7 @@ read_by :
 read_by true before rest r number is below first =
     let start : Reading = own_start (before ++ rest) in
     let size : r.taken ≡ length before = is.taken in
-    let few : r.taken ≤ 2 ^ 17 = is.sound.few in
+    let few : r.taken ≤ most_lines = is.sound.few in
     record {
       reading = record start { taken = 0 + length before };
       read = remarks_read before start number (is.first ∙ first) (omega (arith, size, few));

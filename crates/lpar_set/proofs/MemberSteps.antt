@@ -20,6 +20,7 @@ use Rattle.lpar_set.specs.SetRun.{MemberState, with_pool}
 use Rattle.run_model.specs.HeldLines.{AllHold}
 use Rattle.run_model.proofs.Commits.{Moves, commit_moves, cleared, moved_hold}
 use Rattle.lpar_set.specs.BetweenLines.{IsBetweenLines}
+use Rattle.hpte_fields.specs.TableSize.{greatest_order}
 
 abbrev pub replied : Reply → Store → Reply × Store
 replied reply w = (reply, w)
@@ -85,10 +86,8 @@ still_hold m pool pool' pending' current processors' flags shift answer before d
     (Moves m.table) (sym done) (commit_moves flags shift m.pending pool m.table) in
     record {
       member = record {
-        limit_low = before.member.limit_low;
-        limit_high = before.member.limit_high;
-        order_low = tables.low;
-        order_high = tables.high;
+        limit_fits = before.member.limit_fits;
+        order_fits = tables.order_fits;
         whole = tables.whole;
       };
       hold =
@@ -97,8 +96,3 @@ still_hold m pool pool' pending' current processors' flags shift answer before d
     }
 
 -- ---- dumps
--- A table has at most 2 ^ 18 entries.
-pub entries_few : (n order : ℕ) → n ≡ 2 ^ (order - 4) → order ≤ 22 → n ≤ 262144
-entries_few n order size high =
-    let most : 2 ^ (order - 4) ≤ 2 ^ 18 = pow_mono {i = order - 4} {j = 18} (omega arith) in
-    omega (arith, size)

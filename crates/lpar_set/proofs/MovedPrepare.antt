@@ -11,13 +11,14 @@ use Rattle.hpt_resize.specs.TableMemory.{TableMemory, prepare_result}
 use Rattle.partition.proofs.PoolKept.{asked_low}
 use Rattle.lpar_set.specs.SetLaws.{is_no_mem_code}
 use Rattle.lpar_set.proofs.Moved.{pending_at, moved_memory, answer, IsLikeMemory}
+use Rattle.hpte_fields.specs.TableSize.{least_order}
 
 -- Where the one pool has room for a table, beside all but the one that is being prepared, the other
 -- pool has it too.
 abbrev pub HasRoomToo : Option PendingTable → PoolState → Option PendingTable → PoolState → Type 0
 HasRoomToo pending pool pending_too pool_too =
     (order : ℕ)
-    → 18 ≤ order
+    → least_order ≤ order
     → lowest_place (pool_without pending pool) order ≢ None
     → lowest_place (pool_without pending_too pool_too) order ≢ None
 
@@ -81,7 +82,7 @@ started_by false one two one_too two_too first second served = second served
 
 started_like :
     (order : ℕ) (pending : Option PendingTable) (pool pool_too : PoolState) (other : ℕ)
-    → 18 ≤ order
+    → least_order ≤ order
     → HasRoomToo pending pool (option_map (pending_at other) pending) pool_too
     → IsServed (advanced (start_outcome order pending pool))
     → IsLikeOutcome (advanced (start_outcome order pending pool))

@@ -15,6 +15,7 @@ use Rattle.lpar_set.specs.SetTrace.{NumberedTrace, IsOfSet}
 use Rattle.lpar_set.specs.SetRun.{MemberState, opening_table, opening_member, opening_members, opening_pool}
 use Rattle.lpar_set.specs.SetStates.{IsMember, held_blocks}
 use Rattle.lpar_set.proofs.BlocksApart.{BeginApart, AreHeld, pairs_append}
+use Rattle.hpte_fields.specs.TableSize.{greatest_order, least_order}
 
 -- Blocks that share no address begin at two places.
 apart_places : (block other : Block) → overlap block other ≡ false → BeginApart block other
@@ -38,7 +39,7 @@ some_is (Some place) room = refl
 pub placed_in :
     (pool : PoolState) (order : ℕ)
     → IsSound pool
-    → 18 ≤ order
+    → least_order ≤ order
     → lowest_place pool order ≢ None
     → IsPlacedIn pool order
 placed_in pool order sound large room =
@@ -94,7 +95,8 @@ pub record AreOpened (pool : PoolState) (before blocks : List Block) : Type 0 wh
   pub sound : IsSound pool
   pub held : AreHeld pool.taken (before ++ blocks)
 
-of_set_low : (base order : ℕ) (p : NumberedTrace) → IsOfSet base order p → 18 ≤ p.trace.config.order
+of_set_low :
+    (base order : ℕ) (p : NumberedTrace) → IsOfSet base order p → least_order ≤ p.trace.config.order
 of_set_low base order p is = is.accepted.configured.settings.at_least
 
 tables_open :
@@ -132,13 +134,11 @@ opening_is base order pool p is =
     let c = p.trace.config in
     let settings = is.accepted.configured.settings in
     let below : c.order ≤ c.limit = settings.within in
-    let least : 18 ≤ c.order = settings.at_least in
-    let most : c.limit ≤ 22 = settings.at_most in
+    let least : least_order ≤ c.order = settings.at_least in
+    let most : c.limit ≤ greatest_order = omega (arith, settings.at_most) in
     record {
-      limit_low = omega arith;
-      limit_high = most;
-      order_low = least;
-      order_high = omega arith;
+      limit_fits = (omega arith, most);
+      order_fits = (least, omega arith);
       whole = opening-length c.order c.entries;
     }
 

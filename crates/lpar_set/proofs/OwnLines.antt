@@ -20,7 +20,7 @@ use Rattle.trace_read.specs.declared.stage.Stage.TheVariants as stages
 use Rattle.trace_read.specs.declared.why.Why.{Why}
 use Rattle.trace_read.specs.declared.why.Why.TheVariants as whys
 use Rattle.trace_read.specs.Acts.{run_act, dump_act}
-use Rattle.trace_read.specs.Configuration.{Configuration}
+use Rattle.trace_read.specs.Configuration.{Configuration, greatest_trace_order, most_processors}
 use Rattle.trace_read.specs.Counts.{may_add}
 use Rattle.trace_read.specs.Forms.{form_named, form_of, run_form, begins_with_digit, verb_of}
 use Rattle.trace_read.specs.Givens.{is_setting, is_setting_form, is_setting_if, given_by, given_if, given_of, given_grant}
@@ -31,6 +31,7 @@ use Rattle.trace_read.specs.TextLines.{is_remark}
 use Rattle.trace_read.specs.Whys.{guard, required}
 use Rattle.lpar_set.specs.SetGrammar.{is_of_the_whole}
 use Rattle.lpar_set.proofs.TakenSteps.{same_ok, never_ok, never_some, steps_taken, guard_taken, required_taken}
+use Rattle.hpte_fields.specs.TableSize.{least_order}
 
 -- ---- what lines do
 -- A setting leaves the grants. It comes before `begin`, as it leaves the partition.
@@ -91,21 +92,21 @@ record Leaves (c d : Configuration) : Type 0 where
 order_leaves : (c d : Configuration) (ws : List (List ℕ)) → with_order c ws ≡ Ok d → Leaves c d
 unfolding with_order
 order_leaves c d ws e =
-    let t = steps_taken (number_within ws 18 22) _ d e in
+    let t = steps_taken (number_within ws least_order greatest_trace_order) _ d e in
     subst (Leaves c) (same_ok _ _ _ refl t.rest)
     (record { granted = refl; entries = refl; windows = refl })
 
 limit_leaves : (c d : Configuration) (ws : List (List ℕ)) → with_limit c ws ≡ Ok d → Leaves c d
 unfolding with_limit
 limit_leaves c d ws e =
-    let t = steps_taken (number_within ws c.order 22) _ d e in
+    let t = steps_taken (number_within ws c.order greatest_trace_order) _ d e in
     subst (Leaves c) (same_ok _ _ _ refl t.rest)
     (record { granted = refl; entries = refl; windows = refl })
 
 cpus_leave : (c d : Configuration) (ws : List (List ℕ)) → with_cpus c ws ≡ Ok d → Leaves c d
 unfolding with_cpus
 cpus_leave c d ws e =
-    let t = steps_taken (number_within ws 1 64) _ d e in
+    let t = steps_taken (number_within ws 1 most_processors) _ d e in
     subst (Leaves c) (same_ok _ _ _ refl t.rest)
     (record { granted = refl; entries = refl; windows = refl })
 

@@ -8,6 +8,7 @@ use Rattle.std.proofs.lemmas.List.Folds.{list_all_at}
 use Rattle.trace_read.specs.Grammar.{Reading, after_line, after_text}
 use Rattle.trace_read.specs.TextLines.{is_blank, is_printable, without_cr, words_of}
 use Rattle.lpar_set.specs.PartitionLines.{words_in, from_blank, behind_word, own_words}
+use Rattle.trace_line.specs.Lines.{most_lines}
 
 -- ---- words
 -- A word has a byte.
@@ -114,7 +115,7 @@ text_stays line all = rw (no_cr line (length line - 1) all) refl
 -- The partition's line is read as its words are.
 pub own_line_read :
     (q : Reading) (line : List ℕ)
-    → q.taken < 2 ^ 17
+    → q.taken < most_lines
     → list_all is_printable (without_cr line) ≡ true
     → after_line q (behind_word (without_cr line))
     ≡ after_text (record q { taken = q.taken + 1 }) (own_words (words_in line))
@@ -124,12 +125,12 @@ own_line_read q line few text =
     (without_cr line) text in
     let same : without_cr (behind_word (without_cr line)) ≡ behind_word (without_cr line) =
     text_stays (behind_word (without_cr line)) own in
-    rw (lt-ltb q.taken (2 ^ 17) few, same, own, behind_words (without_cr line)) refl
+    rw (lt-ltb q.taken most_lines few, same, own, behind_words (without_cr line)) refl
 
 -- A remark adds nothing but its number.
 pub remark_read :
     (q : Reading)
-    → q.taken < 2 ^ 17
+    → q.taken < most_lines
     → after_line q (codes "#") ≡ Ok (record q { taken = q.taken + 1 })
 unfolding after_line after_text
-remark_read q few = rw (lt-ltb q.taken (2 ^ 17) few) refl
+remark_read q few = rw (lt-ltb q.taken most_lines few) refl

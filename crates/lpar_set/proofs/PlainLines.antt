@@ -10,6 +10,7 @@ use Rattle.trace_read.specs.TextLines.{is_remark}
 use Rattle.trace_read.specs.Whys.{◌>>=◌}
 use Rattle.lpar_set.specs.PartitionLines.{words_in, is_remark_line, is_shared, first_number, is_line_of, own_line, own_lines, after_all, begun_by, begun_in, is_run_line, is_begin, own_form}
 use Rattle.lpar_set.proofs.OwnText.{remark_read}
+use Rattle.trace_line.specs.Lines.{most_lines}
 
 -- ---- words that are no number
 and_false : (a b : Bool) → b ≡ false → (a && b) ≡ false
@@ -84,7 +85,7 @@ are_remarks line rest all = both_hold (is_remark_line line) (list_all is_remark_
 pub remarks_read :
     (ls : List (List ℕ)) (q : Reading) (number : ℕ)
     → list_all is_remark_line ls ≡ true
-    → q.taken + length ls ≤ 2 ^ 17
+    → q.taken + length ls ≤ most_lines
     → after_all q (own_lines number ls) ≡ Ok (record q { taken = q.taken + length ls })
 remarks_read [] q number all few =
     let none : q.taken ≡ q.taken + 0 = omega arith in

@@ -16,6 +16,7 @@ use Rattle.lpar_set.specs.SetReadings.{reading_at}
 use Rattle.lpar_set.specs.SetRead.{TakesTo, MayBeGiven, is_early, with_own}
 use Rattle.lpar_set.proofs.EarlyLines.{own_line, member_by}
 use Rattle.lpar_set.proofs.OwnLines.{HasMoved, Moves, own_moves}
+use Rattle.hpte_fields.specs.TableSize.{greatest_order, least_order}
 
 -- The set with something else in the place of a partition's reading.
 abbrev pub told_so : SetReading → ℕ → Option Reading → SetReading
@@ -110,8 +111,8 @@ member_early r number ws early =
 by_given :
     (r : SetReading) (given : Given) (old new : Reading)
     → Moves given old new
-    → 18 ≤ old.config.order
-    → old.config.order ≤ 22
+    → least_order ≤ old.config.order
+    → old.config.order ≤ greatest_order
     → (is_running old.stage ≡ false → length r.begun < 8)
     → MayBeGiven r given
 by_given r givens.Remark old new moves low high place = tt
@@ -119,7 +120,7 @@ by_given r givens.Setting old new moves low high place = tt
 by_given r (givens.Grant grant) old new moves low high place = tt
 by_given r (givens.Begin order) old new moves low high place =
     let same : order ≡ old.config.order = moves.order in
-    record { at_least = omega arith; at_most = omega arith; place = place moves.before }
+    record { order_fits = (omega arith, omega arith); place = place moves.before }
 by_given r givens.Run old new moves low high place = tt
 
 -- A `begin` asks for a table of the partition's order, behind a partition that has not begun.
@@ -127,8 +128,8 @@ may_be_given :
     (r : SetReading) (old new : Reading) (ws : List (List ℕ)) (given : Given)
     → is_of_the_whole ws ≡ false
     → after_text (record old { taken = r.taken }) ws ≡ Ok new → given ≡ given_of old.config ws
-    → 18 ≤ old.config.order
-    → old.config.order ≤ 22
+    → least_order ≤ old.config.order
+    → old.config.order ≤ greatest_order
     → (is_running old.stage ≡ false → length r.begun < 8)
     → MayBeGiven r given
 may_be_given r old new ws given allowed said is low high place =
@@ -168,7 +169,9 @@ pub own_may :
     (ws : List (List ℕ)) (given : Given)
     → IsAt v r number index o old
     → (is_running (reading_of r number).stage ≡ false → length r.begun < 8)
-    → is_of_the_whole ws ≡ false → 18 ≤ old.config.order → old.config.order ≤ 22
+    → is_of_the_whole ws ≡ false
+    → least_order ≤ old.config.order
+    → old.config.order ≤ greatest_order
     → after_text (record old { taken = v.taken }) ws ≡ Ok new → given ≡ given_of old.config ws
     → MayBeGiven (told_so v index (Some new)) given
 own_may v r number index o old new ws given at place allowed low high said is =

@@ -8,13 +8,14 @@ use Rattle.lpar_set.specs.SetRead.{TakesTo, IsReady}
 use Rattle.lpar_set.proofs.BegunFew.{begun_place}
 use Rattle.lpar_set.proofs.SetLinesKept.{set_line_keeps}
 use Rattle.lpar_set.proofs.SetPlaces.{is_beside}
+use Rattle.trace_line.specs.Lines.{most_lines}
 
 -- ---- the next line
 -- Once the line is counted, its partition may take it.
 pub ready :
     (r : SetReading)
     → IsSetReading r
-    → r.taken < 2 ^ 17
+    → r.taken < most_lines
     → IsReady (record r { taken = r.taken + 1 })
 ready r is few = record {
   few = omega arith;

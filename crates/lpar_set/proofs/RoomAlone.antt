@@ -12,6 +12,7 @@ use Rattle.basics.proofs.Lists.{find-None}
 use Rattle.hpt_pool.specs.Pool.{Block, PoolState, IsPlaced, block_at, end_of, overlap, fits, multiples, lowest_place}
 use Rattle.hpt_pool.proofs.Lowest.{multiple_placed, fits_is}
 use Rattle.hpt_pool.proofs.Powers.{pow_split, pow_most, multiple_of_lower}
+use Rattle.hpte_fields.specs.TableSize.{least_order}
 
 -- ---- a place that fits
 -- Where a multiple in the pool fits, there is a lowest place.
@@ -37,7 +38,7 @@ some_place pool order n below fit none =
 pub clear_fits :
     (pool : PoolState) (order n : ℕ)
     → IsPoolRange pool.base pool.order
-    → 18 ≤ order
+    → least_order ≤ order
     → order ≤ pool.order
     → n < 2 ^ (pool.order - order)
     → All (λ (other : Block). overlap (block_at (pool.base + n * 2 ^ order) order) other ≡ false)
@@ -144,7 +145,7 @@ all_clear block only taken clear all =
 pub room_beside :
     (pool : PoolState) (order : ℕ) (only : Block)
     → IsPoolRange pool.base pool.order
-    → 18 ≤ order
+    → least_order ≤ order
     → order < pool.order
     → only.order < pool.order
     → IsPlaced pool only

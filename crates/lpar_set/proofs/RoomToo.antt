@@ -14,6 +14,7 @@ use Rattle.lpar_set.proofs.CallBlocks.{own_blocks, memory_blocks, holds_is}
 use Rattle.lpar_set.proofs.LoneBlocks.{IsAlone, block_of, only_table}
 use Rattle.lpar_set.proofs.MovedPrepare.{HasRoomToo}
 use Rattle.lpar_set.proofs.RoomAlone.{smaller, room_beside}
+use Rattle.hpte_fields.specs.TableSize.{least_order}
 
 -- The current table's block is one of a sound pool's, also once the table that is being prepared
 -- was dropped.
@@ -52,7 +53,7 @@ record AreSmaller (order other whole : ℕ) : Type 0 where
 found_smaller :
     (pool : PoolState) (order place : ℕ) (block : Block)
     → IsSound pool
-    → 18 ≤ order
+    → least_order ≤ order
     → lowest_place pool order ≡ Some place
     → Contains pool.taken block
     → IsPlaced pool block

@@ -21,6 +21,7 @@ use Rattle.lpar_set.proofs.GrantsApart.{pairs_both, strangers_back}
 use Rattle.lpar_set.proofs.Retold.{weaker}
 use Rattle.lpar_set.proofs.SetPlaces.{begun_there, grants_there, is_beside}
 use Rattle.lpar_set.proofs.TakenSteps.{never_ok}
+use Rattle.trace_line.specs.Lines.{most_lines}
 
 -- ---- what the end tests
 -- The set that a reading gives.
@@ -205,7 +206,7 @@ read_accepted r is some accepted =
     let size : length (map (partition_read r) r.begun) ≡ length r.begun = length-map r.begun
     (partition_read r) in
     let counted : length r.turns ≤ r.taken = is.counted in
-    let few : r.taken ≤ 2 ^ 17 = is.few in
+    let few : r.taken ≤ most_lines = is.few in
     record {
       pool = is.pool;
       some = omega (arith, some, size);

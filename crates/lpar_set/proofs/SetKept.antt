@@ -17,6 +17,7 @@ use Rattle.lpar_set.specs.SetStates.{blocks_of, held_blocks, IsMember, HasAllowe
 use Rattle.lpar_set.proofs.BlocksApart.{AreHeld, held_middle, held_after}
 use Rattle.lpar_set.proofs.Openings.{openings_are, opens_held}
 use Rattle.lpar_set.proofs.RunKept.{KeepsRun, line_keeps_run}
+use Rattle.hpte_fields.specs.TableSize.{least_order}
 
 -- ---- the partition of the line
 pub member_sized :
@@ -26,16 +27,20 @@ pub member_sized :
     → IsSized (with_pool pool m).memory
 member_sized pool m is allowed = record {
   stands =
-      record { limited = is.limit_high; low = is.order_low; size = is.whole; allowed = allowed };
-  high = is.order_high;
+      record {
+        limited = is.limit_fits.1;
+        low = is.order_fits.0;
+        size = is.whole;
+        allowed = allowed;
+      };
+  high = is.order_fits.1;
 }
 
-sized_member : (w : Store) → 18 ≤ w.memory.limit → IsSized w.memory → IsMember (without_pool w)
+sized_member :
+    (w : Store) → least_order ≤ w.memory.limit → IsSized w.memory → IsMember (without_pool w)
 sized_member w low is = record {
-  limit_low = low;
-  limit_high = is.stands.limited;
-  order_low = is.stands.low;
-  order_high = is.high;
+  limit_fits = (low, is.stands.limited);
+  order_fits = (is.stands.low, is.high);
   whole = is.stands.size;
 }
 
@@ -122,7 +127,8 @@ line_keeps w k l is inside =
     let member = own_is w k is inside in
     let sized : IsSized after.memory = one_sized run l
     (member_sized w.pool m member (own_allowed w k is inside)) in
-    let limit : 18 ≤ after.memory.limit = subst (λ n. 18 ≤ n) (sym kept.limit) member.limit_low in
+    let limit : least_order ≤ after.memory.limit = subst (λ n. least_order ≤ n) (sym kept.limit)
+    member.limit_fits.0 in
     let held : AreHeld after.memory.pool.taken (low ++ (blocks_of (without_pool after) ++ high)) =
     held_after w.pool.taken (blocks_of m) after.memory.pool.taken
     (blocks_of (without_pool after)) low high kept.moves.blocks (in_parts w k is inside) in

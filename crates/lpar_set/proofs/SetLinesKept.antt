@@ -15,6 +15,7 @@ use Rattle.lpar_set.specs.SetReadings.{IsSetReading}
 use Rattle.lpar_set.proofs.EmptySet.{counted_is, empty_is, range_is}
 use Rattle.lpar_set.proofs.SetReadingsKept.{member_keeps}
 use Rattle.lpar_set.proofs.TakenSteps.{behind_guard, never_some, required_taken, same_ok, steps_taken}
+use Rattle.trace_line.specs.Lines.{most_lines}
 
 -- ---- the shared pool
 -- A pool that a line names is one.
@@ -124,8 +125,8 @@ pub set_line_keeps :
     → IsSetReading s
 unfolding after_set_line
 set_line_keeps r s line is e =
-    let few = behind_guard (ltb r.taken (2 ^ 17)) whys.Lines _ s e in
+    let few = behind_guard (ltb r.taken most_lines) whys.Lines _ s e in
     let text = behind_guard (list_all is_printable (without_cr line)) whys.Ascii _ s few.rest in
     let counted : length r.turns ≤ r.taken = is.counted in
     words_keep (record r { taken = r.taken + 1 }) s (words_of (without_cr line))
-    (counted_is r is (ltb-true r.taken (2 ^ 17) few.holds)) (omega (arith, counted)) text.rest
+    (counted_is r is (ltb-true r.taken most_lines few.holds)) (omega (arith, counted)) text.rest

@@ -15,6 +15,7 @@ use Rattle.lpar_set.specs.declared.turn.Turn.{Turn}
 use Rattle.lpar_set.specs.PartitionLines.{words_in, is_remark_line, first_number, own_words, is_line_of, is_shared, shared_pool, own_trace, own_config, begun_by, begun_in, is_run_line, opening_tables}
 use Rattle.lpar_set.specs.SetGrammar.{below_8, is_of_the_whole, set_of}
 use Rattle.lpar_set.specs.SetTrace.{NumberedTrace, AcceptedSet, IsAcceptedSet, line_of}
+use Rattle.trace_line.specs.Lines.{most_lines}
 
 -- ---- accepted sets
 -- The set over the shared pool whose partitions are those that begin, in the order of their `begin`
@@ -52,7 +53,7 @@ LinesHaveOneSet =
 -- What a line behind these may be refused for beside what its partition's own trace says of it.
 pub data IsAgainstSet (before : List (List ℕ)) (line : List ℕ) : Why → Type 0 where
   -- 2 ^ 17 lines have come before.
-  past : 2 ^ 17 ≤ length before → IsAgainstSet before line whys.Lines
+  past : most_lines ≤ length before → IsAgainstSet before line whys.Lines
   -- A byte is none of a text.
   unprintable :
       list_all is_printable (without_cr line) ≡ false → IsAgainstSet before line whys.Ascii

@@ -20,6 +20,7 @@ use Rattle.trace_read.specs.Whys.{◌>>=◌, guard, required}
 use Rattle.lpar_set.specs.declared.turn.Turn.{Turn}
 use Rattle.lpar_set.specs.OpeningTables.{with_opening}
 use Rattle.lpar_set.specs.SetTrace.{NumberedTrace, AcceptedSet}
+use Rattle.trace_line.specs.Lines.{most_lines}
 
 -- The lines so far: how many were read, whether all were remarks, the shared pool, the readings of
 -- the eight numbers of which those that occur are there, the numbers of the partitions in the order
@@ -178,7 +179,7 @@ after_set_words r (w ∷ ws) = if is_remark (w ∷ ws) then Ok r else after_allo
 -- After one more line, or why it is refused: the reasons in their order.
 unfoldable pub after_set_line : SetReading → List ℕ → Result SetReading Why
 after_set_line r line = do
-  few ← guard (nat_lt r.taken (2 ^ 17)) whys.Lines
+  few ← guard (nat_lt r.taken most_lines) whys.Lines
   text ← guard (list_all is_printable (without_cr line)) whys.Ascii
   after_set_words (record r { taken = r.taken + 1 }) (words_of (without_cr line))
 

@@ -12,6 +12,8 @@ use Rattle.trace_read.specs.Grammar.{Reading}
 use Rattle.trace_read.specs.Places.{is_running}
 use Rattle.lpar_set.specs.SetTrace.{NumberedTrace}
 use Rattle.lpar_set.specs.SetGrammar.{SetReading, reading_of, trace_read_so}
+use Rattle.hpte_fields.specs.TableSize.{greatest_order, least_order, IsTableOrder}
+use Rattle.trace_line.specs.Lines.{most_lines}
 
 -- The set after a line is as the line says, or it is refused as it says, unless there is no memory.
 -- After a refusal the set isn't read on.
@@ -28,7 +30,7 @@ stop_error line stops.Memory = errors.Memory
 -- Before the line that is counted last, no partition has taken a line with its number, and where
 -- one hasn't begun there is a place for it among those that have.
 pub record IsReady (r : SetReading) : Type 0 where
-  pub few : r.taken ≤ 2 ^ 17
+  pub few : r.taken ≤ most_lines
   pub earlier : (number : ℕ) → (reading_of r number).taken < r.taken
   pub place :
       (number : ℕ)
@@ -48,8 +50,7 @@ with_own r number = record r { readings = slice_set r.readings number (Some (rea
 
 -- A table of this order may be asked of the pool, and there is a place among those that have begun.
 pub record MayBegin (r : SetReading) (order : ℕ) : Type 0 where
-  pub at_least : 18 ≤ order
-  pub at_most : order ≤ 22
+  pub order_fits : IsTableOrder order
   pub place : length r.begun < 8
 
 -- So it is, if the line is a `begin`.

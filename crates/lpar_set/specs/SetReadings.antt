@@ -9,6 +9,7 @@ use Rattle.lpar_set.specs.declared.turn.Turn.{Turn}
 use Rattle.lpar_set.specs.OpeningTables.{HasRoomFor, with_openings}
 use Rattle.lpar_set.specs.SetTrace.{AreStrangers, turns_of}
 use Rattle.lpar_set.specs.SetGrammar.{SetReading, reading_of, grants_read}
+use Rattle.trace_line.specs.Lines.{most_lines}
 
 -- A partition's reading stands beside this pool, opens with no entry, has no window, has no run
 -- line before its `begin`, and has taken no line behind the last.
@@ -71,4 +72,4 @@ pub record IsSetReading (r : SetReading) : Type 0 where
       → k < length r.begun
       → map (λ (t : Turn). t.line) (turns_of k r.turns) ≡ range_with_len 0 (count_at r k)
   pub counted : length r.turns ≤ r.taken
-  pub few : r.taken ≤ 2 ^ 17
+  pub few : r.taken ≤ most_lines

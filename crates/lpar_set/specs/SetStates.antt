@@ -1,7 +1,7 @@
 -- What holds of a set between two lines.
 use Rattle.std.specs.Prelude.{◌≡◌, ◌≢◌, ◌≤◌, List, [], ◌∷◌, length, Option, None, Some, IfSome, Contains}
 use Rattle.std.specs.List.{AllByRecursion, AllPairs, flat_map}
-use Rattle.hpte_fields.specs.TableSize.{entry_count}
+use Rattle.hpte_fields.specs.TableSize.{entry_count, greatest_order, least_order, IsTableOrder}
 use Rattle.hpt_pool.specs.Pool.{Block, IsSound, block_at}
 use Rattle.hpt_resize.specs.Pending.{PendingTable}
 use Rattle.lpar_set.specs.SetRun.{MemberState, SetState}
@@ -21,15 +21,13 @@ held_blocks members = flat_map blocks_of members
 
 -- The partition's orders are those that guests may have, and its table has a state for each entry.
 pub record IsMember (m : MemberState) : Type 0 where
-  pub limit_low : 18 ≤ m.limit
-  pub limit_high : m.limit ≤ 22
-  pub order_low : 18 ≤ m.table.order
-  pub order_high : m.table.order ≤ 22
+  pub limit_fits : IsTableOrder m.limit
+  pub order_fits : IsTableOrder m.table.order
   pub whole : length m.table.states ≡ entry_count m.table.order
 
 -- The table that it is preparing, if there is one, has such an order too.
 abbrev pub HasAllowed : MemberState → Type 0
-HasAllowed m = IfSome m.pending (λ (t : PendingTable). (18 ≤ t.order) × (t.order ≤ 22))
+HasAllowed m = IfSome m.pending (λ (t : PendingTable). IsTableOrder t.order)
 
 -- The pool is sound; each block that a partition holds is taken in it, and no two of them begin at
 -- one place.

@@ -11,6 +11,7 @@ use Rattle.trace_read.specs.Settings.{default_settings}
 use Rattle.trace_read.specs.Trace.{AcceptedTrace, IsAccepted}
 use Rattle.lpar_set.specs.declared.turn.Turn.{Turn}
 use Rattle.lpar_set.specs.OpeningTables.{HasRoomFor}
+use Rattle.trace_line.specs.Lines.{most_lines}
 
 -- A partition's number and its trace.
 pub record NumberedTrace : Type 0 where
@@ -91,4 +92,4 @@ pub record IsAcceptedSet (s : AcceptedSet) : Type 0 where
       → k < length s.partitions
       → map (λ (t : Turn). t.line) (turns_of k s.turns)
       ≡ range_with_len 0 (length (partition_at s k).trace.lines)
-  pub few : length s.turns ≤ 2 ^ 17
+  pub few : length s.turns ≤ most_lines

@@ -11,6 +11,7 @@ ghost use Rattle.lpar_set.specs.SetGrammar as sets;
 ghost use Rattle.lpar_set.specs.SetGrammar.{is_of_the_whole, opening_set_reading, set_beside, reading_of, refusal_beside, with_shared, with_given, after_own, after_member, after_numbered_words, after_set_words, after_set_line, set_at_end};
 ghost use Rattle.lpar_set.specs.SetReadings.{IsSetReading, reading_at};
 ghost use Rattle.lpar_set.specs.SetRead.{TakesTo, IsReady, MayBeGiven, MayBegin, is_early, with_own};
+ghost use Rattle.trace_line.specs.Lines.{most_lines};
 
 use crate::set::SetTrace;
 use crate::set_end::{may_end, partitions_read};
@@ -220,7 +221,7 @@ impl<'a> SetReader<'a> {
     // A line of a partition that has a reading.
     #[tactic(auto, unfolding(crate::specs::SetGrammar::after_own))]
     fn take_own(&mut self, number: u8, words: &[&[u8]]) -> Result<(), Stop>
-        requires few { self.old.taken ≤ 2 ^ 17 }
+        requires few { self.old.taken ≤ most_lines }
         requires number { number < 8 }
         requires allowed { is_of_the_whole (texts words.now) ≡ false }
         requires own { IsSome (reading_at self.old number) }

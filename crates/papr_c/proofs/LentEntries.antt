@@ -5,7 +5,8 @@ use Rattle.std.proofs.lemmas.List.{get_or-map, set-get_or, drop_more}
 use Rattle.std.proofs.lemmas.Bool.{leb-true}
 use Rattle.std.proofs.Math.Nat.{pow-le-pow_right}
 use Rattle.std.proofs.Math.Numerals.{add-one}
-use Rattle.hpte_fields.specs.TableSize.{entry_count}
+use Rattle.hpte_fields.specs.TableSize.{IsTableOrder, entry_count, greatest_order, least_order}
+use Rattle.hpte_fields.proofs.TableSizes.{entries_few}
 use Rattle.entry_model.specs.State.{State, empty_state}
 use Rattle.entry_model.specs.Receipt.{after_of}
 use Rattle.entry_model.specs.Run.{state_at, states_after}
@@ -159,23 +160,22 @@ same_rest_on old new i inside inside_new rest =
     cc
 
 -- A table has few entries.
-order_high : (p q r : Bool) → (p && q && r) ≡ true → q ≡ true
-order_high true true r h = refl
-order_high true false r h = cc
-order_high false q r h = cc
+order_fits : (p q r : Bool) → ((p && q) && r) ≡ true → (p ≡ true) × (q ≡ true)
+order_fits true true r h = (refl, refl)
+order_fits true false r h = cc
+order_fits false q r h = cc
 
 pub table_few :
     (order : ℕ) (es : List Entry)
     → is_table order (states_of es) ≡ true
     → length es < 4294967296
 table_few order es table =
-    let high : order ≤ 22 = leb-true order 22
-    (order_high (nat_le 18 order) (nat_le order 22)
-    (length (states_of es) == entry_count order) table) in
-    let bound : 2 ^ (order - 4) ≤ 2 ^ 18 =
-    pow-le-pow_right {n = 2} (omega arith) {i = order - 4} {j = 18} (omega (arith, high)) in
-    let whole = table_whole order (states_of es) table in
-    omega (arith, bound, whole, states-length es)
+    let fits = order_fits (nat_le least_order order) (nat_le order greatest_order)
+    (length (states_of es) == entry_count order) table in
+    let within : IsTableOrder order =
+    (leb-true least_order order fits.0, leb-true order greatest_order fits.1) in
+    let few = entries_few (entry_count order) order refl within in
+    omega (arith, few, table_whole order (states_of es) table, states-length es)
 
 -- No entry is replaced.
 pub replaced_none : (ss : List State) (first : ℕ) → ss ≡ replaced ss first []

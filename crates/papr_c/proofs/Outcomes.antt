@@ -3,7 +3,7 @@ use Rattle.std.specs.Prelude.{◌==◌, ◌&&◌, nat_le}
 use Rattle.std.specs.List.{AllByRecursion}
 use Rattle.std.proofs.Common.{◌≡◌, ℕ, ◌<◌, min, List, [], ◌∷◌, Bool, true, false, length, map, Option, Some, refl, ap, sym, subst, arith, ◌∙◌}
 use Rattle.std.proofs.lemmas.Bool.{eqb-true}
-use Rattle.hpte_fields.specs.TableSize.{entry_count}
+use Rattle.hpte_fields.specs.TableSize.{entry_count, is_table_order}
 use Rattle.entry_model.specs.declared.operation.Op.{Op}
 use Rattle.call_trials.specs.Calls.{AreCallsIn}
 use Rattle.entry_model.specs.State.{State}
@@ -152,17 +152,16 @@ unfolding trial_run
 alone op entry a r is = rw is refl
 
 -- A table has all its entries.
-whole_of : (p q : Bool) (m n : ℕ) → (p && q && (m == n)) ≡ true → m ≡ n
-whole_of true true m n h = eqb-true m n h
-whole_of true false m n h = cc
-whole_of false q m n h = cc
+whole_of : (p : Bool) (m n : ℕ) → (p && (m == n)) ≡ true → m ≡ n
+whole_of true m n h = eqb-true m n h
+whole_of false m n h = cc
 
 pub table_whole :
     (order : ℕ) (entries : List State)
     → is_table order entries ≡ true
     → length entries ≡ entry_count order
 table_whole order entries fit =
-    whole_of (nat_le 18 order) (nat_le order 22) (length entries) (entry_count order) fit
+    whole_of (is_table_order order) (length entries) (entry_count order) fit
 
 -- The calls on entries of a table are on entries that were lent.
 pub calls_inside :

@@ -2,7 +2,7 @@
 use Rattle.std.specs.Prelude.{◌==◌, nat_le, nat_lt, is_some}
 use Rattle.std.proofs.Common.{◌≡◌, ℕ, ℤ, ◌≤◌, min, length, true, false, Option, Some, None, arith, refl, ◌∙◌, inl, inr, ◌⊎◌}
 use Rattle.std.proofs.lemmas.Bool.{cases_Bool, eqb-true}
-use Rattle.hpte_fields.specs.TableSize.{entry_count}
+use Rattle.hpte_fields.specs.TableSize.{entry_count, greatest_order, least_order}
 use Rattle.hpt_pool.specs.Pool.{PoolState, lowest_place}
 use Rattle.papr_codes.specs.ReturnCodes.{rc_code}
 use Rattle.papr_codes.specs.declared.codes.Rc.TheVariants.{NoMem}
@@ -14,13 +14,13 @@ use Rattle.papr_c.specs.ResizeLaw.{HasLentBlock, IsPrepareOfPool, resize_of}
 -- What C has of a table is that table.
 ready_back :
     (t : PendingTable)
-    → 18 ≤ t.order
-    → t.order ≤ 22
+    → least_order ≤ t.order
+    → t.order ≤ greatest_order
     → t.ready ≤ entry_count t.order
     → resize_of (pending_of (with_pending t)) ≡ with_pending t
 ready_back t low high few =
-    let is_low : nat_le 18 t.order ≡ true = grind arith in
-    let is_high : nat_le t.order 22 ≡ true = grind arith in
+    let is_low : nat_le least_order t.order ≡ true = grind arith in
+    let is_high : nat_le t.order greatest_order ≡ true = grind arith in
     let is_few : nat_le t.ready (entry_count t.order) ≡ true = grind arith in
     rw (is_low, is_high, is_few) refl
 
@@ -32,8 +32,8 @@ AreAlike here there =
 -- The memory is that of a table of the order: the pending one of it, or a new one.
 fitting :
     (shift : ℕ) (m : ResizeMemory) (pool : PoolState)
-    → 18 ≤ shift
-    → shift ≤ 22
+    → least_order ≤ shift
+    → shift ≤ greatest_order
     → is_some (lowest_place (pool_without (pending_of m.resize) pool) shift) ≡ true
     → AreAlike (prepared (table_of_order shift (pending_of m.resize)) m.into)
     (advance_outcome (start_outcome shift (pending_of m.resize) pool)
@@ -112,16 +112,18 @@ lacking shift m pool lent short = at (cases_Bool (is_pending shift (pending_of m
 pub prepares : IsPrepareOfPool
 unfolding outcome_of_resize_prepare outcome_of_prepare AreAlike
 prepares limit flags shift m pool lent =
-    at (cases_Bool (is_prepare_request flags shift)) (cases_Bool (nat_lt (min limit 22) shift))
+    at (cases_Bool (is_prepare_request flags shift))
+    (cases_Bool (nat_lt (min limit greatest_order) shift))
     (cases_Bool (shift == 0)) (cases_Bool (length m.into == entry_count shift)) where
       at :
           (is_prepare_request flags shift ≡ true) ⊎ (is_prepare_request flags shift ≡ false)
-          → (nat_lt (min limit 22) shift ≡ true) ⊎ (nat_lt (min limit 22) shift ≡ false)
+          → (nat_lt (min limit greatest_order) shift ≡ true)
+          ⊎ (nat_lt (min limit greatest_order) shift ≡ false)
           → ((shift == 0) ≡ true) ⊎ ((shift == 0) ≡ false)
           → ((length m.into == entry_count shift) ≡ true)
           ⊎ ((length m.into == entry_count shift) ≡ false)
           → AreAlike (outcome_of_resize_prepare limit flags shift m)
-          (outcome_of_prepare (min limit 22) flags shift (pending_of m.resize) pool)
+          (outcome_of_prepare (min limit greatest_order) flags shift (pending_of m.resize) pool)
       at (inr bad) above zero fits = rw bad (refl, refl)
       at (inl request) (inl above) zero fits = rw (request, above) (refl, refl)
       at (inl request) (inr below) (inl zero) fits = rw (request, below, zero) (refl, refl)

@@ -5,7 +5,7 @@ use Rattle.storage_prot.specs.Protection.{Permission, permission, may_read, may_
 use Rattle.power_addr.specs.Pages.{VirtualPage, IsPage, is_base_shift, tag_of}
 use Rattle.page_sizes.specs.declared.size.PageSize.{PageSize}
 use Rattle.page_sizes.specs.Sizes.{size_of}
-use Rattle.hpte_fields.specs.TableSize.{entry_count}
+use Rattle.hpte_fields.specs.TableSize.{entry_count, is_table_order}
 use Rattle.hpte_fields.specs.Fields.{is_valid, is_one_tb, is_bolted, is_secondary, is_referenced, is_changed, is_no_execute, segment_code, tag_field, key_of, pp_of, wimg_of, frame_of}
 use Rattle.hpt_hash.specs.Entries.{number_field, page_at}
 use Rattle.papr_c.specs.declared.decoding.PaprPage.{PaprPage}
@@ -13,9 +13,9 @@ use Rattle.papr_c.specs.declared.decoding.NoPage.{NoPage}
 use Rattle.papr_c.specs.declared.decoding.NoPage.TheVariants.{Empty, NoSize, NoSegment, OtherGroup, NoIndex}
 
 -- ---- why doublewords translate no page
--- The index is one of a table of 2 ^ order bytes, of an order from 18 to 22.
+-- The index is one of a table of 2 ^ order bytes.
 abbrev pub is_index : ℕ → ℕ → Bool
-is_index order ptex = nat_le 18 order && nat_le order 22 && nat_lt ptex (entry_count order)
+is_index order ptex = is_table_order order && nat_lt ptex (entry_count order)
 
 -- A page of this base size lies where the tag says: B is the code of a segment's size, such a
 -- segment has pages of that size, and the address bits of the tag that lie inside the page are

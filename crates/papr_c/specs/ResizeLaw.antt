@@ -1,7 +1,7 @@
 -- The resize calls of C are those of a pool: what the lent memory is to them, a block of the pool
 -- is to the calls of hpt_resize.
 use Rattle.std.specs.Prelude.{◌≡◌, ℕ, ◌==◌, true, min, length, Option, None, Some, is_some}
-use Rattle.hpte_fields.specs.TableSize.{entry_count}
+use Rattle.hpte_fields.specs.TableSize.{entry_count, greatest_order}
 use Rattle.hpt_pool.specs.Pool.{PoolState, lowest_place}
 use Rattle.papr_codes.specs.ReturnCodes.{rc_code}
 use Rattle.papr_codes.specs.declared.codes.Rc.TheVariants.{Success}
@@ -30,7 +30,8 @@ IsPrepareOfPool =
     (limit flags shift : ℕ) (m : ResizeMemory) (pool : PoolState)
     → HasLentBlock shift m pool
     → let here = outcome_of_resize_prepare limit flags shift m in
-    let there = outcome_of_prepare (min limit 22) flags shift (pending_of m.resize) pool in
+    let there = outcome_of_prepare (min limit greatest_order) flags shift (pending_of m.resize) pool
+    in
     (here.0 ≡ rc_code there.rc) × (resize_of (pending_of here.1.resize) ≡ resize_of there.pending)
 
 -- Over lent memory that is that of a table of the order wherever nothing else refuses the commit,

@@ -1,7 +1,7 @@
 -- The two resize calls of C, over memory that the caller lends for the table that is made ready:
 -- their answers, what is pending after them, and that memory.
 use Rattle.std.specs.Prelude.{ℕ, ℤ, ◌-◌, ◌==◌, ◌&&◌, not, Bool, true, false, nat_lt, nat_le, min, if◌then◌else◌, List, ◌++◌, length, take, drop, replicate, Option, Some, None}
-use Rattle.hpte_fields.specs.TableSize.{entry_count}
+use Rattle.hpte_fields.specs.TableSize.{entry_count, greatest_order, is_table_order}
 use Rattle.papr_codes.specs.ReturnCodes.{rc_code}
 use Rattle.papr_codes.specs.declared.codes.Rc.{Rc}
 use Rattle.papr_codes.specs.declared.codes.Rc.TheVariants.{Success, LongBusy, Parameter, NoMem, Resource}
@@ -33,11 +33,12 @@ nothing_pending = record { ready = 0; order = 0; pending = false }
 abbrev pub with_pending : PendingTable → PaprResize
 with_pending table = record { ready = table.ready; order = table.order; pending = true }
 
--- A table is pending, of an order from 18 to 22, and no more of its entries are ready than it has.
+-- A table is pending, of an order that a table can have, and no more of its entries are ready than
+-- it has.
 abbrev pub is_pending_table : PaprResize → Bool
 is_pending_table r =
     r.pending
-    && (nat_le 18 r.order && nat_le r.order 22 && nat_le r.ready (entry_count r.order))
+    && (is_table_order r.order && nat_le r.ready (entry_count r.order))
 
 -- That table, if there is one. It has no place in a pool.
 abbrev pub pending_of : PaprResize → Option PendingTable
@@ -70,13 +71,13 @@ prepared table into =
     )
 
 -- H_RESIZE_HPT_PREPARE with these flags and this order, of which the limit is the highest, but none
--- is above 22. Order 0 drops what is pending, and so does memory that isn't that of a table of the
--- order, which is H_NO_MEM. A refusal before that changes nothing.
+-- is above that of the largest table. Order 0 drops what is pending, and so does memory that isn't
+-- that of a table of the order, which is H_NO_MEM. A refusal before that changes nothing.
 unfoldable pub outcome_of_resize_prepare : ℕ → ℕ → ℕ → ResizeMemory → ℤ × ResizeMemory
 outcome_of_resize_prepare limit flags shift m =
     if not (is_prepare_request flags shift)
     then (rc_code Parameter, m)
-    else if nat_lt (min limit 22) shift
+    else if nat_lt (min limit greatest_order) shift
     then (rc_code Resource, m)
     else if shift == 0
     then (rc_code Success, resize_memory nothing_pending m.into)

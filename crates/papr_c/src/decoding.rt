@@ -5,8 +5,8 @@ ghost use Rattle.papr_c.specs.Decoding as spec;
 
 use hpt_hash::page_of;
 use hpte_fields::{
-    CHANGED, REFERENCED, VALID, bolted, entry_count, frame, key, no_execute, one_tb, pp, secondary,
-    wimg,
+    CHANGED, REFERENCED, VALID, bolted, entry_count, frame, is_table_order, key, no_execute,
+    one_tb, pp, secondary, wimg,
 };
 use page_sizes::decode;
 use power_addr::Page;
@@ -96,7 +96,7 @@ fn is_valid(dword0: u64) -> bool
 fn is_index(order: u8, ptex: u64) -> bool
     ensures { result ≡ spec.is_index order ptex }
 {
-    18 <= order && order <= 22 && ptex < u64::from(entry_count(order))
+    is_table_order(order) && ptex < u64::from(entry_count(order))
 }
 
 /// Whether pages of this base size lie in segments of this size.

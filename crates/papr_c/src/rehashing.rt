@@ -1,5 +1,5 @@
 ghost use Rattle.std.specs.Prelude.{◌≡◌, ◌≤◌, length};
-ghost use Rattle.hpte_fields.specs.TableSize.{entry_count};
+ghost use Rattle.hpte_fields.specs.TableSize.{IsTableOrder, entry_count};
 ghost use Rattle.hpt_resize.specs.Rehash.{collision_of};
 ghost use Rattle.papr_c.specs.Rehash.{refused_rehash, rehash_told, table_after, outcome_of_rehash, emptied_between, wiped_entries, entries_after, rehashed_entries};
 ghost use Rattle.c_layout.specs.Entries.{states_of};
@@ -63,10 +63,8 @@ fn wipe(entries: &mut [PaprEntry])
 
 /// Carries the bolted entries of a table over to another one, in which nothing else stays.
 pub fn carry(entries: &[PaprEntry], order: u8, into: &mut [PaprEntry], into_order: u8) -> PaprRehash
-    requires from_low { 18 ≤ order }
-    requires from_high { order ≤ 22 }
-    requires to_low { 18 ≤ into_order }
-    requires to_high { into_order ≤ 22 }
+    requires from { IsTableOrder order }
+    requires to { IsTableOrder into_order }
     requires from_whole { length (states_of entries.now) ≡ entry_count order }
     requires to_whole { length (states_of into.old) ≡ entry_count into_order }
     ensures told { result ≡ rehash_told (collision_of order into_order (states_of entries.now)) }

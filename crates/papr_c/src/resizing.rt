@@ -1,19 +1,16 @@
 ghost use Rattle.std.specs.Prelude.{◌≡◌, ◌≤◌, ◌+◌, min, Some, None, length, MatchResult, IfOk, OnOk};
-ghost use Rattle.hpte_fields.specs.TableSize.{entry_count};
+ghost use Rattle.hpte_fields.specs.TableSize.{IsTableOrder, entry_count};
 ghost use Rattle.hpt_resize.specs.Resize.{commit_refusal};
 ghost use Rattle.papr_c.specs.Resizing.{resize_memory, nothing_pending, pending_of, is_pending_table, table_of_order, emptied, prepared, outcome_of_resize_prepare, outcome_of_resize_commit, committed_entries};
 ghost use Rattle.c_layout.specs.Entries.{states_of, AreMarked};
 
 use crate::rehashing::{PaprRehash, carry, clear};
-use c_layout::{GREATEST, LEAST, PaprEntry, is_table};
-use hpte_fields::entry_count;
+use c_layout::{PaprEntry, is_table};
+use hpte_fields::{GREATEST_ORDER, entry_count, is_architected_order, is_table_order};
 use papr_codes::Rc;
 
 /// How many entries one call makes ready.
 const READY_A_CALL: usize = 16_384;
-
-/// The highest order that a guest may name: that of the architecture.
-const HIGHEST: u64 = 46;
 
 /// What is pending between two resize calls. All zero is nothing; the calls write it.
 #[repr(C)]
@@ -39,17 +36,13 @@ impl PaprResize {
     fn is_pending_table(&self) -> bool
         ensures { result ≡ is_pending_table self.now }
     {
-        self.pending
-            && (LEAST <= self.order
-                && self.order <= GREATEST
-                && self.ready <= entry_count(self.order))
+        self.pending && (is_table_order(self.order) && self.ready <= entry_count(self.order))
     }
 
     /// How many entries of the pending table of this order are ready: none where another is
     /// pending, or none is.
     fn ready_of(&self, order: u8) -> usize
-        requires low { 18 ≤ order }
-        requires high { order ≤ 22 }
+        requires order { IsTableOrder order }
         ensures value { result ≡ (table_of_order order (pending_of self.now)).ready }
         ensures few { result ≤ entry_count order }
     {
@@ -68,10 +61,9 @@ impl PaprResize {
             (λ _. commit_refusal flags shift (pending_of self.now) ≡ None)
             (λ rc. commit_refusal flags shift (pending_of self.now) ≡ Some rc) }
         ensures order { IfOk result (λ order. order ≡ shift) }
-        ensures high { OnOk result (shift ≤ 22) }
-        ensures low { OnOk result (18 ≤ shift) }
+        ensures fits { OnOk result (IsTableOrder shift) }
     {
-        if flags != 0 || shift < u64::from(LEAST) || shift > HIGHEST {
+        if flags != 0 || !is_architected_order(shift) {
             return Err(Rc::Parameter);
         }
         if !self.is_pending_table() || u64::from(self.order) != shift {
@@ -88,15 +80,14 @@ impl PaprResize {
 fn is_prepare_request(flags: u64, shift: u64) -> bool
     ensures { result ≡ Rattle.hpt_resize.specs.Resize.is_prepare_request flags shift }
 {
-    flags == 0 && (shift == 0 || (u64::from(LEAST) <= shift && shift <= HIGHEST))
+    flags == 0 && (shift == 0 || is_architected_order(shift))
 }
 
 /// Makes the next entries of a table of `2^order` bytes ready, of which the first are so already,
 /// and says how many are then.
 #[tactic(auto, using(c_layout::proofs::Marks::marked_none))]
 fn advance(ready: usize, order: u8, into: &mut [PaprEntry]) -> usize
-    requires low { 18 ≤ order }
-    requires high { order ≤ 22 }
+    requires order { IsTableOrder order }
     requires few { ready ≤ entry_count order }
     requires whole { length (states_of into.old) ≡ entry_count order }
     ensures ready { result ≡ min (ready + 16384) (entry_count order) }
@@ -130,7 +121,7 @@ pub extern "C" fn papr_resize_prepare(
     if !is_prepare_request(flags, shift) {
         return Rc::Parameter.code();
     }
-    if shift > u64::from(limit.min(GREATEST)) {
+    if shift > u64::from(limit.min(GREATEST_ORDER)) {
         return Rc::Resource.code();
     }
     if shift == 0 {

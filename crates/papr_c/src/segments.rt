@@ -1,31 +1,8 @@
 ghost use Rattle.std.specs.Prelude.{◌≡◌, Some, None, MatchResult, replicate};
 ghost use Rattle.basics.specs.Words.{first_refusal};
-ghost use Rattle.slb_model.specs.Slots.{base_shift_of, slot_of_words};
-ghost use Rattle.slb_model.specs.Refusals.{tests_of_words};
-ghost use Rattle.papr_c.specs.Segments.{covering, slot_told, slot_at, outcome_of_mte};
+ghost use Rattle.papr_c.specs.Segments.{covering, slot_of, slot_told, slot_at, outcome_of_mte};
 
-use slb_model::BadSlb;
-
-/// The slot's number, in the first word of an `slbmte`.
-const NUMBER: u64 = 0xFFF;
-
-/// V, in the first word.
-const VALID: u64 = 0x0800_0000;
-
-/// L and LP, which together encode the base page size, in the second word.
-const BASE_PAGE: u64 = 0x130;
-
-/// The binary logarithm of 16 GB, a base page size of 1 TB segments alone.
-const HUGE_SHIFT: u8 = 34;
-
-/// Ks, in the second word.
-const KS: u64 = 0x800;
-
-/// Kp, in the second word.
-const KP: u64 = 0x400;
-
-/// N, in the second word.
-const NO_EXECUTE: u64 = 0x200;
+use slb_model::{BadSlb, SLOT_NUMBER, SLOT_VALID, Slot};
 
 /// One slot of a segment lookaside buffer. All zero is an invalid one.
 #[repr(C)]
@@ -70,34 +47,34 @@ impl PaprSlot {
         no_execute: false,
     };
 
-    /// The slot that the words of an `slbmte` with V set describe.
-    #[tactic(auto, unfolding(slb_model::specs::Slots::slot_of_words, slb_model::specs::Refusals::tests_of_words))]
-    fn of_words(rb: u64, rs: u64) -> Result<PaprSlot, BadSlb>
-        ensures { MatchResult
-            result
-            (λ slot. (first_refusal (tests_of_words rs) ≡ None)
-            × (slot ≡ slot_told (slot_of_words rb rs)))
-            (λ e. first_refusal (tests_of_words rs) ≡ Some e) }
+    /// A valid slot.
+    fn valid(slot: Slot) -> PaprSlot
+        ensures { result ≡ slot_told (Some slot) }
     {
-        let one_tb = match rs >> 62 {
-            0 => false,
-            1 => true,
-            _ => return Err(BadSlb::SegmentSize),
-        };
-        let shift = base_shift(rs).ok_or(BadSlb::PageSize)?;
-        if shift == HUGE_SHIFT && !one_tb {
-            return Err(BadSlb::PageSize);
-        }
-        let number = rs & (u64::MAX >> 2);
-        Ok(PaprSlot {
-            esid: rb >> 28,
-            vsid: if one_tb { number >> 24 } else { number >> 12 },
-            shift,
+        PaprSlot {
+            esid: slot.esid,
+            vsid: slot.vsid,
+            shift: slot.shift,
             valid: true,
-            one_tb,
-            ks: rs & KS == KS,
-            kp: rs & KP == KP,
-            no_execute: rs & NO_EXECUTE == NO_EXECUTE,
+            one_tb: slot.one_tb,
+            ks: slot.ks,
+            kp: slot.kp,
+            no_execute: slot.no_execute,
+        }
+    }
+
+    /// What the slot describes, where it is valid.
+    fn slot(&self) -> Option<Slot>
+        ensures { result ≡ slot_of self.now }
+    {
+        self.valid.then_some(Slot {
+            esid: self.esid,
+            one_tb: self.one_tb,
+            vsid: self.vsid,
+            shift: self.shift,
+            ks: self.ks,
+            kp: self.kp,
+            no_execute: self.no_execute,
         })
     }
 
@@ -105,25 +82,10 @@ impl PaprSlot {
     fn has(&self, ea: u64) -> bool
         ensures { result ≡ covering ea self.now }
     {
-        if !self.valid {
-            false
-        } else if self.one_tb {
-            ea >> 40 == self.esid >> 12
-        } else {
-            ea >> 28 == self.esid
+        match self.slot() {
+            Some(slot) => slot.covers(ea),
+            None => false,
         }
-    }
-}
-
-fn base_shift(rs: u64) -> Option<u8>
-    ensures { result ≡ base_shift_of rs }
-{
-    match rs & BASE_PAGE {
-        0x000 => Some(12),
-        0x110 => Some(16),
-        0x100 => Some(24),
-        0x120 => Some(HUGE_SHIFT),
-        _ => None,
     }
 }
 
@@ -145,17 +107,17 @@ fn refusal_number(refusal: BadSlb) -> u32
 pub extern "C" fn papr_slb_mte(slb: &mut PaprSlb, rb: u64, rs: u64) -> u32
     ensures { (result, slb.new.slots) ≡ outcome_of_mte slb.old.slots rb rs }
 {
-    let number = (rb & NUMBER) as usize;
+    let number = (rb & SLOT_NUMBER) as usize;
     if number >= slb.slots.len() {
         return refusal_number(BadSlb::Slot);
     }
-    if rb & VALID != VALID {
+    if rb & SLOT_VALID != SLOT_VALID {
         slb.slots[number] = PaprSlot::NONE;
         return 0;
     }
-    match PaprSlot::of_words(rb, rs) {
+    match Slot::of_words(rb, rs) {
         Ok(slot) => {
-            slb.slots[number] = slot;
+            slb.slots[number] = PaprSlot::valid(slot);
             0
         }
         Err(refusal) => refusal_number(refusal),

@@ -11,27 +11,15 @@ ghost use Rattle.papr_c.specs.Windows.{window_of, page_entry, outcome_of_tce, de
 ghost use Rattle.c_layout.specs.Entries.{states_of, AreMarked};
 
 use crate::trying::make;
-use bus_window::Window;
+use bus_window::{PAGE_BYTES, Window};
 use c_layout::{
     PaprEntry, PaprGrants, PaprReceipt, PaprReply, either_stale, filled_count, is_stale, put_word,
 };
-use dma_window::{entering, tce_of};
+use dma_window::{address, entering, permits, tce_of};
 use entry_model::{Answer, DeviceOutcome, Op, Test};
 use frame_grants::Kind;
 use page_grants::GrantedMemory;
 use papr_codes::Rc;
-
-/// The logical address of a page, in a translation control entry.
-const ADDRESS: u64 = 0x0FFF_FFFF_FFFF_F000;
-
-/// A device may read the page.
-const READ: u64 = 0x1;
-
-/// A device may write the page.
-const WRITE: u64 = 0x2;
-
-/// The bytes of a page.
-const PAGE: u64 = 4096;
 
 /// What empties an entry: any valid one passes its test.
 const REMOVAL: Op = Op::Remove {
@@ -99,14 +87,6 @@ fn entry_of(entries: &[PaprEntry], base: u64, ioba: u64) -> Option<u32>
     Window::new(0, base, entries.len() as u64)?.entry_at(ioba)
 }
 
-/// Whether a TCE permits a write, or a read.
-fn permits(tce: u64, write: bool) -> bool
-    ensures { result ≡ words.permits tce write }
-{
-    let permission = if write { WRITE } else { READ };
-    tce & permission == permission
-}
-
 /// Whether a TCE permits anything.
 fn permits_any(tce: u64) -> bool
     ensures { result ≡ (words.permits tce false || words.permits tce true) }
@@ -121,7 +101,7 @@ fn is_ram(grants: &PaprGrants, page: u64) -> bool
         (listed grants.now.grants grants.now.count)
         page }
 {
-    match grants.machine_of(page, PAGE) {
+    match grants.machine_of(page, PAGE_BYTES) {
         Some((_, Kind::Ram)) => true,
         _ => false,
     }
@@ -204,7 +184,7 @@ fn put_at(
     if !permits_any(tce) {
         return clear(entries, entry, receipts);
     }
-    if !is_ram(grants, tce & ADDRESS) {
+    if !is_ram(grants, address(tce)) {
         return PaprReply::refused();
     }
     replace(entries, entry, &entering(tce), receipts)
@@ -271,8 +251,8 @@ fn device_by(grants: &PaprGrants, tce: u64, ioba: u64, write: bool) -> DeviceOut
     if !permits(tce, write) {
         return DeviceOutcome::Denied;
     }
-    let page = tce & ADDRESS;
-    let logical = page + ioba % PAGE;
+    let page = address(tce);
+    let logical = page + ioba % PAGE_BYTES;
     if !is_ram(grants, page) {
         return DeviceOutcome::Ungranted(logical);
     }

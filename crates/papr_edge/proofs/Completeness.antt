@@ -12,18 +12,19 @@ use Rattle.papr_edge.specs.Ends.{Run, EndsReading, WithDone, IsAnswered}
 use Rattle.papr_edge.specs.declared.command.Command.{Command}
 use Rattle.papr_edge.specs.declared.command.Command.TheVariants.{Check}
 use Rattle.papr_edge.specs.InputLaws.{long_judged}
+use Rattle.trace_read.specs.Grammar.{most_bytes}
 
 -- What is read is the whole of what was left, or both are past the limit: they read alike.
 read_whole :
     {A : Type 0} (reads : List ℕ → Result A (ℕ × Reason)) (left bytes rest : List ℕ)
     → RefusesLong reads
     → left ≡ bytes ++ rest
-    → (length bytes ≤ 2 ^ 24 → rest ≡ [])
+    → (length bytes ≤ most_bytes → rest ≡ [])
     → reads bytes ≡ reads left
 read_whole reads left bytes rest refuses took end =
-    elim (cases_lt (2 ^ 24) (length bytes)) [
+    elim (cases_lt most_bytes (length bytes)) [
       | inl past ↦
-          (let longer : 2 ^ 24 < length left = omega
+          (let longer : most_bytes < length left = omega
           (arith, ap length took, length-append bytes rest) in
           refuses bytes past ∙ sym (refuses left longer))
       | inr within ↦ ap reads (sym (took ∙ ap (λ z. bytes ++ z) (end within) ∙ append-nil bytes))

@@ -5,11 +5,12 @@ use Rattle.trace_read.specs.Trace.{AcceptedTrace}
 use Rattle.trace_read.specs.TextLines.{raw_lines}
 use Rattle.papr_edge.specs.declared.reason.Reason.TheVariants.{NoReplies}
 use Rattle.papr_edge.specs.Inputs.{cut_of, trace_input, judged_input, judged_parts, with_text}
+use Rattle.trace_read.specs.Grammar.{most_bytes}
 
 -- Within the limit the parts decide.
 pub by_parts :
     (bytes : List ℕ)
-    → length bytes ≤ 2 ^ 24
+    → length bytes ≤ most_bytes
     → judged_input bytes ≡ judged_parts (length (raw_lines bytes)) (cut_of bytes)
 unfolding judged_input
 by_parts bytes within = rw (le-ltb _ _ within) refl
@@ -17,7 +18,7 @@ by_parts bytes within = rw (le-ltb _ _ within) refl
 -- Without a line `replies`.
 pub without_replies :
     (bytes : List ℕ)
-    → length bytes ≤ 2 ^ 24
+    → length bytes ≤ most_bytes
     → cut_of bytes ≡ None
     → judged_input bytes ≡ Err (length (raw_lines bytes) + 1, NoReplies)
 without_replies bytes within none =
@@ -26,7 +27,7 @@ without_replies bytes within none =
 -- With a trace that is one.
 pub with_trace :
     (bytes trace text : List ℕ) (t : AcceptedTrace)
-    → length bytes ≤ 2 ^ 24
+    → length bytes ≤ most_bytes
     → cut_of bytes ≡ Some (trace, text)
     → trace_input trace ≡ Ok t
     → judged_input bytes ≡ Ok (record { trace = t; text = text })

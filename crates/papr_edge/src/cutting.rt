@@ -1,6 +1,7 @@
 ghost use Rattle.std.specs.Prelude.{◌≡◌, ◌≤◌, ◌+◌, ◌^◌, length, IfSome, IfNone, Some, None};
 ghost use Rattle.trace_read.specs.TextLines.{raw_lines};
 ghost use Rattle.papr_edge.specs.Inputs.{is_replies_line, cut_of};
+ghost use Rattle.trace_read.specs.Grammar.{most_bytes};
 
 use trace_read::{drop_cr, lines_of, split_line};
 
@@ -34,9 +35,9 @@ pub fn cut(bytes: &[u8]) -> Option<(&[u8], &[u8])>
 
 /// How many lines an input has.
 pub fn line_count(bytes: &[u8]) -> u32
-    requires { length bytes.now ≤ 2 ^ 24 }
+    requires { length bytes.now ≤ most_bytes }
     ensures count { result ≡ length (raw_lines bytes.now) }
-    ensures few { result ≤ 2 ^ 24 + 1 }
+    ensures few { result ≤ most_bytes + 1 }
 {
     let mut count = 0;
     let mut rest = lines_of(bytes);

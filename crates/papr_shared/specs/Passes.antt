@@ -13,12 +13,13 @@ use Rattle.c_layout.specs.Tables.{is_table}
 use Rattle.shared_pass.specs.declared.working.Working.{Working}
 use Rattle.shared_pass.specs.Shares.{AreOfOne}
 use Rattle.shared_pass.specs.Workings.{has_all_shares, is_free, IsNew, IsSplitOff, IsTakenIn}
+use Rattle.entry_lock.specs.PassInvariants.{most_passes}
 
 -- ---- opening
 -- The entries are a table, and the count of passes is one from 1 to 64.
 abbrev pub can_open : List State → ℕ → ℕ → Bool
 can_open entries order passes =
-    is_table order entries && nat_lt 0 passes && nat_le passes 64
+    is_table order entries && nat_lt 0 passes && nat_le passes most_passes
 
 -- A closed pass is new then, or there was no memory, and it is as it was.
 abbrev pub OpensOr : List State → ℕ → ℕ → Option Working → ℤ → Type 0

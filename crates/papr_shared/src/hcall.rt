@@ -1,3 +1,4 @@
+ghost use Rattle.hpte_fields.specs.TableSize.{IsTableOrder};
 ghost use Rattle.std.specs.Prelude.{◌≡◌, ◌≤◌};
 ghost use Rattle.call_plan.specs.Plans.{plan_of, Fits};
 ghost use Rattle.c_layout.specs.Grants.{listed};
@@ -17,8 +18,7 @@ use std::alloc::Global;
 /// The plan of the call with this number, on a table of `2^order` bytes: H_FUNCTION, if it isn't
 /// one of a call on entries.
 fn numbered<'a>(order: u8, grants: &PaprGrants, number: u64, asked: &'a [u64; 8]) -> CallPlan<'a>
-    requires low { 18 ≤ order }
-    requires high { order ≤ 22 }
+    requires order { IsTableOrder order }
     ensures plan { let list = listed grants.now.grants grants.now.count in
         plan_of result ≡ numbered_plan list number asked.now order }
     ensures fits { Fits order result }

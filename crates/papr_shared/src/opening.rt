@@ -3,6 +3,7 @@ ghost use Rattle.c_layout.specs.Entries.{states_of};
 ghost use Rattle.c_layout.specs.Tables.{is_table};
 ghost use Rattle.shared_pass.specs.Workings.{IsNew};
 ghost use Rattle.papr_shared.specs.Passes as spec;
+ghost use Rattle.entry_lock.specs.PassInvariants.{most_passes};
 
 use c_layout::{PaprEntry, is_table};
 use entry_model::EntryState;
@@ -40,7 +41,7 @@ fn listed(alloc: Global, entries: &[PaprEntry]) -> Option<Vec<EntryState>>
 fn opened(alloc: Global, entries: &[PaprEntry], order: u8, passes: u32) -> Option<Box<Working>>
     requires table { is_table order (states_of entries.now) ≡ true }
     requires some { 0 < passes }
-    requires few { passes ≤ 64 }
+    requires few { passes ≤ most_passes }
     ensures { IfSome result (λ b. IsNew (states_of entries.now) order passes b.value) }
 {
     let states = listed(alloc, entries)?;

@@ -1,5 +1,5 @@
 ghost use Rattle.std.specs.Prelude.{◌≡◌, ◌≤◌, ◌<◌, ◌-◌, ◌^◌, vec_len};
-ghost use Rattle.hpte_fields.specs.TableSize.{entry_count};
+ghost use Rattle.hpte_fields.specs.TableSize.{IsTableOrder, entry_count};
 ghost use Rattle.entry_model.specs.Run.{state_at};
 
 use entry_model::{EntryState, EntryStore, Line, Op, Receipt, reply};
@@ -14,8 +14,8 @@ pub struct PlainTable {
 }
 
 impl Model for PlainTable {
-    ghost use Rattle.std.specs.Prelude.{◌≡◌, ◌≤◌, vec_len};
-    ghost use Rattle.hpte_fields.specs.TableSize.{entry_count};
+    ghost use Rattle.std.specs.Prelude.{◌≡◌, vec_len};
+    ghost use Rattle.hpte_fields.specs.TableSize.{IsTableOrder, entry_count};
     ghost use Rattle.papr_table.specs.TableState.{TableState};
 
     ghost Value = { TableState };
@@ -23,14 +23,13 @@ impl Model for PlainTable {
     ghost view = { λ t. record { states = t.states.items; order = t.order } };
 
     ghost invariant = { λ t.
-        (18 ≤ t.order) × (t.order ≤ 22) × (vec_len t.states ≡ entry_count t.order) };
+        IsTableOrder t.order × (vec_len t.states ≡ entry_count t.order) };
 }
 
 impl PlainTable {
     /// The table of these states.
     pub fn open(states: Vec<EntryState>, order: u8) -> PlainTable
-        requires low { 18 ≤ order }
-        requires high { order ≤ 22 }
+        requires order { IsTableOrder order }
         requires whole { vec_len states ≡ entry_count order }
         ensures states { result.states ≡ states.items }
         ensures order { result.order ≡ order }

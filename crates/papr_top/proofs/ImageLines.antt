@@ -27,6 +27,7 @@ use Rattle.run_model.specs.Laws.{ImagesOpenAgain}
 use Rattle.run_model.proofs.TableSizes.{small_index, serial_sized}
 use Rattle.papr_top.specs.ImageLines.{with_lfs, bytes_again, reading_after, ImageLinesOpenAgain}
 use Rattle.papr_top.proofs.LineBytes.{IsLine, AreDigits, four_words, words_back, four_text, text_line, text_printable, text_whole, lines_again, lines_joined, digits_spelt, layout_spelt, entry_spelt, hex_spelt}
+use Rattle.trace_line.specs.Lines.{most_lines}
 
 -- ---- the index
 -- What is shown has its index in the table.
@@ -183,7 +184,7 @@ entry_read r c layout index digits place accepted = rw (place, accepted) refl
 
 entry_taken :
     (r : Reading) (c : Configuration) (layout : Layout) (index : ℕ) (digits : List ℕ)
-    → r.taken < 2 ^ 17
+    → r.taken < most_lines
     → index < 2 ^ 32
     → AreDigits digits
     → comes_at forms.Entry r.stage ≡ true
@@ -197,7 +198,7 @@ entry_taken r c layout index digits few small spelt place accepted =
     let text = four_text (codes "entry") (layout_word layout) (hex index) digits entry_spelt.word
     word.word number.word spelt.word in
     rw (
-      lt-ltb r.taken (2 ^ 17) few,
+      lt-ltb r.taken most_lines few,
       text_whole line text,
       text_printable line text,
       words_back (codes "entry") (layout_word layout) (hex index) digits entry_spelt.some
@@ -207,13 +208,17 @@ entry_taken r c layout index digits few small spelt place accepted =
 
 begin_taken :
     (r : Reading)
-    → r.taken < 2 ^ 17
+    → r.taken < most_lines
     → r.stage ≡ stages.Entries
     → r.config.order ≤ r.config.granted.pool_order
     → after_line r (codes "begin") ≡ Ok (record r { taken = r.taken + 1; stage = stages.Lines })
 unfolding after_line after_text after_words after_form form_of form_named with_begin
 begin_taken r few stage room =
-    rw (lt-ltb r.taken (2 ^ 17) few, stage, le-leb r.config.order r.config.granted.pool_order room)
+    rw (
+      lt-ltb r.taken most_lines few,
+      stage,
+      le-leb r.config.order r.config.granted.pool_order room,
+    )
     refl
 
 -- ---- the trace
@@ -222,7 +227,7 @@ trace_made r c = record { config = c; lines = r.lines }
 
 both_taken :
     (r : Reading) (c : Configuration) (layout : Layout) (index : ℕ) (digits : List ℕ)
-    → r.taken + 1 < 2 ^ 17
+    → r.taken + 1 < most_lines
     → index < 2 ^ 32
     → AreDigits digits
     → comes_at forms.Entry r.stage ≡ true

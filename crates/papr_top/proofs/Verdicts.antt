@@ -6,11 +6,12 @@ use Rattle.papr_edge.specs.declared.reading.NoInput.TheVariants as missing
 use Rattle.papr_edge.specs.Inputs.{cut_of, trace_input, judged_input, judged_parts, with_text}
 use Rattle.papr_edge.specs.Reading.{IsParsedInput}
 use Rattle.papr_edge.proofs.JudgedInputs.{by_parts}
+use Rattle.trace_read.specs.Grammar.{most_bytes}
 
 -- With a trace that is refused.
 pub trace_refused :
     (bytes trace text : List ℕ) (error : NoInput)
-    → length bytes ≤ 2 ^ 24
+    → length bytes ≤ most_bytes
     → cut_of bytes ≡ Some (trace, text)
     → IsParsedInput (Err error) (trace_input trace)
     → IsParsedInput (Err error) (judged_input bytes)

@@ -19,6 +19,7 @@ use Rattle.entry_model.specs.Reply.{words_of}
 use Rattle.entry_model.specs.Run.{state_at}
 use Rattle.run_model.specs.OpeningAgain.{image_entry, memory_after, opening_states, with_image_entry}
 use Rattle.run_model.specs.QuietLines.{shown_of}
+use Rattle.trace_line.specs.Lines.{most_lines}
 
 -- ---- the bytes
 -- Lines, each with its LF.
@@ -52,7 +53,7 @@ pub record MayHaveEntry (head : List (List ℕ)) (r : Reading) : Type 0 where
   pub read : reading_after opening_reading head ≡ Ok r
   pub place : comes_at Entry r.stage ≡ true
   pub room : r.config.order ≤ r.config.granted.pool_order
-  pub few : length head + 2 ≤ 2 ^ 17
+  pub few : length head + 2 ≤ most_lines
 
 -- ---- the law
 -- The bytes are a trace of the configuration with the entry. Its table opens with the entry's

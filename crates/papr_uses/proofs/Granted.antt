@@ -6,6 +6,7 @@ use Rattle.std.proofs.lemmas.Bool.{cases_Bool, and_from, and_parts, or_parts, lt
 use Rattle.frame_grants.specs.declared.error.GrantError.{GrantError}
 use Rattle.frame_grants.specs.declared.grant.Grant.{Grant}
 use Rattle.frame_grants.specs.Grants.{GrantedMemory, add_refusal, refusals, holds, machine_at, machine_range, overlaps, starts_below, with_grant}
+use Rattle.pool_range.specs.Ranges.{address_end}
 
 -- None of the tests holds.
 abbrev AreFalse : List (Bool × GrantError) → Type 0
@@ -20,7 +21,7 @@ nothing_wrong ((false, fault) ∷ tests) none = (refl, nothing_wrong tests none)
 -- What was granted meets no other grant, and ends at most at 2 ^ 60.
 pub record IsAccepted (granted : GrantedMemory) (grant : Grant) : Type 0 where
   pub apart : list_any (overlaps grant) granted.grants ≡ false
-  pub fits : grant.logical + grant.length ≤ 2 ^ 60
+  pub fits : grant.logical + grant.length ≤ address_end
 
 pub accepted :
     (granted : GrantedMemory) (grant : Grant)
@@ -32,9 +33,9 @@ accepted granted grant none =
     record {
       apart = all.1.1.1.1.0;
       fits =
-          ltb-false (2 ^ 60) (grant.logical + grant.length)
-          (or_parts (nat_lt (2 ^ 60) (grant.logical + grant.length))
-          (nat_lt (2 ^ 60) (grant.machine + grant.length)) all.1.1.0).0;
+          ltb-false address_end (grant.logical + grant.length)
+          (or_parts (nat_lt address_end (grant.logical + grant.length))
+          (nat_lt address_end (grant.machine + grant.length)) all.1.1.0).0;
     }
 
 -- Another grant that holds one of its bytes overlaps it.

@@ -6,7 +6,7 @@ use Rattle.std.specs.declared.alloc.Global.{Global}
 use Rattle.trace_io.specs.Outside.{Put, Rose}
 use Rattle.trace_read.specs.declared.why.Why.TheVariants.{Long}
 use Rattle.trace_read.specs.Trace.{AcceptedTrace}
-use Rattle.trace_read.specs.Grammar.{trace_of}
+use Rattle.trace_read.specs.Grammar.{trace_of, most_bytes}
 use Rattle.papr_edge.specs.declared.command.Command.TheVariants as commands
 use Rattle.papr_edge.specs.Commands.{command_of, reading_of}
 use Rattle.trace_read.specs.declared.why.Why.{Why}
@@ -42,7 +42,7 @@ unfolding command_of reading_of
 par_word word is = rw is refl
 
 -- An input past the limit is refused.
-refused_long : (bytes : List ℕ) → 2 ^ 24 < length bytes → trace_of bytes ≡ Err (0, Long)
+refused_long : (bytes : List ℕ) → most_bytes < length bytes → trace_of bytes ≡ Err (0, Long)
 unfolding trace_of
 refused_long bytes longer = rw (lt-ltb _ _ longer) refl
 
@@ -79,7 +79,7 @@ whole :
     → trace_of bytes ≡ Ok t
     → bytes ≡ input
 whole input bytes rest t read accepted =
-    elim (cases_lt (2 ^ 24) (length bytes)) [
+    elim (cases_lt most_bytes (length bytes)) [
       | inl longer ↦
           (let refused : trace_of bytes ≡ Err (0, Long) = refused_long bytes longer in cc)
       | inr within ↦ sym (read.took ∙ ap (λ z. bytes ++ z) (read.end within) ∙ append-nil bytes)

@@ -1,5 +1,5 @@
 ghost use Rattle.std.specs.Prelude.{◌≡◌, ◌<◌, ◌≤◌, ◌-◌, ◌/◌, ◌^◌, is_some, IfSome};
-ghost use Rattle.hpte_fields.specs.TableSize.{entry_count};
+ghost use Rattle.hpte_fields.specs.TableSize.{entry_count, IsTableOrder};
 ghost use Rattle.hpt_hash.specs.Entries.{page_at};
 
 use hpt_hash::{groups, page_of};
@@ -8,8 +8,7 @@ use hpte_fields::secondary;
 /// The group to which the page of an entry hashes, for the entry's H: the group that the entry
 /// stands in. None exactly where the entry is one of no page.
 pub fn group_of_entry(order: u8, index: u32, dword0: u64, dword1: u64) -> Option<u64>
-    requires order_low { 18 ≤ order }
-    requires order_high { order ≤ 22 }
+    requires order { IsTableOrder order }
     requires in_table { index < entry_count order }
     ensures group { IfSome result (λ group. group ≡ index / 8) }
     ensures exact { is_some result ≡ is_some (page_at order index dword0 dword1) }

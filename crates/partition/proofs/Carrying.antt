@@ -19,7 +19,7 @@ use Rattle.hpt_walk.specs.Laws.{IsEntryState}
 use Rattle.hpt_walk.specs.Translations.{page_in}
 use Rattle.hpt_walk.proofs.Finding.{is_this, paired-in, this_is, state_of}
 use Rattle.hpt_resize.specs.Rehash.{carried_page, target_of, target_at, is_target, first_with, collision_at, collision_of, entry_at, rehashed_states, at_stamp_0}
-use Rattle.hpte_fields.specs.TableSize.{entry_count}
+use Rattle.hpte_fields.specs.TableSize.{entry_count, least_order}
 use Rattle.hpt_resize.specs.Resize.{Table}
 use Rattle.hpt_resize.proofs.Finds.{found_is, none_found}
 use Rattle.hpt_resize.proofs.Placed.{target_true, target_is, first_is, some_at}
@@ -67,7 +67,7 @@ in_translates table page entry inside is =
 -- An entry in the page's group of another table is one of the page there.
 moved_page :
     (from to entry target dword0 dword1 : ℕ) (page : VirtualPage)
-    → 18 ≤ to
+    → least_order ≤ to
     → dword0 < 2 ^ 64
     → page_at from entry dword0 dword1 ≡ Some page
     → group_of page to (is_secondary dword0) ≡ target / 8
@@ -86,7 +86,7 @@ moved_page from to entry target dword0 dword1 page low fits found group =
 -- ---- targets
 pub in_new_table :
     (page : VirtualPage) (to target : ℕ) (secondary : Bool)
-    → 18 ≤ to
+    → least_order ≤ to
     → group_of page to secondary ≡ target / 8
     → target < entry_count to
 in_new_table page to target secondary low group =
@@ -264,7 +264,7 @@ source_at old to page target source =
 
 pub rehash_keeps :
     (old : Table) (to place number : ℕ)
-    → 18 ≤ to
+    → least_order ≤ to
     → AllByRecursion IsEntryState old.states
     → collision_of old.order to old.states ≡ None
     → PairsCarriedPages old (table_with to place number (rehashed_states old.order to old.states))

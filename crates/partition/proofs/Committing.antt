@@ -14,6 +14,7 @@ use Rattle.hpt_resize.specs.TableMemory.{TableMemory, commit_result}
 use Rattle.partition.specs.Laws.{PairsCarriedPages}
 use Rattle.partition.proofs.Resizing.{refusal_fails}
 use Rattle.partition.proofs.Carrying.{rehash_keeps}
+use Rattle.hpte_fields.specs.TableSize.{least_order}
 
 -- ---- what a call that isn't refused says
 if_else :
@@ -30,7 +31,7 @@ if_then false x rc e = refl
 asked_order :
     (flags shift : ℕ) (pending : PendingTable)
     → commit_refusal flags shift (Some pending) ≡ None
-    → 18 ≤ pending.order
+    → least_order ≤ pending.order
 asked_order flags shift pending none =
     let asked = if_else (is_commit_request flags shift) (pending_refusal shift (Some pending))
     Parameter none in
@@ -42,7 +43,7 @@ asked_order flags shift pending none =
 -- ---- the law
 carried_keeps :
     (pending : PendingTable) (pool : PoolState) (table : Table) (o : Option Collision)
-    → 18 ≤ pending.order
+    → least_order ≤ pending.order
     → AllByRecursion IsEntryState table.states
     → collision_of table.order pending.order table.states ≡ o
     → (carry_outcome pending pool table o).rc ≡ Success

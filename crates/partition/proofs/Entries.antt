@@ -7,7 +7,7 @@ use Rattle.frame_grants.specs.declared.grant.Grant.{Grant}
 use Rattle.std.specs.List.{AllByRecursion}
 use Rattle.std.proofs.lemmas.List.{length-set, get_or-set_same, get_or-replicate, get_or_past, length-replicate}
 use Rattle.std.proofs.lemmas.Bool.{cases_lt}
-use Rattle.hpte_fields.specs.TableSize.{entry_count}
+use Rattle.hpte_fields.specs.TableSize.{entry_count, greatest_order}
 use Rattle.table_image.specs.declared.entry.ImageEntry.{ImageEntry}
 use Rattle.trace_read.specs.Configuration.{AreRising, IsOpeningEntry, AreOpeningEntries}
 use Rattle.entry_model.specs.State.{State, empty_state}
@@ -106,14 +106,14 @@ next_placed order states es i d one inside so_far is =
 -- ---- the empty states
 pub all_empty :
     (states : List State) (order n : ℕ) (one : State)
-    → order ≤ 22
+    → order ≤ greatest_order
     → states ≡ replicate n one
     → n ≡ 1 * 2 ^ (order - 4) % 2 ^ 64
     → one ≡ empty_state 0
     → states ≡ empty_states order
 unfolding empty_states
 all_empty states order n one small is count empty =
-    let most : 2 ^ (order - 4) ≤ 2 ^ 18 = pow_mono {i = order - 4} {j = 18} (omega arith) in
+    let most : 2 ^ (order - 4) ≤ 2 ^ 30 = pow_mono {i = order - 4} {j = 30} (omega arith) in
     let fits : 1 * 2 ^ (order - 4) % 2 ^ 64 ≡ 2 ^ (order - 4) = omega
     (arith, mod-eq_of_lt {n = 1 * 2 ^ (order - 4)} {m = 2 ^ 64} (omega arith)) in
     is ∙ ap (λ m. replicate m one) (count ∙ fits) ∙ ap (replicate (2 ^ (order - 4))) empty

@@ -10,7 +10,7 @@ use Rattle.pool_range.specs.Ranges.{IsPoolRange}
 use Rattle.frame_grants.specs.Grants.{GrantedMemory}
 use Rattle.trace_read.specs.Configuration.{Configuration}
 use Rattle.entry_model.specs.State.{State}
-use Rattle.hpte_fields.specs.TableSize.{entry_count}
+use Rattle.hpte_fields.specs.TableSize.{entry_count, greatest_order, least_order}
 use Rattle.hpt_resize.specs.TableMemory.{empty_states, with_entries, opening_memory}
 use Rattle.hpt_resize.proofs.OpeningStates.{opening-length}
 use Rattle.partition.specs.PartitionState.{PartitionState, IsPartition, opening_partition}
@@ -20,7 +20,7 @@ use Rattle.frame_grants.specs.Grants as grants
 fits_first :
     (base order table : ℕ)
     → IsPoolRange base order
-    → 18 ≤ table
+    → least_order ≤ table
     → table ≤ order
     → fits (no_blocks base order) table base ≡ true
 fits_first base order table pool large small =
@@ -34,7 +34,7 @@ pub has_place :
     (pool : PoolState) (base order table : ℕ) (o : Option ℕ)
     → pool ≡ no_blocks base order
     → IsPoolRange base order
-    → 18 ≤ table
+    → least_order ≤ table
     → table ≤ order
     → MatchOption o (FitsNowhere pool table) (IsLowest pool table)
     → IsSome o
@@ -105,9 +105,9 @@ opened_is config new place states granted now lowest empty same =
 pub is_opened :
     (config : Configuration) (pool new : PoolState) (o : Option ℕ) (place : ℕ) (states : List State)
     (granted : GrantedMemory)
-    → 18 ≤ config.order
+    → least_order ≤ config.order
     → config.order ≤ config.limit
-    → config.limit ≤ 22
+    → config.limit ≤ greatest_order
     → granted ≡ config.granted
     → pool ≡ no_blocks config.granted.pool_base config.granted.pool_order
     → o ≡ lowest_place pool config.order
@@ -132,10 +132,8 @@ is_opened config pool new (Some other) place states granted low within high same
     config.order config.entries in
     record {
       kept = record {
-        limit_low = omega arith;
-        limit_high = high;
-        order_low = low;
-        order_high = omega arith;
+        limit_fits = (omega arith, high);
+        order_fits = (low, omega arith);
         pool = sound;
         base =
             ap (λ (p : PoolState). p.base) now ∙ ap (λ (g : GrantedMemory). g.pool_base) (sym same);

@@ -7,7 +7,7 @@ use Rattle.hpt_hash.specs.Entries.{page_at}
 use Rattle.entry_model.specs.State.{State}
 use Rattle.entry_model.specs.Run.{state_at}
 use Rattle.hpt_resize.specs.Rehash.{at_stamp_0}
-use Rattle.hpte_fields.specs.TableSize.{entry_count}
+use Rattle.hpte_fields.specs.TableSize.{entry_count, least_order}
 use Rattle.hpt_resize.specs.Resize.{Table}
 use Rattle.hpt_resize.specs.Translations.{KeepsTranslations, StandsThere}
 use Rattle.hpt_resize.proofs.Groups.{carried_is}
@@ -19,7 +19,7 @@ one_of o x y e f = cc
 
 pub pairs_from_kept :
     (old new : Table)
-    → 18 ≤ new.order
+    → least_order ≤ new.order
     → length new.states ≡ entry_count new.order
     → KeepsTranslations old new
     → PairsCarriedPages old new

@@ -6,6 +6,7 @@ use Rattle.hpt_pool.proofs.Placing.{fits_in, sound_with, sound_without}
 use Rattle.hpt_resize.specs.Pending.{PendingTable}
 use Rattle.hpt_resize.specs.Resize.{PrepareOutcome, is_prepare_request, is_pending, pool_without, new_table_outcome, start_outcome, advance_outcome, outcome_of_prepare}
 use Rattle.hpt_resize.proofs.Holding.{lowest_fits}
+use Rattle.hpte_fields.specs.TableSize.{least_order}
 
 pub record KeepsPool (old new : PoolState) : Type 0 where
   pub base : new.base ≡ old.base
@@ -32,7 +33,7 @@ dropped_pool (Some table) pool =
 
 placed_pool :
     (order : ℕ) (pool : PoolState) (place : Option ℕ)
-    → 18 ≤ order
+    → least_order ≤ order
     → lowest_place pool order ≡ place
     → KeepsPool pool (new_table_outcome order pool place).pool
 placed_pool order pool None large is = same_pool pool
@@ -56,7 +57,7 @@ if_pool false one other pool first second = second refl
 
 started_pool :
     (order : ℕ) (pending : Option PendingTable) (pool : PoolState)
-    → 18 ≤ order
+    → least_order ≤ order
     → KeepsPool pool (start_outcome order pending pool).pool
 started_pool order pending pool large =
     let dropped = pool_without pending pool in
@@ -78,7 +79,7 @@ pub asked_low :
     (flags shift : ℕ)
     → not (is_prepare_request flags shift) ≡ false
     → (shift == 0) ≡ false
-    → 18 ≤ shift
+    → least_order ≤ shift
 asked_low flags shift asked nonzero = grind (arith, nat_tests, asked, nonzero)
 
 pub prepared_pool :

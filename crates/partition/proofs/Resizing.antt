@@ -74,10 +74,8 @@ prepare_kept limit flags shift pending pending' pool pool' table granted rc befo
     (prepared_pool limit flags shift pending pool) in
     let blocks = kept (block_of table) before.taken before.elsewhere in
     record {
-      limit_low = before.limit_low;
-      limit_high = before.limit_high;
-      order_low = before.order_low;
-      order_high = before.order_high;
+      limit_fits = before.limit_fits;
+      order_fits = before.order_fits;
       pool = pools.sound before.pool;
       base = pools.base ∙ before.base;
       size = pools.size ∙ before.size;
@@ -204,10 +202,8 @@ commit_kept limit flags shift pending pending' pool pool' table current granted 
     in
     let whole : length current.states.items ≡ entry_count current.order = tables.whole in
     record {
-      limit_low = before.limit_low;
-      limit_high = before.limit_high;
-      order_low = tables.low;
-      order_high = tables.high;
+      limit_fits = before.limit_fits;
+      order_fits = tables.order_fits;
       pool = after.pools.sound before.pool;
       base = after.pools.base ∙ before.base;
       size = after.pools.size ∙ before.size;

@@ -16,7 +16,7 @@ use Rattle.hpt_walk.specs.Laws.{IsEntryState}
 use Rattle.hpt_walk.specs.Translations.{translations, is_paired}
 use Rattle.papr_codes.specs.declared.codes.Rc.TheVariants.{Success}
 use Rattle.hpt_resize.specs.Rehash.{at_stamp_0}
-use Rattle.hpte_fields.specs.TableSize.{entry_count}
+use Rattle.hpte_fields.specs.TableSize.{entry_count, least_order}
 use Rattle.hpt_resize.specs.Translations.{KeepsTranslations}
 use Rattle.hpt_resize.specs.Resize.{Table}
 use Rattle.hpt_resize.specs.TableMemory.{TableMemory, commit_result}
@@ -109,7 +109,7 @@ CommitPairsCarriedPages =
 abbrev pub KeptTranslationsArePaired : Type 0
 KeptTranslationsArePaired =
     (old new : Table)
-    → 18 ≤ new.order
+    → least_order ≤ new.order
     → length new.states ≡ entry_count new.order
     → KeepsTranslations old new
     → PairsCarriedPages old new

@@ -7,7 +7,7 @@ use Rattle.entry_model.specs.Trial.{reply_by, plan_of_code}
 use Rattle.entry_model.specs.declared.hreply.HReply.{HReply}
 use Rattle.papr_codes.specs.declared.codes.Rc.{Rc}
 use Rattle.papr_codes.specs.declared.codes.Rc.TheVariants.{Success}
-use Rattle.hpte_fields.specs.TableSize.{entry_count}
+use Rattle.hpte_fields.specs.TableSize.{entry_count, greatest_order, least_order, IsTableOrder}
 use Rattle.hpt_resize.specs.Resize.{IsHeld, IsElsewhere, Table}
 use Rattle.hpt_resize.specs.TableMemory.{TableMemory, opening_memory}
 
@@ -63,14 +63,12 @@ pub record CountsTables (rc : Rc) (old new : PartitionState) : Type 0 where
 abbrev pub block_of : Table → Block
 block_of table = block_at table.place table.order
 
--- Orders are those that the project allows. The pool is sound, and it is the one that the grants
+-- Orders are those that a table can have. The pool is sound, and it is the one that the grants
 -- stand beside. The blocks of the current and of the pending table are taken in it, and they are
 -- two.
 pub record IsPartition (partition : PartitionState) : Type 0 where
-  pub limit_low : 18 ≤ partition.memory.limit
-  pub limit_high : partition.memory.limit ≤ 22
-  pub order_low : 18 ≤ partition.memory.table.order
-  pub order_high : partition.memory.table.order ≤ 22
+  pub limit_fits : IsTableOrder partition.memory.limit
+  pub order_fits : IsTableOrder partition.memory.table.order
   pub pool : IsSound partition.memory.pool
   pub base : partition.memory.pool.base ≡ partition.granted.pool_base
   pub size : partition.memory.pool.order ≡ partition.granted.pool_order

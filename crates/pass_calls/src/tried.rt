@@ -1,5 +1,5 @@
 ghost use Rattle.std.specs.Prelude.{◌≡◌, ◌≤◌, ◌<◌, ◌++◌, [], ◌∷◌, List, ℕ, IfOk, IfErr, IsOk};
-ghost use Rattle.hpte_fields.specs.TableSize.{entry_count};
+ghost use Rattle.hpte_fields.specs.TableSize.{IsTableOrder, entry_count};
 ghost use Rattle.entry_model.specs.declared.receipt.Receipt.{Receipt};
 ghost use Rattle.entry_model.specs.Receipt.{IsNormal, IsReceiptOf};
 ghost use Rattle.pass_calls.specs.HeldUp.{IsBusyAt};
@@ -21,8 +21,7 @@ pub trait TriedStore {
     /// The binary logarithm of the table's size in bytes.
     fn order(&self) -> u8
         ensures value { result ≡ table_order self.now }
-        ensures low { 18 ≤ result }
-        ensures high { result ≤ 22 };
+        ensures order { IsTableOrder result };
 
     /// Makes an operation on an entry.
     ///

@@ -7,10 +7,19 @@ use Rattle.pool_range.specs.declared.range.RangeError.TheVariants.{Order, Unalig
 abbrev pub address_end : ℕ
 address_end = 2 ^ 60
 
--- The range has 2 ^ 18 to 2 ^ 34 bytes, is aligned to its size and ends at most at 2 ^ 60.
+-- The order of the smallest range, which has 2 ^ 18 bytes: those of the smallest table.
+abbrev pub least_pool_order : ℕ
+least_pool_order = 18
+
+-- And of the largest, which has 2 ^ 34 bytes.
+abbrev pub greatest_pool_order : ℕ
+greatest_pool_order = 34
+
+-- The range has one of these orders, is aligned to its size and ends at most at the end of
+-- addresses.
 pub record IsPoolRange (base order : ℕ) : Type 0 where
-  pub at_least : 18 ≤ order
-  pub at_most : order ≤ 34
+  pub at_least : least_pool_order ≤ order
+  pub at_most : order ≤ greatest_pool_order
   pub aligned : base % 2 ^ order ≡ 0
   pub to_end : base + 2 ^ order ≤ address_end
 
@@ -18,7 +27,7 @@ pub record IsPoolRange (base order : ℕ) : Type 0 where
 -- why.
 unfoldable pub range_refusal : ℕ → ℕ → Option RangeError
 range_refusal base order =
-    if nat_lt order 18 || nat_lt 34 order then Some Order
+    if nat_lt order least_pool_order || nat_lt greatest_pool_order order then Some Order
     else if not (base % 2 ^ order == 0) then Some Unaligned
     else if nat_lt address_end (base + 2 ^ order) then Some Past
     else None

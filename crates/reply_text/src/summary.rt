@@ -47,7 +47,7 @@ fn changed_count(entries: &[(u32, EntryState)]) -> usize
 
 /// How many entries a table has, and how many of them have C.
 #[tactic(auto, unfolding(crate::specs::Summary::entries_text))]
-fn put_table(out: &mut String, entries: &[(u32, EntryState)]) -> Result<(), AllocError>
+fn put_entries(out: &mut String, entries: &[(u32, EntryState)]) -> Result<(), AllocError>
     ensures text { OnOk
         result
         (string_bytes out.new ≡ string_bytes out.old ++ entries_text entries.now) }
@@ -72,7 +72,7 @@ pub fn summary_of_counts(
     let mut out = String::new(alloc);
     put_row(&mut out, "lines", lines as u64)?;
     put_counts(&mut out, counts, &Counted::all())?;
-    put_table(&mut out, table.states.as_slice())?;
+    put_entries(&mut out, table.states.as_slice())?;
     Ok(out)
 }
 

@@ -15,7 +15,7 @@ use Rattle.hpt_walk.specs.Access.{AccessContext}
 use Rattle.hpt_walk.proofs.Granted.{IsGrantedWords}
 use Rattle.trace_line.specs.declared.act.Act.{Act}
 use Rattle.trace_line.specs.declared.line.TraceLine.{TraceLine}
-use Rattle.trace_line.specs.Lines.{is_quiet}
+use Rattle.trace_line.specs.Lines.{is_quiet, most_lines}
 use Rattle.trace_read.specs.Trace.{AcceptedTrace, IsAccepted}
 use Rattle.trace_reply.specs.declared.reply.Reply.{Reply}
 use Rattle.trace_reply.specs.Replies.{RepliedLine, IsOfKind, AreReplies, receipts_in, lines_with_replies}
@@ -324,7 +324,7 @@ table_safe t rs is good =
     } in
     let lines : InSections (IsLine cpus) c.0 c.1 = cut_in (IsLine cpus) all
     (replied_lines_lines cpus t.lines rs is.lines.on_cpus good.kinds) in
-    let few : length t.lines ≤ 2 ^ 17 = is.lines.few in
+    let few : length t.lines ≤ most_lines = is.lines.few in
     let low : 1 + 32 * line_count c.0 c.1 ≤ top = omega
     (arith, cut_count all, replied_lines_count t.lines rs) in
     let safe = sections_safe granted 1 cpus on first c.0 c.1 is.sound.apart run lines low

@@ -42,6 +42,7 @@ use Rattle.entry_model.specs.Reply.{AccessMode}
 use Rattle.entry_model.specs.declared.access_reply.Outcome.TheVariants as outcomes
 use Rattle.trace_line.specs.declared.act.Act.TheVariants as acts
 use Rattle.trace_reply.specs.declared.reply.Reply.TheVariants as replies
+use Rattle.hpte_fields.specs.TableSize.{least_order}
 
 -- The line is of an entry of the table, its words translate its page, and it holds of the entry's
 -- state.
@@ -56,7 +57,7 @@ ProcessorFresh states processor = AllCached (IsFresh states) processor.cache
 -- The table has as many entries as its order says, and each processor's cached lines are fresh.
 pub record IsSound (order : ℕ) (processors : List Processor) (states : List State) : Type 0 where
   pub size : length states ≡ 2 ^ (order - 4)
-  pub low : 18 ≤ order
+  pub low : least_order ≤ order
   pub fresh : AllByRecursion (ProcessorFresh states) processors
 
 -- ---- the states go on

@@ -29,6 +29,7 @@ pub mod StoresKept
 pub mod LowStamps
 pub mod SafeReplies
 pub mod PlacedCaches
+pub mod PlainTables
 pub mod OpeningEntries
 mod RehashedStates
 mod StoredReplies

@@ -13,16 +13,17 @@ use Rattle.hpt_resize.specs.Pending.{PendingTable}
 use Rattle.hpt_resize.specs.Resize.{PrepareOutcome, prepare_outcome, is_prepare_request, pool_without, is_pending, new_table_outcome, start_outcome, advance_outcome, outcome_of_prepare, Table, CommitOutcome, commit_refusal, carry_outcome, complete_outcome, answer_outcome, outcome_of_commit}
 use Rattle.hpt_resize.specs.TableMemory.{TableMemory, opening_memory, prepare_result, commit_result}
 use Rattle.hpt_resize.proofs.OpeningStates.{opening-length}
+use Rattle.hpte_fields.specs.TableSize.{greatest_order, least_order, IsTableOrder, is_architected_order, greatest_architected_order}
 
--- A table has one of the orders that the project allows.
+-- A table has one of the orders that there are.
 abbrev pub IsAllowed : PendingTable → Type 0
-IsAllowed table = (18 ≤ table.order) × (table.order ≤ 22)
+IsAllowed table = IsTableOrder table.order
 
 -- The current table has as many entries as its order says, and the pending one has one of the
 -- orders.
 pub record IsMemory (limit : ℕ) (pending : Option PendingTable) (table : Table) : Type 0 where
-  pub limited : limit ≤ 22
-  pub low : 18 ≤ table.order
+  pub limited : limit ≤ greatest_order
+  pub low : least_order ≤ table.order
   pub size : length table.states ≡ 2 ^ (table.order - 4)
   pub allowed : IfSome pending IsAllowed
 
@@ -35,16 +36,16 @@ Allows p = IfSome p.pending IsAllowed
 
 placed_allows :
     (order : ℕ) (pool : PoolState) (place : Option ℕ)
-    → 18 ≤ order
-    → order ≤ 22
+    → least_order ≤ order
+    → order ≤ greatest_order
     → Allows (new_table_outcome order pool place)
 placed_allows order pool None low high = tt
 placed_allows order pool (Some place) low high = (low, high)
 
 started_allows :
     (order : ℕ) (pending : Option PendingTable) (pool : PoolState)
-    → 18 ≤ order
-    → order ≤ 22
+    → least_order ≤ order
+    → order ≤ greatest_order
     → IfSome pending IsAllowed
     → Allows (start_outcome order pending pool)
 started_allows order pending pool low high h =
@@ -64,12 +65,16 @@ continued_allows start None h k = k
 continued_allows start (Some table) h k = h
 
 request_low :
-    (flags shift : ℕ) → is_prepare_request flags shift ≡ true → (shift == 0) ≡ false → 18 ≤ shift
+    (flags shift : ℕ)
+    → is_prepare_request flags shift ≡ true
+    → (shift == 0) ≡ false
+    → least_order ≤ shift
 request_low flags shift h off =
-    let either : ((shift == 0) || (nat_le 18 shift && nat_le shift 46)) ≡ true =
-    (and_parts (flags == 0) ((shift == 0) || (nat_le 18 shift && nat_le shift 46)) h).1 in
-    let low : (nat_le 18 shift && nat_le shift 46) ≡ true = rw off at either in
-    leb-true 18 shift (and_parts (nat_le 18 shift) (nat_le shift 46) low).0
+    let either : ((shift == 0) || is_architected_order shift) ≡ true =
+    (and_parts (flags == 0) ((shift == 0) || is_architected_order shift) h).1 in
+    let known : is_architected_order shift ≡ true = rw off at either in
+    leb-true least_order shift
+    (and_parts (nat_le least_order shift) (nat_le shift greatest_architected_order) known).0
 
 not_true : (b : Bool) → not b ≡ false → b ≡ true
 not_true true h = refl
@@ -77,7 +82,7 @@ not_true false h = cc
 
 prepared_allows :
     (limit flags shift : ℕ) (pending : Option PendingTable) (pool : PoolState)
-    → limit ≤ 22
+    → limit ≤ greatest_order
     → IfSome pending IsAllowed
     → Allows (outcome_of_prepare limit flags shift pending pool)
 unfolding outcome_of_prepare
@@ -96,7 +101,7 @@ prepared_allows limit flags shift pending pool high h =
           (advance_outcome (start_outcome shift pending pool)
           (start_outcome shift pending pool).pending)
       made asked below some =
-          let least : 18 ≤ shift = request_low flags shift asked some in
+          let least : least_order ≤ shift = request_low flags shift asked some in
           let most : shift ≤ limit = ltb-false limit shift below in
           let begun : Allows (start_outcome shift pending pool) = started_allows shift pending pool
           least (omega arith) h in
@@ -190,8 +195,8 @@ commit_moves memory flags shift h =
 -- ---- the beginning
 pub opening_stands :
     (limit order base size : ℕ) (entries : List ImageEntry)
-    → limit ≤ 22
-    → 18 ≤ order
+    → limit ≤ greatest_order
+    → least_order ≤ order
     → MemoryStands (opening_memory limit order base size entries)
 unfolding opening_memory
 opening_stands limit order base size entries high low =

@@ -25,6 +25,7 @@ use Rattle.hpt_resize.specs.Translations.{KeepsTranslations}
 use Rattle.run_model.proofs.Memories.{MemoryStands, memory_prepared, prepare_table, memory_committed}
 use Rattle.papr_codes.specs.declared.calls.Hcall.TheVariants as calls
 use Rattle.trace_line.specs.declared.act.Act.TheVariants as acts
+use Rattle.hpte_fields.specs.TableSize.{least_order}
 
 -- ---- a committed resize
 -- The new table has the next number, no two entries met, and it holds what was carried.
@@ -140,7 +141,7 @@ quiet_after w acts.Dump h = same_after w.memory h
 -- All entries of the old table are carried.
 pub resized_placed :
     (old new : Table)
-    → 18 ≤ new.order
+    → least_order ≤ new.order
     → IsResized old new
     → IsPlacedBelow old.order new.order old.states new.states (length old.states)
 resized_placed old new low r =
@@ -151,7 +152,7 @@ resized_placed old new low r =
 
 pub resized_at :
     (old new : Table) (entry index : ℕ)
-    → 18 ≤ new.order
+    → least_order ≤ new.order
     → IsResized old new
     → target_at old.order new.order old.states entry ≡ Some index
     → state_at new.states index ≡ at_stamp_0 (state_at old.states entry)
@@ -169,8 +170,8 @@ record IsPageThere (old new : Table) (entry index : ℕ) : Type 0 where
 
 page_there :
     (old new : Table) (entry index : ℕ)
-    → 18 ≤ old.order
-    → 18 ≤ new.order
+    → least_order ≤ old.order
+    → least_order ≤ new.order
     → IsResized old new
     → target_at old.order new.order old.states entry ≡ Some index
     → IsPageThere old new entry index
@@ -192,8 +193,8 @@ one_page o p q e f = cc
 
 pub keeps_translations :
     (old new : Table)
-    → 18 ≤ old.order
-    → 18 ≤ new.order
+    → least_order ≤ old.order
+    → least_order ≤ new.order
     → IsResized old new
     → KeepsTranslations old new
 keeps_translations old new low low' r = record {

@@ -56,11 +56,12 @@ use Rattle.run_model.specs.StoreContexts.{StoreContext, access_of}
 use Rattle.papr_codes.specs.declared.calls.Hcall.TheVariants as calls
 use Rattle.trace_line.specs.declared.act.Act.TheVariants as acts
 use Rattle.trace_reply.specs.declared.reply.Reply.TheVariants as replies
+use Rattle.hpte_fields.specs.TableSize.{least_order}
 
 -- ---- each line's calls are of entries of the table
 hcall_within :
     (set : StoreContext) (h : Hcall) (args : List ℕ)
-    → 18 ≤ set.order
+    → least_order ≤ set.order
     → IfSome set.window IsWindow
     → Within (2 ^ (set.order - 4)) (hcall_plan set h args).calls
 unfolding hcall_plan
@@ -92,7 +93,7 @@ entries_within op first (suc n) m h = (omega arith, entries_within op (first + 1
 
 group_within :
     (op : Op) (order : ℕ) (page : VirtualPage) (secondary : Bool)
-    → 18 ≤ order
+    → least_order ≤ order
     → Within (2 ^ (order - 4)) (group_calls op (group_of page order secondary))
 group_within op order page secondary low =
     entries_within op (group_of page order secondary * 8) 8 (2 ^ (order - 4))
@@ -101,7 +102,7 @@ group_within op order page secondary low =
 
 walk_within :
     (order : ℕ) (page : VirtualPage) (mode : AccessMode)
-    → 18 ≤ order
+    → least_order ≤ order
     → Within (2 ^ (order - 4)) (walk_calls order page mode)
 unfolding walk_calls
 walk_within order page mode low =
@@ -188,7 +189,7 @@ pub record Reached (set : AccessContext) (processor : Processor) (a : Request) (
   pub run : IsRun states (receipts_in x.0) x.1
 
 module _ (set : AccessContext) (a : Request) (states : List State) (seg : Segment)
-    (size : length states ≡ 2 ^ (set.order - 4)) (low : 18 ≤ set.order) where
+    (size : length states ≡ 2 ^ (set.order - 4)) (low : least_order ≤ set.order) where
   walk_meets :
       IsWalk set seg a
       (record {
@@ -216,7 +217,7 @@ segment_meets :
     (s : Option Segment)
     → segment_of processor.slots a.ea ≡ s
     → length states ≡ 2 ^ (set.order - 4)
-    → 18 ≤ set.order
+    → least_order ≤ set.order
     → ProcessorFresh states processor
     → Reached set processor a states (result_by_segment set processor states a s)
 segment_meets set processor a states None e size low fresh =
@@ -307,7 +308,7 @@ line_meets :
     → l.act ≡ act
     → is_quiet act ≡ false
     → length states ≡ 2 ^ (set.order - 4)
-    → 18 ≤ set.order
+    → least_order ≤ set.order
     → IfSome set.window IsWindow
     → ProcessorFresh states processor
     → IsUndisturbed set processor states

@@ -311,7 +311,7 @@ unfolding page_table
 page_table_sound t is =
     let c = t.config in
     let memory = opening_stands c.limit c.order c.granted.pool_base c.granted.pool_order c.entries
-    is.configured.settings.at_most is.configured.settings.at_least in
+    (omega (arith, is.configured.settings.at_most)) is.configured.settings.at_least in
     record {
       window = tt;
       lines =

@@ -19,6 +19,7 @@ use Rattle.run_model.proofs.Each.{each_map}
 use Rattle.run_model.proofs.Resized.{Moves, IsAfter, resized_at}
 use Rattle.run_model.proofs.SectionChain.{AreChained, chained_rest, chained, closed_order, same_number, other_number}
 use Rattle.run_model.proofs.Stores.{IsDirty, shows, stores_shown}
+use Rattle.hpte_fields.specs.TableSize.{least_order}
 
 -- ---- the same entry in the next section
 -- An entry whose C is set is one of the table.
@@ -36,7 +37,7 @@ dirty_in_table states entry d = at (cases_lt entry (length states)) where
 -- Where the entry is carried, its C is set there.
 carried_dirty :
     (s next : Section) (entry target : ℕ) (committed : Bool)
-    → 18 ≤ next.before.memory.table.order
+    → least_order ≤ next.before.memory.table.order
     → Moves committed (closing s).memory.table next.before.memory.table
     → carried_to s next entry ≡ Some target
     → IsDirty (closing_state s entry)

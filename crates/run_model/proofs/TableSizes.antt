@@ -2,7 +2,7 @@
 -- after each line of a serial run.
 use Rattle.std.specs.Prelude.{slice_index, IfSome}
 use Rattle.std.proofs.Common.{◌≡◌, ℕ, ◌-◌, ◌^◌, ◌<◌, ◌≤◌, List, [], ◌∷◌, Bool, true, false, Option, Some, None, length, refl, sym, ◌∙◌, subst, arith, ◌⊎◌, inl, inr}
-use Rattle.std.proofs.Math.Pow.{pow_mono}
+use Rattle.hpte_fields.proofs.TableSizes.{entries_few}
 use Rattle.std.proofs.lemmas.Bool.{cases_Bool, cond_both}
 use Rattle.std.proofs.lemmas.List.{length-set}
 use Rattle.papr_codes.specs.declared.calls.Hcall.{Hcall}
@@ -46,11 +46,12 @@ use Rattle.run_model.specs.SerialRun.{current_line, result_by_line, result_by_se
 use Rattle.run_model.proofs.Memories.{IsAllowed, MemoryStands, memory_prepared, prepare_table, memory_committed, opening_stands}
 use Rattle.papr_codes.specs.declared.calls.Hcall.TheVariants as calls
 use Rattle.trace_line.specs.declared.act.Act.TheVariants as acts
+use Rattle.hpte_fields.specs.TableSize.{greatest_order}
 
 -- The order is one of those allowed, and what is at memory stands.
 pub record IsSized (memory : TableMemory) : Type 0 where
   pub stands : MemoryStands memory
-  pub high : memory.table.order ≤ 22
+  pub high : memory.table.order ≤ greatest_order
 
 -- An index of the table is a small number.
 pub small_index :
@@ -59,10 +60,12 @@ pub small_index :
     → index < length memory.table.states
     → index < 2 ^ 32
 small_index memory index h within =
-    let high : memory.table.order ≤ 22 = h.high in
-    let less : memory.table.order - 4 ≤ 18 = omega arith in
-    let size : length memory.table.states ≡ 2 ^ (memory.table.order - 4) = h.stands.size in
-    omega (arith, size, pow_mono less)
+    omega (
+      arith,
+      entries_few (length memory.table.states) memory.table.order h.stands.size
+          (h.stands.low, h.high),
+      within,
+    )
 
 -- ---- a line that isn't quiet
 trial_length :
@@ -145,17 +148,17 @@ same_size memory states same h = record {
 -- ---- a quiet line
 carried_high :
     (pending : PendingTable) (pool : PoolState) (table : Table) (collision : Option Collision)
-    → pending.order ≤ 22
-    → table.order ≤ 22
-    → (carry_outcome pending pool table collision).table.order ≤ 22
+    → pending.order ≤ greatest_order
+    → table.order ≤ greatest_order
+    → (carry_outcome pending pool table collision).table.order ≤ greatest_order
 carried_high pending pool table (Some collision) next h = h
 carried_high pending pool table None next h = next
 
 completed_high :
     (pending : Option PendingTable) (pool : PoolState) (table : Table)
     → IfSome pending IsAllowed
-    → table.order ≤ 22
-    → (complete_outcome pending pool table).table.order ≤ 22
+    → table.order ≤ greatest_order
+    → (complete_outcome pending pool table).table.order ≤ greatest_order
 completed_high None pool table allowed h = h
 completed_high (Some pending) pool table allowed h =
     carried_high pending pool table (collision_of table.order pending.order table.states) allowed.1
@@ -164,15 +167,15 @@ completed_high (Some pending) pool table allowed h =
 answered_high :
     (refusal : Option Rc) (pending : Option PendingTable) (pool : PoolState) (table : Table)
     → IfSome pending IsAllowed
-    → table.order ≤ 22
-    → (answer_outcome refusal pending pool table).table.order ≤ 22
+    → table.order ≤ greatest_order
+    → (answer_outcome refusal pending pool table).table.order ≤ greatest_order
 answered_high (Some code) pending pool table allowed h = h
 answered_high None pending pool table allowed h = completed_high pending pool table allowed h
 
 committed_high :
     (memory : TableMemory) (flags shift : ℕ)
     → IsSized memory
-    → (commit_result memory flags shift).1.table.order ≤ 22
+    → (commit_result memory flags shift).1.table.order ≤ greatest_order
 unfolding commit_result outcome_of_commit
 committed_high memory flags shift h =
     answered_high (commit_refusal flags shift memory.pending) memory.pending memory.pool
@@ -187,7 +190,7 @@ resize_sized w calls.Prepare args h =
     record {
       stands = memory_prepared w.memory (slice_index args 0) (slice_index args 1) h.stands;
       high =
-          subst (λ (t : Table). t.order ≤ 22)
+          subst (λ (t : Table). t.order ≤ greatest_order)
           (sym (prepare_table w.memory (slice_index args 0) (slice_index args 1))) h.high;
     }
 resize_sized w calls.Commit args h =
@@ -222,10 +225,10 @@ opening_sized t is =
     record {
       stands =
           opening_stands c.limit c.order c.granted.pool_base c.granted.pool_order c.entries
-          settings.at_most settings.at_least;
+          (omega (arith, settings.at_most)) settings.at_least;
       high = let below :
           c.order ≤ c.limit = settings.within in let most :
-          c.limit ≤ 22 = settings.at_most in omega arith;
+          c.limit ≤ greatest_order = omega (arith, settings.at_most) in omega arith;
     }
 
 pub serial_sized :

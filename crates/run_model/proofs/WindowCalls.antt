@@ -25,10 +25,11 @@ use Rattle.trace_reply.specs.Replies.{receipts_in}
 use Rattle.run_model.specs.LineReplies.{put_plan, get_plan, IsDeviceLine}
 use Rattle.run_model.specs.SerialRun.{device_result, device_by_entry, device_by_window}
 use Rattle.trace_reply.specs.declared.reply.Reply.TheVariants as replies
+use Rattle.hpte_fields.specs.TableSize.{least_order}
 
 -- ---- entries of a window
 -- Each store has room for the most entries that a window has.
-pub window_room : (order : ℕ) → 18 ≤ order → 2 ^ 14 ≤ 2 ^ (order - 4)
+pub window_room : (order : ℕ) → least_order ≤ order → 2 ^ 14 ≤ 2 ^ (order - 4)
 window_room order low = pow_mono {i = 14} {j = order - 4} (omega arith)
 
 pub entry_in : (w : BusWindow) (ioba : ℕ) → IsWindow w → IfSome (entry_at w ioba) (λ e. e < 2 ^ 14)

@@ -14,7 +14,7 @@ use Rattle.frame_grants.specs.declared.grant.Grant.{Grant}
 use Rattle.frame_grants.specs.declared.grant.Kind.{Kind}
 use Rattle.frame_grants.specs.Grants.{GrantedMemory, AreApart, machine_range}
 use Rattle.frame_grants.proofs.Landing.{lands_off_pool}
-use Rattle.hpte_fields.specs.TableSize.{entry_count}
+use Rattle.hpte_fields.specs.TableSize.{entry_count, least_order}
 use Rattle.entry_model.specs.State.{State, empty_state}
 use Rattle.entry_model.specs.declared.device_reply.DeviceReply.{DeviceReply}
 use Rattle.entry_model.specs.declared.device_reply.DeviceOutcome.{DeviceOutcome}
@@ -27,7 +27,7 @@ use Rattle.entry_model.proofs.Heights.{height, weight, weight_regrouped}
 use Rattle.entry_model.proofs.Regroup.{regrouped_back}
 use Rattle.tlb_model.specs.Processor.{new_processor}
 use Rattle.hpt_walk.specs.Access.{AccessContext}
-use Rattle.trace_line.specs.Lines.{is_quiet}
+use Rattle.trace_line.specs.Lines.{is_quiet, most_lines}
 use Rattle.trace_line.specs.declared.act.Act.{Act}
 use Rattle.trace_line.specs.declared.act.Act.TheVariants as acts
 use Rattle.trace_line.specs.declared.line.TraceLine.{TraceLine}
@@ -343,7 +343,7 @@ opening_tces c w = record {
   context = refl;
   processors = length-replicate c.cpus new_processor;
   states =
-      each_replicate (IsTceState c.granted.grants 1) (entry_count 18) (empty_state 0)
+      each_replicate (IsTceState c.granted.grants 1) (entry_count least_order) (empty_state 0)
       (empty_tce c.granted.grants 1);
 }
 
@@ -356,7 +356,7 @@ window_safe :
     (opening_store t.config w)
 window_safe t rs w is good sections =
     let all = lines_with_replies t.lines rs in
-    let few : length t.lines ≤ 2 ^ 17 = is.lines.few in
+    let few : length t.lines ≤ most_lines = is.lines.few in
     let low : 1 + 32 * line_count (cut all).0 (cut all).1 ≤ top = omega
     (arith, cut_count all, replied_lines_count t.lines rs) in
     cut_out (HoldsOn (is_on t.config.windows (Some w)) (IsSafeLine t.config.granted)) all

@@ -4,6 +4,7 @@ use Rattle.std.specs.Prelude.{ℕ, List, Option, Some, None}
 use Rattle.bus_window.specs.Windows.{BusWindow}
 use Rattle.frame_grants.specs.declared.grant.Grant.{Grant}
 use Rattle.hpt_walk.specs.Access.{AccessContext, access_context}
+use Rattle.hpte_fields.specs.TableSize.{least_order}
 
 -- The store has 2 ^ order bytes, this memory is granted, and the entries are those of this window;
 -- the page table's are no window's.
@@ -26,7 +27,7 @@ table_context context = record {
 
 -- The store of a window has 2 ^ 18 bytes, and so as many entries as the largest window has pages.
 abbrev pub window_context : List Grant → BusWindow → StoreContext
-window_context grants w = record { order = 18; grants = grants; window = Some w }
+window_context grants w = record { order = least_order; grants = grants; window = Some w }
 
 -- ---- without the size
 -- What calls go by beside the store's size: the granted memory, and the window.

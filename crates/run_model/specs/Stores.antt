@@ -4,7 +4,7 @@ use Rattle.std.specs.List.{list_any}
 use Rattle.std.specs.Option.{option_map_or}
 use Rattle.bus_window.specs.Windows.{BusWindow}
 use Rattle.frame_grants.specs.declared.grant.Grant.{Grant}
-use Rattle.hpte_fields.specs.TableSize.{entry_count}
+use Rattle.hpte_fields.specs.TableSize.{entry_count, least_order}
 use Rattle.entry_model.specs.State.{State, empty_state}
 use Rattle.hpt_pool.specs.Pool.{no_blocks}
 use Rattle.hpt_resize.specs.TableMemory.{TableMemory, opening_memory}
@@ -53,7 +53,7 @@ page_table c = record {
 
 -- At first each entry of a window is empty.
 unfoldable pub opening_window : List State
-opening_window = replicate (entry_count 18) (empty_state 0)
+opening_window = replicate (entry_count least_order) (empty_state 0)
 
 -- A table of 2 ^ order bytes that is never resized.
 abbrev pub plain_memory : ℕ → List State → TableMemory

@@ -1,5 +1,6 @@
 ghost use Rattle.std.specs.Arc.{arc_value};
 ghost use Rattle.entry_lock.specs.PassOfTable.{IsOf};
+ghost use Rattle.entry_lock.specs.PassInvariants.{most_passes};
 
 use entry_lock::{Closed, LockTable, Pass};
 use entry_model::EntryState;
@@ -16,18 +17,17 @@ pub struct Sharer {
 
 impl Sharer {
     ghost use Rattle.std.specs.Prelude.{◌≡◌, ◌≤◌, ◌<◌, IfOk, IfErr, IfSome, IfNone, vec_len};
-    ghost use Rattle.hpte_fields.specs.TableSize.{entry_count};
+    ghost use Rattle.hpte_fields.specs.TableSize.{IsTableOrder, entry_count};
     ghost use Rattle.entry_lock.specs.PassOfTable.{view_of};
     ghost use Rattle.entry_lock.specs.Closing.{Closes};
     ghost use Rattle.shared_pass.specs.Shares.{IsOpened, IsSplit, IsJoined, has_all};
 
     /// Opens a table of these states, with all shares. `None` for want of memory.
     pub fn open(alloc: Global, states: Vec<EntryState>, order: u8, passes: u32) -> Option<Sharer>
-        requires low { 18 ≤ order }
-        requires high { order ≤ 22 }
+        requires order { IsTableOrder order }
         requires whole { vec_len states ≡ entry_count order }
         requires some_pass { 0 < passes }
-        requires few { passes ≤ 64 }
+        requires few { passes ≤ most_passes }
         ensures { IfSome result (λ s. IsOpened states.items order passes s) }
     {
         let Ok((table, pass)) = LockTable::open(alloc, states, order, passes) else {
@@ -42,8 +42,7 @@ impl Sharer {
     /// The binary logarithm of the table's size in bytes.
     pub fn order(&self) -> u8
         ensures value { result ≡ (arc_value self.now.table).order }
-        ensures low { 18 ≤ result }
-        ensures high { result ≤ 22 }
+        ensures order { IsTableOrder result }
     {
         self.table.order()
     }

@@ -1,3 +1,4 @@
+ghost use Rattle.hpte_fields.specs.TableSize.{IsTableOrder};
 ghost use Rattle.std.specs.Prelude.{◌≡◌, ◌≤◌};
 ghost use Rattle.call_trials.specs.Begun.{IsBegun};
 ghost use Rattle.call_plan.specs.Plans.{plan_of_trial, IsTrialIn};
@@ -29,8 +30,7 @@ fn trial_words(order: u8, trial: &Trial, receipts: &[Receipt]) -> ReplyWords
 impl HeldCall {
     /// The words that the receipts of a call give, which has begun.
     fn words_so_far(&self, order: u8, receipts: &[Receipt]) -> ReplyWords
-        requires low { 18 ≤ order }
-        requires high { order ≤ 22 }
+        requires order { IsTableOrder order }
         requires fits { HeldFits order self.now }
         requires begun { IsBegun (plan_of_held self.now) receipts.now }
         ensures { result ≡ ((plan_of_held self.now).told receipts.now).1 }

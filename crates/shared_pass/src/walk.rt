@@ -1,3 +1,4 @@
+ghost use Rattle.hpte_fields.specs.TableSize.{IsTableOrder};
 ghost use Rattle.std.specs.Prelude.{◌≡◌, ◌≤◌};
 ghost use Rattle.call_trials.specs.Calls.{AreCallsIn};
 ghost use Rattle.call_plan.specs.PageCalls.{calls_of};
@@ -39,8 +40,7 @@ impl PageWalk {
     /// Its calls on a table of `2^order` bytes.
     #[inline]
     pub fn calls(&self, order: u8) -> PageCalls
-        requires low { 18 ≤ order }
-        requires high { order ≤ 22 }
+        requires order { IsTableOrder order }
         ensures calls { calls_of result ≡ calls_of_walk order self.now }
         ensures fits { AreCallsIn order (calls_of result) }
     {

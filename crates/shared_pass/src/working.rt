@@ -1,6 +1,7 @@
 ghost use Rattle.shared_pass.specs.Held.{IsHeldBy};
 ghost use Rattle.shared_pass.specs.HeldFacts.{held_prop};
 ghost use Rattle.shared_pass.specs.Made.{order_of};
+ghost use Rattle.entry_lock.specs.PassInvariants.{most_passes};
 
 use crate::held::Pending;
 use crate::sharer::Sharer;
@@ -25,7 +26,7 @@ pub struct Working {
 impl Working {
     ghost use Rattle.std.specs.Prelude.{◌≡◌, ◌≤◌, ◌<◌, [], IfOk, IfErr, IfSome, IfNone, vec_len};
     ghost use Rattle.std.specs.Arc.{arc_value};
-    ghost use Rattle.hpte_fields.specs.TableSize.{entry_count};
+    ghost use Rattle.hpte_fields.specs.TableSize.{IsTableOrder, entry_count};
     ghost use Rattle.entry_lock.specs.PassOfTable.{view_of};
     ghost use Rattle.entry_lock.specs.Closing.{Closes};
     ghost use Rattle.shared_pass.specs.declared.held.Pending.TheVariants.{Nothing};
@@ -52,11 +53,10 @@ impl Working {
 
     /// Opens a table of these states, with all shares. `None` for want of memory.
     pub fn open(alloc: Global, states: Vec<EntryState>, order: u8, passes: u32) -> Option<Working>
-        requires low { 18 ≤ order }
-        requires high { order ≤ 22 }
+        requires order { IsTableOrder order }
         requires whole { vec_len states ≡ entry_count order }
         requires some_pass { 0 < passes }
-        requires few { passes ≤ 64 }
+        requires few { passes ≤ most_passes }
         ensures { IfSome result (λ working. workings.IsNew states.items order passes working) }
     {
         let Some(sharer) = Sharer::open(alloc, states, order, passes) else {
@@ -69,8 +69,7 @@ impl Working {
     #[inline]
     pub fn order(&self) -> u8
         ensures value { result ≡ (arc_value self.now.sharer.table).order }
-        ensures low { 18 ≤ result }
-        ensures high { result ≤ 22 }
+        ensures order { IsTableOrder result }
     {
         self.sharer.order()
     }

@@ -10,4 +10,5 @@ mod slot;
 
 pub use error::BadSlb;
 pub use segment::Segment;
-pub use slb::Slb;
+pub use slb::{SLOT_NUMBER, SLOT_VALID, Slb};
+pub use slot::Slot;

@@ -12,10 +12,10 @@ use std::marker::Model;
 const SLOTS: usize = 32;
 
 /// The slot's number, in the first word of an `slbmte`.
-const NUMBER: u64 = 0xFFF;
+pub const SLOT_NUMBER: u64 = 0xFFF;
 
 /// V, in the first word of an `slbmte`.
-const VALID: u64 = 0x0800_0000;
+pub const SLOT_VALID: u64 = 0x0800_0000;
 
 /// The segment lookaside buffer of one processor.
 #[derive(Drop)]
@@ -54,11 +54,11 @@ impl Slb {
         ensures ok { OnOk result (self.new ≡ slots_after self.old rb rs) }
         ensures err { OnErr result (self.new ≡ self.old) }
     {
-        let number = (rb & NUMBER) as usize;
+        let number = (rb & SLOT_NUMBER) as usize;
         if number >= SLOTS {
             return Err(BadSlb::Slot);
         }
-        self.slots[number] = if rb & VALID == VALID {
+        self.slots[number] = if rb & SLOT_VALID == SLOT_VALID {
             Some(Slot::of_words(rb, rs)?)
         } else {
             None

@@ -84,7 +84,7 @@ impl Slot {
     }
 
     /// The segment, at an effective address in it.
-    pub fn segment_at(&self, ea: u64) -> Option<Segment>
+    pub(crate) fn segment_at(&self, ea: u64) -> Option<Segment>
         requires { IsSlot self.now }
         ensures value { result ≡ segment_by ea self.now }
         ensures found { IsSome result }

@@ -1,13 +1,15 @@
 //! A run over each kind of table.
 ghost use Rattle.std.specs.Prelude.{◌≡◌, ◌<◌, ◌≤◌, ◌-◌, ◌^◌, IfSome, vec_len};
-ghost use Rattle.hpte_fields.specs.TableSize.{entry_count};
+ghost use Rattle.hpte_fields.specs.TableSize.{entry_count, IsTableOrder};
 ghost use Rattle.entry_model.specs.Receipt.{IsNormal};
 ghost use Rattle.entry_lock.specs.PassOfTable.{IsOf};
+ghost use Rattle.entry_lock.specs.PassInvariants.{most_passes};
 
 use crate::mix::{Draw, Part};
 use crate::words::{Kind, Run};
 use entry_lock::{LockTable, NoPause, Pass, Waiting};
 use entry_model::{EntryState, EntryStore, Op};
+use hpte_fields::is_table_order;
 use papr_table::PlainTable;
 use std::alloc::Global;
 use std::sync::{Mutex, Wait};
@@ -63,7 +65,7 @@ fn part_of(run: &Run, thread: u32) -> Part {
 
 /// The states of an empty table.
 fn states_of(alloc: Global, order: u8) -> Option<Vec<EntryState>>
-    requires { 18 ≤ order × (order ≤ 22) }
+    requires { IsTableOrder order }
     ensures { IfSome result (λ v. vec_len v ≡ entry_count order) }
 {
     Vec::from_elem(alloc, EntryState::empty(0), 1 << (order - 4)).ok()
@@ -71,7 +73,7 @@ fn states_of(alloc: Global, order: u8) -> Option<Vec<EntryState>>
 
 /// A plain table, which one thread has to itself.
 fn run_plain(alloc: Global, run: &Run) -> Option<u64>
-    requires { 18 ≤ run.now.order × (run.now.order ≤ 22) }
+    requires { IsTableOrder run.now.order }
 {
     let states = states_of(alloc, run.order)?;
     let mut worker = Worker {
@@ -100,7 +102,7 @@ fn work_locked<R: Wait>(rt: &R, table: &Mutex<PlainTable>, run: &Run, thread: u3
 
 /// A plain table behind a lock, in threads.
 fn run_mutex<R: Threads + Wait + Sync>(rt: &R, alloc: Global, run: &Run) -> Option<u64>
-    requires { 18 ≤ run.now.order × (run.now.order ≤ 22) }
+    requires { IsTableOrder run.now.order }
 {
     let states = states_of(alloc, run.order)?;
     let table = Mutex::new(PlainTable::open(states, run.order));
@@ -146,8 +148,8 @@ fn workers_of<'a, R: Wait>(
 
 /// The running table, with a pass for each thread.
 fn run_lock<R: Threads + Wait + Sync>(rt: &R, alloc: Global, run: &Run) -> Option<u64>
-    requires order { 18 ≤ run.now.order × (run.now.order ≤ 22) }
-    requires threads { 0 < run.now.threads × (run.now.threads ≤ 64) }
+    requires order { IsTableOrder run.now.order }
+    requires threads { 0 < run.now.threads × (run.now.threads ≤ most_passes) }
 {
     let states = states_of(alloc, run.order)?;
     let Ok((table, pass)) = LockTable::open(alloc, states, run.order, run.threads) else {
@@ -187,7 +189,7 @@ fn worker_of<'a, R: Wait>(
 
 /// The run that the words ask for: how many receipts it made.
 pub fn run_one<R: Threads + Wait + Sync>(rt: &R, alloc: Global, run: &Run) -> Option<u64> {
-    if run.order < 18 || run.order > 22 || run.threads == 0 || run.threads > 64 {
+    if !is_table_order(run.order) || run.threads == 0 || run.threads > 64 {
         return None;
     }
     match run.kind {

@@ -45,11 +45,23 @@ abbrev pub IsSpelt : Act → Type 0
 IsSpelt (acts.Call number args spelt) = spelt ≡ true → IsTrue (is_named (hcall_of number))
 IsSpelt other = Unit {0}
 
--- Each line has one of the processors; there are at most 2 ^ 17 lines, of these at most 256 quiet
--- ones, and of these at most 16 dumps.
+-- A trace has at most so many lines.
+abbrev pub most_lines : ℕ
+most_lines = 2 ^ 17
+
+-- At most so many of them are quiet.
+abbrev pub most_quiet_lines : ℕ
+most_quiet_lines = 256
+
+-- And at most so many of these are dumps.
+abbrev pub most_dumps : ℕ
+most_dumps = 16
+
+-- Each line has one of the processors, and there are no more lines, quiet ones and dumps than may
+-- be.
 pub record IsTrace (cpus : ℕ) (lines : List TraceLine) : Type 0 where
   pub on_cpus : AllByRecursion (λ (l : TraceLine). l.cpu < cpus) lines
   pub spelt : AllByRecursion (λ (l : TraceLine). IsSpelt l.act) lines
-  pub few : length lines ≤ 2 ^ 17
-  pub few_quiet : count_by (λ (l : TraceLine). is_quiet l.act) lines ≤ 256
-  pub few_dumps : count_by (λ (l : TraceLine). is_dump l.act) lines ≤ 16
+  pub few : length lines ≤ most_lines
+  pub few_quiet : count_by (λ (l : TraceLine). is_quiet l.act) lines ≤ most_quiet_lines
+  pub few_dumps : count_by (λ (l : TraceLine). is_dump l.act) lines ≤ most_dumps

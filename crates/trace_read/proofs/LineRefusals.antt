@@ -27,6 +27,7 @@ use Rattle.trace_read.specs.TextLines.{raw_lines, without_cr, is_printable, word
 use Rattle.trace_read.specs.Trace.{AcceptedTrace}
 use Rattle.trace_read.specs.Whys.{◌>>=◌, guard}
 use Rattle.trace_read.proofs.PlainRefusals.{is_apart, IsPlain, plain_ok, plain_steps, plain_guard, plain_form, plain_order, plain_limit, plain_cpus, plain_pool, plain_grant, plain_entry, plain_window, plain_begin, plain_run, plain_dump, plain_room}
+use Rattle.trace_line.specs.Lines.{most_lines}
 
 -- ---- reasons that fit a line
 -- A grant meets the pool.
@@ -160,7 +161,7 @@ line_fitting :
     → IsFitting (is_some (line_grant (words_of (without_cr line)))) (after_line r line)
 unfolding after_line
 line_fitting r line =
-    fitting_steps _ (guard (ltb r.taken (2 ^ 17)) whys.Lines) _
+    fitting_steps _ (guard (ltb r.taken most_lines) whys.Lines) _
     (plain_fitting _ _ (plain_guard _ whys.Lines refl))
     (λ few.
     fitting_steps _ (guard (list_all is_printable (without_cr line)) whys.Ascii) _

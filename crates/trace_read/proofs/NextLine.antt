@@ -8,6 +8,7 @@ use Rattle.trace_read.specs.declared.why.Why.TheVariants as whys
 use Rattle.trace_read.specs.Grammar.{Reading, after_line, after_lines, after_numbered}
 use Rattle.trace_read.specs.ReaderLaws.{TextIsReadByWords}
 use Rattle.trace_read.specs.Read.{Reads, IsParsed, error_of}
+use Rattle.trace_line.specs.Lines.{most_lines}
 
 -- A line that has the next number is the next line.
 pub next_line : (r : Reading) (number : ℕ) (line : List ℕ) → number ≡ r.taken + 1
@@ -18,9 +19,9 @@ next_line r number line next =
 
 -- Behind the most lines there are, each is refused.
 pub past_lines :
-    (r : Reading) (line : List ℕ) → 2 ^ 17 ≤ r.taken → after_line r line ≡ Err whys.Lines
+    (r : Reading) (line : List ℕ) → most_lines ≤ r.taken → after_line r line ≡ Err whys.Lines
 unfolding after_line
-past_lines r line past = rw (le-ltb r.taken (2 ^ 17) past) refl
+past_lines r line past = rw (le-ltb r.taken most_lines past) refl
 
 -- The first line that is refused.
 pub refused_next :
@@ -42,6 +43,6 @@ refused_lines r new number line ws rest (refusals.Refused why grant) next reads 
 pub text_is_read_by_words : TextIsReadByWords
 unfolding after_line
 text_is_read_by_words r number line some few text =
-    let before : number - 1 < 2 ^ 17 = omega (arith, some, few) in
+    let before : number - 1 < most_lines = omega (arith, some, few) in
     let back : number - 1 + 1 ≡ number = omega (arith, some) in
-    rw (lt-ltb (number - 1) (2 ^ 17) before, text, back) refl
+    rw (lt-ltb (number - 1) most_lines before, text, back) refl

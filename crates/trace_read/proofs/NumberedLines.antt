@@ -8,17 +8,18 @@ use Rattle.trace_read.specs.ReaderLaws.{ReadsAsTheInput, RefusesAsTheInput}
 use Rattle.trace_read.specs.Trace.{AcceptedTrace}
 use Rattle.trace_read.specs.Whys.{◌>>=◌}
 use Rattle.trace_read.proofs.TakenLines.{line_taken}
+use Rattle.trace_line.specs.Lines.{most_lines}
 
 -- A remark adds nothing but its number.
 remark_taken :
     (r : Reading)
-    → r.taken < 2 ^ 17
+    → r.taken < most_lines
     → after_line r (35 ∷ []) ≡ Ok (record r { taken = r.taken + 1 })
 unfolding after_line after_text
-remark_taken r few = rw (lt-ltb r.taken (2 ^ 17) few) refl
+remark_taken r few = rw (lt-ltb r.taken most_lines few) refl
 
 -- So many remarks are read.
-remarks_taken : (count : ℕ) (r : Reading) (rest : List (List ℕ)) → r.taken + count ≤ 2 ^ 17
+remarks_taken : (count : ℕ) (r : Reading) (rest : List (List ℕ)) → r.taken + count ≤ most_lines
     → after_lines r (remarks count ++ rest)
     ≡ after_lines (record r { taken = r.taken + count }) rest
 unfolding after_lines
@@ -36,7 +37,7 @@ remarks_taken (suc n) r rest few =
 line_reached :
     (r : Reading) (number : ℕ) (line : List ℕ) (rest : List (List ℕ))
     → r.taken < number
-    → number ≤ 2 ^ 17
+    → number ≤ most_lines
     → after_lines r (remarks (number - (r.taken + 1)) ++ line ∷ rest)
     ≡ go_on number (after_numbered number r line) (λ s. after_lines s rest)
 unfolding after_lines

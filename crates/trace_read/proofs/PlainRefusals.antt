@@ -130,15 +130,15 @@ plain_form (w ∷ ws) =
 -- ---- configuration lines
 pub plain_order : (c : Configuration) (ws : List (List ℕ)) → IsPlain (with_order c ws)
 unfolding with_order
-plain_order c ws = plain_steps _ _ (plain_within ws 18 22) (λ order. plain_ok _)
+plain_order c ws = plain_steps _ _ (plain_within ws _ _) (λ order. plain_ok _)
 
 pub plain_limit : (c : Configuration) (ws : List (List ℕ)) → IsPlain (with_limit c ws)
 unfolding with_limit
-plain_limit c ws = plain_steps _ _ (plain_within ws c.order 22) (λ limit. plain_ok _)
+plain_limit c ws = plain_steps _ _ (plain_within ws c.order _) (λ limit. plain_ok _)
 
 pub plain_cpus : (c : Configuration) (ws : List (List ℕ)) → IsPlain (with_cpus c ws)
 unfolding with_cpus
-plain_cpus c ws = plain_steps _ _ (plain_within ws 1 64) (λ cpus. plain_ok _)
+plain_cpus c ws = plain_steps _ _ (plain_within ws _ _) (λ cpus. plain_ok _)
 
 plain_range : (ws : List (List ℕ)) → IsPlain (pool_named ws)
 unfolding pool_named

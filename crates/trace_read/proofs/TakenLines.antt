@@ -19,6 +19,7 @@ use Rattle.trace_read.specs.Settings.{with_order, with_limit, with_cpus, with_po
 use Rattle.trace_read.specs.TextLines.{without_cr, is_printable, words_of, is_remark}
 use Rattle.trace_read.specs.Whys.{◌>>=◌, guard}
 use Rattle.trace_read.specs.Windows.{with_window}
+use Rattle.trace_line.specs.Lines.{most_lines}
 
 -- What is accepted at the end of steps was accepted at the first.
 kept : {A : Type 0} (n : ℕ) (said : Result A Why) (f : A → Result Reading Why) (s : Reading)
@@ -86,7 +87,7 @@ pub line_taken : (r : Reading) (line : List ℕ) (s : Reading)
     → after_line r line ≡ Ok s → s.taken ≡ r.taken + 1
 unfolding after_line
 line_taken r line s e =
-    kept (r.taken + 1) (guard (ltb r.taken (2 ^ 17)) whys.Lines) _ s
+    kept (r.taken + 1) (guard (ltb r.taken most_lines) whys.Lines) _ s
     (λ few tried.
     kept (r.taken + 1) (guard (list_all is_printable (without_cr line)) whys.Ascii) _ s
     (λ text is. text_taken (record r { taken = r.taken + 1 }) (words_of (without_cr line)) s is)

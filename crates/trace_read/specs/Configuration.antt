@@ -2,11 +2,23 @@
 use Rattle.std.specs.Prelude.{◌≡◌, ℕ, ◌<◌, ◌≤◌, List, [], ◌∷◌, length, Some}
 use Rattle.std.specs.List.{AllByRecursion}
 use Rattle.bus_window.specs.Windows.{BusWindow, IsWindow}
-use Rattle.hpte_fields.specs.TableSize.{entry_count}
+use Rattle.hpte_fields.specs.TableSize.{entry_count, least_order}
 use Rattle.frame_grants.specs.declared.grant.Grant.{Grant}
 use Rattle.frame_grants.specs.Grants.{GrantedMemory}
 use Rattle.page_grants.specs.Suited.{entered_words}
 use Rattle.table_image.specs.declared.entry.ImageEntry.{ImageEntry}
+
+-- The order of the largest table of a trace.
+abbrev pub greatest_trace_order : ℕ
+greatest_trace_order = 22
+
+-- A trace may have so many processors.
+abbrev pub most_processors : ℕ
+most_processors = 64
+
+-- A table of a trace may have 2 ^ order bytes.
+abbrev pub IsTraceOrder : ℕ → Type 0
+IsTraceOrder order = (least_order ≤ order) × (order ≤ greatest_trace_order)
 
 -- The order of the opening table, the highest order that the guest may ask for, the number of
 -- processors, the grants beside the pool of table memory, the entries that are valid in the opening
@@ -19,18 +31,18 @@ pub record Configuration : Type 0 where
   pub entries : List ImageEntry
   pub windows : List BusWindow
 
--- Orders are from 18 to 22, there are 1 to 64 processors, and the pool is the one that the grants
--- stand beside.
+-- Orders are those of a trace, there are no more processors than may be, and the pool is the one that the
+-- grants stand beside.
 pub record AreSettings
     (order limit cpus pool_base pool_order : ℕ)
     (granted : GrantedMemory)
     : Type 0
   where
-    pub at_least : 18 ≤ order
+    pub at_least : least_order ≤ order
     pub within : order ≤ limit
-    pub at_most : limit ≤ 22
+    pub at_most : limit ≤ greatest_trace_order
     pub some : 1 ≤ cpus
-    pub few : cpus ≤ 64
+    pub few : cpus ≤ most_processors
     pub base : granted.pool_base ≡ pool_base
     pub size : granted.pool_order ≡ pool_order
 

@@ -10,14 +10,14 @@ use Rattle.trace_line.specs.declared.line.TraceLine.{TraceLine}
 use Rattle.trace_read.specs.declared.why.Why.{Why}
 use Rattle.trace_read.specs.declared.why.Why.TheVariants as whys
 use Rattle.trace_read.specs.Acts.{run_act, dump_act}
-use Rattle.trace_read.specs.Configuration.{Configuration}
+use Rattle.trace_read.specs.Configuration.{Configuration, greatest_trace_order}
 use Rattle.trace_read.specs.Counts.{may_add}
 use Rattle.trace_read.specs.Forms.{form_of}
 use Rattle.trace_read.specs.TextLines.{raw_lines, without_cr, is_printable, words_of, is_remark}
 use Rattle.trace_read.specs.Entries.{with_entry}
 use Rattle.trace_read.specs.Places.{is_running, is_first, may_have_entries, comes_at}
 use Rattle.trace_read.specs.Settings.{settings_beside, with_order, with_limit, with_cpus, with_pool, with_granted, with_begin}
-use Rattle.trace_line.specs.Lines.{IsTrace}
+use Rattle.trace_line.specs.Lines.{IsTrace, most_lines}
 use Rattle.trace_read.specs.Trace.{AcceptedTrace}
 use Rattle.trace_read.specs.Windows.{with_window}
 use Rattle.trace_read.specs.Whys.{◌>>=◌, guard}
@@ -88,7 +88,7 @@ after_text r ws = if is_remark ws then Ok r else after_words r ws
 -- The reading after one more line, or why it is refused: the reasons in their order.
 unfoldable pub after_line : Reading → List ℕ → Result Reading Why
 after_line r line = do
-  few ← guard (nat_lt r.taken (2 ^ 17)) whys.Lines
+  few ← guard (nat_lt r.taken most_lines) whys.Lines
   text ← guard (list_all is_printable (without_cr line)) whys.Ascii
   after_text (record r { taken = r.taken + 1 }) (words_of (without_cr line))
 
@@ -139,10 +139,10 @@ trace_of bytes =
 -- lines come behind `begin` alone, where the pool has room for the table; they are a trace's, and
 -- no more than the lines that were read.
 pub record IsReading (r : Reading) : Type 0 where
-  pub highest : is_first r.stage ≡ true → r.config.limit ≡ 22
+  pub highest : is_first r.stage ≡ true → r.config.limit ≡ greatest_trace_order
   pub empty : may_have_entries r.stage ≡ false → r.config.entries ≡ []
   pub room : is_running r.stage ≡ true → r.config.order ≤ r.config.granted.pool_order
   pub none : is_running r.stage ≡ false → r.lines ≡ []
   pub trace : IsTrace r.config.cpus r.lines
   pub counted : length r.lines ≤ r.taken
-  pub few : r.taken ≤ 2 ^ 17
+  pub few : r.taken ≤ most_lines

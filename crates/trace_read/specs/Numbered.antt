@@ -4,11 +4,12 @@ use Rattle.trace_read.specs.declared.why.Why.{Why}
 use Rattle.trace_read.specs.Grammar.{Reading, after_numbered, go_on, trace_at_end}
 use Rattle.trace_read.specs.Trace.{AcceptedTrace}
 use Rattle.trace_read.specs.Whys.{◌>>=◌}
+use Rattle.trace_line.specs.Lines.{most_lines}
 
 -- The numbers rise from above this one, and none is above 2 ^ 17.
 abbrev pub AreNumbered : ℕ → List (ℕ × List ℕ) → Type 0
 AreNumbered taken [] = Unit {0}
-AreNumbered taken (x ∷ xs) = (taken < x.0) × (x.0 ≤ 2 ^ 17) × AreNumbered x.0 xs
+AreNumbered taken (x ∷ xs) = (taken < x.0) × (x.0 ≤ most_lines) × AreNumbered x.0 xs
 
 -- So many remarks, each of the byte `#` alone.
 abbrev pub remarks : ℕ → List (List ℕ)

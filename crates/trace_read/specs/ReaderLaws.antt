@@ -4,6 +4,7 @@ use Rattle.std.specs.List.{list_all}
 use Rattle.trace_read.specs.Grammar.{Reading, reading_beside, after_text, after_numbered, after_lines, go_on, trace_at_end}
 use Rattle.trace_read.specs.Numbered.{AreNumbered, numbered, after_each, trace_given}
 use Rattle.trace_read.specs.TextLines.{is_printable, without_cr, words_of}
+use Rattle.trace_line.specs.Lines.{most_lines}
 
 -- Lines that are given with their numbers are read just as the whole input that has them at these
 -- numbers, and remarks between: both give the same trace, or refuse the same line for the same
@@ -36,7 +37,7 @@ abbrev pub TextIsReadByWords : Type 0
 TextIsReadByWords =
     (r : Reading) (number : ℕ) (line : List ℕ)
     → 0 < number
-    → number ≤ 2 ^ 17
+    → number ≤ most_lines
     → list_all is_printable (without_cr line) ≡ true
     → after_numbered number r line
     ≡ after_text (record r { taken = number }) (words_of (without_cr line))

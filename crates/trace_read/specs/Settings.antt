@@ -8,15 +8,16 @@ use Rattle.pool_range.specs.Ranges.{range_refusal}
 use Rattle.trace_read.specs.declared.why.Why.{Why}
 use Rattle.trace_read.specs.declared.why.Why.TheVariants.{Count, Range, Small}
 use Rattle.trace_read.specs.Acts.{number_at}
-use Rattle.trace_read.specs.Configuration.{Configuration}
+use Rattle.trace_read.specs.Configuration.{Configuration, greatest_trace_order, most_processors}
 use Rattle.trace_read.specs.Whys.{◌>>=◌, guard, why_of_grant}
+use Rattle.hpte_fields.specs.TableSize.{least_order}
 
--- A table of 2 ^ 18 bytes that may grow to 2 ^ 22, one processor, no grant beside this pool, no
--- entry, and no window.
+-- The smallest table, which may grow to the largest one of a trace, one processor, no grant beside
+-- this pool, no entry, and no window.
 abbrev pub settings_beside : ℕ → ℕ → Configuration
 settings_beside pool_base pool_order = record {
-  order = 18;
-  limit = 22;
+  order = least_order;
+  limit = greatest_trace_order;
   cpus = 1;
   granted = no_grants pool_base pool_order;
   entries = [];
@@ -39,19 +40,19 @@ number_within ws low high = do
 -- `order`: the order of the opening table.
 unfoldable pub with_order : Configuration → List (List ℕ) → Result Configuration Why
 with_order c ws = do
-  order ← number_within ws 18 22
+  order ← number_within ws least_order greatest_trace_order
   Ok (record c { order = order })
 
 -- The limit is not below the order that stands by now.
 unfoldable pub with_limit : Configuration → List (List ℕ) → Result Configuration Why
 with_limit c ws = do
-  limit ← number_within ws c.order 22
+  limit ← number_within ws c.order greatest_trace_order
   Ok (record c { limit = limit })
 
 -- `cpus`: the number of processors.
 unfoldable pub with_cpus : Configuration → List (List ℕ) → Result Configuration Why
 with_cpus c ws = do
-  cpus ← number_within ws 1 64
+  cpus ← number_within ws 1 most_processors
   Ok (record c { cpus = cpus })
 
 -- The base and the order of the pool that a line names behind its first word.

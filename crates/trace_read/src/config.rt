@@ -3,14 +3,21 @@ use crate::windows::WindowLines;
 use frame_grants::Grants;
 use std::marker::Model;
 
+/// The order of the largest table that a trace can have.
+pub const GREATEST_TRACE_ORDER: u8 = 22;
+
+/// How many processors a trace can have.
+pub const MOST_PROCESSORS: u32 = 64;
+
 /// The configuration of a partition, as the configuration lines of a trace give it.
 #[derive(Drop)]
 pub struct Config {
-    /// The binary logarithm of the size of the opening table in bytes, from 18 to `limit`.
+    /// The binary logarithm of the size of the opening table in bytes, from
+    /// [`hpte_fields::LEAST_ORDER`] to `limit`.
     pub order: u8,
-    /// The highest order that the guest may ask for, at most 22.
+    /// The highest order that the guest may ask for, at most [`GREATEST_TRACE_ORDER`].
     pub limit: u8,
-    /// How many processors there are, from 1 to 64.
+    /// How many processors there are, from 1 to [`MOST_PROCESSORS`].
     pub cpus: u32,
     /// The machine address at which the pool of table memory begins.
     pub pool_base: u64,

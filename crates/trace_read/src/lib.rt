@@ -25,7 +25,7 @@ mod verbs;
 mod why;
 mod windows;
 
-pub use config::Config;
+pub use config::{Config, GREATEST_TRACE_ORDER, MOST_PROCESSORS};
 pub use entries::EntryLines;
 pub use forms::is_setting;
 pub use given::{Given, LineRefused};

@@ -10,7 +10,8 @@ ghost use Rattle.trace_read.specs.Read.{Reads, ReadsTo};
 ghost use Rattle.trace_read.specs.Settings.{with_order, with_limit, with_cpus, with_pool, with_granted, with_begin};
 ghost use Rattle.trace_read.specs.TextLines.{texts};
 ghost use Rattle.trace_read.specs.Windows.{with_window};
-ghost use Rattle.trace_line.specs.Lines.{IsSpelt};
+ghost use Rattle.trace_line.specs.Lines.{IsSpelt, most_lines};
+ghost use Rattle.trace_read.specs.Configuration.{IsTraceOrder};
 
 use crate::acts::{dump_act, run_act};
 use crate::counted::CountedLines;
@@ -69,7 +70,7 @@ impl Reader {
     /// The number of the last line that was taken, and 0 before the first.
     pub fn taken(&self) -> u32
         ensures count { result ≡ self.now.taken }
-        ensures few { result ≤ 2 ^ 17 }
+        ensures few { result ≤ most_lines }
     {
         self.taken
     }
@@ -84,7 +85,7 @@ impl Reader {
     /// How many run lines there are so far.
     pub fn lines(&self) -> usize
         ensures count { result ≡ length self.now.lines }
-        ensures few { result ≤ 2 ^ 17 }
+        ensures few { result ≤ most_lines }
     {
         self.lines.count()
     }
@@ -92,8 +93,7 @@ impl Reader {
     /// The binary logarithm of the size in bytes of the opening table, as the lines so far have it.
     pub fn order(&self) -> u8
         ensures value { result ≡ self.now.config.order }
-        ensures at_least { 18 ≤ result }
-        ensures at_most { result ≤ 22 }
+        ensures order { IsTraceOrder result }
     {
         self.settings.order()
     }
@@ -126,7 +126,7 @@ impl Reader {
     #[tactic(auto, unfolding(crate::specs::Grammar::after_text))]
     pub fn take(&mut self, number: u32, words: &[&[u8]]) -> Result<Given, LineRefused>
         requires next { self.old.taken < number }
-        requires few { number ≤ 2 ^ 17 }
+        requires few { number ≤ most_lines }
         ensures { Reads
             (after_text (record self.old { taken = number }) (texts words.now))
             (texts words.now)
@@ -147,7 +147,7 @@ impl Reader {
     #[tactic(auto, unfolding(crate::specs::Grammar::after_words))]
     fn take_words(&mut self, number: u32, words: &[&[u8]]) -> Result<Given, Stop>
         requires next { self.old.taken < number }
-        requires few { number ≤ 2 ^ 17 }
+        requires few { number ≤ most_lines }
         ensures { ReadsTo
             (after_words (record self.old { taken = number }) (texts words.now))
             (given_if (form_of (texts words.now)) self.old.config (texts words.now))
@@ -165,7 +165,7 @@ impl Reader {
     #[tactic(auto, unfolding(crate::specs::Grammar::after_form))]
     fn take_form(&mut self, number: u32, form: Form, words: &[&[u8]]) -> Result<Given, Stop>
         requires next { self.old.taken < number }
-        requires few { number ≤ 2 ^ 17 }
+        requires few { number ≤ most_lines }
         requires place { comes_at form self.old.stage ≡ true }
         requires named { IsNamedForm form }
         ensures { ReadsTo
@@ -191,7 +191,7 @@ impl Reader {
 
     fn take_order(&mut self, number: u32, words: &[&[u8]]) -> Result<Given, Stop>
         requires next { self.old.taken < number }
-        requires few { number ≤ 2 ^ 17 }
+        requires few { number ≤ most_lines }
         requires place { is_first self.old.stage ≡ true }
         ensures { ReadsTo
             (set_to
@@ -211,7 +211,7 @@ impl Reader {
 
     fn take_limit(&mut self, number: u32, words: &[&[u8]]) -> Result<Given, Stop>
         requires next { self.old.taken < number }
-        requires few { number ≤ 2 ^ 17 }
+        requires few { number ≤ most_lines }
         requires place { may_have_entries self.old.stage ≡ false }
         ensures { ReadsTo
             (set_to
@@ -231,7 +231,7 @@ impl Reader {
 
     fn take_cpus(&mut self, number: u32, words: &[&[u8]]) -> Result<Given, Stop>
         requires next { self.old.taken < number }
-        requires few { number ≤ 2 ^ 17 }
+        requires few { number ≤ most_lines }
         requires place { may_have_entries self.old.stage ≡ false }
         ensures { ReadsTo
             (set_to
@@ -251,7 +251,7 @@ impl Reader {
 
     fn take_pool(&mut self, number: u32, words: &[&[u8]]) -> Result<Given, Stop>
         requires next { self.old.taken < number }
-        requires few { number ≤ 2 ^ 17 }
+        requires few { number ≤ most_lines }
         requires place { may_have_entries self.old.stage ≡ false }
         ensures { ReadsTo
             (set_to
@@ -272,7 +272,7 @@ impl Reader {
     #[tactic(auto, unfolding(crate::specs::Settings::with_granted))]
     fn take_grant(&mut self, number: u32, kind: Kind, words: &[&[u8]]) -> Result<Given, Stop>
         requires next { self.old.taken < number }
-        requires few { number ≤ 2 ^ 17 }
+        requires few { number ≤ most_lines }
         requires place { may_have_entries self.old.stage ≡ false }
         ensures { ReadsTo
             (set_to
@@ -293,7 +293,7 @@ impl Reader {
 
     fn take_entry(&mut self, number: u32, words: &[&[u8]]) -> Result<Given, Stop>
         requires next { self.old.taken < number }
-        requires few { number ≤ 2 ^ 17 }
+        requires few { number ≤ most_lines }
         requires place { may_have_windows self.old.stage ≡ false }
         ensures { ReadsTo
             (set_to
@@ -313,7 +313,7 @@ impl Reader {
 
     fn take_window(&mut self, number: u32, words: &[&[u8]]) -> Result<Given, Stop>
         requires next { self.old.taken < number }
-        requires few { number ≤ 2 ^ 17 }
+        requires few { number ≤ most_lines }
         requires place { is_running self.old.stage ≡ false }
         ensures { ReadsTo
             (set_to
@@ -333,7 +333,7 @@ impl Reader {
 
     fn take_begin(&mut self, number: u32, words: &[&[u8]]) -> Result<Given, Stop>
         requires next { self.old.taken < number }
-        requires few { number ≤ 2 ^ 17 }
+        requires few { number ≤ most_lines }
         requires place { is_running self.old.stage ≡ false }
         ensures { ReadsTo
             (set_to
@@ -355,7 +355,7 @@ impl Reader {
     #[tactic(auto, unfolding(crate::specs::Grammar::after_act))]
     fn take_run(&mut self, number: u32, verb: Option<Verb>, words: &[&[u8]]) -> Result<Given, Stop>
         requires next { self.old.taken < number }
-        requires few { number ≤ 2 ^ 17 }
+        requires few { number ≤ most_lines }
         requires place { is_running self.old.stage ≡ true }
         requires named { IsNamedForm (Form.Run verb) }
         ensures { ReadsTo
@@ -374,7 +374,7 @@ impl Reader {
     #[tactic(auto, unfolding(crate::specs::Grammar::after_act))]
     fn take_dump(&mut self, number: u32, words: &[&[u8]]) -> Result<Given, Stop>
         requires next { self.old.taken < number }
-        requires few { number ≤ 2 ^ 17 }
+        requires few { number ≤ most_lines }
         requires place { is_running self.old.stage ≡ true }
         ensures { ReadsTo
             (after_act (record self.old { taken = number }) (dump_act (texts words.now)))
@@ -391,7 +391,7 @@ impl Reader {
     /// Adds a run line.
     fn add(&mut self, number: u32, cpu: u32, act: Act) -> Result<Given, Stop>
         requires next { self.old.taken < number }
-        requires few { number ≤ 2 ^ 17 }
+        requires few { number ≤ most_lines }
         requires place { is_running self.old.stage ≡ true }
         requires cpu { cpu < self.old.config.cpus }
         requires spelt { IsSpelt act }

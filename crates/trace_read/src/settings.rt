@@ -1,5 +1,5 @@
 ghost use Rattle.std.specs.Prelude.{◌≡◌, ◌<◌, ◌≤◌, ◌++◌, [], ◌∷◌, false, length, IfOk, OnOk};
-ghost use Rattle.trace_read.specs.Configuration.{AreOpeningEntries};
+ghost use Rattle.trace_read.specs.Configuration.{AreOpeningEntries, IsTraceOrder, greatest_trace_order};
 ghost use Rattle.trace_read.specs.Entries.{entry_named, with_entry};
 ghost use Rattle.trace_read.specs.Read.{ReadsTo};
 ghost use Rattle.trace_read.specs.TextLines.{texts};
@@ -10,7 +10,7 @@ ghost use Rattle.frame_grants.specs.Grants.{add_refusal};
 ghost use Rattle.pool_range.specs.Ranges.{IsPoolRange};
 
 use crate::acts::{number_at, word_at};
-use crate::config::Config;
+use crate::config::{Config, GREATEST_TRACE_ORDER, MOST_PROCESSORS};
 use crate::entries::EntryLines;
 use crate::entry_line::{is_above, is_stored, layout_named, words_spelt};
 use crate::pool_line::pool_named;
@@ -19,7 +19,7 @@ use crate::why::{Why, grant_why};
 use crate::windows::WindowLines;
 use bus_window::Window;
 use frame_grants::{Grant, Grants};
-use hpte_fields::entry_count;
+use hpte_fields::{LEAST_ORDER, entry_count};
 use std::alloc::Global;
 use std::marker::Model;
 use table_image::ImageEntry;
@@ -81,8 +81,8 @@ impl Settings {
         ensures { result ≡ settings_beside pool_base pool_order }
     {
         Settings {
-            order: 18,
-            limit: 22,
+            order: LEAST_ORDER,
+            limit: GREATEST_TRACE_ORDER,
             cpus: 1,
             pool_base,
             pool_order,
@@ -95,12 +95,16 @@ impl Settings {
     /// `order S`
     #[tactic(auto, unfolding(crate::specs::Settings::with_order))]
     pub fn take_order(&mut self, words: &[&[u8]]) -> Result<(), Why>
-        requires highest { self.old.limit ≡ 22 }
+        requires highest { self.old.limit ≡ greatest_trace_order }
         requires empty { self.old.entries ≡ [] }
         ensures taken { SetsTo (with_order self.old (texts words.now)) result self.old self.new }
         ensures entries { self.new.entries ≡ self.old.entries }
     {
-        self.order = number_within(words, 18, 22)? as u8;
+        self.order = number_within(
+            words,
+            u64::from(LEAST_ORDER),
+            u64::from(GREATEST_TRACE_ORDER),
+        )? as u8;
         Ok(())
     }
 
@@ -110,7 +114,11 @@ impl Settings {
         ensures taken { SetsTo (with_limit self.old (texts words.now)) result self.old self.new }
         ensures entries { self.new.entries ≡ self.old.entries }
     {
-        self.limit = number_within(words, u64::from(self.order), 22)? as u8;
+        self.limit = number_within(
+            words,
+            u64::from(self.order),
+            u64::from(GREATEST_TRACE_ORDER),
+        )? as u8;
         Ok(())
     }
 
@@ -120,7 +128,7 @@ impl Settings {
         ensures taken { SetsTo (with_cpus self.old (texts words.now)) result self.old self.new }
         ensures entries { self.new.entries ≡ self.old.entries }
     {
-        self.cpus = number_within(words, 1, 64)? as u32;
+        self.cpus = number_within(words, 1, u64::from(MOST_PROCESSORS))? as u32;
         Ok(())
     }
 
@@ -252,8 +260,7 @@ impl Settings {
     /// The binary logarithm of the size of the opening table in bytes.
     pub fn order(&self) -> u8
         ensures value { result ≡ self.now.order }
-        ensures at_least { 18 ≤ result }
-        ensures at_most { result ≤ 22 }
+        ensures order { IsTraceOrder result }
     {
         self.order
     }

@@ -5,6 +5,8 @@ ghost use Rattle.trace_read.specs.Places.{is_running};
 ghost use Rattle.trace_read.specs.Read.{Reads, Ends};
 ghost use Rattle.trace_read.specs.TextLines.{texts, words_of, without_cr};
 ghost use Rattle.trace_read.specs.Trace.{IsAccepted};
+ghost use Rattle.trace_read.specs.Configuration.{IsTraceOrder};
+ghost use Rattle.trace_line.specs.Lines.{most_lines};
 
 use crate::given::{Given, LineRefused};
 use crate::lines::{drop_cr, is_text, read_words};
@@ -57,7 +59,7 @@ impl<'a> TraceReader<'a> {
     /// The number of the last line that was taken, and 0 before the first.
     pub fn taken(&self) -> u32
         ensures count { result ≡ self.now.taken }
-        ensures few { result ≤ 2 ^ 17 }
+        ensures few { result ≤ most_lines }
     {
         self.reader.taken()
     }
@@ -72,7 +74,7 @@ impl<'a> TraceReader<'a> {
     /// How many run lines there are so far.
     pub fn lines(&self) -> usize
         ensures count { result ≡ length self.now.lines }
-        ensures few { result ≤ 2 ^ 17 }
+        ensures few { result ≤ most_lines }
     {
         self.reader.lines()
     }
@@ -80,8 +82,7 @@ impl<'a> TraceReader<'a> {
     /// The binary logarithm of the size in bytes of the opening table, as the lines so far have it.
     pub fn order(&self) -> u8
         ensures value { result ≡ self.now.config.order }
-        ensures at_least { 18 ≤ result }
-        ensures at_most { result ≤ 22 }
+        ensures order { IsTraceOrder result }
     {
         self.reader.order()
     }
@@ -99,7 +100,7 @@ impl<'a> TraceReader<'a> {
     #[tactic(auto, unfolding(crate::specs::Grammar::after_line))]
     pub fn line(&mut self, number: u32, line: &'a [u8]) -> Result<Given, LineRefused>
         requires next { self.old.taken < number }
-        requires few { number ≤ 2 ^ 17 }
+        requires few { number ≤ most_lines }
         ensures { Reads
             (after_numbered number self.old line.now)
             (words_of (without_cr line.now))
@@ -124,7 +125,7 @@ impl<'a> TraceReader<'a> {
     /// cut into its words.
     pub fn words(&mut self, number: u32, words: &[&[u8]]) -> Result<Given, LineRefused>
         requires next { self.old.taken < number }
-        requires few { number ≤ 2 ^ 17 }
+        requires few { number ≤ most_lines }
         ensures { Reads
             (after_text (record self.old { taken = number }) (texts words.now))
             (texts words.now)

@@ -1,5 +1,6 @@
 ghost use Rattle.std.specs.Prelude.{◌≡◌, ◌≤◌, ◌^◌, ◌++◌, [], ◌∷◌, length, IfOk, OnOk, OnErr};
 ghost use Rattle.trace_reply.specs.ShownTable.{valid_from, table_shown};
+ghost use Rattle.hpte_fields.specs.TableSize.{entry_count, greatest_order};
 
 use entry_model::EntryState;
 use std::alloc::{AllocError, Global};
@@ -52,7 +53,7 @@ impl ShownStates {
 pub struct Shown {
     /// How many tables there were before.
     pub number: u32,
-    /// The binary logarithm of the size in bytes: 18 to 22.
+    /// The binary logarithm of the size in bytes.
     pub order: u8,
     /// The machine address of the table.
     pub place: u64,
@@ -62,7 +63,7 @@ pub struct Shown {
 
 /// The valid entries of a table, each with its index.
 fn valid_states(alloc: Global, states: &[EntryState]) -> Result<ShownStates, AllocError>
-    requires { length states.now ≤ 2 ^ 18 }
+    requires { length states.now ≤ entry_count greatest_order }
     ensures { IfOk result (λ shown. shown ≡ valid_from 0 states.now) }
 {
     let mut shown = ShownStates::new(alloc);
@@ -85,7 +86,7 @@ impl Shown {
         place: u64,
         states: &[EntryState],
     ) -> Result<Shown, AllocError>
-        requires { length states.now ≤ 2 ^ 18 }
+        requires { length states.now ≤ entry_count greatest_order }
         ensures { IfOk result (λ shown. shown ≡ table_shown number order place states.now) }
     {
         let states = valid_states(alloc, states)?;

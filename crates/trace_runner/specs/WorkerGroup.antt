@@ -5,6 +5,7 @@ use Rattle.run_model.specs.StoreContexts.{StoreContext}
 use Rattle.trace_line.specs.declared.line.TraceLine.{TraceLine}
 use Rattle.trace_runner.specs.declared.worker.Worker.{Worker}
 use Rattle.trace_runner.specs.Workers.{Keeping, IsReady, IsDone, AllNumbered, processors_before}
+use Rattle.trace_read.specs.Configuration.{most_processors}
 
 -- There is one, and they are ready, the first as the processor of this number.
 pub record IsReadyGroup
@@ -19,7 +20,7 @@ pub record IsReadyGroup
     : Type 0
   where
     pub some : 0 < length ws
-    pub few : first + length ws ≤ 64
+    pub few : first + length ws ≤ most_processors
     pub ready : AllNumbered (λ cpu w. IsReady keeps room_in context table cpu lines w) first ws
 
 -- They have run their lines, each at its place.

@@ -5,6 +5,7 @@ ghost use Rattle.bus_window.specs.Windows.{BusWindow};
 ghost use Rattle.trace_line.specs.declared.line.TraceLine.{TraceLine as LineOf};
 ghost use Rattle.trace_runner.specs.Stores.{lines_on_store, AreOnStores};
 ghost use Rattle.trace_runner.specs.StoreRuns.{AddsWindows, AllRunnable, AreRunnable, RanStores, RanTable, RanWindow};
+ghost use Rattle.trace_read.specs.Configuration.{most_processors};
 
 use crate::gate::Gate;
 use crate::log::RunLog;
@@ -31,7 +32,7 @@ fn run_on_table<R: Threads + Wait + Sync, G: Gate + Sync, L: RunLog>(
     logs: &mut Vec<Vec<L>>,
 ) -> Result<Machine, AllocError>
     requires runnable { AreRunnable (length machine.table.processors) lines.now }
-    requires few { length machine.table.processors ≤ 64 }
+    requires few { length machine.table.processors ≤ most_processors }
     ensures { IfOk result
         (λ later. RanTable L.keeps machine lines.now later logs.old.items logs.new.items) }
 {
@@ -72,7 +73,7 @@ fn run_on_window<R: Threads + Wait + Sync, G: Gate + Sync, L: RunLog>(
     lines: &[TraceLine],
 ) -> Result<(WindowEntries, Vec<L>), AllocError>
     requires runnable { AreRunnable count lines.now }
-    requires few { count ≤ 64 }
+    requires few { count ≤ most_processors }
     ensures { IfOk result
         (λ r. RanWindow L.keeps grants.now.grants count lines.now entries r.0 r.1.items) }
 {
@@ -112,7 +113,7 @@ fn run_on_windows<R: Threads + Wait + Sync, G: Gate + Sync, L: RunLog>(
 ) -> Result<Vec<WindowEntries>, AllocError>
     requires size { length dealt.now ≡ 1 + length windows.items }
     requires runnable { AllRunnable count dealt.now }
-    requires few { count ≤ 64 }
+    requires few { count ≤ most_processors }
     ensures { IfOk result
         (λ later. (ws : List BusWindow) (lines : List LineOf)
         → AreOnStores ws lines dealt.now
@@ -154,7 +155,7 @@ pub fn run_stores<R: Threads + Wait + Sync, G: Gate + Sync, L: RunLog>(
     logs: &mut Vec<Vec<L>>,
 ) -> Result<Machine, AllocError>
     requires runnable { AreRunnable (length machine.table.processors) lines.now }
-    requires few { length machine.table.processors ≤ 64 }
+    requires few { length machine.table.processors ≤ most_processors }
     requires none { logs.old.items ≡ [] }
     ensures { IfOk result (λ later. RanStores L.keeps machine lines.now later logs.new.items) }
 {

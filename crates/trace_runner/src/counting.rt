@@ -7,6 +7,7 @@ ghost use Rattle.trace_runner.specs.MachineState.{replies_of, table_end};
 ghost use Rattle.run_model.specs.GoodRun.{IsGoodRun};
 ghost use Rattle.run_model.specs.Assurances.{Assures};
 ghost use Rattle.reply_text.specs.Summary.{IsCountOf};
+ghost use Rattle.trace_line.specs.Lines.{most_lines};
 
 use crate::machine::Machine;
 use crate::opening::open_machine;
@@ -31,7 +32,7 @@ fn count_lines(
     machine: &mut Machine,
     lines: &[TraceLine],
 ) -> Result<CountedRun, AllocError>
-    requires few { length lines.now ≤ 2 ^ 17 }
+    requires few { length lines.now ≤ most_lines }
     requires cpus { AllByRecursion
         (λ (l : TraceLine). l.cpu < length machine.old.table.processors)
         lines.now }

@@ -3,6 +3,7 @@ ghost use Rattle.std.specs.Prelude.{◌≡◌, ◌<◌, ◌≤◌, [], length, I
 ghost use Rattle.std.specs.List.{AllByRecursion};
 ghost use Rattle.trace_line.specs.declared.line.TraceLine.{TraceLine as LineOf};
 ghost use Rattle.trace_runner.specs.DealtLines.{AreDealt, AllEmpty, count_with_own};
+ghost use Rattle.trace_read.specs.Configuration.{most_processors};
 
 use std::alloc::{AllocError, Global};
 use trace_line::TraceLine;
@@ -38,7 +39,7 @@ pub fn deal_lines(
 
 /// How many processors have lines of their own.
 pub fn count_workers(dealt: &[Vec<usize>]) -> u32
-    requires few { length dealt.now ≤ 64 }
+    requires few { length dealt.now ≤ most_processors }
     ensures count { result ≡ count_with_own dealt.now }
 {
     let mut count = 0;

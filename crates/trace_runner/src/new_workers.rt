@@ -1,7 +1,7 @@
 //! The workers of a section: those with lines share the table's passes.
 ghost use Rattle.std.specs.Prelude.{◌≡◌, ◌≢◌, ℕ, ◌+◌, ◌<◌, ◌≤◌, min, List, [], length, vec_len, vec_capacity, IfOk, IsSomeAnd};
 ghost use Rattle.std.specs.List.{AllByRecursion};
-ghost use Rattle.hpte_fields.specs.TableSize.{entry_count};
+ghost use Rattle.hpte_fields.specs.TableSize.{IsTableOrder, entry_count};
 ghost use Rattle.trace_line.specs.declared.line.TraceLine.{TraceLine as LineOf};
 ghost use Rattle.entry_model.specs.Fronts.{opening_fronts};
 ghost use Rattle.tlb_model.specs.Cache.{AllCached};
@@ -10,6 +10,7 @@ ghost use Rattle.run_model.specs.StoreContexts.{StoreContext};
 ghost use Rattle.run_model.specs.HeldLines.{AllHold, Holding};
 ghost use Rattle.trace_runner.specs.DealtLines.{AreDealt, count_with_own};
 ghost use Rattle.trace_runner.specs.Workers.{count_with_lines, processors_before, AreOwn, AreReady, IsFresh, IsReady, IsRest};
+ghost use Rattle.trace_read.specs.Configuration.{most_processors};
 
 use crate::dealing::{count_workers, deal_lines};
 use crate::log::RunLog;
@@ -86,11 +87,10 @@ pub fn open_section<L: RunLog>(
     cpus: &mut Vec<Cpu>,
     lines: &[TraceLine],
 ) -> Result<(LockTable, Vec<Worker<L>>), AllocError>
-    requires low { 18 ≤ order }
-    requires high { order ≤ 22 }
+    requires order { IsTableOrder order }
     requires whole { vec_len states ≡ entry_count order }
     requires some { lines.now ≢ [] }
-    requires few { length cpus.old.items ≤ 64 }
+    requires few { length cpus.old.items ≤ most_processors }
     requires on_cpus { AllByRecursion
         (λ (l : LineOf). l.cpu < length cpus.old.items)
         lines.now }
@@ -129,7 +129,7 @@ fn make_workers<L: RunLog>(
     requires size { length dealt.items ≡ length cpus.old.items }
     requires shares { pass.shares ≡ count_with_own dealt.items }
     requires some { 0 < pass.shares }
-    requires few { length cpus.old.items ≤ 64 }
+    requires few { length cpus.old.items ≤ most_processors }
     requires receipts { (view_of pass).actor.receipts ≡ [] }
     requires fronts { (view_of pass).fronts ≡ opening_fronts table.now.opening.items }
     requires hold { AllHold table.now.opening.items cpus.old.items }

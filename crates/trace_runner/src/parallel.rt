@@ -11,6 +11,8 @@ ghost use Rattle.run_model.specs.Laws.{HasOneProcessor};
 ghost use Rattle.trace_runner.specs.Workers.{NoneQuiet};
 ghost use Rattle.trace_runner.specs.Sectioned.{HasRunFrom, RunsSection, RunsToQuiet};
 ghost use Rattle.trace_runner.specs.ParallelRun.{IsOutputOfRun, IsTextOfRun};
+ghost use Rattle.trace_line.specs.Lines.{most_lines};
+ghost use Rattle.trace_read.specs.Configuration.{most_processors};
 
 use crate::all_stores::run_stores;
 use crate::gate::Gate;
@@ -41,7 +43,7 @@ fn section<R: Threads + Wait + Sync, G: Gate + Sync, L: RunLog>(
     requires cpus { AllByRecursion
         (λ (l : LineOf). l.cpu < length machine.table.processors)
         lines.now }
-    requires few { length machine.table.processors ≤ 64 }
+    requires few { length machine.table.processors ≤ most_processors }
     ensures { IfOk result
         (λ later. RunsSection L.has machine lines.now output.old output.new later) }
 {
@@ -65,7 +67,7 @@ fn section_to_quiet<R: Threads + Wait + Sync, G: Gate + Sync, L: RunLog>(
     requires cpus { AllByRecursion
         (λ (l : LineOf). l.cpu < length machine.table.processors)
         lines.now }
-    requires few { length machine.table.processors ≤ 64 }
+    requires few { length machine.table.processors ≤ most_processors }
     requires cpu { quiet.now.cpu < length machine.table.processors }
     requires number { machine.table.memory.table.number < 2 ^ 32 - 1 }
     ensures { IfOk result
@@ -86,11 +88,11 @@ fn run_sections<R: Threads + Wait + Sync, G: Gate + Sync, L: RunLog>(
     gate: &G,
     lines: &[TraceLine],
 ) -> Result<L::Output, AllocError>
-    requires few { length lines.now ≤ 2 ^ 17 }
+    requires few { length lines.now ≤ most_lines }
     requires cpus { AllByRecursion
         (λ (l : LineOf). l.cpu < length opened.table.processors)
         lines.now }
-    requires few_cpus { length opened.table.processors ≤ 64 }
+    requires few_cpus { length opened.table.processors ≤ most_processors }
     requires number { opened.table.memory.table.number ≡ 0 }
     ensures { IfOk result (HasRunFrom L.has opened lines.now) }
 {

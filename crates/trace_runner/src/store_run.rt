@@ -1,9 +1,10 @@
 //! The lines of a section on one store.
 ghost use Rattle.std.specs.Prelude.{◌≡◌, ◌≤◌, length, vec_len, IfOk};
-ghost use Rattle.hpte_fields.specs.TableSize.{entry_count};
+ghost use Rattle.hpte_fields.specs.TableSize.{IsTableOrder, entry_count};
 ghost use Rattle.run_model.specs.StoreContexts.{context_on};
 ghost use Rattle.run_model.specs.HeldLines.{AllHold};
 ghost use Rattle.trace_runner.specs.StoreRuns.{AreRunnable, RanStore};
+ghost use Rattle.trace_read.specs.Configuration.{most_processors};
 
 use crate::gate::Gate;
 use crate::log::RunLog;
@@ -41,11 +42,10 @@ pub fn run_store<R: Threads + Wait + Sync, G: Gate + Sync, L: RunLog>(
     around: &Surroundings,
     lines: &[TraceLine],
 ) -> Result<StoreRun<L>, AllocError>
-    requires low { 18 ≤ order }
-    requires high { order ≤ 22 }
+    requires order { IsTableOrder order }
     requires whole { vec_len states ≡ entry_count order }
     requires runnable { AreRunnable (length cpus.items) lines.now }
-    requires few { length cpus.items ≤ 64 }
+    requires few { length cpus.items ≤ most_processors }
     requires hold { AllHold states.items cpus.items }
     ensures ran { IfOk
         result

@@ -5,6 +5,7 @@ ghost use Rattle.std.specs.Thread.{IsSync, IsSend};
 ghost use Rattle.run_model.specs.StoreContexts.{context_on};
 ghost use Rattle.trace_runner.specs.Workers.{processors_before, AreDone, AreReady, NoneQuiet};
 ghost use Rattle.trace_runner.specs.WorkerGroup.{IsReadyGroup, RunsGroup};
+ghost use Rattle.trace_read.specs.Configuration.{most_processors};
 
 use crate::gate::Gate;
 use crate::log::ReplyLog;
@@ -27,7 +28,7 @@ pub fn run_workers<R: Threads + Wait + Sync, G: Gate + Sync, L: ReplyLog + Send>
 )
     requires none_quiet { NoneQuiet lines.now }
     requires some { 0 < length workers.old }
-    requires few { length workers.old ≤ 64 }
+    requires few { length workers.old ≤ most_processors }
     requires ready { AreReady
         L.keeps
         L.room

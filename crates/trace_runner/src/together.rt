@@ -3,6 +3,7 @@ ghost use Rattle.std.specs.Prelude.{◌≡◌, ℕ, ◌+◌, ◌<◌, ◌≤◌,
 ghost use Rattle.run_model.specs.StoreContexts.{context_on};
 ghost use Rattle.trace_runner.specs.Workers.{count_with_lines, AreReady, NoneQuiet};
 ghost use Rattle.trace_runner.specs.SectionRun.{RanTogether};
+ghost use Rattle.trace_read.specs.Configuration.{most_processors};
 
 use crate::gate::Gate;
 use crate::log::RunLog;
@@ -40,7 +41,7 @@ pub fn run_together<R: Threads + Wait + Sync, G: Gate + Sync, L: RunLog>(
         workers.items }
     requires some { 0 < table.passes }
     requires passes { table.passes ≡ count_with_lines (length workers.items) 0 lines.now }
-    requires few { length workers.items ≤ 64 }
+    requires few { length workers.items ≤ most_processors }
     requires room_for_cpus { length cpus.old.items + length workers.items
         ≤ vec_capacity cpus.old }
     requires room_for_logs { length logs.old.items + length workers.items

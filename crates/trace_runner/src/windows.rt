@@ -12,6 +12,7 @@ use crate::act::run_on_bus;
 use bus_window::Window;
 use entry_model::EntryState;
 use frame_grants::Grants;
+use hpte_fields::LEAST_ORDER;
 use papr_table::PlainTable;
 use run_model::Surroundings;
 use std::alloc::{AllocError, Global};
@@ -21,7 +22,7 @@ use trace_line::Act;
 use trace_reply::ReplyPlace;
 
 /// The binary logarithm of the bytes of a window's store.
-pub const WINDOW_ORDER: u8 = 18;
+pub const WINDOW_ORDER: u8 = LEAST_ORDER;
 
 /// How many entries that store has: as many as a window may have pages.
 const ENTRIES: usize = 1 << 14;
@@ -37,14 +38,14 @@ pub struct WindowEntries {
 
 impl Model for WindowEntries {
     ghost use Rattle.std.specs.Prelude.{◌≡◌, vec_len};
-    ghost use Rattle.hpte_fields.specs.TableSize.{entry_count};
+    ghost use Rattle.hpte_fields.specs.TableSize.{entry_count, least_order};
     ghost use Rattle.run_model.specs.AllStores.{WindowState};
 
     ghost Value = { WindowState };
 
     ghost view = { λ v. record { window = v.window; states = v.states.items } };
 
-    ghost invariant = { λ v. vec_len v.states ≡ entry_count 18 };
+    ghost invariant = { λ v. vec_len v.states ≡ entry_count least_order };
 }
 
 impl WindowEntries {

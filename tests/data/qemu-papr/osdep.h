@@ -3,9 +3,6 @@
 #include <stdint.h>
 #include <string.h>
 
-#define MIN(a, b) ((a) < (b) ? (a) : (b))
-#define MAX(a, b) ((a) > (b) ? (a) : (b))
-
 enum { MMU_DATA_LOAD, MMU_DATA_STORE, MMU_INST_FETCH };
 
 typedef uint64_t target_ulong;

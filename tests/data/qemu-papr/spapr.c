@@ -4,13 +4,6 @@
 int spapr_irq_post_load(SpaprMachineState *spapr, int version);
 void close_htab_fd(SpaprMachineState *spapr);
 
-int spapr_hpt_shift_for_ramsize(uint64_t ramsize)
-{
-    int shift = MAX(ramsize, 18);
-    shift = MIN(shift, 46); /* Maximum architected size */
-    return shift;
-}
-
 void spapr_free_hpt(SpaprMachineState *spapr)
 {
     qemu_vfree(spapr->htab);

@@ -60,6 +60,18 @@ static inline void *map(size_t length, int kind)
     return memory;
 }
 
+/* The order of the table as the kernel has it, or 0. */
+static inline int order_now(void)
+{
+    int order = 0;
+    FILE *file = fopen(HPT_ORDER, "r");
+    if (file && fscanf(file, "%d", &order) != 1)
+        order = 0;
+    if (file)
+        fclose(file);
+    return order;
+}
+
 /* Asks the kernel for a table of 2^order bytes: 0, or the error. */
 static inline int resize_to(int order)
 {

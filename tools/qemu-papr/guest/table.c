@@ -208,7 +208,8 @@ int main(void)
     mount_all();
     int processors = sysconf(_SC_NPROCESSORS_ONLN);
     int threads = processors < MOST_THREADS ? processors : MOST_THREADS;
-    say("INIT page size %zu, %d processors, %.2f s after the start\n", page, processors, now());
+    say("INIT page size %zu, %d processors, a table of order %d, %.2f s after the start\n", page, processors,
+        order_now(), now());
     double start = now();
     forks(100);
     maps(20);

@@ -62,7 +62,7 @@ impl fmt::Display for Error {
 
 impl core::error::Error for Error {}
 
-/// A table's order isn't from 18 to 22.
+/// A table's order isn't from 18 to 34.
 #[derive(Clone, Copy, Debug, PartialEq, Eq)]
 pub struct BadOrder(pub u8);
 
@@ -70,7 +70,7 @@ impl fmt::Display for BadOrder {
     fn fmt(&self, f: &mut fmt::Formatter<'_>) -> fmt::Result {
         write!(
             f,
-            "the order of a table is from 18 to 22, and not {}",
+            "the order of a table is from 18 to 34, and not {}",
             self.0
         )
     }

@@ -8,6 +8,7 @@ use crate::reply::{Reply, WORDS};
 use crate::resize::{Collision, CommitRefused, Prepared};
 use crate::transfer::{result_of, Layout, TransferRefused};
 use crate::walk::{Access, Walk};
+use alloc::alloc::{alloc_zeroed, handle_alloc_error, Layout as MemoryLayout};
 use alloc::vec;
 use alloc::vec::Vec;
 use core::mem;
@@ -15,7 +16,7 @@ use core::ops::{Range, RangeInclusive};
 use papr_sys::{papr_grants, papr_receipt, papr_reply, papr_resize};
 
 /// The orders that a table may have.
-const ORDERS: RangeInclusive<u64> = 18..=22;
+const ORDERS: RangeInclusive<u64> = 18..=34;
 /// The size of an entry in a guest's table and in an export, in bytes.
 const AN_ENTRY: usize = 16;
 const R: u64 = 0x100;
@@ -41,11 +42,22 @@ struct Lent {
     receipts: *mut papr_receipt,
 }
 
-/// The empty entries of a table of this order.
+/// The empty entries of a table of this order. Memory of the system is taken as it is touched, so
+/// that a large table of which little is used is a small one.
 fn empty_entries(order: u64) -> Option<Vec<Entry>> {
-    ORDERS
-        .contains(&order)
-        .then(|| vec![Entry::default(); (1 << order) / AN_ENTRY])
+    if !ORDERS.contains(&order) {
+        return None;
+    }
+    let count = (1 << order) / AN_ENTRY;
+    let memory = MemoryLayout::array::<Entry>(count).ok()?;
+    // SAFETY: the memory has room for so many entries, and all zero is an empty entry.
+    unsafe {
+        let entries = alloc_zeroed(memory).cast::<Entry>();
+        if entries.is_null() {
+            handle_alloc_error(memory);
+        }
+        Some(Vec::from_raw_parts(entries, count, count))
+    }
 }
 
 impl Table {

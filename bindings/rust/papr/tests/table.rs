@@ -81,7 +81,8 @@ fn the_version() {
 #[test]
 fn orders() {
     assert_eq!(empty_table(22).entries().len(), 1 << 18);
-    for order in [17, 23] {
+    assert_eq!(empty_table(24).entries().len(), 1 << 20);
+    for order in [17, 35] {
         assert_eq!(Table::new(order, grants()).unwrap_err(), BadOrder(order));
     }
 }

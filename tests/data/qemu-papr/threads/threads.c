@@ -4,7 +4,8 @@
  *     threads FOLDER LOCKED PLANT TURNS
  *
  * LOCKED is 1 for one lock, PLANT the number of an enum papr_plant, and TURNS how often each thread calls or walks
- * in each of three stretches. Between the first two the table is resized, and after them a new part begins.
+ * in each of five stretches. Between the first two the table is resized, and the others are parts of their own, of
+ * which the second isn't recorded.
  */
 #include "qemu/osdep.h"
 #include "papr-record.h"
@@ -123,6 +124,16 @@ static void resize(void)
     papr_record_quiet(2, COMMIT, 0, ORDER, done.rc);
 }
 
+/* As if a table were prepared that no trace has. */
+static void pause_part(void)
+{
+    if (papr_record_has(PREPARE, 23, PAPR_H_LONG_BUSY) || !papr_record_has(PREPARE, 23, PAPR_H_RESOURCE))
+        exit(1);
+    papr_record_pause(THREADS + 1, 23);
+    papr_record_quiet(3, PREPARE, 0, 23, PAPR_H_LONG_BUSY);
+    work_together();
+}
+
 int main(int count, char **words)
 {
     const struct papr_grant ram = {0, 1ULL << 58, 1 << 29, false};
@@ -138,6 +149,9 @@ int main(int count, char **words)
     work_together();
     resize();
     work_together();
+    begin_part();
+    work_together();
+    pause_part();
     begin_part();
     work_together();
     papr_record_end();

@@ -1,5 +1,5 @@
-use Rattle.std.proofs.Common.{arith}
-use Rattle.h_enter.proofs.Search.{whole_groups}
+use Rattle.std.proofs.Common.{arith, refl}
+use Rattle.hpte_fields.proofs.TableSizes.{entries_few}
 use Rattle.h_enter.proofs.words.enter_words_into.Goals as goal
 
 pub search-requires-clause-in_table : goal.search-requires-clause-in_table
@@ -10,6 +10,6 @@ search-requires-clause-in_table g c =
 pub search-requires-clause-small : goal.search-requires-clause-small
 search-requires-clause-small g c =
     let order = g.T.EntryStore.table_order c.args.store.now in
-    let size = whole_groups order (omega arith) (omega arith) in
+    let size = entries_few _ order refl (omega arith, omega arith) in
     let inside = c.candidates-first.ensures.in_table order (omega arith) c.requires.in_table in
     omega arith

@@ -2,13 +2,14 @@ use Rattle.std.proofs.Common.{◌∙◌, sym, ap, length, None}
 use Rattle.hpt_resize.specs.TableMemory.{with_states}
 use Rattle.partition.specs.PartitionState.{PartitionState, with_memory}
 use Rattle.history_check.specs.JudgedRun.{run_state_of}
-use Rattle.history_check.proofs.JudgedRuns.{found_in_run, not_in_run, within_text, entries_few}
+use Rattle.history_check.proofs.JudgedRuns.{found_in_run, not_in_run, within_text}
+use Rattle.hpte_fields.proofs.TableSizes.{entries_few}
 use Rattle.history_check.proofs.judged_run.table_found.Goals as goal
 
 pub section_found-found-requires-clause-few : goal.section_found-found-requires-clause-few
 section_found-found-requires-clause-few c =
     entries_few _ _ (ap length c.take_states-states.ensures.states ∙ c.requires.has_states)
-    c.order-order.ensures.sound.order_high
+    c.order-order.ensures.sound.order_fits
 
 pub returns-clause-within : goal.returns-clause-within
 returns-clause-within c = within_text _ _ _ _ _ _ c.section_found-found.ensures.told

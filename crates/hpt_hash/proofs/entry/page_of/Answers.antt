@@ -17,7 +17,7 @@ returns-clause-found c =
 pub returns-clause-exact : goal.returns-clause-exact
 returns-clause-exact c =
     let a = c.args in
-    page_at-exact a.order a.index a.dword0 a.dword1 c.confirmed.result c.requires.order_low
+    page_at-exact a.order a.index a.dword0 a.dword1 c.confirmed.result c.requires.order.0
     c.ranges.dword0.fits (returns-clause-value c)
 
 pub returns-in_err-page-clause-value : goal.returns-in_err-page-clause-value
@@ -28,4 +28,4 @@ pub returns-in_err-page-clause-exact : goal.returns-in_err-page-clause-exact
 returns-in_err-page-clause-exact c =
     let a = c.args in
     page_at-exact a.order a.index a.dword0 a.dword1 c.from_residual-in_err-page.result
-    c.requires.order_low c.ranges.dword0.fits (returns-in_err-page-clause-value c)
+    c.requires.order.0 c.ranges.dword0.fits (returns-in_err-page-clause-value c)

@@ -8,6 +8,8 @@ use Rattle.hpt_resize.proofs.Holders.{held_at, held_set, AreHolders, holders_sta
 use Rattle.hpt_resize.proofs.Placed.{placed_none, placed_skip, placed_more, taken_target, collision_is, no_collision, all_placed, never_collides, carried_valid}
 use Rattle.hpt_resize.proofs.carry.rehash_into.Goals as goal
 use Rattle.hpt_resize.proofs.carry.rehash_into.Goals.{in-Some+else-state, in_default}
+use Rattle.hpte_fields.specs.TableSize.{IsTableOrder, entry_count}
+use Rattle.hpte_fields.proofs.TableSizes.{entries_few}
 
 -- ---- what the code reads
 read_target :
@@ -65,20 +67,17 @@ first-requires-clause-taken g c =
 -- Indices of a table fit the type of an index.
 small :
     (order count i : ℕ)
-    → order ≤ 22
-    → count ≡ 2 ^ (order - 4)
+    → IsTableOrder order
+    → count ≡ entry_count order
     → i < count
     → i < 4294967296
-small order count i high whole below =
-    let bound : 2 ^ (order - 4) ≤ 2 ^ 18 = pow-le-pow_right {n = 2} (omega arith) {i = order - 4}
-    {j = 18} (omega (arith, high)) in
-    omega (arith, bound, whole, below)
+small order count i fits whole below = omega (arith, entries_few count order whole fits, below)
 
 pub overflow_cast-result : goal.overflow_cast-result
 overflow_cast-result g c =
     let same = length-map c.args.states.now g.H.StateHolder.held in
     let fits = small c.args.order_from (length (map g.H.StateHolder.held c.args.states.now))
-    c.first.result c.requires.from_high c.requires.whole
+    c.first.result c.requires.from c.requires.whole
     (omega (arith, same, c.first.ensures.below, c.loop-index-test.true)) in
     omega (arith, fits)
 
@@ -86,7 +85,7 @@ pub overflow_cast-result-then-state : goal.overflow_cast-result-then-state
 overflow_cast-result-then-state g c =
     let same = length-map c.args.states.now g.H.StateHolder.held in
     let fits = small c.args.order_from (length (map g.H.StateHolder.held c.args.states.now))
-    c.loop-index.index c.requires.from_high c.requires.whole
+    c.loop-index.index c.requires.from c.requires.whole
     (omega (arith, same, c.loop-index-test.true)) in
     omega (arith, fits)
 
@@ -109,7 +108,7 @@ returns-then-state-clause-never g c =
     λ larger.
     absurd
     (never_collides c.args.order_from c.args.order_to (map held c.args.states.now) c.first.result
-    c.loop-index.index c.in-Some.target c.requires.from_low larger
+    c.loop-index.index c.in-Some.target c.requires.from.0 larger
     (read_target held c.args.order_from c.args.order_to c.loop-index.index c.args.states.now
     c.index-states-index.result c.state-state.result (Some c.in-Some.target)
     c.target_index.result c.loop-index-test.true c.index-states-index.is c.state-state.ensures

@@ -10,9 +10,9 @@ returns-clause-in_new_table c =
       | then-secondary w ↦
           let below : c.if-secondary.group < group_count c.args.order_to = omega
           (arith, w.group-is, c.groups-first.ensures.secondary_in_table) in
-          slot_in_table c.args.order_to c.if-secondary.group c.args.index c.requires.to_low below
+          slot_in_table c.args.order_to c.if-secondary.group c.args.index c.requires.to.0 below
       | else-secondary w ↦
           let below : c.if-secondary.group < group_count c.args.order_to = omega
           (arith, w.group-is, c.groups-first.ensures.primary_in_table) in
-          slot_in_table c.args.order_to c.if-secondary.group c.args.index c.requires.to_low below
+          slot_in_table c.args.order_to c.if-secondary.group c.args.index c.requires.to.0 below
     ]

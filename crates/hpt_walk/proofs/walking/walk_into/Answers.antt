@@ -3,6 +3,7 @@ use Rattle.std.proofs.Common.{◌≡◌, List, Some, true, false, ap, sym, ◌�
 use Rattle.entry_model.specs.declared.receipt.Receipt.{Receipt}
 use Rattle.entry_model.specs.Receipt.{is_no_match, found_of}
 use Rattle.entry_model.specs.Trial.{IsTrial, receipts_added}
+use Rattle.hpte_fields.proofs.TableSizes.{groups_few}
 use Rattle.hpt_hash.specs.Hash.{group_of}
 use Rattle.hpt_walk.specs.Walk.{group_calls, walk_calls}
 use Rattle.hpt_walk.proofs.Found.{found_joined}
@@ -13,8 +14,13 @@ use Rattle.hpt_walk.proofs.walking.walk_into.Goals as goal
 pub search-requires-clause-in_table : goal.search-requires-clause-in_table
 search-requires-clause-in_table g c =
     rw (← c.order.ensures.value)
-    (group_in_table c.order.result c.groups-primary.result.0 c.order.ensures.low
+    (group_in_table c.order.result c.groups-primary.result.0 c.order.ensures.order.0
     c.groups-primary.ensures.primary_in_table)
+
+pub search-requires-clause-small : goal.search-requires-clause-small
+search-requires-clause-small g c =
+    groups_few c.groups-primary.result.0 c.order.result
+    c.groups-primary.ensures.primary_in_table c.order.ensures.order
 
 pub returns-in-Some-clause-trial : goal.returns-in-Some-clause-trial
 returns-in-Some-clause-trial g c =
@@ -53,8 +59,13 @@ search-requires-2-clause-in_table g c =
     let stays : g.T.EntryStore.table_order c.search.new.store ≡ c.order.result =
     g.met.T.EntryStore.order_stays _ _ _ c.search.ensures.made ∙ sym c.order.ensures.value in
     rw stays
-    (group_in_table c.order.result c.groups-primary.result.1 c.order.ensures.low
+    (group_in_table c.order.result c.groups-primary.result.1 c.order.ensures.order.0
     c.groups-primary.ensures.secondary_in_table)
+
+pub search-requires-2-clause-small : goal.search-requires-2-clause-small
+search-requires-2-clause-small g c =
+    groups_few c.groups-primary.result.1 c.order.result
+    c.groups-primary.ensures.secondary_in_table c.order.ensures.order
 
 pub returns-clause-made : goal.returns-clause-made
 returns-clause-made g c =

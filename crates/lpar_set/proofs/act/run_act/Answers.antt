@@ -2,7 +2,7 @@ use Rattle.entry_model.proofs.Runs.{run-length}
 use Rattle.hpt_walk.specs.Access.{access_context}
 use Rattle.run_model.specs.StoreContexts.{table_context}
 use Rattle.trace_reply.specs.Places.{reply_in}
-use Rattle.lpar_set.proofs.Acting.{alone}
+use Rattle.run_model.proofs.PlainTables.{alone}
 use Rattle.lpar_set.proofs.act.run_act.Goals as goal
 
 pub returns-clause-reply : goal.returns-clause-reply

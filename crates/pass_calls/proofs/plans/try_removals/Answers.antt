@@ -8,7 +8,7 @@ pub try_calls-requires-clause-fits : goal.try_calls-requires-clause-fits
 try_calls-requires-clause-fits g c =
     let eight : length c.args.pairs.now ≡ 8 = omega arith in
     let low : 18 ≤ c.args.order = rw (c.requires.fits, ← c.order-order.ensures.value)
-    c.order-order.ensures.low in
+    c.order-order.ensures.order.0 in
     subst (λ order. AreCallsIn order (h_bulk_remove_plan c.args.order c.args.pairs.now).calls)
     c.requires.fits
     (removals_in c.args.order c.args.pairs.now low eight)

@@ -1,7 +1,7 @@
 use Rattle.entry_model.proofs.Runs.{run-length}
 use Rattle.run_model.specs.StoreContexts.{context_on}
 use Rattle.trace_reply.specs.Places.{reply_in}
-use Rattle.trace_runner.proofs.Acting.{alone}
+use Rattle.run_model.proofs.PlainTables.{alone}
 use Rattle.trace_runner.proofs.act.run_alone.Goals as goal
 
 pub returns-clause-reply : goal.returns-clause-reply

@@ -7,6 +7,7 @@ use Rattle.trace_runner.proofs.MergedReplies.{each_at}
 use Rattle.trace_runner.proofs.SectionsRun.{part, done_none, done_more, put_more, run_ended, no_quiet_more, no_quiet_yet, part_each, section_processors, section_number}
 use Rattle.trace_runner.proofs.parallel.run_sections.Goals as goal
 use Rattle.trace_runner.proofs.parallel.run_sections.Goals.{then-is_quiet+in_ok-machine, else-is_quiet}
+use Rattle.trace_read.specs.Configuration.{most_processors}
 
 -- what a read past the end would give
 abbrev d : TraceLine
@@ -32,7 +33,7 @@ section_to_quiet-requires-clause-cpus g c κs within =
 
 pub section_to_quiet-requires-clause-few : goal.section_to_quiet-requires-clause-few
 section_to_quiet-requires-clause-few g c κs within =
-    subst (λ n. n ≤ 64) (sym c.loop-i.invariant.processors) c.requires.few_cpus
+    subst (λ n. n ≤ most_processors) (sym c.loop-i.invariant.processors) c.requires.few_cpus
 
 pub section_to_quiet-requires-clause-cpu : goal.section_to_quiet-requires-clause-cpu
 section_to_quiet-requires-clause-cpu g c κs within =
@@ -106,7 +107,7 @@ section-requires-clause-cpus g c κs within =
 
 pub section-requires-clause-few : goal.section-requires-clause-few
 section-requires-clause-few g c κs within =
-    subst (λ n. n ≤ 64) (sym c.loop-i.invariant.processors) c.requires.few_cpus
+    subst (λ n. n ≤ most_processors) (sym c.loop-i.invariant.processors) c.requires.few_cpus
 
 pub returns : goal.returns
 returns g c =

@@ -17,8 +17,10 @@
 #include <x86intrin.h>
 
 #define H_REMOVE 0x04
+#define H_RESIZE_HPT_PREPARE 0x36c
 #define QEMU_ALIGNED(bytes) __attribute__((aligned(bytes)))
 #define MAX(a, b) ((a) > (b) ? (a) : (b))
+#define MIN(a, b) ((a) < (b) ? (a) : (b))
 
 #define g_autofree
 #define g_free free

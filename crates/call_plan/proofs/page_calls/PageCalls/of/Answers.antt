@@ -1,8 +1,17 @@
 use Rattle.std.proofs.Common.{◌*◌, arith}
 use Rattle.entry_model.proofs.TrialSteps.{calls_from}
 use Rattle.call_trials.proofs.Rows.{row_in, both_in}
+use Rattle.hpte_fields.proofs.TableSizes.{groups_few}
 use Rattle.hpt_walk.proofs.Walks.{group_in_table}
 use Rattle.call_plan.proofs.page_calls.PageCalls.of.Goals as goal
+
+pub invariant_of-result : goal.invariant_of-result
+invariant_of-result c =
+    let few = c.requires.order in
+    let groups = c.groups-primary.ensures in record {
+      primary_small = groups_few _ _ groups.primary_in_table few;
+      secondary_small = groups_few _ _ groups.secondary_in_table few;
+    }
 
 pub returns-clause-fits : goal.returns-clause-fits
 returns-clause-fits c =
@@ -12,9 +21,9 @@ returns-clause-fits c =
     both_in order (calls_from c.access_op.result primary 8)
     (calls_from c.access_op-2.result secondary 8)
     (row_in order c.access_op.result primary 8
-    (group_in_table order _ c.requires.low c.groups-primary.ensures.primary_in_table)
+    (group_in_table order _ c.requires.order.0 c.groups-primary.ensures.primary_in_table)
     c.access_op.ensures.normal (omega arith))
     (row_in order c.access_op-2.result secondary 8
-    (group_in_table order _ c.requires.low c.groups-primary.ensures.secondary_in_table)
+    (group_in_table order _ c.requires.order.0 c.groups-primary.ensures.secondary_in_table)
     c.access_op-2.ensures.normal (omega arith))
     (omega arith)

@@ -16,10 +16,11 @@ invariant_of-result c =
     (sym c.config.view_is) in
     record {
       member = record {
-        limit_low = omega (arith, settings.at_least, settings.within);
-        limit_high = settings.at_most;
-        order_low = settings.at_least;
-        order_high = omega (arith, settings.within, settings.at_most);
+        limit_fits = (
+          omega (arith, settings.at_least, settings.within),
+          omega (arith, settings.at_most),
+        );
+        order_fits = (settings.at_least, omega (arith, settings.within, settings.at_most));
         whole = ap length states ∙ opening-length c.config.inside.order c.config.inside.entries;
       };
       hold = rw c.in_ok-cpus.ensures (empty_hold _ _);

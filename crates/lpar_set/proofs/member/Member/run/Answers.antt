@@ -17,10 +17,8 @@ invariant_of-self c =
     let is = c.self.invariant.member in
     record {
       member = record {
-        limit_low = is.limit_low;
-        limit_high = is.limit_high;
-        order_low = is.order_low;
-        order_high = is.order_high;
+        limit_fits = is.limit_fits;
+        order_fits = is.order_fits;
         whole = ap length c.close.ensures ∙ c.run_act.ensures.size ∙ ap length before ∙ is.whole;
       };
       hold = rw c.close.ensures holding;

@@ -3,6 +3,7 @@ use Rattle.lpar_set.specs.SetGrammar.{SetReading}
 use Rattle.lpar_set.proofs.ReadLines.{IsAt, own_may, own_adds}
 use Rattle.lpar_set.proofs.ReaderFields.{fields_read}
 use Rattle.lpar_set.proofs.set_reader.SetReader.take_own.Goals as goal
+use Rattle.hpte_fields.specs.TableSize.{greatest_order, least_order}
 
 pub add-requires : goal.add-requires
 add-requires c =
@@ -16,10 +17,10 @@ add-requires c =
       value = c.index_mut.ensures.value;
       is = c.in-Some.is;
     } in
-    let low : 18 ≤ c.in-Some.reader.config.order = omega
-    (arith, c.order-order.ensures.value, c.order-order.ensures.at_least) in
-    let high : c.in-Some.reader.config.order ≤ 22 = omega
-    (arith, c.order-order.ensures.value, c.order-order.ensures.at_most) in
+    let low : least_order ≤ c.in-Some.reader.config.order = omega
+    (arith, c.order-order.ensures.value, c.order-order.ensures.order.0) in
+    let high : c.in-Some.reader.config.order ≤ greatest_order = omega
+    (arith, c.order-order.ensures.value, c.order-order.ensures.order.1) in
     record {
       may =
           own_may v c.args.self.now c.args.number c.from.result c.index_mut.result.now

@@ -1,4 +1,4 @@
-use Rattle.std.proofs.Common.{◌≡◌, length, ap, sym, ◌∙◌, subst, Option}
+use Rattle.std.proofs.Common.{◌≡◌, length, ap, sym, ◌∙◌, subst, Option, arith, ◌≤◌}
 use Rattle.hpt_pool.specs.Pool.{no_blocks}
 use Rattle.hpt_resize.specs.Pending.{PendingTable}
 use Rattle.trace_read.specs.Configuration.{Configuration}
@@ -8,6 +8,7 @@ use Rattle.partition.proofs.Opening.{IsOpened, is_opened, has_place, sound_pool,
 use Rattle.hpt_resize.specs.TableMemory.{empty_states, with_entries}
 use Rattle.hpt_resize.proofs.OpeningStates.{opening-length}
 use Rattle.partition.proofs.partition_state.Partition.open.Goals as goal
+use Rattle.hpte_fields.specs.TableSize.{greatest_order}
 
 pub accepted-range-requires : goal.accepted-range-requires
 accepted-range-requires c =
@@ -52,7 +53,8 @@ made :
     → IsOpened (config c) c.take.new.self c.unwrap-place.result c.in_ok-states.states.items
     c.copy-grants.result
 made c =
-    let small = c.config.invariant.0.settings.at_most in
+    let small : c.config.inside.limit ≤ greatest_order =
+    omega (arith, c.config.invariant.0.settings.at_most) in
     is_opened (config c) c.in_ok-pool.pool c.take.new.self c.take.result c.unwrap-place.result
     c.in_ok-states.states.items c.copy-grants.result c.config.invariant.0.settings.at_least
     c.config.invariant.0.settings.within small c.copy-grants.ensures.value

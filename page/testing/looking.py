@@ -64,7 +64,7 @@ ENTRIES = (
     ("0x1005", "0x2000012", "old", "0x8", {"page": "16 MB", ADDRESS: "0x2000000", OFFSET: "0x0"}),
     ("0x1005", "0x2000012", "old", "", {"page": "16 MB", ADDRESS: "0x2000000", OFFSET: "0x0"}),
     ("0x1005", "0x2000012", "old", "0x20", {"page": OTHER_GROUP, "VSID": "–"}),
-    ("0x1001", "0x3012", "old", "0x40000", {"page": "none: no table has this index"}),
+    ("0x1001", "0x3012", "old", "0x40000000", {"page": "none: no table has this index"}),
     ("0x1000001", "0x0400000000003012", "new", "", {"segment (B)": "1 TB", "VSID": "0x1"}),
     ("0x4000000001000001", "0x3012", "old", "", {"segment (B)": "1 TB", "VSID": "0x1"}),
     ("0x8000000000001001", "0x3012", "old", "", {"page": NO_SEGMENT, "segment (B)": "–", "valid (V)": "yes"}),

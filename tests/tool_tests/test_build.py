@@ -1,6 +1,7 @@
 """Tests of builds by a stand-in for the toolchain: the libraries for C, builds that are ended, and what goes wrong."""
 
 import os
+import re
 import shutil
 import signal
 
@@ -304,7 +305,7 @@ class GoneWrong(BuildTest):
         message = f"build: low could not be built; {self.checkout.log} says why"
         self.assert_failed(self.checkout.papr("run"), message)
         jobs = 1 if len(os.sched_getaffinity(0)) == 1 else 2
-        self.assertEqual(self.checkout.logged().count("\nstatus -9, 0 s\n"), jobs)
+        self.assertEqual(len(re.findall(r"\nstatus -9, [0-9]+ s\n", self.checkout.logged())), jobs)
         self.assertIn(" --jobs 1 ", self.checkout.logged())
 
     def test_a_build_that_is_killed_is_begun_anew_by_the_next(self) -> None:

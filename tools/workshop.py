@@ -6,6 +6,7 @@ The crates below are proved as ./papr proves them, and kept. What is made on the
 import fcntl
 import os
 import re
+import shutil
 import subprocess
 from dataclasses import dataclass
 from pathlib import Path
@@ -84,9 +85,14 @@ class Workshop:
         root = CRATES / crate / "src" / "lib.rt"
         made = kept.with_suffix(".a")
         words = self.kit.reading(crate, root, line, self.built, min(2, os.cpu_count() or 1))
-        words += ["--crate-type", "staticlib", "--toolchain", str(self.keeping_toolchain(kept))]
+        tools = self.keeping_toolchain(kept)
+        words += ["--crate-type", "staticlib", "--toolchain", str(tools)]
         words += ["--incremental", str(self.work / f"incremental-{crate}"), "-o", str(made)]
-        said = run([*words, *(["--target", target] if target else [])])
+        try:
+            said = run([*words, *(["--target", target] if target else [])])
+        finally:
+            # It has links, and the gate takes none below the sources' folder.
+            shutil.rmtree(tools, ignore_errors=True)
         if not re.search(r"^logic=proved ", said, re.MULTILINE):
             raise Bad(f"{crate} isn't proved:\n{said[-2_000:]}")
         return made

@@ -3,7 +3,6 @@ pub mod Stale
 pub mod Replies
 pub mod Tables
 pub mod Grants
-pub mod Hcalls
 pub mod Rights
 pub mod Accesses
 pub mod WalkEnds

@@ -1,17 +1,16 @@
 -- The removals of a bulk removal as a list of calls.
-use Rattle.std.proofs.Common.{◌≡◌, ℕ, zero, suc, ◌+◌, ◌-◌, ◌*◌, ◌<◌, ◌≤◌, List, [], ◌∷◌, ◌++◌, Option, Some, None, true, false, length, drop, take, get_or, refl, ap, sym, ◌∙◌, arith, append_assoc}
+use Rattle.std.proofs.Common.{◌≡◌, ℕ, zero, suc, ◌*◌, ◌<◌, ◌≤◌, List, [], ◌∷◌, Option, Some, None, length, drop, refl, ap, sym, ◌∙◌, arith}
 use Rattle.std.specs.List.{AllByRecursion}
-use Rattle.std.proofs.lemmas.List.{drop_more, drop_all}
+use Rattle.std.proofs.lemmas.List.{drop_all}
 use Rattle.entry_model.specs.declared.operation.Op.{Op}
-use Rattle.entry_model.specs.declared.operation.Test.{Test}
 use Rattle.entry_model.specs.Receipt.{IsNormal}
 use Rattle.entry_model.specs.Trial.{Call}
-use Rattle.call_trials.specs.Calls.{call_at, AreCallsIn}
-use Rattle.h_update.specs.declared.bulk.Asked.{Asked}
-use Rattle.h_update.specs.declared.bulk.Asked.TheVariants.{End, Remove, Refused}
-use Rattle.h_update.specs.Bulk.{Pair, pairs_of, asked_by, calls_before, bulk_calls, h_bulk_remove_plan}
-use Rattle.h_update.proofs.BulkSteps.{pair, asked_at, first_pair}
-use Rattle.h_update.proofs.InTable.{h_bulk_remove_within}
+use Rattle.entry_model.specs.Calls.{call_at, AreCallsIn}
+use Rattle.call_plan.specs.declared.bulk.Asked.{Asked}
+use Rattle.call_plan.specs.declared.bulk.Asked.TheVariants.{End, Remove, Refused}
+use Rattle.call_plan.specs.Bulk.{Pair, pairs_of, asked_by, calls_before, bulk_calls, h_bulk_remove_plan}
+use Rattle.call_plan.proofs.BulkSteps.{asked_at, first_pair}
+use Rattle.call_plan.proofs.InTable.{h_bulk_remove_within}
 use Rattle.entry_model.specs.declared.operation.Op.TheVariants as ops
 use Rattle.hpte_fields.specs.TableSize.{least_order}
 

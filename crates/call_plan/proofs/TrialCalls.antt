@@ -4,8 +4,8 @@ use Rattle.std.proofs.lemmas.Bool.{cases_Bool}
 use Rattle.entry_model.specs.declared.operation.Answer
 use Rattle.entry_model.specs.declared.receipt.Receipt.{Receipt}
 use Rattle.entry_model.specs.Trial.{Call, IsTrial}
-use Rattle.call_trials.specs.Calls.{AreCallsIn}
-use Rattle.call_trials.proofs.Rows.{row_in, row_length}
+use Rattle.entry_model.specs.Calls.{AreCallsIn}
+use Rattle.entry_model.proofs.CallRows.{row_in, row_length}
 use Rattle.call_plan.specs.declared.plan.Trial.{Trial}
 use Rattle.call_plan.specs.declared.plan.Told.{Told}
 use Rattle.call_plan.specs.declared.plan.Told.TheVariants.{Entered, Answer, Contents}

@@ -1,5 +1,5 @@
 -- The plan that a value of the code stands for.
-use Rattle.std.specs.Prelude.{◌≡◌, ℕ, ◌+◌, ◌≤◌, List, map, flat_map}
+use Rattle.std.specs.Prelude.{◌≡◌, ℕ, ◌+◌, ◌≤◌, Bool, true, List, map, flat_map}
 use Rattle.std.specs.List.{range_with_len}
 use Rattle.hpte_fields.specs.TableSize.{entry_count}
 use Rattle.papr_codes.specs.declared.codes.Rc.{Rc}
@@ -7,14 +7,13 @@ use Rattle.papr_codes.specs.declared.codes.Rc.TheVariants.{Success}
 use Rattle.entry_model.specs.declared.operation.Op.{Op}
 use Rattle.entry_model.specs.declared.operation.Op.TheVariants.{Read}
 use Rattle.entry_model.specs.declared.receipt.Receipt.{Receipt}
-use Rattle.entry_model.specs.Receipt.{IsNormal}
-use Rattle.entry_model.specs.declared.trial.GoesOn.{GoesOn}
-use Rattle.entry_model.specs.declared.trial.GoesOn.TheVariants.{WhileTaken, Always}
-use Rattle.entry_model.specs.Trial.{Plan, call, goes_after, plan_of_code}
-use Rattle.h_enter.specs.Enter.{enter_told}
-use Rattle.h_update.specs.Single.{told_by, both_words}
-use Rattle.h_update.specs.Bulk.{h_bulk_remove_plan}
-use Rattle.h_update.specs.ShownWords.{words_shown}
+use Rattle.entry_model.specs.Receipt.{IsNormal, is_taken}
+use Rattle.entry_model.specs.declared.operation.Answer
+use Rattle.entry_model.specs.Trial.{Plan, call, plan_of_code}
+use Rattle.call_plan.specs.Enter.{enter_told}
+use Rattle.call_plan.specs.Single.{told_by, both_words}
+use Rattle.call_plan.specs.Bulk.{h_bulk_remove_plan}
+use Rattle.call_plan.specs.ShownWords.{words_shown}
 use Rattle.call_plan.specs.declared.plan.Told.{Told}
 use Rattle.call_plan.specs.declared.plan.Told.TheVariants.{Entered, Answer, Contents}
 use Rattle.call_plan.specs.declared.plan.Trial.{Trial}
@@ -22,10 +21,9 @@ use Rattle.call_plan.specs.declared.plan.CallPlan.{CallPlan}
 use Rattle.call_plan.specs.declared.plan.CallPlan.TheVariants.{Code, Tries, Removes}
 
 -- After which answers the next entry is tried: H_ENTER looks for an entry that is empty.
-abbrev pub goes_of : Told → GoesOn
-goes_of Entered = WhileTaken
-goes_of (Answer shown) = Always
-goes_of Contents = Always
+abbrev pub goes_of : Told → Answer.Answer → Bool
+goes_of Entered = is_taken
+goes_of other = λ answer. true
 
 -- The code and the words that receipts tell.
 abbrev pub told_of : Told → List Receipt → Rc × List ℕ
@@ -37,7 +35,7 @@ told_of Contents = λ rs. (Success, flat_map both_words rs)
 abbrev pub plan_of_trial : Trial → Plan
 plan_of_trial t = record {
   calls = map (call t.op) (range_with_len t.first t.count);
-  goes_on = goes_after (goes_of t.told);
+  goes_on = goes_of t.told;
   told = told_of t.told;
 }
 

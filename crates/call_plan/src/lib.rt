@@ -2,22 +2,27 @@
 //! after which answers it goes on to the next, and what its receipts tell.
 //!
 //! Each call of LoPAR on page table entries has a function that gives its [`CallPlan`], and
-//! [`run_plan`] runs any of these over any store of entries.
+//! [`run_plan`] makes any of these on any store of entries.
 #![tactic(auto)]
 
-mod page_calls;
+mod bulk;
+mod entering;
+mod numbered;
 mod plan;
-mod plans;
+mod reading;
 mod removals;
 mod running;
+mod shown;
+mod single;
 mod telling;
 
-pub use page_calls::PageCalls;
+pub use bulk::{Asked, answered, asked_by, ill_formed, removal_registers};
+pub use entering::{enter_plan, words_plan};
+pub use numbered::plan_of_hcall;
 pub use plan::{CallPlan, Told, Trial};
-pub use plans::{
-    bulk_remove_plan, clear_mod_plan, clear_ref_plan, enter_plan, protect_plan, read_plan,
-    remove_plan,
-};
-pub use removals::Removals;
-pub use running::run_plan;
-pub use telling::told_registers;
+pub use reading::read_plan;
+pub use removals::{Removals, bulk_remove_plan};
+pub use running::{reply_plan, run_plan};
+pub use shown::ShownWords;
+pub use single::{clear_mod_plan, clear_ref_plan, protect_plan, remove_plan};
+pub use telling::{answered_registers, entered_registers, told_registers};

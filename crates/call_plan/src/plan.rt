@@ -1,8 +1,7 @@
 ghost use Rattle.std.specs.Prelude.{◌+◌, ◌<◌, ◌^◌};
 
-use call_trials::CallList;
-use entry_model::{Answer, GoesOn, Op};
-use h_update::ShownWords;
+use crate::shown::ShownWords;
+use entry_model::{Answer, CallList, Op};
 use papr_codes::Rc;
 
 /// What the receipts of a trial tell: the return code and the words. It follows after which answers
@@ -48,14 +47,14 @@ impl Told {
     ghost use Rattle.std.specs.Prelude.{◌≡◌};
     ghost use Rattle.call_plan.specs.Plans as plans;
 
-    /// After which answers the next entry is tried.
+    /// Whether the next entry is tried after this answer: H_ENTER looks for an entry that is empty.
     #[inline]
-    pub fn goes_on(self) -> GoesOn
-        ensures { result ≡ plans.goes_of self }
+    pub fn goes_on_after(self, answer: Answer) -> bool
+        ensures { result ≡ plans.goes_of self answer }
     {
         match self {
-            Told::Entered => GoesOn::WhileTaken,
-            Told::Answer { .. } | Told::Contents => GoesOn::Always,
+            Told::Entered => matches!(answer, Answer::Taken),
+            Told::Answer { .. } | Told::Contents => true,
         }
     }
 }
@@ -78,6 +77,6 @@ impl CallList for Trial {
 
     #[inline(always)]
     fn goes_on_after(&self, answer: Answer) -> bool {
-        self.told.goes_on().after(answer)
+        self.told.goes_on_after(answer)
     }
 }

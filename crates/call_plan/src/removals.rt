@@ -1,9 +1,11 @@
-ghost use Rattle.std.specs.Prelude.{◌≡◌, ◌≤◌, length};
+ghost use Rattle.std.specs.Prelude.{◌≡◌, length};
 ghost use Rattle.hpte_fields.specs.TableSize.{IsTableOrder};
+ghost use Rattle.call_plan.specs.Bulk.{h_bulk_remove_plan};
+ghost use Rattle.call_plan.specs.Plans.{plan_of, Fits};
 
-use call_trials::CallList;
-use entry_model::{Answer, Op};
-use h_update::{Asked, asked_by};
+use crate::bulk::{Asked, asked_by};
+use crate::plan::CallPlan;
+use entry_model::{Answer, CallList, Op};
 
 /// The removals of H_BULK_REMOVE: what four pairs of words ask of a table of `2^order` bytes, up to
 /// the first pair that asks for none.
@@ -18,7 +20,7 @@ pub struct Removals<'a> {
 }
 
 impl<'a> CallList for Removals<'a> {
-    ghost use Rattle.h_update.specs.Bulk.{h_bulk_remove_plan};
+    ghost use Rattle.call_plan.specs.Bulk.{h_bulk_remove_plan};
 
     ghost calls = { λ r. (h_bulk_remove_plan r.order r.pairs.now).calls };
 
@@ -37,8 +39,17 @@ impl<'a> CallList for Removals<'a> {
     }
 
     #[inline]
-    #[tactic(auto, unfolding(h_update::specs::Bulk::h_bulk_remove_plan))]
+    #[tactic(auto, unfolding(crate::specs::Bulk::h_bulk_remove_plan))]
     fn goes_on_after(&self, answer: Answer) -> bool {
         !matches!(answer, Answer::Worn)
     }
+}
+
+/// H_BULK_REMOVE (LoPAR): removes the entries that four pairs of words ask for.
+#[inline]
+pub fn bulk_remove_plan<'a>(order: u8, pairs: &'a [u64; 8]) -> CallPlan<'a>
+    ensures plan { plan_of result ≡ h_bulk_remove_plan order pairs.now }
+    ensures fits { Fits order result }
+{
+    CallPlan::Removes { order, pairs }
 }

@@ -1,14 +1,13 @@
-ghost use Rattle.std.specs.Prelude.{◌≡◌};
 ghost use Rattle.entry_model.specs.Replies.{reply_with};
 ghost use Rattle.entry_model.specs.Trial.{IsReplyOf};
+ghost use Rattle.call_plan.specs.Bulk.{h_bulk_remove_plan};
 ghost use Rattle.call_plan.specs.Plans.{plan_of, plan_of_trial, Fits, IsTrialIn};
 
+use crate::bulk::removal_registers;
 use crate::plan::{CallPlan, Trial};
+use crate::removals::Removals;
 use crate::telling::told_registers;
-use call_trials::make_trial;
-use entry_model::{EntryStore, Receipts, Registers};
-use h_update::h_bulk_remove_into;
-use papr_codes::Rc;
+use entry_model::{EntryStore, HReply, Receipts, Registers, make_trial};
 
 /// Tries entries of a store with one operation.
 #[inline]
@@ -19,6 +18,23 @@ fn run_trial<T: EntryStore>(store: &mut T, trial: &Trial, receipts: &mut Receipt
 {
     let ending = make_trial(store, trial, receipts);
     told_registers(trial.told, &ending, receipts.as_slice())
+}
+
+/// Makes the removals of H_BULK_REMOVE.
+fn run_removals<T: EntryStore>(
+    store: &mut T,
+    pairs: &[u64; 8],
+    receipts: &mut Receipts,
+) -> Registers
+    ensures made { T.made store.old store.new receipts.new }
+    ensures reply { IsReplyOf
+        (h_bulk_remove_plan (T.table_order store.old) pairs.now)
+        (reply_with result receipts.new) }
+{
+    let order = store.order();
+    let removals = Removals { order, pairs };
+    let _ending = make_trial(store, &removals, receipts);
+    removal_registers(order, pairs, receipts.as_slice())
 }
 
 /// Makes a call on the entries of a store, with its receipts in place of what is in `receipts`.
@@ -33,6 +49,17 @@ pub fn run_plan<T: EntryStore>(store: &mut T, plan: &CallPlan, receipts: &mut Re
             Registers::with_code(*rc)
         }
         CallPlan::Tries { trial } => run_trial(store, trial, receipts),
-        CallPlan::Removes { order: _, pairs } => h_bulk_remove_into(store, pairs, receipts),
+        CallPlan::Removes { order: _, pairs } => run_removals(store, pairs, receipts),
     }
+}
+
+/// Makes a call on the entries of a store, and gives its whole reply.
+pub fn reply_plan<T: EntryStore>(store: &mut T, plan: &CallPlan) -> HReply
+    requires { Fits (T.table_order store.old) plan.now }
+    ensures made { T.made store.old store.new result.receipts }
+    ensures reply { IsReplyOf (plan_of plan.now) result }
+{
+    let mut receipts = Receipts::new();
+    let registers = run_plan(store, plan, &mut receipts);
+    registers.into_reply(receipts)
 }

@@ -2,8 +2,8 @@
 //! sets.
 //!
 //! LoPAR, H_PUT_TCE and H_GET_TCE. A window's entries are kept in a store of page table entries, so
-//! they have stamps, receipts and histories as those have. A call whose name ends in `_into` puts
-//! its receipts in its caller's place; the same call without that ending gives a whole reply.
+//! they have stamps, receipts and histories as those have. Each call is a
+//! plan: which operations it makes, and what their receipts tell.
 #![tactic(auto)]
 
 mod accesses;
@@ -11,11 +11,13 @@ mod laws;
 mod making;
 mod tce;
 mod tce_calls;
+mod tce_plan;
 
 pub use accesses::{device, device_into};
 pub use laws::{
     busy_exactly_where_taken, kept_words_are_read_back, never_busy_alone, permitted_accesses_land,
     tces_have_pages, ungranted_exactly_where,
 };
-pub use tce::{address, entering, permits, tce_of};
-pub use tce_calls::{get_tce, get_tce_into, put_tce, put_tce_into};
+pub use tce::{address, entering, is_ram, permits, tce_of};
+pub use tce_calls::{code_of, get_tce, put_tce, run_tce_plan};
+pub use tce_plan::{TcePlan, get_tce_plan, put_tce_plan};

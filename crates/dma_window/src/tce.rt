@@ -1,4 +1,4 @@
-ghost use Rattle.std.specs.Prelude.{◌≡◌, ◌+◌, ◌&&◌, if◌then◌else◌};
+ghost use Rattle.std.specs.Prelude.{◌≡◌, ◌+◌};
 ghost use Rattle.entry_model.specs.Receipt.{IsNormal};
 ghost use Rattle.entry_model.specs.declared.operation.Op.TheVariants.{Enter, Remove};
 ghost use Rattle.dma_window.specs.Entries as entries;
@@ -6,8 +6,9 @@ ghost use Rattle.dma_window.specs.Pages.{is_ram};
 
 use bus_window::PAGE_BYTES;
 use entry_model::{EntryState, Op, Test};
-use frame_grants::{Grants, Kind};
+use frame_grants::Kind;
 use hpte_fields::VALID;
+use page_grants::GrantedMemory;
 
 /// The logical address of the page.
 const ADDRESS: u64 = 0x0FFF_FFFF_FFFF_F000;
@@ -106,8 +107,8 @@ fn second_word(tce: u64) -> u64
 
 /// Whether one grant of ram holds the page at this logical address.
 #[tactic(auto, unfolding(crate::specs::Pages::is_ram))]
-pub fn is_ram(grants: &Grants, page: u64) -> bool
-    ensures { result ≡ is_ram grants.now.grants page }
+pub fn is_ram<G: GrantedMemory>(grants: &G, page: u64) -> bool
+    ensures { result ≡ is_ram (G.grants grants.now) page }
 {
     match grants.machine_of(page, PAGE_BYTES) {
         Some((_, Kind::Ram)) => true,

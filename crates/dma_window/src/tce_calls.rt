@@ -1,18 +1,20 @@
-ghost use Rattle.std.specs.Prelude.{◌≡◌, ◌<◌, ◌^◌, []};
-ghost use Rattle.entry_model.specs.Receipt.{IsNormal, is_worn};
+ghost use Rattle.std.specs.Prelude.{◌≡◌, ◌<◌, length};
 ghost use Rattle.entry_model.specs.Replies.{reply_with};
-ghost use Rattle.entry_model.specs.Trial.{IsReplyOf};
+ghost use Rattle.entry_model.specs.Trial.{IsReplyOf, IsTrial};
 ghost use Rattle.dma_window.specs.Calls as plans;
+ghost use Rattle.dma_window.specs.TcePlans.{plan_of, FitsWindow};
 
-use crate::making::make;
-use crate::tce::{address, entering, is_ram, permits, removal, tce_of};
+use crate::tce::tce_of;
+use crate::tce_plan::{TcePlan, get_tce_plan, put_tce_plan};
 use bus_window::Window;
-use entry_model::{Answer, EntryStore, HReply, Op, Receipts, Registers, ReplyWords};
+use entry_model::{
+    Answer, EntryStore, HReply, Receipt, Receipts, Registers, ReplyWords, make_trial,
+};
 use frame_grants::Grants;
 use papr_codes::Rc;
 
 /// The return code of a call that ended with this answer.
-fn code_of(answer: Answer) -> Rc
+pub fn code_of(answer: Answer) -> Rc
     ensures { result ≡ plans.code_of answer }
 {
     match answer {
@@ -22,96 +24,59 @@ fn code_of(answer: Answer) -> Rc
     }
 }
 
-/// Whether the entry's stamp is at its last value.
-fn is_worn(answer: Answer) -> bool
-    ensures { result ≡ is_worn answer }
+/// The return code by the last of the receipts.
+fn code_by_last(receipts: &[Receipt]) -> Rc
+    requires { 0 < length receipts.now }
+    ensures { result ≡ plans.code_by_last receipts.now }
 {
-    matches!(answer, Answer::Worn)
+    code_of(receipts[receipts.len() - 1].answer)
 }
 
-/// Empties an entry.
-fn clear<T: EntryStore>(store: &mut T, entry: u32, receipts: &mut Receipts) -> Registers
-    requires in_window { entry < 2 ^ 14 }
-    requires empty { receipts.old ≡ [] }
-    ensures made { T.made store.old store.new receipts.new }
-    ensures reply { IsReplyOf (plans.clear_plan entry) (reply_with result receipts.new) }
+/// What the receipts of a call on TCEs tell.
+fn told(plan: &TcePlan, receipts: &[Receipt]) -> Registers
+    requires { IsTrial (plan_of plan.now).goes_on (plan_of plan.now).calls receipts.now }
+    ensures { (result.rc, result.words) ≡ (plan_of plan.now).told receipts.now }
 {
-    let removed = make(store, entry, removal(), receipts);
-    Registers::with_code(code_of(removed.answer))
-}
-
-/// Empties an entry, and enters these words into it.
-fn replace<T: EntryStore>(store: &mut T, entry: u32, op: Op, receipts: &mut Receipts) -> Registers
-    requires in_window { entry < 2 ^ 14 }
-    requires normal { IsNormal op }
-    requires empty { receipts.old ≡ [] }
-    ensures made { T.made store.old store.new receipts.new }
-    ensures reply { IsReplyOf (plans.replace_plan entry op) (reply_with result receipts.new) }
-{
-    let removed = make(store, entry, removal(), receipts);
-    if is_worn(removed.answer) {
-        return Registers::with_code(Rc::Hardware);
+    match plan {
+        TcePlan::Code { rc } => Registers::with_code(*rc),
+        TcePlan::Reads { .. } => {
+            let mut words = ReplyWords::new();
+            words.push(tce_of(&receipts[0].before));
+            Registers {
+                rc: Rc::Success,
+                words,
+            }
+        }
+        TcePlan::Empties { .. } => Registers::with_code(code_by_last(receipts)),
+        TcePlan::Replaces { .. } => Registers::with_code(code_by_last(receipts)),
     }
-    let entered = make(store, entry, op, receipts);
-    Registers::with_code(code_of(entered.answer))
 }
 
-/// [`put_tce`] with its receipts put into `receipts`, in place of what was there.
-// Out of line: docs/PERFORMANCE.md says why.
-#[inline(never)]
-#[tactic(auto, unfolding(crate::specs::Calls::put_tce_plan))]
-pub fn put_tce_into<T: EntryStore>(
+/// Makes a call on the TCEs of a window, with its receipts in place of what is in `receipts`.
+pub fn run_tce_plan<T: EntryStore>(
     store: &mut T,
-    grants: &Grants,
-    window: &Window,
-    ioba: u64,
-    tce: u64,
+    plan: &TcePlan,
     receipts: &mut Receipts,
 ) -> Registers
+    requires { FitsWindow plan.now }
     ensures made { T.made store.old store.new receipts.new }
-    ensures reply { IsReplyOf
-        (plans.put_tce_plan grants.now.grants window.now ioba tce)
-        (reply_with result receipts.new) }
+    ensures reply { IsReplyOf (plan_of plan.now) (reply_with result receipts.new) }
 {
-    receipts.clear();
-    let Some(entry) = window.entry_at(ioba) else {
-        return Registers::with_code(Rc::Parameter);
-    };
-    if !permits(tce, false) && !permits(tce, true) {
-        return clear(store, entry, receipts);
-    }
-    if !is_ram(grants, address(tce)) {
-        return Registers::with_code(Rc::Parameter);
-    }
-    replace(store, entry, entering(tce), receipts)
+    // No store is so small that it lacks an entry of a window.
+    let _order = store.order();
+    let _ending = make_trial(store, plan, receipts);
+    told(plan, receipts.as_slice())
 }
 
-/// [`get_tce`] with its receipt put into `receipts`, in place of what was there.
-// Out of line: docs/PERFORMANCE.md says why.
-#[inline(never)]
-#[tactic(auto, unfolding(crate::specs::Calls::get_tce_plan))]
-pub fn get_tce_into<T: EntryStore>(
-    store: &mut T,
-    window: &Window,
-    ioba: u64,
-    receipts: &mut Receipts,
-) -> Registers
-    ensures made { T.made store.old store.new receipts.new }
-    ensures reply { IsReplyOf
-        (plans.get_tce_plan window.now ioba)
-        (reply_with result receipts.new) }
+/// Makes a call on the TCEs of a window, and gives its whole reply.
+fn reply_tce_plan<T: EntryStore>(store: &mut T, plan: &TcePlan) -> HReply
+    requires { FitsWindow plan.now }
+    ensures made { T.made store.old store.new result.receipts }
+    ensures reply { IsReplyOf (plan_of plan.now) result }
 {
-    receipts.clear();
-    let Some(entry) = window.entry_at(ioba) else {
-        return Registers::with_code(Rc::Parameter);
-    };
-    let read = make(store, entry, Op::Read, receipts);
-    let mut words = ReplyWords::new();
-    words.push(tce_of(&read.before));
-    Registers {
-        rc: Rc::Success,
-        words,
-    }
+    let mut receipts = Receipts::new();
+    let registers = run_tce_plan(store, plan, &mut receipts);
+    registers.into_reply(receipts)
 }
 
 /// H_PUT_TCE (LoPAR): sets the TCE of the page at a bus address, over any that is there. A TCE that
@@ -130,9 +95,8 @@ pub fn put_tce<T: EntryStore>(
     ensures made { T.made store.old store.new result.receipts }
     ensures reply { IsReplyOf (plans.put_tce_plan grants.now.grants window.now ioba tce) result }
 {
-    let mut receipts = Receipts::new();
-    let registers = put_tce_into(store, grants, window, ioba, tce, &mut receipts);
-    registers.into_reply(receipts)
+    let plan = put_tce_plan(grants, window, ioba, tce);
+    reply_tce_plan(store, &plan)
 }
 
 /// H_GET_TCE (LoPAR): the TCE of the page at a bus address, in register 4. It is 0 where none is
@@ -143,7 +107,6 @@ pub fn get_tce<T: EntryStore>(store: &mut T, window: &Window, ioba: u64) -> HRep
     ensures made { T.made store.old store.new result.receipts }
     ensures reply { IsReplyOf (plans.get_tce_plan window.now ioba) result }
 {
-    let mut receipts = Receipts::new();
-    let registers = get_tce_into(store, window, ioba, &mut receipts);
-    registers.into_reply(receipts)
+    let plan = get_tce_plan(window, ioba);
+    reply_tce_plan(store, &plan)
 }

@@ -11,6 +11,8 @@ pub mod RunHistory
 pub mod Regroup
 pub mod Trials
 pub mod TrialSteps
+pub mod BegunLaws
+pub mod CallRows
 pub mod Plans
 pub mod ReplyLaws
 pub mod FrontLaws

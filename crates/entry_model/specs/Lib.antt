@@ -5,6 +5,8 @@ pub mod Replies
 pub mod CachedLines
 pub mod Run
 pub mod Trial
+pub mod Calls
+pub mod Begun
 pub mod History
 pub mod Fronts
 pub mod Laws

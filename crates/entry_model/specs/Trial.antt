@@ -7,8 +7,6 @@ use Rattle.entry_model.specs.declared.operation.Answer.{Answer}
 use Rattle.entry_model.specs.declared.receipt.Receipt.{Receipt}
 use Rattle.entry_model.specs.declared.hreply.HReply.{HReply}
 use Rattle.entry_model.specs.Receipt.{IsReceiptOf, receipt_of, is_taken, is_no_match}
-use Rattle.entry_model.specs.declared.trial.GoesOn.{GoesOn}
-use Rattle.entry_model.specs.declared.trial.GoesOn.TheVariants.{WhileTaken, WhileNoMatch, Always}
 use Rattle.entry_model.specs.Run.{state_at, states_after}
 use Rattle.papr_codes.specs.declared.codes.Rc.{Rc}
 
@@ -28,12 +26,6 @@ IsTrial goes [] (r ∷ rs) = ⊥
 IsTrial goes (c ∷ cs) [] = ⊥
 IsTrial goes (c ∷ cs) (r ∷ rs) =
     IsReceiptOf c.entry c.op r × MatchBool (goes r.answer) (IsTrial goes cs rs) (rs ≡ [])
-
--- After which answers a trial goes on to the next entry.
-abbrev pub goes_after : GoesOn → Answer → Bool
-goes_after WhileTaken = is_taken
-goes_after WhileNoMatch = is_no_match
-goes_after Always = λ answer. true
 
 -- The receipt that ended a trial: the first after which it doesn't go on.
 abbrev pub ending_of : (Answer → Bool) → List Receipt → Option Receipt

@@ -10,19 +10,21 @@
 mod access_reply;
 mod accessing;
 mod answering;
+mod calls;
 mod device_reply;
 mod hreply;
 mod laws;
 mod line;
 mod lists;
+mod making;
 mod operation;
 mod receipt;
 mod state;
 mod store;
-mod trial;
 
 pub use access_reply::{AccessEnd, AccessReply, By, Outcome};
 pub use answering::reply;
+pub use calls::CallList;
 pub use device_reply::{DeviceOutcome, DeviceReply};
 pub use hreply::{HReply, Registers};
 pub use laws::{
@@ -34,8 +36,8 @@ pub use laws::{
 };
 pub use line::Line;
 pub use lists::{Receipts, ReplyWords};
+pub use making::make_trial;
 pub use operation::{Answer, Op, Test};
 pub use receipt::Receipt;
 pub use state::EntryState;
 pub use store::EntryStore;
-pub use trial::{GoesOn, try_entries};

@@ -25,12 +25,12 @@ use Rattle.entry_model.specs.Trial.{Call, call, Plan, plan_of_code}
 use Rattle.hpte_fields.specs.Fields.{normal_words}
 use Rattle.hpte_fields.specs.TableSize.{entry_count, group_size}
 use Rattle.frame_grants.specs.declared.grant.Grant.{Grant}
-use Rattle.h_enter.specs.Enter.{candidates}
+use Rattle.call_plan.specs.Enter.{candidates}
 use Rattle.page_grants.specs.Suited.{suits_grants, suited_words, entered_words}
-use Rattle.h_enter.specs.Checks.{words_plan, h_enter_plan}
-use Rattle.h_update.proofs.Tame.{h_bulk_remove_each}
-use Rattle.h_update.specs.Single.{single_plan, h_remove_plan, h_protect_plan, h_clear_ref_plan, h_clear_mod_plan, read_entries, h_read_plan}
-use Rattle.h_update.specs.Bulk.{Pair, pairs_of, type_of, flags_of, index_of, test_by, removes_under, asked_by, calls_before, bulk_calls, h_bulk_remove_plan}
+use Rattle.call_plan.specs.Checks.{words_plan, h_enter_plan}
+use Rattle.call_plan.proofs.Tame.{h_bulk_remove_each}
+use Rattle.call_plan.specs.Single.{single_plan, h_remove_plan, h_protect_plan, h_clear_ref_plan, h_clear_mod_plan, read_entries, h_read_plan}
+use Rattle.call_plan.specs.Bulk.{Pair, pairs_of, type_of, flags_of, index_of, test_by, removes_under, asked_by, calls_before, bulk_calls, h_bulk_remove_plan}
 use Rattle.run_model.specs.StoreContexts.{StoreContext}
 use Rattle.run_model.specs.LineReplies.{put_plan, get_plan, hcall_plan}
 use Rattle.history_check.specs.Steps.{no_test, step_op, unless_worn, ops_of}

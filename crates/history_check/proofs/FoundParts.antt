@@ -15,11 +15,11 @@ use Rattle.trace_reply.specs.declared.reply.Reply.{Reply}
 use Rattle.trace_reply.specs.Replies.{RepliedLine, AreReplies, IsOfKind, lines_with_replies}
 use Rattle.run_model.specs.Stores.{Store, is_on_window, is_on, lines_on, trace_lines_on}
 use Rattle.run_model.specs.Sections.{section_end}
-use Rattle.run_model.specs.AllStores.{WindowState, AllStores}
+use Rattle.run_model.specs.AllStores.{WindowState, AllStores, windows_in}
 use Rattle.run_model.proofs.Each.{each_filter}
 use Rattle.run_model.proofs.StoreLines.{lines_back, kinds_each, kinds_back}
 use Rattle.history_check.specs.FoundSection.{ArePlain, lines_text, Opening, opening_of, section_on, IsGoodOn, IsFound, HasNoSection, closing_of}
-use Rattle.history_check.specs.FoundStores.{windows_of, AreGoodOn, AreFound, stores_behind, window_opening, windows_in}
+use Rattle.history_check.specs.FoundStores.{windows_of, AreGoodOn, AreFound, stores_behind, window_opening}
 use Rattle.history_check.specs.PartedText.{behind_lines, part_text}
 use Rattle.history_check.specs.StoreParts.{HasPart, HasNoPart, HaveParts, HasTablePart}
 use Rattle.history_check.proofs.ByStore.{each_by_store, filter_map}

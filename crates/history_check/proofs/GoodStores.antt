@@ -23,7 +23,7 @@ use Rattle.run_model.specs.SideBySide.{part_on, left_by, AreGood}
 use Rattle.run_model.specs.SideBySide.{stores_behind as behind_all}
 use Rattle.run_model.specs.Stores.{Store, states_of, page_table, plain_store, window_store, lines_on, is_on, is_on_window}
 use Rattle.run_model.proofs.CallLines.{AllQuiet, cut_quiet}
-use Rattle.run_model.proofs.Each.{each_map, over_map, under_map}
+use Rattle.run_model.proofs.Each.{over_map, under_map}
 use Rattle.run_model.proofs.SectionGood.{quiet_size, section_good}
 use Rattle.run_model.proofs.SerialGood.{opening_processors}
 use Rattle.run_model.proofs.SideBySide.{side_by_side}
@@ -94,16 +94,7 @@ resize_grants :
 unfolding run_resize
 resize_grants w calls.Prepare args = refl
 resize_grants w calls.Commit args = refl
-resize_grants w calls.Enter args = refl
-resize_grants w calls.Remove args = refl
-resize_grants w calls.Read args = refl
-resize_grants w calls.ClearMod args = refl
-resize_grants w calls.ClearRef args = refl
-resize_grants w calls.Protect args = refl
-resize_grants w calls.GetTce args = refl
-resize_grants w calls.PutTce args = refl
-resize_grants w calls.BulkRemove args = refl
-resize_grants w (calls.Other number) args = refl
+resize_grants w other args = refl
 
 quiet_grants : (w : Store) (act : Act) → (run_quiet_line w act).1.grants ≡ w.grants
 unfolding run_quiet_line

@@ -8,9 +8,9 @@ use Rattle.trace_reply.specs.declared.reply.Reply.{Reply}
 use Rattle.trace_reply.specs.Replies.{RepliedLine, lines_with_replies}
 use Rattle.run_model.specs.Stores.{Store, is_on, lines_on, trace_lines_on}
 use Rattle.run_model.specs.Sections.{section_end}
-use Rattle.run_model.specs.AllStores.{WindowState, AllStores}
+use Rattle.run_model.specs.AllStores.{WindowState, AllStores, windows_in}
 use Rattle.history_check.specs.FoundSection.{ArePlain, opening_of, IsGoodOn, HasNoSection}
-use Rattle.history_check.specs.FoundStores.{AreFound, stores_behind, windows_in}
+use Rattle.history_check.specs.FoundStores.{AreFound, stores_behind}
 use Rattle.history_check.specs.PartedText.{behind_lines, part_text}
 use Rattle.history_check.specs.StoreParts.{HaveParts, HaveNoParts, HasTablePart}
 use Rattle.history_check.proofs.FoundParts.{parts_found, table_has, windows_have}

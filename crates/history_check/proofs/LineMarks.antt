@@ -7,7 +7,7 @@ use Rattle.std.proofs.lemmas.Bool.{cond_both}
 use Rattle.papr_codes.specs.Hcalls.{hcall_of, hcall_name}
 use Rattle.papr_codes.specs.ReturnCodes.{rc_code}
 use Rattle.papr_codes.specs.declared.calls.Hcall.{Hcall}
-use Rattle.papr_codes.specs.declared.calls.Hcall.TheVariants.{Remove, Enter, Read, ClearMod, ClearRef, Protect, GetTce, PutTce, BulkRemove, Prepare, Commit, Other}
+use Rattle.papr_codes.specs.declared.calls.Hcall.TheVariants.{Other}
 use Rattle.storage_prot.specs.declared.want.Want.{Want}
 use Rattle.storage_prot.specs.declared.want.Want.TheVariants as wants
 use Rattle.trace_line.specs.declared.line.TraceLine.{TraceLine}
@@ -31,18 +31,8 @@ plain_front : (a : List ℕ) → lacks 10 a ≡ true → lacks 124 a ≡ true �
 plain_front a h k = record { no_end = h; no_bar = k }
 
 call_front : (h : Hcall) → IsFront (hcall_name h)
-call_front Remove = plain_front _ refl refl
-call_front Enter = plain_front _ refl refl
-call_front Read = plain_front _ refl refl
-call_front ClearMod = plain_front _ refl refl
-call_front ClearRef = plain_front _ refl refl
-call_front Protect = plain_front _ refl refl
-call_front GetTce = plain_front _ refl refl
-call_front PutTce = plain_front _ refl refl
-call_front BulkRemove = plain_front _ refl refl
-call_front Prepare = plain_front _ refl refl
-call_front Commit = plain_front _ refl refl
 call_front (Other number) = plain_front _ refl refl
+call_front named = plain_front _ refl refl
 
 want_front : (want : Want) → IsFront (want_word want)
 want_front wants.Load = plain_front _ refl refl

@@ -6,7 +6,13 @@ use Rattle.entry_model.specs.State.{State}
 use Rattle.entry_model.specs.declared.receipt.Receipt.{Receipt}
 use Rattle.entry_model.specs.declared.line.Line.{Line}
 use Rattle.entry_model.specs.Run.{state_at}
-use Rattle.run_model.specs.StoreContexts.{StoreContext}
+use Rattle.run_model.specs.StoreContexts.{StoreContext, access_of}
+use Rattle.run_model.specs.LineReplies.{IsReplyToAccess}
+use Rattle.hpt_walk.specs.Access.{AccessContext, request}
+use Rattle.slb_model.specs.Buffer.{segment_of}
+use Rattle.tlb_model.specs.Cache.{cached_line}
+use Rattle.trace_line.specs.declared.act.Act.{Act}
+use Rattle.vcpu.proofs.WalksFindPages.{access_finds}
 use Rattle.tlb_model.specs.Processor.{Processor}
 use Rattle.trace_line.specs.declared.line.TraceLine.{TraceLine}
 use Rattle.trace_line.specs.Lines.{is_quiet}
@@ -19,11 +25,13 @@ use Rattle.receipt_text.specs.Marks.{IsMark}
 use Rattle.history_check.specs.ReplyMarks.{marks_in}
 use Rattle.receipt_text.specs.Receipts.{mark_of}
 use Rattle.history_check.specs.Replay.{before_each}
-use Rattle.history_check.specs.LineReply.{IsReplyTo, FitsText, StandsOn, HasReply}
+use Rattle.history_check.specs.LineReply.{IsReplyTo, LineFindsPage, FitsText, StandsOn, HasReply}
 use Rattle.history_check.specs.FrontKeeping.{LeadsTo, LeadsNowhere}
 use Rattle.history_check.proofs.Alike.{AllBefore}
 use Rattle.history_check.proofs.AtMostOne.{zip, line_same}
 use Rattle.history_check.proofs.TextMarks.{AreShort, line_shows}
+use Rattle.trace_line.specs.declared.act.Act.TheVariants as acts
+use Rattle.trace_reply.specs.declared.reply.Reply.TheVariants as replies
 
 pub short : (rs : List Receipt) → AllByRecursion IsMark (map mark_of rs) → AreShort rs
 short [] h = tt
@@ -55,6 +63,22 @@ one_reply context p l r q given x y n h k before s t e f =
           (same_before (receipts_in r) (receipts_in q) before),
       shown.1,
     )
+
+-- ---- what a line's walk found translates its page
+access_finds_page :
+    (set : AccessContext) (p : Processor) (act : Act) (r : Reply)
+    → IsReplyToAccess set p act r
+    → LineFindsPage p act r
+access_finds_page set p (acts.Access want ea user) (replies.Access r) is =
+    access_finds set (cached_line p.cache) (request want ea user p.masks) (segment_of p.slots ea) r
+    is
+access_finds_page set p act r is = tt
+
+pub line_finds :
+    (context : StoreContext) (p : Processor) (act : Act) (r : Reply)
+    → IsReplyTo context p act r
+    → LineFindsPage p act r
+line_finds context p act r is = access_finds_page (access_of context) p act r is.access
 
 -- ---- where the one reply doesn't stand, none does
 -- the cached line that was gone hasn't left its stamp

@@ -28,11 +28,11 @@ use Rattle.hpte_fields.specs.Fields.{protected_word}
 use Rattle.entry_model.specs.Trial.{Call, call, IsTrial, Plan, IsReplyOf, plan_of_code}
 use Rattle.entry_model.proofs.Exact.{exact, same}
 use Rattle.frame_grants.specs.declared.grant.Grant.{Grant}
-use Rattle.h_enter.specs.Enter.{candidates}
+use Rattle.call_plan.specs.Enter.{candidates}
 use Rattle.page_grants.specs.Suited.{entered_words}
-use Rattle.h_enter.specs.Checks.{words_plan, h_enter_plan}
-use Rattle.h_update.specs.Single.{single_plan, h_remove_plan, h_protect_plan, h_clear_ref_plan, h_clear_mod_plan, read_entries, h_read_plan}
-use Rattle.h_update.proofs.Tame.{h_bulk_remove_each}
+use Rattle.call_plan.specs.Checks.{words_plan, h_enter_plan}
+use Rattle.call_plan.specs.Single.{single_plan, h_remove_plan, h_protect_plan, h_clear_ref_plan, h_clear_mod_plan, read_entries, h_read_plan}
+use Rattle.call_plan.proofs.Tame.{h_bulk_remove_each}
 use Rattle.run_model.specs.StoreContexts.{StoreContext}
 use Rattle.run_model.specs.LineReplies.{put_plan, get_plan, hcall_plan, IsDeviceLine}
 use Rattle.history_check.specs.Replay.{before_each, next_state, ReplayState, after_receipt, IsReplayed}

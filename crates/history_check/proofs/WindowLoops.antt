@@ -9,11 +9,11 @@ use Rattle.trace_line.specs.declared.act.Act.{Act}
 use Rattle.trace_line.specs.declared.line.TraceLine.{TraceLine}
 use Rattle.entry_model.specs.State.{State}
 use Rattle.tlb_model.specs.Processor.{Processor}
-use Rattle.run_model.specs.AllStores.{WindowState}
+use Rattle.run_model.specs.AllStores.{WindowState, windows_in}
 use Rattle.run_model.specs.Stores.{is_on_window, trace_lines_on, opening_window}
 use Rattle.history_check.specs.FoundSection.{HasSection, HasNoSection}
 use Rattle.history_check.specs.PartedText.{first_told, behind_told, marked_lines, marked_text, part_text}
-use Rattle.history_check.specs.FoundStores.{window_opening, windows_in}
+use Rattle.history_check.specs.FoundStores.{window_opening}
 use Rattle.history_check.specs.StoreParts.{HasPart, HasNoPart, HaveParts, HaveNoParts}
 use Rattle.history_check.proofs.ListedStates.{past_end}
 use Rattle.history_check.proofs.PartedTexts.{marked_is}

@@ -11,17 +11,13 @@ use Rattle.trace_reply.specs.declared.reply.Reply.{Reply}
 use Rattle.trace_reply.specs.Replies.{RepliedLine, AreReplies, lines_with_replies}
 use Rattle.run_model.specs.QuietLines.{run_quiet_line}
 use Rattle.run_model.specs.Sections.{section_end}
-use Rattle.run_model.specs.AllStores.{WindowState, AllStores}
+use Rattle.run_model.specs.AllStores.{WindowState, AllStores, windows_in}
 use Rattle.run_model.specs.StoreContexts.{window_context}
 use Rattle.run_model.specs.Sections.{Section}
 use Rattle.run_model.specs.Stores.{lines_on, is_on, is_on_window}
 use Rattle.history_check.specs.FoundSection.{lines_text, Opening, opening_of, section_on, IsGoodOn, closing_of}
 
 -- ---- the stores
--- The windows that have these states.
-abbrev pub windows_in : List WindowState → List BusWindow
-windows_in vs = map (λ (v : WindowState). v.window) vs
-
 -- The windows of a run.
 abbrev pub windows_of : AllStores → List BusWindow
 windows_of s = windows_in s.windows

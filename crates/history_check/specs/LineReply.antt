@@ -21,6 +21,9 @@ use Rattle.run_model.specs.StoreContexts.{StoreContext, access_of}
 use Rattle.receipt_text.specs.Marks.{IsMark}
 use Rattle.history_check.specs.ReplyMarks.{marks_in, way_of}
 use Rattle.history_check.specs.Replay.{before_each}
+use Rattle.vcpu.specs.Walked.{WalkFindsPage}
+use Rattle.trace_line.specs.declared.act.Act.TheVariants as acts
+use Rattle.trace_reply.specs.declared.reply.Reply.TheVariants as replies
 
 -- It is a reply to an access of this processor.
 abbrev pub IsAccessOn : AccessContext → Processor → Request → AccessReply → Type 0
@@ -45,6 +48,12 @@ pub record IsReplyOn
   where
     pub reply : IsReplyTo context p act r
     pub before : before_each (receipts_in r) ≡ found
+
+-- The entry that a line's walk found translates the page that was walked.
+abbrev pub LineFindsPage : Processor → Act → Reply → Type 0
+LineFindsPage p (acts.Access want ea user) (replies.Access r) =
+    WalkFindsPage (segment_of p.slots ea) r.by r.receipts
+LineFindsPage p act r = Unit {0}
 
 -- It is the reply to an access by a cached line.
 abbrev pub IsHitReply : Reply → Type 0

@@ -1,5 +1,5 @@
 ghost use Rattle.hpte_fields.specs.TableSize.{IsTableOrder};
-ghost use Rattle.std.specs.Prelude.{◌≡◌, ◌≤◌, length, List, Some, IfSome, IfNone};
+ghost use Rattle.std.specs.Prelude.{◌≡◌, length, List, Some, IfSome, IfNone};
 ghost use Rattle.entry_model.specs.declared.receipt.Receipt.{Receipt};
 ghost use Rattle.entry_model.specs.Receipt.{is_no_match, found_of};
 ghost use Rattle.entry_model.specs.Reply.{access_mode};

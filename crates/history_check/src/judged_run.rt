@@ -6,37 +6,36 @@ ghost use Rattle.trace_line.specs.Lines.{is_quiet, most_lines};
 ghost use Rattle.trace_line.specs.declared.line.TraceLine.{TraceLine};
 ghost use Rattle.trace_reply.specs.declared.reply.Reply.{Reply};
 ghost use Rattle.trace_reply.specs.Replies.{lines_with_replies};
-ghost use Rattle.tlb_model.specs.Processor.{without_cache};
 ghost use Rattle.run_model.specs.QuietLines.{shown_of};
-ghost use Rattle.run_model.specs.AllStores.{opening_all};
+ghost use Rattle.run_model.specs.AllStores.{opening_all, windows_in};
 ghost use Rattle.run_model.specs.Stores as run_stores;
 ghost use Rattle.history_check.specs.FoundSection.{ArePlain, AreOnProcessors, HasNoSection, opening_of};
-ghost use Rattle.history_check.specs.FoundStores.{AreFound, run_quiet_on, stores_behind, windows_in};
+ghost use Rattle.history_check.specs.FoundStores.{AreFound, run_quiet_on, stores_behind};
 ghost use Rattle.history_check.specs.JudgedRun.{resize_on, run_state_of};
 ghost use Rattle.history_check.specs.PartedText.{part_text};
 ghost use Rattle.history_check.specs.StoreParts.{HasTablePart, HaveParts, HaveNoParts};
 
 use crate::context::Context;
 use crate::parting::{Part, is_on_window, lines_end, marked_part};
-use crate::processor::{Processor, new_processors};
 use crate::section::section_found;
-use crate::window_entries::WindowEntries;
-use bus_window::Window;
+use crate::window_entries::window_found;
 use entry_model::HReply;
 use frame_grants::Grants;
 use papr_codes::{Hcall, Rc};
 use partition::Partition;
+use run_model::{WindowEntries, open_windows};
 use std::alloc::{AllocError, Global};
 use std::marker::Model;
 use trace_line::{Act, TraceLine};
 use trace_read::Config;
 use trace_reply::{Reply, Shown};
+use vcpu::{Cpu, clear_caches, empty_cpus};
 
 /// What a run carries between two sections, as its replies tell of it.
 #[derive(Drop)]
 pub struct JudgedRun {
     partition: Partition,
-    processors: Vec<Processor>,
+    processors: Vec<Cpu>,
     windows: Vec<WindowEntries>,
 }
 
@@ -45,7 +44,7 @@ impl Model for JudgedRun {
     ghost use Rattle.run_model.specs.AllStores.{AllStores};
     ghost use Rattle.trace_read.specs.Configuration.{NumbersDiffer};
     ghost use Rattle.history_check.specs.JudgedRun.{stores_of};
-    ghost use Rattle.history_check.specs.FoundStores.{windows_in};
+    ghost use Rattle.run_model.specs.AllStores.{windows_in};
 
     ghost Value = { AllStores };
 
@@ -55,22 +54,13 @@ impl Model for JudgedRun {
         HasStates r.partition × NumbersDiffer (windows_in r.windows.items) };
 }
 
-/// Clears the cache of each processor.
-fn clear_caches(processors: &mut Vec<Processor>)
-    ensures { processors.new.items ≡ map without_cache processors.old.items }
-{
-    for i in 0..processors.len() {
-        processors[i].clear_cache();
-    }
-}
-
 /// Whether a line names one of the windows.
 fn is_on_any(windows: &[WindowEntries], act: &Act) -> bool
     ensures { result
         ≡ list_any (λ (w : BusWindow). run_stores.is_on_window w act.now) (windows_in windows.now) }
 {
     for entries in windows {
-        if is_on_window(&entries.window(), act) {
+        if is_on_window(&entries.window, act) {
             return true;
         }
     }
@@ -121,29 +111,12 @@ fn table_part(
     Ok(part)
 }
 
-/// The windows of a trace before its first line.
-fn opening_windows(alloc: Global, windows: &[Window]) -> Result<Vec<WindowEntries>, AllocError>
-    ensures { IfOk
-        result
-        (λ opened.
-        opened.items
-        ≡ map
-        (λ (w : BusWindow). record { window = w; states = run_stores.opening_window })
-        windows.now) }
-{
-    let mut opened = Vec::with_capacity(alloc, windows.len())?;
-    for window in windows {
-        opened.push(WindowEntries::new(alloc, *window)?)?;
-    }
-    Ok(opened)
-}
-
 /// Finds a section of the page table: how many bytes stand first that are the text of good replies
 /// to these lines. `None` where there are no such replies; then nothing is told of the table.
 fn table_found(
     alloc: Global,
     partition: &mut Partition,
-    processors: &mut Vec<Processor>,
+    processors: &mut Vec<Cpu>,
     lines: &[TraceLine],
     text: &[u8],
 ) -> Result<Option<usize>, AllocError>
@@ -219,7 +192,7 @@ fn windows_found(
     ensures windows { windows_in windows.new.items ≡ windows_in windows.old.items }
 {
     for i in 0..windows.len() {
-        if !windows[i].section(alloc, grants, cpus, lines, text)? {
+        if !window_found(alloc, grants, cpus, &mut windows[i], lines, text)? {
             return Ok(false);
         }
     }
@@ -233,8 +206,8 @@ impl JudgedRun {
         ensures { IfOk result (λ run. run ≡ opening_all config.now) }
     {
         let partition = Partition::open(alloc, config)?;
-        let processors = new_processors(alloc, config.cpus as usize)?;
-        let windows = opening_windows(alloc, config.windows.as_slice())?;
+        let processors = empty_cpus(alloc, config.cpus as usize)?;
+        let windows = open_windows(alloc, config.windows.as_slice())?;
         Ok(JudgedRun {
             partition,
             processors,

@@ -8,11 +8,12 @@ use crate::context::Context;
 use crate::fitting::receipts_of;
 use crate::fronts::{Fronts, keep_fronts};
 use crate::line_reply::line_reply;
-use crate::processor::Processor;
+use crate::processor::{after_line, gone_line_of};
 use entry_model::{EntryState, Line};
 use std::alloc::AllocError;
 use trace_line::TraceLine;
 use trace_reply::ReplyPlace;
+use vcpu::Cpu;
 
 /// Whether the entry of a cached line that was gone, if there was one, has left the line's stamp in
 /// these states.
@@ -40,7 +41,7 @@ pub fn judge_line(
     context: &Context,
     opening: &[u64],
     closing: &[EntryState],
-    processor: &mut Processor,
+    processor: &mut Cpu,
     fronts: &mut Fronts,
     line: &TraceLine,
     found: &[EntryState],
@@ -69,13 +70,13 @@ pub fn judge_line(
     let Some(count) = line_reply(context, processor, line, found, given, out, place)? else {
         return Ok(None);
     };
-    let gone = processor.gone_line(&line.act, place);
+    let gone = gone_line_of(processor, &line.act, place);
     if !has_left(closing, &gone) {
         return Ok(None);
     }
     if !keep_fronts(fronts, opening, &gone, receipts_of(place))? {
         return Ok(None);
     }
-    processor.after(&line.act, place);
+    after_line(processor, &line.act, place);
     Ok(Some(count))
 }

@@ -8,11 +8,11 @@ ghost use Rattle.history_check.specs.JudgedLines.{judged, TellsLine, TellsLines}
 use crate::context::Context;
 use crate::fronts::Fronts;
 use crate::judging::judge_line;
-use crate::processor::Processor;
 use entry_model::EntryState;
 use std::alloc::{AllocError, Global};
 use trace_line::TraceLine;
 use trace_reply::ReplyPlace;
+use vcpu::Cpu;
 
 /// How many fronts of all processors may be listed, in 2 MB.
 const MOST_LISTED: usize = 0x4_0000;
@@ -40,7 +40,7 @@ fn judge_next(
     context: &Context,
     opening: &[u64],
     closing: &[EntryState],
-    processors: &mut Vec<Processor>,
+    processors: &mut Vec<Cpu>,
     fronts: &mut Vec<Fronts>,
     line: &TraceLine,
     found: &[EntryState],
@@ -85,7 +85,7 @@ fn judge_each(
     context: &Context,
     opening: &[u64],
     closing: &[EntryState],
-    processors: &mut Vec<Processor>,
+    processors: &mut Vec<Cpu>,
     fronts: &mut Vec<Fronts>,
     lines: &[TraceLine],
     counts: &[usize],
@@ -145,7 +145,7 @@ pub fn judge_lines(
     context: &Context,
     opening: &[u64],
     closing: &[EntryState],
-    processors: &mut Vec<Processor>,
+    processors: &mut Vec<Cpu>,
     lines: &[TraceLine],
     counts: &[usize],
     found: &[EntryState],

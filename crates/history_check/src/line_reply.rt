@@ -17,7 +17,6 @@ use crate::accesses::{hit_end, walk_end};
 use crate::calls::{call_on, device_on};
 use crate::context::Context;
 use crate::fitting::fitting;
-use crate::processor::Processor;
 use entry_model::{AccessEnd, EntryState, Outcome, Receipts};
 use hpt_walk::Request;
 use papr_codes::Hcall;
@@ -26,6 +25,7 @@ use slb_model::{Segment, Slb};
 use std::alloc::AllocError;
 use trace_line::{Act, TraceLine};
 use trace_reply::{ReplyEnd, ReplyPlace};
+use vcpu::Cpu;
 
 /// Whether an `slbmte` of these words is accepted.
 fn is_accepted(rb: u64, rs: u64) -> bool
@@ -39,7 +39,7 @@ fn is_accepted(rb: u64, rs: u64) -> bool
 /// reply.
 fn cached_end(
     context: &Context,
-    processor: &Processor,
+    processor: &Cpu,
     segment: &Segment,
     request: &Request,
     found: &[EntryState],
@@ -78,7 +78,7 @@ fn cached_end(
 /// `receipts`.
 fn uncached_end(
     context: &Context,
-    processor: &Processor,
+    processor: &Cpu,
     request: &Request,
     found: &[EntryState],
     receipts: &mut Receipts,
@@ -112,7 +112,7 @@ fn uncached_end(
 /// access can have found these states by it. Answers whether there is such a reply.
 fn put_hit(
     context: &Context,
-    processor: &Processor,
+    processor: &Cpu,
     act: &Act,
     found: &[EntryState],
     place: &mut ReplyPlace,
@@ -134,7 +134,7 @@ fn put_hit(
         want,
         ea,
         user,
-        masks: processor.masks(),
+        masks: processor.authority(),
     };
     let receipts = &mut place.receipts;
     match cached_end(context, processor, &segment, &request, found, receipts) {
@@ -150,7 +150,7 @@ fn put_hit(
 /// takes the place.
 fn put_other(
     context: &Context,
-    processor: &Processor,
+    processor: &Cpu,
     act: &Act,
     found: &[EntryState],
     place: &mut ReplyPlace,
@@ -180,7 +180,7 @@ fn put_other(
                 want,
                 ea,
                 user,
-                masks: processor.masks(),
+                masks: processor.authority(),
             };
             let end = uncached_end(context, processor, &request, found, receipts);
             place.end = ReplyEnd::Access(end);
@@ -202,7 +202,7 @@ fn put_other(
 /// begins with the text of no such reply. `out` is room to write in.
 pub fn line_reply(
     context: &Context,
-    processor: &Processor,
+    processor: &Cpu,
     line: &TraceLine,
     found: &[EntryState],
     given: &[u8],

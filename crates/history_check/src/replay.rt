@@ -1,5 +1,5 @@
 ghost use Rattle.hpte_fields.specs.TableSize.{IsTableOrder};
-ghost use Rattle.std.specs.Prelude.{◌≡◌, ◌≤◌, false};
+ghost use Rattle.std.specs.Prelude.{◌≡◌, false};
 ghost use Rattle.entry_model.specs.State.{IsCanonicalState};
 ghost use Rattle.entry_model.specs.Receipt.{is_decided, IsReceiptOf};
 ghost use Rattle.history_check.specs.Replay.{after_receipt, next_state};

@@ -12,11 +12,11 @@ use crate::fronts::pair_of;
 use crate::judging_lines::judge_lines;
 use crate::mark_steps::LineStep;
 use crate::placed::find_states;
-use crate::processor::Processor;
 use crate::reading::{SectionSteps, read_section};
 use entry_model::EntryState;
 use std::alloc::{AllocError, Global};
 use trace_line::TraceLine;
+use vcpu::Cpu;
 
 /// The pairs of stamp and number of bits of states.
 fn pairs_of(alloc: Global, states: &[EntryState]) -> Result<Vec<u64>, AllocError>
@@ -41,7 +41,7 @@ fn section_by_steps(
     context: &Context,
     opening: &[u64],
     states: &mut Vec<EntryState>,
-    processors: &mut Vec<Processor>,
+    processors: &mut Vec<Cpu>,
     lines: &[TraceLine],
     steps: Vec<LineStep>,
     counts: &[usize],
@@ -99,7 +99,7 @@ pub fn section_found(
     alloc: Global,
     context: &Context,
     states: &mut Vec<EntryState>,
-    processors: &mut Vec<Processor>,
+    processors: &mut Vec<Cpu>,
     lines: &[TraceLine],
     text: &[u8],
 ) -> Result<Option<usize>, AllocError>

@@ -1,6 +1,5 @@
-ghost use Rattle.std.specs.Prelude.{◌≡◌, ◌≤◌, ◌^◌, ℕ, List, true, false, length, IfOk};
+ghost use Rattle.std.specs.Prelude.{◌≡◌, ◌≤◌, ℕ, List, true, false, length, IfOk};
 ghost use Rattle.tlb_model.specs.Processor.{Processor};
-ghost use Rattle.run_model.specs.Stores.{opening_window};
 ghost use Rattle.history_check.specs.FoundSection.{ArePlain, AreOnProcessors, HasSection, HasNoSection};
 ghost use Rattle.history_check.specs.FoundStores.{window_opening};
 ghost use Rattle.history_check.specs.StoreParts.{HasPart, HasNoPart};
@@ -9,40 +8,14 @@ ghost use Rattle.trace_line.specs.Lines.{most_lines};
 
 use crate::context::Context;
 use crate::parting::{Part, is_named, marked_part, marks_of_window};
-use crate::processor::new_processors;
 use crate::section::section_found;
 use bus_window::Window;
 use entry_model::EntryState;
 use frame_grants::Grants;
-use hpte_fields::LEAST_ORDER;
+use run_model::{WINDOW_ORDER, WindowEntries};
 use std::alloc::{AllocError, Global};
-use std::marker::Model;
 use trace_line::TraceLine;
-
-/// The binary logarithm of the bytes of a window's entries.
-const ORDER: u8 = LEAST_ORDER;
-
-/// How many entries a window has.
-const ENTRIES: usize = 0x4000;
-
-/// A DMA window, and the states of its entries between two sections.
-#[derive(Drop)]
-pub struct WindowEntries {
-    window: Window,
-    states: Vec<EntryState>,
-}
-
-impl Model for WindowEntries {
-    ghost use Rattle.std.specs.Prelude.{◌≤◌, length};
-    ghost use Rattle.hpte_fields.specs.TableSize.{entry_count, greatest_order};
-    ghost use Rattle.run_model.specs.AllStores.{WindowState};
-
-    ghost Value = { WindowState };
-
-    ghost view = { λ w. record { window = w.window; states = w.states.items } };
-
-    ghost invariant = { λ w. length w.states.items ≤ entry_count greatest_order };
-}
+use vcpu::empty_cpus;
 
 /// Finds the section of a window's part of the lines, with these entries.
 fn part_found(
@@ -86,9 +59,9 @@ fn part_found(
         part.now.text.items) }
     ensures size { length states.new.items ≡ length states.old.items }
 {
-    let mut processors = new_processors(alloc, cpus)?;
+    let mut processors = empty_cpus(alloc, cpus)?;
     let context = Context {
-        order: ORDER,
+        order: WINDOW_ORDER,
         grants,
         window: Some(window),
     };
@@ -103,57 +76,44 @@ fn part_found(
     Ok(found.is_some())
 }
 
-impl WindowEntries {
-    /// The window before the first line: each of its entries is empty.
-    #[tactic(auto, unfolding(run_model::specs::Stores::opening_window))]
-    pub fn new(alloc: Global, window: Window) -> Result<WindowEntries, AllocError>
-        ensures { IfOk
-            result
-            (λ entries. entries ≡ record { window = window; states = opening_window }) }
-    {
-        let states = vec![in alloc; EntryState::empty(0); ENTRIES]?;
-        Ok(WindowEntries { window, states })
+/// Finds the section of the lines that name the window: whether their part of the text begins
+/// with good replies to them. Leaves the states on which it closes; where there are no such
+/// replies, nothing is told of the states.
+pub fn window_found(
+    alloc: Global,
+    grants: &Grants,
+    cpus: usize,
+    entries: &mut WindowEntries,
+    lines: &[TraceLine],
+    text: &[u8],
+) -> Result<bool, AllocError>
+    requires plain { ArePlain lines.now }
+    requires cpus { AreOnProcessors cpus lines.now }
+    requires few { length lines.now ≤ most_lines }
+    ensures some { IfOk
+        result
+        (λ found.
+        found ≡ true
+        → HasPart grants.now.grants cpus lines.now text.now entries.old entries.new) }
+    ensures none { IfOk
+        result
+        (λ found.
+        found ≡ false
+        → HasNoPart grants.now.grants cpus lines.now text.now entries.old) }
+    ensures window { entries.new.window ≡ entries.old.window }
+{
+    if !is_named(&entries.window, lines) {
+        return Ok(true);
     }
-
-    /// The window.
-    pub fn window(&self) -> Window
-        ensures { result ≡ self.now.window }
-    {
-        self.window
-    }
-
-    /// Finds the section of the lines that name the window: whether their part of the text begins
-    /// with good replies to them. Leaves the states on which it closes; where there are no such
-    /// replies, nothing is told of the states.
-    pub fn section(
-        &mut self,
-        alloc: Global,
-        grants: &Grants,
-        cpus: usize,
-        lines: &[TraceLine],
-        text: &[u8],
-    ) -> Result<bool, AllocError>
-        requires plain { ArePlain lines.now }
-        requires cpus { AreOnProcessors cpus lines.now }
-        requires few { length lines.now ≤ most_lines }
-        ensures some { IfOk
-            result
-            (λ found.
-            found ≡ true
-            → HasPart grants.now.grants cpus lines.now text.now self.old self.new) }
-        ensures none { IfOk
-            result
-            (λ found.
-            found ≡ false
-            → HasNoPart grants.now.grants cpus lines.now text.now self.old) }
-        ensures window { self.new.window ≡ self.old.window }
-    {
-        if !is_named(&self.window, lines) {
-            return Ok(true);
-        }
-        let marks = marks_of_window(alloc, &self.window, lines)?;
-        let part = marked_part(alloc, lines, text, marks.as_slice())?;
-        let found = part_found(alloc, grants, self.window, cpus, &mut self.states, &part)?;
-        Ok(found)
-    }
+    let marks = marks_of_window(alloc, &entries.window, lines)?;
+    let part = marked_part(alloc, lines, text, marks.as_slice())?;
+    let found = part_found(
+        alloc,
+        grants,
+        entries.window,
+        cpus,
+        &mut entries.states,
+        &part,
+    )?;
+    Ok(found)
 }

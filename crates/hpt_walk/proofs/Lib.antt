@@ -1,5 +1,6 @@
 pub mod Tags
 pub mod Granted
+mod GroupSteps
 pub mod Found
 pub mod Decided
 pub mod Walks

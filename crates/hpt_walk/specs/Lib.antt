@@ -1,4 +1,5 @@
 pub mod Walk
+pub mod PageCalls
 pub mod Access
 pub mod Translations
 pub mod Laws

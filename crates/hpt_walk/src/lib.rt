@@ -7,6 +7,7 @@
 mod access;
 mod laws;
 mod logical;
+mod page_calls;
 mod request;
 mod walking;
 
@@ -18,5 +19,6 @@ pub use laws::{
     zero_masks_refuse_no_access,
 };
 pub use logical::logical_of;
+pub use page_calls::PageCalls;
 pub use request::Request;
 pub use walking::{WalkAnswer, walk, walk_into};

@@ -1,4 +1,4 @@
-ghost use Rattle.std.specs.Prelude.{◌≡◌, ◌≤◌, ◌<◌, ◌-◌, ◌+◌, ◌*◌, ◌^◌, ◌++◌, ◌↔◌, length, IsNone, IfSome};
+ghost use Rattle.std.specs.Prelude.{◌≡◌, ◌≤◌, ◌<◌, ◌-◌, ◌+◌, ◌*◌, ◌++◌, ◌↔◌, length, IsNone, IfSome};
 ghost use Rattle.hpte_fields.specs.TableSize.{entry_count, greatest_order, group_count};
 ghost use Rattle.entry_model.specs.Reply.{access_mode};
 ghost use Rattle.entry_model.specs.Receipt.{IsNormal, is_no_match, found_of};
@@ -8,8 +8,9 @@ ghost use Rattle.hpt_walk.specs.Walk.{walk_calls, group_calls, AreAllNoMatch};
 ghost use Rattle.hpt_walk.specs.Translations.{TranslatesItsPage};
 
 use crate::access::access_op;
+use crate::page_calls::goes_on_after;
 use authority_mask::Masks;
-use entry_model::{EntryStore, GoesOn, Op, Receipt, Receipts, try_entries};
+use entry_model::{EntryStore, Op, Receipt, Receipts};
 use hpt_hash::groups;
 use hpte_fields::GROUP_SIZE;
 use power_addr::Page;
@@ -90,6 +91,8 @@ pub fn walk_into<T: EntryStore>(
 
 /// Makes an access on the entries of a group, in slot order, up to the first that doesn't say
 /// NoMatch, which it gives back.
+// The operation is the same for all of them, and stays where it is. By `make_trial`, which asks for
+// the operation of each call, a walk that finds nothing takes 230 instructions more.
 fn search<T: EntryStore>(
     store: &mut T,
     group: u32,
@@ -109,12 +112,13 @@ fn search<T: EntryStore>(
         (receipts_added receipts.old receipts.new) }
     ensures found { result ≡ found_of (receipts_added receipts.old receipts.new) }
 {
-    try_entries(
-        store,
-        op,
-        group * GROUP_SIZE,
-        GROUP_SIZE,
-        GoesOn::WhileNoMatch,
-        receipts,
-    )
+    for slot in 0..GROUP_SIZE {
+        let made = store.apply(group * GROUP_SIZE + slot, op);
+        let receipt = &made;
+        receipts.push(*receipt);
+        if !goes_on_after(receipt.answer) {
+            return Some(*receipt);
+        }
+    }
+    None
 }

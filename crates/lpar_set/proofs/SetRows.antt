@@ -17,8 +17,8 @@ use Rattle.entry_model.specs.State.{State}
 use Rattle.entry_model.specs.Reply.{has_base}
 use Rattle.entry_model.specs.Trial.{trial_run, plan_run}
 use Rattle.page_grants.specs.Suited.{suits_grants}
-use Rattle.h_enter.specs.Checks.{h_enter_plan}
-use Rattle.h_enter.specs.Enter.{candidates}
+use Rattle.call_plan.specs.Checks.{h_enter_plan}
+use Rattle.call_plan.specs.Enter.{candidates}
 use Rattle.hpt_resize.specs.TableMemory.{prepare_result}
 use Rattle.hpt_resize.specs.Resize.{outcome_of_prepare}
 use Rattle.hpt_walk.specs.Access.{outcome_of}

@@ -74,7 +74,7 @@ impl Member {
         ensures same_pool { OnErr result (pool.new ≡ pool.old) }
     {
         let states = opening_states(alloc, config)?;
-        let cpus = empty_cpus(alloc, config.cpus)?;
+        let cpus = empty_cpus(alloc, config.cpus as usize)?;
         let place = pool.take(config.order).unwrap();
         Ok(Member {
             limit: config.limit,

@@ -25,7 +25,7 @@ use Rattle.c_layout.specs.Tables.{is_table}
 use Rattle.c_layout.specs.WalkEnds.{mode_of, walk_end}
 use Rattle.papr_c.specs.Walks.{each_as_is, walk_run, outcome_of_probe}
 use Rattle.c_layout.specs.Accesses.{page_of, want_of}
-use Rattle.call_trials.specs.Calls.{call_at}
+use Rattle.entry_model.specs.Calls.{call_at}
 use Rattle.papr_c.proofs.SoFar.{drop_at, drop_none, step_on, step_off, no_more}
 
 -- ---- nothing changes before the entry that is found

@@ -5,7 +5,7 @@ use Rattle.std.proofs.Common.{◌≡◌, ℕ, ◌<◌, min, List, [], ◌∷◌,
 use Rattle.std.proofs.lemmas.Bool.{eqb-true}
 use Rattle.hpte_fields.specs.TableSize.{entry_count, is_table_order}
 use Rattle.entry_model.specs.declared.operation.Op.{Op}
-use Rattle.call_trials.specs.Calls.{AreCallsIn}
+use Rattle.entry_model.specs.Calls.{AreCallsIn}
 use Rattle.entry_model.specs.State.{State}
 use Rattle.entry_model.specs.Run.{states_after, IsRun}
 use Rattle.entry_model.specs.Replies.{reply_with}

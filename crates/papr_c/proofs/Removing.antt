@@ -13,9 +13,9 @@ use Rattle.entry_model.specs.Receipt.{IsReceiptOf, receipt_of, is_worn}
 use Rattle.entry_model.specs.Run.{state_at, states_after, IsRun}
 use Rattle.entry_model.specs.Trial.{Plan, IsReplyOf}
 use Rattle.entry_model.proofs.Runs.{run_more, run-length}
-use Rattle.h_update.specs.Bulk.{Pair, asked_by, response, status_of}
-use Rattle.h_update.specs.declared.bulk.Asked.TheVariants as asks
-use Rattle.h_update.proofs.BulkSteps.{IsSoFar, asked_at, asked_in_table, goes_on, words_to_end}
+use Rattle.call_plan.specs.Bulk.{Pair, asked_by, response, status_of}
+use Rattle.call_plan.specs.declared.bulk.Asked.TheVariants as asks
+use Rattle.call_plan.proofs.BulkSteps.{IsSoFar, asked_at, asked_in_table, goes_on, words_to_end}
 use Rattle.c_layout.specs.Places.{filled, placed, shown_receipt}
 use Rattle.c_layout.specs.Tables.{is_table}
 use Rattle.c_layout.specs.Stale.{is_stale, any_stale}

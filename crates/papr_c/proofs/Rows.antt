@@ -1,7 +1,7 @@
 -- Worked values of the definitions, which the checker computes.
 use Rattle.std.proofs.Common.{◌≡◌, ℕ, [], ◌∷◌, true, false, Some, refl, replicate}
 use Rattle.entry_model.specs.State.{empty_state}
-use Rattle.h_update.specs.Single.{h_remove_plan}
+use Rattle.call_plan.specs.Single.{h_remove_plan}
 use Rattle.pool_range.specs.Ranges.{range_refusal}
 use Rattle.frame_grants.specs.Grants.{add_refusal, refusals, with_grant}
 use Rattle.frame_grants.specs.declared.grant.Kind.TheVariants.{Io}

@@ -10,8 +10,8 @@ use Rattle.entry_model.specs.declared.receipt.Receipt.{Receipt}
 use Rattle.entry_model.specs.Run.{states_after}
 use Rattle.entry_model.specs.Trial.{Call, call, ending_of, receipt_at, trial_run}
 use Rattle.entry_model.proofs.TrialSteps.{ending-on, ending-off}
-use Rattle.call_trials.specs.Calls.{call_at}
-use Rattle.call_trials.proofs.BegunLaws.{at_end, at_inside}
+use Rattle.entry_model.specs.Calls.{call_at}
+use Rattle.entry_model.proofs.BegunLaws.{at_end, at_inside}
 use Rattle.c_layout.specs.declared.receipts.PaprReceipt.{PaprReceipt}
 use Rattle.c_layout.specs.Places.{placed, shown_receipt}
 use Rattle.papr_c.specs.Tried.{LentPair, IsMadeAt, IsTriedLast}

@@ -6,7 +6,7 @@ use Rattle.papr_codes.specs.Hcalls.{hcall_of}
 use Rattle.frame_grants.specs.declared.grant.Grant.{Grant}
 use Rattle.entry_model.specs.Trial.{Plan}
 use Rattle.c_layout.specs.declared.reply.PaprReply.{PaprReply}
-use Rattle.c_layout.specs.Hcalls.{plan_of_hcall}
+use Rattle.call_plan.specs.Hcalls.{plan_of_hcall}
 use Rattle.papr_c.specs.Calls.{LentMemory, outcome_of_call}
 
 -- H_FUNCTION, and no place filled.

@@ -9,7 +9,7 @@ use Rattle.entry_model.specs.declared.operation.Answer.{Answer}
 use Rattle.entry_model.specs.declared.operation.Answer.TheVariants.{Entered, Removed, Protected, Was}
 use Rattle.entry_model.specs.declared.operation.Op.{Op}
 use Rattle.entry_model.specs.declared.receipt.Receipt.{Receipt}
-use Rattle.call_trials.specs.Calls.{call_at}
+use Rattle.entry_model.specs.Calls.{call_at}
 use Rattle.c_layout.specs.declared.receipts.PaprReceipt.{PaprReceipt}
 use Rattle.papr_c.specs.declared.trying.Tried.{Tried}
 use Rattle.c_layout.specs.Places.{shown_receipt}

@@ -1,5 +1,5 @@
 ghost use Rattle.std.specs.Prelude.{◌≡◌};
-ghost use Rattle.h_update.specs.Bulk.{h_bulk_remove_plan};
+ghost use Rattle.call_plan.specs.Bulk.{h_bulk_remove_plan};
 ghost use Rattle.papr_c.specs.Calls.{memory, outcome_of_bulk};
 ghost use Rattle.c_layout.specs.Entries.{states_of, AreMarked};
 

@@ -1,5 +1,5 @@
 ghost use Rattle.std.specs.Prelude.{◌≡◌};
-ghost use Rattle.h_enter.specs.Checks.{h_enter_plan};
+ghost use Rattle.call_plan.specs.Checks.{h_enter_plan};
 ghost use Rattle.papr_c.specs.Calls.{memory, outcome_of_call};
 ghost use Rattle.c_layout.specs.Grants.{listed};
 ghost use Rattle.c_layout.specs.Entries.{states_of, AreMarked};

@@ -2,16 +2,15 @@ ghost use Rattle.std.specs.Prelude.{◌≡◌, ◌≤◌, ◌<◌, length};
 ghost use Rattle.std.specs.List.{AllByRecursion};
 ghost use Rattle.entry_model.specs.Receipt.{found_of};
 ghost use Rattle.entry_model.specs.Trial.{Call};
-ghost use Rattle.call_plan.specs.PageCalls.{calls_of};
+ghost use Rattle.hpt_walk.specs.PageCalls.{calls_of};
 ghost use Rattle.papr_c.specs.Walks.{each_as_is, outcome_of_probe};
 ghost use Rattle.c_layout.specs.Entries.{states_of};
 
 use crate::trying::asked;
 use c_layout::{NO_PAGE, PaprAccess, PaprEntry, PaprWalk, is_table, want_of};
-use call_plan::PageCalls;
-use call_trials::CallList;
-use entry_model::Receipt;
+use entry_model::{CallList, Receipt};
 use hpt_resize::StateHolder;
+use hpt_walk::PageCalls;
 use power_addr::Page;
 
 /// The receipt that a walk would have of the entry that translates its page.

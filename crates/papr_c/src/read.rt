@@ -1,5 +1,5 @@
 ghost use Rattle.std.specs.Prelude.{◌≡◌, ◌≤◌, ◌+◌, ◌*◌, ◌^◌, ◌<◌, length, min};
-ghost use Rattle.h_update.specs.Single.{h_read_plan};
+ghost use Rattle.call_plan.specs.Single.{h_read_plan};
 ghost use Rattle.papr_c.specs.Calls.{memory, outcome_of_call};
 ghost use Rattle.c_layout.specs.Places.{placed};
 ghost use Rattle.papr_c.specs.Tried.{words_of_entries};

@@ -2,14 +2,14 @@ ghost use Rattle.std.specs.Prelude.{◌≡◌, ◌≤◌, true, length, min, dro
 ghost use Rattle.papr_codes.specs.ReturnCodes.{rc_code};
 ghost use Rattle.c_layout.specs.Places.{placed};
 ghost use Rattle.c_layout.specs.Tables.{is_table};
-ghost use Rattle.h_update.specs.Bulk.{h_bulk_remove_plan};
+ghost use Rattle.call_plan.specs.Bulk.{h_bulk_remove_plan};
 ghost use Rattle.papr_c.specs.Calls.{memory, outcome_of_call};
 ghost use Rattle.c_layout.specs.Entries.{states_of, AreMarked};
 
 use crate::trying::make;
 use c_layout::{PaprEntry, PaprReceipt, PaprReply, filled_count, is_stale, put_word};
+use call_plan::{Asked, answered, asked_by, ill_formed};
 use entry_model::{Answer, Op};
-use h_update::{Asked, answered, asked_by, ill_formed};
 use papr_codes::Rc;
 
 /// Puts the words from one on into the caller's places, as far as these go: those of the pairs that

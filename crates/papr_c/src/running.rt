@@ -8,7 +8,7 @@ use crate::read::put_entries;
 use crate::removals::remove_pairs;
 use crate::trying::{make, try_lent};
 use c_layout::{PaprEntry, PaprReceipt, PaprReply, ends_stale, filled_count, hand_over, is_stale};
-use call_plan::{CallPlan, Told, Trial};
+use call_plan::{CallPlan, Told, Trial, answered_registers, entered_registers};
 use papr_codes::Rc;
 
 /// Tries entries that are lent, and hands over what their receipts tell.
@@ -36,7 +36,7 @@ fn try_trial(
             let tried = try_lent(entries, trial, receipts);
             let stale = ends_stale(&tried.ending);
             hand_over(
-                &h_enter::registers(&tried.ending),
+                &entered_registers(&tried.ending),
                 tried.count,
                 stale,
                 words,
@@ -46,7 +46,7 @@ fn try_trial(
         Told::Answer { shown } => {
             let receipt = make(entries, &trial.op, trial.first, receipts, 0);
             let stale = is_stale(receipt.answer);
-            hand_over(&h_update::registers(&receipt, shown), 1, stale, words, room)
+            hand_over(&answered_registers(&receipt, shown), 1, stale, words, room)
         }
         Told::Contents => {
             let tried = try_lent(entries, trial, receipts);

@@ -1,5 +1,5 @@
 ghost use Rattle.std.specs.Prelude.{◌≡◌};
-ghost use Rattle.h_update.specs.Single.{h_remove_plan, h_protect_plan, h_clear_ref_plan, h_clear_mod_plan};
+ghost use Rattle.call_plan.specs.Single.{h_remove_plan, h_protect_plan, h_clear_ref_plan, h_clear_mod_plan};
 ghost use Rattle.papr_c.specs.Calls.{memory, outcome_of_call};
 ghost use Rattle.c_layout.specs.Entries.{states_of, AreMarked};
 

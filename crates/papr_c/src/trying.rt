@@ -8,8 +8,7 @@ ghost use Rattle.c_layout.specs.Places.{placed, shown_receipt};
 ghost use Rattle.papr_c.specs.Tried.{IsTriedNext};
 
 use c_layout::{PaprEntry, PaprReceipt, put_receipt};
-use call_trials::CallList;
-use entry_model::{Answer, EntryState, Op, Receipt, reply};
+use entry_model::{Answer, CallList, EntryState, Op, Receipt, reply};
 use hpt_resize::StateHolder;
 
 /// How a trial ended.

@@ -6,8 +6,8 @@ use crate::trying::try_by_groups;
 use c_layout::{
     NO_PAGE, PaprAccess, PaprEntry, PaprReceipt, PaprWalk, filled_count, is_table, want_of,
 };
-use call_plan::PageCalls;
 use hpt_resize::StateHolder;
+use hpt_walk::PageCalls;
 use power_addr::Page;
 
 /// An access to `ea` by the entry of its page: the walk of the page's two groups, which records R

@@ -14,20 +14,20 @@ use Rattle.entry_model.specs.declared.operation.Op.{Op}
 use Rattle.entry_model.specs.declared.receipt.Receipt.{Receipt}
 use Rattle.entry_model.specs.Receipt.{is_taken, is_worn}
 use Rattle.entry_model.specs.Trial.{Plan, plan_of_code}
-use Rattle.h_enter.specs.Enter.{enter_told}
-use Rattle.h_enter.specs.Checks.{words_plan, h_enter_plan}
-use Rattle.h_update.specs.Single.{code_and_words, told_by, single_plan, h_remove_plan, h_protect_plan, h_clear_ref_plan, h_clear_mod_plan, h_read_plan}
-use Rattle.h_update.specs.declared.bulk.Asked.{Asked}
-use Rattle.h_update.specs.declared.bulk.Asked.TheVariants as asks
-use Rattle.h_update.specs.Bulk.{Pair, pairs_of, asked_by, pair_told, bulk_told, h_bulk_remove_plan}
+use Rattle.call_plan.specs.Enter.{enter_told}
+use Rattle.call_plan.specs.Checks.{words_plan, h_enter_plan}
+use Rattle.call_plan.specs.Single.{code_and_words, told_by, single_plan, h_remove_plan, h_protect_plan, h_clear_ref_plan, h_clear_mod_plan, h_read_plan}
+use Rattle.call_plan.specs.declared.bulk.Asked.{Asked}
+use Rattle.call_plan.specs.declared.bulk.Asked.TheVariants as asks
+use Rattle.call_plan.specs.Bulk.{Pair, pairs_of, asked_by, pair_told, bulk_told, h_bulk_remove_plan}
 use Rattle.call_plan.specs.declared.plan.Told.{Told}
 use Rattle.call_plan.specs.declared.plan.Told.TheVariants as told
 use Rattle.call_plan.specs.Plans.{told_of}
-use Rattle.c_layout.specs.Hcalls.{plan_of_hcall}
+use Rattle.call_plan.specs.Hcalls.{plan_of_hcall, or_function}
 use Rattle.shared_pass.specs.declared.held.HeldCall.{HeldCall}
 use Rattle.shared_pass.specs.declared.held.HeldCall.TheVariants as held
 use Rattle.shared_pass.specs.Held.{plan_of_held}
-use Rattle.papr_shared.specs.Calls.{NeverBusy, or_function}
+use Rattle.papr_shared.specs.Calls.{NeverBusy}
 
 -- ---- choices
 either :

@@ -2,13 +2,13 @@
 use Rattle.std.specs.Prelude.{◌≡◌, ◌≢◌, ◌⊎◌, ◌==◌, ◌++◌, ℕ, MatchBool, List, length, Option, Some, None}
 use Rattle.std.specs.Arc.{arc_value}
 use Rattle.papr_codes.specs.ReturnCodes.{rc_code}
-use Rattle.papr_codes.specs.declared.codes.Rc.TheVariants.{Busy, Function}
+use Rattle.papr_codes.specs.declared.codes.Rc.TheVariants.{Busy}
 use Rattle.papr_codes.specs.Hcalls.{hcall_of}
 use Rattle.frame_grants.specs.declared.grant.Grant.{Grant}
 use Rattle.entry_model.specs.declared.receipt.Receipt.{Receipt}
 use Rattle.entry_model.specs.declared.hreply.HReply.{HReply}
-use Rattle.entry_model.specs.Trial.{Plan, IsTrial, receipts_added, reply_by, plan_of_code}
-use Rattle.c_layout.specs.Hcalls.{plan_of_hcall}
+use Rattle.entry_model.specs.Trial.{Plan, IsTrial, receipts_added, reply_by}
+use Rattle.call_plan.specs.Hcalls.{entries_plan}
 use Rattle.shared_pass.specs.declared.working.Working.{Working}
 use Rattle.shared_pass.specs.declared.held.Pending.{Pending}
 use Rattle.shared_pass.specs.declared.held.Pending.TheVariants.{Nothing, Call}
@@ -77,15 +77,10 @@ IsBulkCall pairs plan before after h =
     (IsCall plan before after h)
     ((after ≡ before) × IsRefused h)
 
--- The plan, or that of a call that there isn't.
-abbrev pub or_function : Option Plan → Plan
-or_function None = plan_of_code Function
-or_function (Some plan) = plan
-
 -- The plan of the call with this number, whose words are these.
 abbrev pub numbered_plan : List Grant → ℕ → List ℕ → ℕ → Plan
 numbered_plan grants number words order =
-    or_function (plan_of_hcall order grants words (hcall_of number))
+    entries_plan order grants (hcall_of number) words
 
 -- ---- calls that go on
 -- The pass goes on with the call that it has; with none, nothing changes.

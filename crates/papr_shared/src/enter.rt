@@ -1,4 +1,4 @@
-ghost use Rattle.h_enter.specs.Checks.{h_enter_plan};
+ghost use Rattle.call_plan.specs.Checks.{h_enter_plan};
 ghost use Rattle.c_layout.specs.Grants.{listed};
 ghost use Rattle.papr_shared.specs.Answers.{handed};
 ghost use Rattle.papr_shared.specs.Calls.{IsCall};

@@ -1,4 +1,4 @@
-ghost use Rattle.h_update.specs.Bulk.{h_bulk_remove_plan};
+ghost use Rattle.call_plan.specs.Bulk.{h_bulk_remove_plan};
 ghost use Rattle.papr_shared.specs.Answers.{handed};
 ghost use Rattle.papr_shared.specs.Calls.{IsCall, IsBulkCall};
 

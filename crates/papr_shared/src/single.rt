@@ -1,4 +1,4 @@
-ghost use Rattle.h_update.specs.Single as single;
+ghost use Rattle.call_plan.specs.Single as single;
 ghost use Rattle.papr_shared.specs.Answers.{handed};
 ghost use Rattle.papr_shared.specs.Calls.{IsCall};
 

@@ -14,8 +14,8 @@ use Rattle.entry_model.specs.declared.operation.Answer.TheVariants.{Entered, Rem
 use Rattle.entry_model.specs.declared.operation.Op.TheVariants.{Enter, Read, Remove}
 use Rattle.entry_model.specs.declared.hreply.HReply.{HReply}
 use Rattle.entry_model.specs.declared.receipt.Receipt.{Receipt}
-use Rattle.h_enter.specs.Enter.{enter_plan, candidates}
-use Rattle.h_update.specs.Single.{both_words, code_and_words, h_read_plan, h_remove_plan, remove_test, told_by}
+use Rattle.call_plan.specs.Enter.{enter_plan, candidates}
+use Rattle.call_plan.specs.Single.{both_words, code_and_words, h_read_plan, h_remove_plan, remove_test, told_by}
 use Rattle.partition.proofs.Bits.{put_back}
 
 -- ---- one call

@@ -6,7 +6,7 @@ use Rattle.entry_model.specs.Receipt.{is_access}
 use Rattle.entry_model.specs.Trial.{Call, Plan}
 use Rattle.entry_lock.specs.declared.busy.Busy.{Busy}
 use Rattle.entry_lock.specs.BusyCauses.{IsHeldElsewhere, IsChanging}
-use Rattle.call_trials.specs.Calls.{call_at}
+use Rattle.entry_model.specs.Calls.{call_at}
 
 -- The answer that this operation on the entry is busy: for an access somebody else changes the
 -- entry's control word, for any other operation somebody else holds its lock.

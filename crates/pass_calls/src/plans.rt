@@ -1,17 +1,16 @@
 ghost use Rattle.std.specs.Prelude.{◌≡◌, ◌++◌, IfOk, IfErr, IsOk};
 ghost use Rattle.entry_model.specs.Replies.{reply_with};
 ghost use Rattle.entry_model.specs.Trial.{IsReplyOf, receipts_added};
-ghost use Rattle.call_trials.specs.Begun.{IsBegun};
+ghost use Rattle.entry_model.specs.Begun.{IsBegun};
 ghost use Rattle.call_plan.specs.Plans.{plan_of, Fits};
-ghost use Rattle.h_update.specs.Bulk.{h_bulk_remove_plan};
+ghost use Rattle.call_plan.specs.Bulk.{h_bulk_remove_plan};
 ghost use Rattle.pass_calls.specs.HeldUp.{IsHeldUp};
 
 use crate::tried::TriedStore;
 use crate::trying::try_calls;
-use call_plan::{CallPlan, Removals, told_registers};
+use call_plan::{CallPlan, Removals, removal_registers, told_registers};
 use entry_lock::Busy;
 use entry_model::{Receipts, Registers};
-use h_update::removal_registers;
 
 /// Makes the rest of H_BULK_REMOVE, of which these receipts were made.
 fn try_removals<S: TriedStore>(

@@ -1,13 +1,12 @@
-ghost use Rattle.std.specs.Prelude.{◌≡◌, ◌++◌, length, IfOk, IfErr, IsOk};
+ghost use Rattle.std.specs.Prelude.{◌≡◌, ◌++◌, IfOk, IfErr, IsOk};
 ghost use Rattle.entry_model.specs.Trial.{IsTrial, ending_of, receipts_added};
-ghost use Rattle.call_trials.specs.Calls.{AreCallsIn};
-ghost use Rattle.call_trials.specs.Begun.{IsBegunTrial};
+ghost use Rattle.entry_model.specs.Calls.{AreCallsIn};
+ghost use Rattle.entry_model.specs.Begun.{IsBegunTrial};
 ghost use Rattle.pass_calls.specs.HeldUp.{IsHeldUpAt};
 
 use crate::tried::TriedStore;
-use call_trials::CallList;
 use entry_lock::Busy;
-use entry_model::{Receipt, Receipts};
+use entry_model::{CallList, Receipt, Receipts};
 
 /// Makes the rest of a trial of which these receipts were made. The new ones are put behind them.
 /// Gives back the receipt that ended the trial, or `None` where the answers went on to the last

@@ -10,7 +10,7 @@ use number_text::{write_hexadecimal, write_piece};
 use std::alloc::AllocError;
 
 /// Room for a receipt, which has at most 34 bytes.
-const RECEIPT_ROOM: usize = 64;
+const RECEIPT_ROOM: usize = 48;
 
 /// The word of an answer.
 pub fn word_of(answer: Answer) -> &'static str
@@ -50,7 +50,7 @@ fn bits(state: &EntryState) -> &'static str
 /// Writes a receipt, behind a space, so that it ends where the text does. Returns where it starts.
 fn write_receipt(receipt: &Receipt, text: &mut [u8; RECEIPT_ROOM]) -> usize
     ensures within { result ≤ length text.old }
-    ensures short { 30 ≤ result }
+    ensures short { 14 ≤ result }
     ensures written { drop result text.new ≡ receipt_text receipt.now }
 {
     // From the last piece to the first: where a number starts is known once it is written.

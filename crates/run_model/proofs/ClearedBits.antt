@@ -18,11 +18,11 @@ use Rattle.entry_model.specs.declared.hreply.HReply.{HReply}
 use Rattle.entry_model.specs.Trial.{Call, IsTrial, Plan, IsReplyOf, plan_of_code, call}
 use Rattle.entry_model.proofs.PlanBounds.{each_call, trial_ops}
 use Rattle.page_grants.specs.Suited.{entered_words}
-use Rattle.h_enter.specs.Checks.{h_enter_plan, words_plan}
-use Rattle.h_enter.specs.Enter.{candidates}
-use Rattle.h_update.specs.Bulk.{h_bulk_remove_plan}
-use Rattle.h_update.proofs.Shown.{ShowsRemoved, removals_shown}
-use Rattle.h_update.specs.Single.{both_words, second_word, code_and_words, told_by, single_plan, remove_test, h_remove_plan, h_protect_plan, h_clear_ref_plan, h_clear_mod_plan, h_read_plan, read_entries}
+use Rattle.call_plan.specs.Checks.{h_enter_plan, words_plan}
+use Rattle.call_plan.specs.Enter.{candidates}
+use Rattle.call_plan.specs.Bulk.{h_bulk_remove_plan}
+use Rattle.call_plan.proofs.RemovedChanges.{ShowsRemoved, removals_shown}
+use Rattle.call_plan.specs.Single.{both_words, second_word, code_and_words, told_by, single_plan, remove_test, h_remove_plan, h_protect_plan, h_clear_ref_plan, h_clear_mod_plan, h_read_plan, read_entries}
 use Rattle.hpt_walk.specs.Access.{AccessContext}
 use Rattle.tlb_model.specs.Processor.{Processor}
 use Rattle.trace_line.specs.declared.act.Act.{Act}
@@ -30,7 +30,7 @@ use Rattle.trace_read.specs.Trace.{AcceptedTrace}
 use Rattle.trace_reply.specs.declared.reply.Reply.{Reply}
 use Rattle.trace_reply.specs.Replies.{RepliedLine}
 use Rattle.run_model.proofs.TableNamed.{IsTable, table_is, all_table}
-use Rattle.run_model.specs.StoreContexts.{StoreContext, access_of, table_context}
+use Rattle.run_model.specs.StoreContexts.{access_of, table_context}
 use Rattle.run_model.specs.Processors.{processor_after, processor_at}
 use Rattle.run_model.specs.Histories.{lines_of_processor}
 use Rattle.run_model.specs.LineReplies.{hcall_plan, IsCallReply}

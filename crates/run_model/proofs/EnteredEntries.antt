@@ -1,15 +1,12 @@
 -- Each valid entry of each state that a serial run reaches has words that H_ENTER would store as
 -- they are.
-use Rattle.std.specs.Prelude.{nat_lt, slice_index}
+use Rattle.std.specs.Prelude.{slice_index}
 use Rattle.std.proofs.Common.{◌≡◌, ℕ, List, [], ◌∷◌, Bool, true, false, Option, Some, None, refl, sym, subst, ◌⊎◌, inl, inr}
 use Rattle.std.specs.List.{AllByRecursion}
 use Rattle.std.proofs.lemmas.Bool.{cases_Bool, cond_both}
 use Rattle.papr_codes.specs.declared.calls.Hcall.{Hcall}
-use Rattle.papr_codes.specs.declared.codes.Rc.TheVariants.{Parameter}
 use Rattle.papr_codes.specs.Hcalls.{hcall_of}
-use Rattle.hpte_fields.specs.TableSize.{entry_count}
 use Rattle.frame_grants.specs.declared.grant.Grant.{Grant}
-use Rattle.page_grants.specs.Suited.{entered_words}
 use Rattle.trace_read.specs.Configuration.{Configuration, IsOpeningEntry, AreOpeningEntries}
 use Rattle.trace_read.proofs.StoredWords.{AreStored, stored_parts, stored_whole, entered_again}
 use Rattle.table_image.specs.declared.entry.ImageEntry.{ImageEntry}
@@ -21,12 +18,10 @@ use Rattle.entry_model.specs.declared.operation.Op.{Op}
 use Rattle.entry_model.specs.declared.receipt.Receipt.{Receipt}
 use Rattle.entry_model.specs.declared.line.Line.{Line}
 use Rattle.entry_model.specs.Receipt.{is_no_match}
-use Rattle.entry_model.specs.Trial.{Call, Plan, plan_of_code, plan_run, receipt_at, trial_run}
+use Rattle.entry_model.specs.Trial.{Call, Plan, plan_run, receipt_at, trial_run}
 use Rattle.entry_model.proofs.OperationLaws.{reply_canonical}
-use Rattle.entry_model.proofs.PlanBounds.{EntersOnly, each_call}
-use Rattle.h_enter.specs.Checks.{h_enter_plan, words_plan}
-use Rattle.h_enter.specs.Enter.{candidates}
-use Rattle.h_update.proofs.Tame.{h_remove_tame, h_protect_tame, h_read_tame, h_clear_ref_tame, h_clear_mod_tame, h_bulk_remove_tame}
+use Rattle.entry_model.proofs.PlanBounds.{EntersOnly}
+use Rattle.call_plan.proofs.EachCall.{each_tame}
 use Rattle.slb_model.specs.declared.segment.Segment.{Segment}
 use Rattle.slb_model.specs.Buffer.{segment_of}
 use Rattle.hpt_walk.specs.Walk.{walk_calls}
@@ -44,7 +39,7 @@ use Rattle.run_model.specs.EnteredEntries.{CanBeEntered}
 use Rattle.run_model.specs.Laws.{EntriesCanBeEntered}
 use Rattle.run_model.specs.LineReplies.{hcall_plan}
 use Rattle.run_model.specs.Processors.{processor_at}
-use Rattle.run_model.specs.Stores.{Store, context_of, states_of, page_table, trace_lines_on, is_on}
+use Rattle.run_model.specs.Stores.{Store, context_of, states_of, page_table}
 use Rattle.run_model.specs.QuietLines.{run_resize, run_quiet_line}
 use Rattle.run_model.proofs.FirstStore.{first_after}
 use Rattle.run_model.specs.SerialRun.{current_line, result_by_line, result_by_segment, line_result, with_result, run_on, table_after}
@@ -110,39 +105,16 @@ trial_kept grants goes states (c ∷ cs) enters h =
     (λ _. trial_kept grants goes (states_after states r) cs enters.1 after) (λ _. after)
 
 -- ---- hypervisor calls
-words_enter :
-    (grants : List Grant) (flags ptex : ℕ) (words : Option (ℕ × ℕ))
-    → ((w : ℕ × ℕ) → words ≡ Some w → AreStored grants w.0 w.1)
-    → EnterStored grants (words_plan flags ptex words).calls
-words_enter grants flags ptex None h = tt
-words_enter grants flags ptex (Some w) h =
-    each_call (EntersOnly (AreStored grants)) (ops.Enter w.0 w.1) (candidates flags ptex) (h w refl)
-
-enter_enters :
-    (order : ℕ) (grants : List Grant) (flags ptex pteh ptel : ℕ)
-    → EnterStored grants (h_enter_plan order grants flags ptex pteh ptel).calls
-unfolding h_enter_plan
-enter_enters order grants flags ptex pteh ptel =
-    cond_both (nat_lt ptex (entry_count order))
-    (words_plan flags ptex (entered_words grants pteh ptel)) (plan_of_code Parameter)
-    (λ (p : Plan). EnterStored grants p.calls)
-    (λ _.
-    words_enter grants flags ptex (entered_words grants pteh ptel)
-    (entered_again grants pteh ptel)) (λ _. tt)
-
 hcall_enters :
     (set : AccessContext) (h : Hcall) (args : List ℕ)
     → EnterStored set.grants (hcall_plan (table_context set) h args).calls
 unfolding hcall_plan
-hcall_enters set calls.Enter args = enter_enters set.order set.grants _ _ _ _
-hcall_enters set calls.Remove args = (h_remove_tame (AreStored set.grants) set.order _ _ _).enters
-hcall_enters set calls.Protect args = (h_protect_tame (AreStored set.grants) set.order _ _ _).enters
-hcall_enters set calls.Read args = (h_read_tame (AreStored set.grants) set.order _ _).enters
-hcall_enters set calls.ClearRef args = (h_clear_ref_tame (AreStored set.grants) set.order _).enters
-hcall_enters set calls.ClearMod args = (h_clear_mod_tame (AreStored set.grants) set.order _).enters
-hcall_enters set calls.BulkRemove args =
-    (h_bulk_remove_tame (AreStored set.grants) set.order args).enters
-hcall_enters set other args = tt
+hcall_enters set calls.GetTce args = tt
+hcall_enters set calls.PutTce args = tt
+hcall_enters set other args =
+    let each = each_tame (AreStored set.grants) set.order set.grants other args
+    (entered_again set.grants) in
+    each.enters
 
 -- ---- lines
 -- The states after a line.

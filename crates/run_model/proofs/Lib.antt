@@ -30,6 +30,7 @@ pub mod LowStamps
 pub mod SafeReplies
 pub mod PlacedCaches
 pub mod PlainTables
+mod BusLines
 pub mod OpeningEntries
 mod RehashedStates
 mod StoredReplies

@@ -9,7 +9,7 @@ use Rattle.hpte_fields.specs.TableSize.{entry_count}
 use Rattle.hpte_fields.proofs.Masks.{masks_join}
 use Rattle.frame_grants.specs.declared.grant.Grant.{Grant}
 use Rattle.page_grants.specs.Suited.{entered_words}
-use Rattle.h_enter.proofs.Suited.{entered_suited}
+use Rattle.call_plan.proofs.Suited.{entered_suited}
 use Rattle.table_image.specs.declared.entry.ImageEntry.{ImageEntry}
 use Rattle.table_image.specs.declared.layout.Layout.{Layout}
 use Rattle.table_image.specs.Layouts.{cleared_bit, entry_digits, entry_words}

@@ -5,7 +5,7 @@ use Rattle.std.specs.List.{AllByRecursion}
 use Rattle.frame_grants.specs.declared.grant.Grant.{Grant}
 use Rattle.hpte_fields.specs.TableSize.{entry_count}
 use Rattle.page_grants.specs.Suited.{entered_words}
-use Rattle.h_enter.proofs.Suited.{entered_suited}
+use Rattle.call_plan.proofs.Suited.{entered_suited}
 use Rattle.table_image.specs.declared.entry.ImageEntry.{ImageEntry}
 use Rattle.trace_read.specs.Configuration.{Configuration, IsOpeningEntry, AreOpeningEntries}
 use Rattle.entry_model.specs.State.{State, empty_state}

@@ -9,7 +9,7 @@ use Rattle.entry_model.proofs.FrontLaws.{one_keeps}
 use Rattle.entry_model.specs.Receipt.{receipt_of}
 use Rattle.entry_model.specs.State.{State, empty_state}
 use Rattle.entry_model.specs.declared.receipt.Receipt.{Receipt}
-use Rattle.h_update.specs.Single.{h_read_plan}
+use Rattle.call_plan.specs.Single.{h_read_plan}
 use Rattle.tlb_model.specs.Processor.{new_processor}
 use Rattle.trace_line.specs.declared.act.Act.TheVariants.{Call}
 use Rattle.run_model.specs.LineReplies.{hcall_plan}

@@ -26,12 +26,12 @@ use Rattle.entry_model.specs.Reply.{reply_of, change_to, change_where, entered_s
 use Rattle.entry_model.specs.Trial.{Call, IsTrial, Plan, IsReplyOf, plan_of_code, call}
 use Rattle.entry_model.proofs.OperationLaws.{access_undone}
 use Rattle.page_grants.specs.Suited.{entered_words}
-use Rattle.h_enter.specs.Checks.{h_enter_plan, words_plan}
-use Rattle.h_enter.specs.Enter.{candidates, enter_plan, enter_told, told_by_ending}
-use Rattle.h_update.specs.Bulk.{h_bulk_remove_plan}
-use Rattle.h_update.specs.Single.{both_words, second_word, code_and_words, told_by, single_plan, remove_test, protect_test, h_remove_plan, h_protect_plan, h_clear_ref_plan, h_clear_mod_plan, h_read_plan, read_entries}
-use Rattle.h_update.proofs.BulkCodes.{IsBulkCode, bulk_code}
-use Rattle.h_update.proofs.Shown.{ShowsRemoved, removals_shown}
+use Rattle.call_plan.specs.Checks.{h_enter_plan, words_plan}
+use Rattle.call_plan.specs.Enter.{candidates, enter_plan, enter_told, told_by_ending}
+use Rattle.call_plan.specs.Bulk.{h_bulk_remove_plan}
+use Rattle.call_plan.specs.Single.{both_words, second_word, code_and_words, told_by, single_plan, remove_test, protect_test, h_remove_plan, h_protect_plan, h_clear_ref_plan, h_clear_mod_plan, h_read_plan, read_entries}
+use Rattle.call_plan.proofs.BulkCodes.{IsBulkCode, bulk_code}
+use Rattle.call_plan.proofs.RemovedChanges.{ShowsRemoved, removals_shown}
 use Rattle.run_model.specs.StoreContexts.{StoreContext}
 use Rattle.run_model.specs.LineReplies.{put_plan, get_plan, hcall_plan}
 use Rattle.run_model.specs.RefusedCalls.{is_refusal, is_removed, keeps_removals, LeavesEntry}

@@ -19,9 +19,9 @@ use Rattle.entry_model.specs.Receipt.{receipt_of, after_of}
 use Rattle.entry_model.specs.Replies.{device_reply_with, no_window_reply}
 use Rattle.entry_model.specs.Trial.{IsReplyOf, trial_run, plan_run}
 use Rattle.page_grants.specs.Suited.{suits_grants}
-use Rattle.h_enter.specs.Checks.{h_enter_plan}
-use Rattle.h_enter.specs.Enter.{candidates}
-use Rattle.h_update.specs.Bulk.{asked_by, bulk_calls, bulk_told, h_bulk_remove_plan}
+use Rattle.call_plan.specs.Checks.{h_enter_plan}
+use Rattle.call_plan.specs.Enter.{candidates}
+use Rattle.call_plan.specs.Bulk.{asked_by, bulk_calls, bulk_told, h_bulk_remove_plan}
 use Rattle.hpt_resize.specs.Resize.{outcome_of_prepare}
 use Rattle.hpt_resize.specs.TableMemory.{prepare_result}
 use Rattle.tlb_model.specs.Processor.{new_processor}

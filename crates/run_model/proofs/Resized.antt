@@ -113,16 +113,7 @@ resize_after w calls.Commit args h =
       stands = memory_committed w.memory (slice_index args 0) (slice_index args 1) h;
       moves = memory_moves w.memory (slice_index args 0) (slice_index args 1);
     }
-resize_after w calls.Enter args h = same_after w.memory h
-resize_after w calls.Remove args h = same_after w.memory h
-resize_after w calls.Read args h = same_after w.memory h
-resize_after w calls.ClearMod args h = same_after w.memory h
-resize_after w calls.ClearRef args h = same_after w.memory h
-resize_after w calls.Protect args h = same_after w.memory h
-resize_after w calls.GetTce args h = same_after w.memory h
-resize_after w calls.PutTce args h = same_after w.memory h
-resize_after w calls.BulkRemove args h = same_after w.memory h
-resize_after w (calls.Other number) args h = same_after w.memory h
+resize_after w other args h = same_after w.memory h
 
 pub quiet_after :
     (w : Store) (act : Act)

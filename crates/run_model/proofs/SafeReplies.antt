@@ -26,8 +26,8 @@ use Rattle.entry_model.specs.Trial.{Call, IsTrial, IsReplyOf, call}
 use Rattle.entry_model.proofs.Heights.{weight, calls_cost, trial_weight, cost_append}
 use Rattle.entry_model.proofs.PlanBounds.{EntersOnly, IsTame, IsTameReply, answered_tame, tame_reply, trial_ops, each_call, entries_cost}
 use Rattle.page_grants.specs.Suited.{suits_grants, suits_size, suits_kind}
-use Rattle.h_enter.proofs.Suited.{IsSuited, h_enter_tame}
-use Rattle.h_update.proofs.Tame.{h_remove_tame, h_protect_tame, h_read_tame, h_clear_ref_tame, h_clear_mod_tame, h_bulk_remove_tame}
+use Rattle.call_plan.proofs.EachCall.{each_tame}
+use Rattle.call_plan.proofs.Suited.{IsSuited, entered_suited}
 use Rattle.slb_model.specs.declared.segment.Segment.{Segment}
 use Rattle.slb_model.specs.Buffer.{segment_of}
 use Rattle.hpt_walk.specs.Walk.{access_op, group_calls, walk_calls}
@@ -88,16 +88,10 @@ hcall_tame :
     (set : AccessContext) (h : Hcall) (args : List ℕ)
     → IsTame (IsSuited set.grants) (hcall_plan (table_context set) h args)
 unfolding hcall_plan
-hcall_tame set calls.Enter args = h_enter_tame set.order set.grants _ _ _ _
-hcall_tame set calls.Remove args = h_remove_tame (IsSuited set.grants) set.order _ _ _
-hcall_tame set calls.Protect args = h_protect_tame (IsSuited set.grants) set.order _ _ _
-hcall_tame set calls.Read args = h_read_tame (IsSuited set.grants) set.order _ _
-hcall_tame set calls.ClearRef args = h_clear_ref_tame (IsSuited set.grants) set.order _
-hcall_tame set calls.ClearMod args = h_clear_mod_tame (IsSuited set.grants) set.order _
-hcall_tame set calls.BulkRemove args = h_bulk_remove_tame (IsSuited set.grants) set.order args
 hcall_tame set calls.GetTce args = answered_tame (IsSuited set.grants) rc.Parameter (λ e. cc)
 hcall_tame set calls.PutTce args = answered_tame (IsSuited set.grants) rc.Parameter (λ e. cc)
-hcall_tame set other args = answered_tame (IsSuited set.grants) rc.Function (λ e. cc)
+hcall_tame set other args =
+    each_tame (IsSuited set.grants) set.order set.grants other args (entered_suited set.grants)
 
 -- ---- lines
 -- What is entered has a granted page, few stamps are raised, and the reply is safe where the stamps

@@ -19,7 +19,7 @@ use Rattle.trace_line.specs.declared.line.TraceLine.{TraceLine}
 use Rattle.trace_line.specs.Lines.{is_quiet}
 use Rattle.trace_read.specs.Trace.{AcceptedTrace}
 use Rattle.trace_reply.specs.declared.reply.Reply.{Reply}
-use Rattle.trace_reply.specs.Replies.{RepliedLine, IsOfKind, AreReplies, lines_with_replies}
+use Rattle.trace_reply.specs.Replies.{RepliedLine, IsOfKind, lines_with_replies}
 use Rattle.run_model.specs.Processors.{processor_at}
 use Rattle.run_model.specs.Stores.{Store, context_of, states_of, page_table}
 use Rattle.run_model.specs.QuietLines.{run_resize, run_quiet_line}
@@ -84,16 +84,7 @@ resize_kind :
 unfolding run_resize
 resize_kind w calls.Prepare number args spelt = tt
 resize_kind w calls.Commit number args spelt = tt
-resize_kind w calls.Enter number args spelt = tt
-resize_kind w calls.Remove number args spelt = tt
-resize_kind w calls.Read number args spelt = tt
-resize_kind w calls.ClearMod number args spelt = tt
-resize_kind w calls.ClearRef number args spelt = tt
-resize_kind w calls.Protect number args spelt = tt
-resize_kind w calls.GetTce number args spelt = tt
-resize_kind w calls.PutTce number args spelt = tt
-resize_kind w calls.BulkRemove number args spelt = tt
-resize_kind w (calls.Other other) number args spelt = tt
+resize_kind w other number args spelt = tt
 
 pub quiet_kind :
     (w : Store) (act : Act) → is_quiet act ≡ true → IsOfKind act (run_quiet_line w act).0

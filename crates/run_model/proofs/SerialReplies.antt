@@ -26,8 +26,7 @@ use Rattle.entry_model.proofs.LineLaws.{known_is_decided}
 use Rattle.tlb_model.proofs.CachedPages.{all_cached, cached_is_of}
 use Rattle.slb_model.specs.declared.segment.Segment.{Segment}
 use Rattle.slb_model.specs.Buffer.{segment_of}
-use Rattle.h_enter.proofs.InTable.{h_enter_within}
-use Rattle.h_update.proofs.InTable.{h_remove_within, h_protect_within, h_read_within, h_clear_ref_within, h_clear_mod_within, h_bulk_remove_within}
+use Rattle.call_plan.proofs.EachCall.{each_within}
 use Rattle.hpte_fields.specs.Fields.{is_secondary}
 use Rattle.hpt_walk.specs.Walk.{access_op, group_calls, walk_calls}
 use Rattle.hpt_walk.specs.Translations.{TranslatesItsPage}
@@ -65,26 +64,12 @@ hcall_within :
     → IfSome set.window IsWindow
     → Within (2 ^ (set.order - 4)) (hcall_plan set h args).calls
 unfolding hcall_plan
-hcall_within set calls.Enter args low is =
-    h_enter_within set.order set.grants (get_or args 0 0) (get_or args 1 0) (get_or args 2 0)
-    (get_or args 3 0) low
-hcall_within set calls.Remove args low is =
-    h_remove_within set.order (get_or args 0 0) (get_or args 1 0) (get_or args 2 0) low
-hcall_within set calls.Protect args low is =
-    h_protect_within set.order (get_or args 0 0) (get_or args 1 0) (get_or args 2 0) low
-hcall_within set calls.Read args low is =
-    h_read_within set.order (get_or args 0 0) (get_or args 1 0) low
-hcall_within set calls.ClearRef args low is = h_clear_ref_within set.order (get_or args 1 0) low
-hcall_within set calls.ClearMod args low is = h_clear_mod_within set.order (get_or args 1 0) low
-hcall_within set calls.BulkRemove args low is = h_bulk_remove_within set.order args low
-hcall_within set calls.Prepare args low is = tt
 hcall_within set calls.GetTce args low is =
     get_within set.window (get_or args 1 0) (2 ^ (set.order - 4)) (window_room set.order low) is
 hcall_within set calls.PutTce args low is =
     put_within set.grants set.window (get_or args 1 0) (get_or args 2 0) (2 ^ (set.order - 4))
     (window_room set.order low) is
-hcall_within set calls.Commit args low is = tt
-hcall_within set (calls.Other number) args low is = tt
+hcall_within set other args low is = each_within set.order set.grants other args low
 
 entries_within :
     (op : Op) (first n m : ℕ) → first + n ≤ m → Within m (map (call op) (range_with_len first n))

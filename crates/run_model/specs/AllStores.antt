@@ -11,6 +11,10 @@ pub record WindowState : Type 0 where
   pub window : BusWindow
   pub states : List State
 
+-- The windows without what their entries hold.
+abbrev pub windows_in : List WindowState → List BusWindow
+windows_in vs = map (λ (v : WindowState). v.window) vs
+
 -- All that is carried from line to line: the page table with its processors, and the windows.
 pub record AllStores : Type 0 where
   pub table : Store

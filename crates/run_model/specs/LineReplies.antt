@@ -8,9 +8,7 @@ use Rattle.papr_codes.specs.declared.calls.Hcall.{Hcall}
 use Rattle.papr_codes.specs.Hcalls.{hcall_of}
 use Rattle.entry_model.specs.Replies.{no_window_reply}
 use Rattle.entry_model.specs.Trial.{Plan, IsReplyOf, plan_of_code}
-use Rattle.h_enter.specs.Checks.{h_enter_plan}
-use Rattle.h_update.specs.Single.{h_remove_plan, h_protect_plan, h_read_plan, h_clear_ref_plan, h_clear_mod_plan}
-use Rattle.h_update.specs.Bulk.{h_bulk_remove_plan}
+use Rattle.call_plan.specs.Hcalls.{entries_plan}
 use Rattle.slb_model.specs.Refusals.{mte_refusal}
 use Rattle.slb_model.specs.Buffer.{segment_of}
 use Rattle.hpt_walk.specs.Access.{AccessContext, IsAccessReply, request}
@@ -39,27 +37,10 @@ get_plan (Some w) ioba = get_tce_plan w ioba
 -- What a hypervisor call does that isn't made at a quiet line, on a store of entries. A resize
 -- call, and a number that is no call, are answered H_FUNCTION here.
 unfoldable pub hcall_plan : StoreContext → Hcall → List ℕ → Plan
-hcall_plan context calls.Enter args =
-    h_enter_plan
-    context.order
-    context.grants
-    (slice_index args 0)
-    (slice_index args 1)
-    (slice_index args 2)
-    (slice_index args 3)
-hcall_plan context calls.Remove args =
-    h_remove_plan context.order (slice_index args 0) (slice_index args 1) (slice_index args 2)
-hcall_plan context calls.Protect args =
-    h_protect_plan context.order (slice_index args 0) (slice_index args 1) (slice_index args 2)
-hcall_plan context calls.Read args =
-    h_read_plan context.order (slice_index args 0) (slice_index args 1)
-hcall_plan context calls.ClearRef args = h_clear_ref_plan context.order (slice_index args 1)
-hcall_plan context calls.ClearMod args = h_clear_mod_plan context.order (slice_index args 1)
-hcall_plan context calls.BulkRemove args = h_bulk_remove_plan context.order args
 hcall_plan context calls.PutTce args =
     put_plan context.grants context.window (slice_index args 1) (slice_index args 2)
 hcall_plan context calls.GetTce args = get_plan context.window (slice_index args 1)
-hcall_plan context other args = plan_of_code rc.Function
+hcall_plan context other args = entries_plan context.order context.grants other args
 
 -- ---- replies
 -- The reply of a device's access by the window whose entries a store has. On the page table it

@@ -12,7 +12,7 @@ use Rattle.entry_model.specs.Receipt.{is_at}
 use Rattle.entry_model.specs.Reply.{is_store}
 use Rattle.entry_model.specs.History.{history}
 use Rattle.entry_model.specs.Run.{state_at}
-use Rattle.h_update.specs.Bulk.{pairs_show}
+use Rattle.call_plan.specs.Bulk.{pairs_show}
 use Rattle.hpt_resize.specs.Rehash.{target_at}
 use Rattle.trace_line.specs.declared.act.Act.{Act}
 use Rattle.trace_reply.specs.declared.reply.Reply.{Reply}

@@ -3,15 +3,17 @@
 //! being good.
 //!
 //! The calls are those of LoPAR on the page frame table and on DMA windows, and the accesses those
-//! of the Power ISA (Book III, hashed page table translation). `laws` has the theorems. Two calls
-//! run: `make_call`, which picks the hypervisor call of a line by its number, and
-//! `make_device_access`.
+//! of the Power ISA (Book III, hashed page table translation). `laws` has the theorems. What
+//! runs: `make_call`, which picks the hypervisor call of a line by its number, `make_device_access`,
+//! and `WindowEntries::line`, a line on a DMA window.
 #![tactic(auto)]
 
+mod bus_lines;
 mod calls;
 mod laws;
 mod store_laws;
 mod surroundings;
+mod windows;
 
 pub use calls::{make_call, make_device_access};
 pub use laws::{
@@ -24,3 +26,4 @@ pub use laws::{
 };
 pub use store_laws::{changes_have_places_of_their_own, refused_calls_leave_entries};
 pub use surroundings::Surroundings;
+pub use windows::{WINDOW_ORDER, WindowEntries, open_windows};

@@ -5,8 +5,8 @@ use Rattle.entry_model.specs.declared.receipt.Receipt.{Receipt}
 use Rattle.entry_model.specs.Receipt.{is_no_match}
 use Rattle.entry_model.specs.Trial.{Call, Plan}
 use Rattle.entry_lock.specs.declared.busy.Busy.{Busy}
-use Rattle.h_update.specs.Bulk.{h_bulk_remove_plan}
-use Rattle.call_trials.specs.Begun.{IsBegunTrial}
+use Rattle.call_plan.specs.Bulk.{h_bulk_remove_plan}
+use Rattle.entry_model.specs.Begun.{IsBegunTrial}
 use Rattle.call_plan.specs.Plans.{plan_of_trial, IsTrialIn}
 use Rattle.pass_calls.specs.HeldUp.{IsHeldUpAt}
 use Rattle.shared_pass.specs.declared.held.HeldCall.{HeldCall}

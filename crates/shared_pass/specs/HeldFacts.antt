@@ -9,7 +9,7 @@ use Rattle.entry_model.specs.contracts.operation.Op.{the_row}
 use Rattle.entry_model.specs.declared.receipt.Receipt.{Receipt}
 use Rattle.entry_model.specs.Receipt.{IsNormal, IsReceiptOf}
 use Rattle.entry_model.specs.Trial.{Call}
-use Rattle.call_trials.specs.Begun.{IsBegunTrial}
+use Rattle.entry_model.specs.Begun.{IsBegunTrial}
 use Rattle.call_plan.specs.declared.plan.Told.{Told}
 use Rattle.call_plan.specs.declared.plan.Told.TheVariants.{Entered, Answer as Shown, Contents}
 use Rattle.call_plan.specs.declared.plan.Trial.{Trial}

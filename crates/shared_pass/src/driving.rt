@@ -3,7 +3,7 @@ ghost use Rattle.std.specs.Arc.{arc_value};
 ghost use Rattle.entry_model.specs.Receipt.{is_no_match, found_of};
 ghost use Rattle.entry_model.specs.Replies.{reply_with};
 ghost use Rattle.entry_model.specs.Trial.{IsReplyOf, IsTrial, receipts_added};
-ghost use Rattle.call_trials.specs.Begun.{IsBegun, IsBegunTrial};
+ghost use Rattle.entry_model.specs.Begun.{IsBegun, IsBegunTrial};
 ghost use Rattle.call_plan.specs.Plans.{plan_of, Fits};
 ghost use Rattle.shared_pass.specs.declared.held.Pending.TheVariants.{Nothing, Call, Walk};
 ghost use Rattle.shared_pass.specs.Held.{plan_of_held};

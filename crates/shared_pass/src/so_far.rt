@@ -1,6 +1,6 @@
 ghost use Rattle.hpte_fields.specs.TableSize.{IsTableOrder};
-ghost use Rattle.std.specs.Prelude.{◌≡◌, ◌≤◌};
-ghost use Rattle.call_trials.specs.Begun.{IsBegun};
+ghost use Rattle.std.specs.Prelude.{◌≡◌};
+ghost use Rattle.entry_model.specs.Begun.{IsBegun};
 ghost use Rattle.call_plan.specs.Plans.{plan_of_trial, IsTrialIn};
 ghost use Rattle.papr_codes.specs.declared.codes.Rc.TheVariants.{Busy};
 ghost use Rattle.shared_pass.specs.declared.held.HeldCall.{HeldCall as Held};
@@ -9,9 +9,8 @@ ghost use Rattle.shared_pass.specs.Held.{plan_of_held, HeldFits};
 
 use crate::held::{HeldCall, Pending};
 use crate::working::Working;
-use call_plan::{Trial, told_registers};
+use call_plan::{Trial, removal_registers, told_registers};
 use entry_model::{Receipt, Registers, ReplyWords};
-use h_update::removal_registers;
 use papr_codes::Rc;
 
 /// The words of a trial that these receipts begin.

@@ -1,11 +1,11 @@
 ghost use Rattle.hpte_fields.specs.TableSize.{IsTableOrder};
-ghost use Rattle.std.specs.Prelude.{◌≡◌, ◌≤◌};
-ghost use Rattle.call_trials.specs.Calls.{AreCallsIn};
-ghost use Rattle.call_plan.specs.PageCalls.{calls_of};
+ghost use Rattle.std.specs.Prelude.{◌≡◌};
+ghost use Rattle.entry_model.specs.Calls.{AreCallsIn};
+ghost use Rattle.hpt_walk.specs.PageCalls.{calls_of};
 ghost use Rattle.shared_pass.specs.Walks.{walk_asked, calls_of_walk};
 
 use c_layout::{PaprAccess, want_of};
-use call_plan::PageCalls;
+use hpt_walk::PageCalls;
 use power_addr::Page;
 use storage_prot::Want;
 

@@ -1,4 +1,3 @@
-pub mod Acting
 pub mod WindowPlaces
 pub mod RunSteps
 pub mod OpeningMachine

@@ -1,12 +1,10 @@
 -- The sections of a parallel run, one after the other.
 use Rattle.std.specs.Prelude.{Option, Some, None, IfSome, filter, map}
-use Rattle.std.proofs.Common.{◌≡◌, ℕ, zero, suc, ◌+◌, ◌-◌, ◌<◌, ◌≤◌, List, [], ◌∷◌, ◌++◌, length, take, drop, get_or, replicate, cond, true, false, ap, sym, ◌∙◌, refl, subst, arith, append_assoc, append-nil, Bool, eqb}
+use Rattle.std.proofs.Common.{◌≡◌, ℕ, zero, suc, ◌+◌, ◌-◌, ◌<◌, ◌≤◌, List, [], ◌∷◌, ◌++◌, length, take, drop, get_or, true, false, ap, sym, ◌∙◌, refl, subst, arith, append_assoc, append-nil, eqb}
 use Rattle.std.specs.List.{AllByRecursion}
 use Rattle.std.proofs.lemmas.List.{drop_more, take_more}
-use Rattle.std.proofs.lemmas.List.Elements.{filter-append}
 use Rattle.bus_window.specs.Windows.{BusWindow}
-use Rattle.frame_grants.specs.declared.grant.Grant.{Grant}
-use Rattle.tlb_model.specs.Processor.{Processor, new_processor}
+use Rattle.tlb_model.specs.Processor.{Processor}
 use Rattle.trace_line.specs.declared.line.TraceLine.{TraceLine}
 use Rattle.trace_line.specs.Lines.{is_quiet}
 use Rattle.trace_read.specs.Configuration.{NumbersDiffer}
@@ -14,7 +12,7 @@ use Rattle.trace_reply.specs.declared.reply.Reply.{Reply}
 use Rattle.trace_reply.specs.Replies.{RepliedLine, IsOfKind, AreReplies, lines_with_replies}
 use Rattle.trace_line.specs.declared.act.Act.{Act}
 use Rattle.entry_model.specs.State.{State}
-use Rattle.run_model.specs.AllStores.{WindowState, AllStores, as_store, all_stores}
+use Rattle.run_model.specs.AllStores.{WindowState, AllStores, as_store, all_stores, windows_in}
 use Rattle.run_model.specs.ParallelRun.{RunsApart, RunsParallel}
 use Rattle.run_model.specs.Quiet.{QuietPart, cut}
 use Rattle.run_model.specs.QuietLines.{run_quiet_line}
@@ -27,7 +25,6 @@ use Rattle.run_model.proofs.TableNamed.{after_window, quiet_window}
 use Rattle.run_model.proofs.WindowLines.{window_closes_on}
 use Rattle.trace_runner.specs.MachineState.{RunsLine}
 use Rattle.trace_runner.specs.Stores.{store_of, replied_on_store}
-use Rattle.trace_runner.specs.Windows.{windows_of}
 use Rattle.trace_runner.proofs.QuietLines.{quiet_is}
 use Rattle.trace_runner.proofs.StoreNumbers.{HasNumber, replied_first, replied_window, numbers}
 use Rattle.trace_runner.specs.StoreRuns.{AllPaired}
@@ -82,19 +79,19 @@ HaveStoreNumbers ws n ss = AllNumbered (λ store (x : Store). HasStoreNumber ws 
 
 windows_numbered :
     (ws : List BusWindow) (table : Store) (n : ℕ) (vs : List WindowState)
-    → AllNumbered (HasNumber ws) n (windows_of vs)
+    → AllNumbered (HasNumber ws) n (windows_in vs)
     → HaveStoreNumbers ws n (map (as_store table) vs)
 windows_numbered ws table n [] h = tt
 windows_numbered ws table n (v ∷ vs) h = (h.0, windows_numbered ws table (suc n) vs h.1)
 
 -- A number is a place among the stores.
-numbered : (s : AllStores) → AreNamed s → HaveStoreNumbers (windows_of s.windows) 0 (all_stores s)
+numbered : (s : AllStores) → AreNamed s → HaveStoreNumbers (windows_in s.windows) 0 (all_stores s)
 numbered s h = (
   (λ act.
-      replied_first (windows_of s.windows) act
-      ∙ ap (λ o. is_on (windows_of s.windows) o act) (sym h.table)),
-  windows_numbered (windows_of s.windows) s.table 1 s.windows
-      (numbers (windows_of s.windows) h.differ),
+      replied_first (windows_in s.windows) act
+      ∙ ap (λ o. is_on (windows_in s.windows) o act) (sym h.table)),
+  windows_numbered (windows_in s.windows) s.table 1 s.windows
+      (numbers (windows_in s.windows) h.differ),
 )
 
 lines_numbered :
@@ -198,7 +195,7 @@ windows_close :
     → later.grants ≡ table.grants
     → length later.processors ≡ length table.processors
     → (n : ℕ) (vs us : List WindowState)
-    → AllNumbered (HasNumber ws) n (windows_of vs)
+    → AllNumbered (HasNumber ws) n (windows_in vs)
     → AllPaired (λ store v u. WindowSectioned table.grants (length table.processors) (on store) v u)
     n vs us
     → AllPaired (λ store x y. Closes (on store) x y) n (map (as_store table) vs)
@@ -277,7 +274,7 @@ section_number s later ls news h = ap (λ (v : Store). v.memory.table.number) h.
 section_windows :
     (s later : AllStores) (ls : List TraceLine) (news : List Reply)
     → Sectioned s ls news later
-    → windows_of later.windows ≡ windows_of s.windows
+    → windows_in later.windows ≡ windows_in s.windows
 section_windows s later ls news h =
     paired_windows 1 s.windows later.windows (weaker 1 s.windows later.windows h.windows) where
       weaker :
@@ -326,13 +323,13 @@ quiet_runs :
     (s : AllStores) (l : TraceLine)
     → s.table.window ≡ None
     → is_quiet l.act ≡ true
-    → run_line (windows_of s.windows) (all_stores s) l
+    → run_line (windows_in s.windows) (all_stores s) l
     ≡ ((run_quiet_line s.table l.act).0, quiet_left s l)
 quiet_runs s l named q =
-    let on : is_on (windows_of s.windows) s.table.window l.act ≡ true = ap
-    (λ o. is_on (windows_of s.windows) o l.act) named ∙ quiet_on_table (windows_of s.windows)
+    let on : is_on (windows_in s.windows) s.table.window l.act ≡ true = ap
+    (λ o. is_on (windows_in s.windows) o l.act) named ∙ quiet_on_table (windows_in s.windows)
     l.act q in
-    let here : run_line (windows_of s.windows) (all_stores s) l ≡
+    let here : run_line (windows_in s.windows) (all_stores s) l ≡
     ((run_on s.table l).0, (run_on s.table l).1 ∷ map (as_store s.table) s.windows) = rw on refl
     in
     here
@@ -347,10 +344,10 @@ module _ (s after : AllStores) (l : TraceLine) (r : Reply) (named : AreNamed s)
   quiet_told = ran.ran ∙ quiet_runs s l named.table q
 
   quiets :
-      AllPaired (λ store y z. Quiets (windows_of s.windows) (replied_line l r) y z) 0 (all_stores s)
+      AllPaired (λ store y z. Quiets (windows_in s.windows) (replied_line l r) y z) 0 (all_stores s)
       (all_stores after)
   quiets =
-      let ws = windows_of s.windows in
+      let ws = windows_in s.windows in
       let t = replied_line l r in
       let on : is_on ws s.table.window l.act ≡ true = ap (λ o. is_on ws o l.act) named.table ∙
       quiet_on_table ws l.act q in
@@ -379,7 +376,7 @@ module _ (s after : AllStores) (l : TraceLine) (r : Reply) (named : AreNamed s)
 module _ (s later : AllStores) (ls : List TraceLine) (news : List Reply) (named : AreNamed s)
     (h : Sectioned s ls news later) (m : NoneQuiet ls) where
   abbrev ws : List BusWindow
-  ws = windows_of s.windows
+  ws = windows_in s.windows
 
   abbrev ts : List RepliedLine
   ts = lines_with_replies ls news
@@ -429,7 +426,7 @@ module _ (s later : AllStores) (ls : List TraceLine) (news : List Reply) (named 
         named' : AreNamed later
         named' = section_named s later ls news h named
 
-        same : windows_of later.windows ≡ ws
+        same : windows_in later.windows ≡ ws
         same = section_windows s later ls news h
 
         there : AllPaired (λ store y z. Quiets ws t y z) 0 (all_stores later) (all_stores after)

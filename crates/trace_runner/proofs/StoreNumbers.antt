@@ -12,9 +12,9 @@ use Rattle.trace_line.specs.declared.line.TraceLine.{TraceLine}
 use Rattle.trace_line.specs.Lines.{is_quiet, bus_of}
 use Rattle.trace_read.specs.Configuration.{NumbersDiffer}
 use Rattle.trace_reply.specs.Replies.{RepliedLine}
-use Rattle.run_model.specs.AllStores.{WindowState}
+use Rattle.run_model.specs.AllStores.{WindowState, windows_in}
 use Rattle.run_model.specs.Stores.{is_on_window, is_on, lines_on}
-use Rattle.trace_runner.specs.Windows.{windows_of, place_from}
+use Rattle.trace_runner.specs.Windows.{place_from}
 use Rattle.trace_runner.specs.DealtLines.{AllEmpty}
 use Rattle.trace_runner.specs.Stores.{store_from, store_of, lines_on_store, replied_on_store, AreOnStores}
 use Rattle.trace_runner.specs.StoreRuns.{AreRunnable, AllRunnable}
@@ -29,14 +29,14 @@ of_place (Some place) = suc place
 
 pub store_place :
     (n : ℕ) (vs : List WindowState) (act : Act)
-    → of_place (place_from n vs act) ≡ store_from (suc n) (windows_of vs) act
+    → of_place (place_from n vs act) ≡ store_from (suc n) (windows_in vs) act
 store_place n [] act = refl
 store_place n (v ∷ vs) act =
     at (cases_Bool (is_on_window v.window act)) (store_place (suc n) vs act) where
       at :
           (is_on_window v.window act ≡ true) ⊎ (is_on_window v.window act ≡ false)
-          → of_place (place_from (suc n) vs act) ≡ store_from (suc (suc n)) (windows_of vs) act
-          → of_place (place_from n (v ∷ vs) act) ≡ store_from (suc n) (windows_of (v ∷ vs)) act
+          → of_place (place_from (suc n) vs act) ≡ store_from (suc (suc n)) (windows_in vs) act
+          → of_place (place_from n (v ∷ vs) act) ≡ store_from (suc n) (windows_in (v ∷ vs)) act
       at (inl on) rest = rw on refl
       at (inr off) rest = rw off rest
 
@@ -56,7 +56,7 @@ store_inside n (w ∷ ws) act =
 
 -- What `store_of` gives by the place of a line.
 pub record HasPlace (vs : List WindowState) (act : Act) (place : ℕ) : Type 0 where
-  pub store : place + 1 ≡ store_of (windows_of vs) act
+  pub store : place + 1 ≡ store_of (windows_in vs) act
   pub inside : place + 1 ≤ length vs
 
 pub has_place :
@@ -65,15 +65,15 @@ pub has_place :
     → o ≡ Some place
     → HasPlace vs act place
 has_place vs act o place e is =
-    record { store = store; inside = at (store_inside 1 (windows_of vs) act) } where
-      store : place + 1 ≡ store_of (windows_of vs) act
+    record { store = store; inside = at (store_inside 1 (windows_in vs) act) } where
+      store : place + 1 ≡ store_of (windows_in vs) act
       store = let more :
           place + 1 ≡ suc place =
           omega arith in more ∙ ap of_place (sym is ∙ e) ∙ store_place 0 vs act
 
       at :
-          store_of (windows_of vs) act < 1 + length (windows_of vs)
-          ⊎ (store_of (windows_of vs) act ≡ 0)
+          store_of (windows_in vs) act < 1 + length (windows_in vs)
+          ⊎ (store_of (windows_in vs) act ≡ 0)
           → place + 1 ≤ length vs
       at (inl low) = omega (arith, low, store, length-map vs (λ (v : WindowState). v.window))
       at (inr none) = absurd (omega (arith, none, store))
@@ -82,7 +82,7 @@ pub has_no_place :
     (vs : List WindowState) (act : Act) (o : Option ℕ)
     → o ≡ place_from 0 vs act
     → ((place : ℕ) → o ≡ Some place → ⊥)
-    → 0 ≡ store_of (windows_of vs) act
+    → 0 ≡ store_of (windows_in vs) act
 has_no_place vs act None e off = ap of_place e ∙ store_place 0 vs act
 has_no_place vs act (Some place) e off = absurd (off place refl)
 

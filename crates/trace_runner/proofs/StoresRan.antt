@@ -11,9 +11,8 @@ use Rattle.entry_model.specs.State.{State}
 use Rattle.trace_reply.specs.Replies.{RepliedLine}
 use Rattle.run_model.specs.ParallelRun.{RunsApart}
 use Rattle.run_model.specs.Stores.{Store, context_of, states_of}
-use Rattle.run_model.specs.AllStores.{WindowState, AllStores}
+use Rattle.run_model.specs.AllStores.{WindowState, AllStores, windows_in}
 use Rattle.run_model.specs.StoreContexts.{window_context}
-use Rattle.trace_runner.specs.Windows.{windows_of}
 use Rattle.trace_runner.specs.Stores.{lines_on_store, AreOnStores}
 use Rattle.trace_runner.specs.StoreRuns.{section_on, AllPaired, AllTripled, AllKeep, RunsWindow, RanWindow, RanWindows, RanTable, AddsWindows, RanStores, StoresKeep, IsMerged}
 use Rattle.trace_runner.specs.Sectioned.{section_lines, WindowSectioned, Sectioned, AddsReplies, RunsSection}
@@ -35,7 +34,7 @@ window_idle keeps grants cpus v =
 pub paired_windows :
     (n : ℕ) (vs us : List WindowState)
     → AllPaired (λ store v u. u.window ≡ v.window) n vs us
-    → windows_of us ≡ windows_of vs
+    → windows_in us ≡ windows_in vs
 paired_windows n [] [] h = refl
 paired_windows n [] (u ∷ us) h = absurd h
 paired_windows n (v ∷ vs) [] h = absurd h
@@ -45,7 +44,7 @@ pub ran_windows_same :
     {L Z : Type 0} (keeps : Keeping L) (grants : List Grant) (cpus : ℕ) (on : ℕ → List TraceLine)
     (n : ℕ) (vs us : List WindowState) (logs : List (Vec L Z))
     → RanWindows keeps grants cpus on n vs us logs
-    → windows_of us ≡ windows_of vs
+    → windows_in us ≡ windows_in vs
 ran_windows_same {L = L} {Z = Z} keeps grants cpus on n vs us logs h =
     paired_windows n vs us
     (tripled_paired
@@ -170,9 +169,9 @@ pub stores_alone :
     → RanTable keeps s lines later [] logs
     → RanStores keeps s lines later logs
 stores_alone {L = L} {Z = Z} keeps s later lines logs none r =
-    let whole : lines ≡ lines_on_store (windows_of s.windows) 0 lines = sym
-    (ap (λ vs. lines_on_store (windows_of vs) 0 lines) none ∙ lines_alone lines) in
-    let on : ℕ → List TraceLine = λ store. lines_on_store (windows_of s.windows) store lines in
+    let whole : lines ≡ lines_on_store (windows_in s.windows) 0 lines = sym
+    (ap (λ vs. lines_on_store (windows_in vs) 0 lines) none ∙ lines_alone lines) in
+    let on : ℕ → List TraceLine = λ store. lines_on_store (windows_in s.windows) store lines in
     let count = length s.table.processors in
     let empty : RanWindows {L = L} {Z = Z} keeps s.table.grants count on 1 [] [] [] = tt in
     record {
@@ -207,18 +206,18 @@ pub stores_together :
     {L Z : Type 0} (keeps : Keeping L) (s middle later : AllStores) (lines own : List TraceLine)
     (old first logs : List (Vec L Z)) (grants : List Grant) (cpus : ℕ) (vs : List WindowState)
     → old ≡ []
-    → own ≡ lines_on_store (windows_of s.windows) 0 lines
+    → own ≡ lines_on_store (windows_in s.windows) 0 lines
     → RanTable keeps s own middle old first
     → vs ≡ middle.windows
     → grants ≡ middle.table.grants
     → cpus ≡ length s.table.processors
     → later.table ≡ middle.table
-    → AddsWindows keeps grants cpus (λ store. lines_on_store (windows_of s.windows) store lines) vs
+    → AddsWindows keeps grants cpus (λ store. lines_on_store (windows_in s.windows) store lines) vs
     later.windows first logs
     → RanStores keeps s lines later logs
 stores_together {L = L} {Z = Z} keeps s middle later lines own old first logs grants cpus vs none is
     r windows granted count same h =
-    let on : ℕ → List TraceLine = λ store. lines_on_store (windows_of s.windows) store lines in
+    let on : ℕ → List TraceLine = λ store. lines_on_store (windows_in s.windows) store lines in
     let all_granted : grants ≡ s.table.grants = granted ∙ ap (λ (w : Store). w.grants) r.table in
     record {
       middle = middle;
@@ -240,7 +239,7 @@ stores_together {L = L} {Z = Z} keeps s middle later lines own old first logs gr
 module _ {L Z : Type 0} (keeps : Keeping L) (s : AllStores) (lines : List TraceLine)
     (later : AllStores) (logs : List (Vec L Z)) (r : RanStores keeps s lines later logs) where
   abbrev pub ws : List BusWindow
-  ws = windows_of s.windows
+  ws = windows_in s.windows
 
   abbrev pub on : ℕ → List TraceLine
   on store = lines_on_store ws store lines
@@ -295,7 +294,7 @@ module _ {L Z : Type 0} (keeps : Keeping L) (s : AllStores) (lines : List TraceL
             later.windows r.windows.rest windows_run,
       )
 
-  pub stores_same : windows_of later.windows ≡ ws
+  pub stores_same : windows_in later.windows ≡ ws
   stores_same =
       ran_windows_same keeps s.table.grants count on 1 s.windows later.windows r.windows.rest
       r.windows.ran
@@ -336,11 +335,11 @@ module _ {L Z : Type 0} (keeps : Keeping L) (s : AllStores) (lines : List TraceL
       → vs ≡ later.windows
       →
       ((picks : ℕ → ℕ → List Reply)
-      → StoresKeep keeps (windows_of vs) lines picks logs
-      → AddsReplies has (windows_of vs) lines picks old new)
+      → StoresKeep keeps (windows_in vs) lines picks logs
+      → AddsReplies has (windows_in vs) lines picks old new)
       → RunsSection has s lines old new later
   section_ran has vs old new e merged =
-      let same : windows_of vs ≡ ws = ap windows_of e ∙ stores_same in
+      let same : windows_in vs ≡ ws = ap windows_in e ∙ stores_same in
       let a = merged picks_on
       (subst (λ us. StoresKeep keeps us lines picks_on logs) (sym same) stores_keep) in
       record {
@@ -353,9 +352,9 @@ module _ {L Z : Type 0} (keeps : Keeping L) (s : AllStores) (lines : List TraceL
   pub section_keeps :
       (vs : List WindowState)
       → vs ≡ later.windows
-      → (picks : ℕ → ℕ → List Reply) × StoresKeep keeps (windows_of vs) lines picks logs
+      → (picks : ℕ → ℕ → List Reply) × StoresKeep keeps (windows_in vs) lines picks logs
   section_keeps vs e = (
     picks_on,
-    subst (λ us. StoresKeep keeps us lines picks_on logs) (sym (ap windows_of e ∙ stores_same))
+    subst (λ us. StoresKeep keeps us lines picks_on logs) (sym (ap windows_in e ∙ stores_same))
         stores_keep,
   )

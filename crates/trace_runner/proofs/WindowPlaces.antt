@@ -10,7 +10,7 @@ use Rattle.trace_line.specs.Lines.{is_quiet, bus_of}
 use Rattle.trace_reply.specs.declared.reply.Reply.{Reply}
 use Rattle.entry_model.specs.State.{State}
 use Rattle.tlb_model.specs.Processor.{new_processor}
-use Rattle.run_model.specs.AllStores.{WindowState, AllStores, opened, as_store, all_stores}
+use Rattle.run_model.specs.AllStores.{WindowState, AllStores, opened, as_store, all_stores, windows_in}
 use Rattle.run_model.specs.QuietLines.{run_quiet_line}
 use Rattle.run_model.specs.SerialRun.{line_result, run_on, run_line}
 use Rattle.run_model.specs.StoreContexts.{window_context}
@@ -18,7 +18,7 @@ use Rattle.run_model.specs.Stores.{Store, is_on_window, is_on}
 use Rattle.run_model.proofs.StoreLines.{quiet_off_window, on_first, off_first}
 use Rattle.run_model.proofs.WindowLines.{window_line}
 use Rattle.trace_runner.specs.MachineState.{RunsLine}
-use Rattle.trace_runner.specs.Windows.{windows_of, place_from}
+use Rattle.trace_runner.specs.Windows.{place_from}
 use Rattle.trace_runner.proofs.QuietLines.{line_beside, quiet_is}
 
 -- ---- which windows a line names
@@ -117,35 +117,35 @@ module _ (ws : List BusWindow) (table : Store) (l : TraceLine) where
 pub off_table :
     (n : ℕ) (vs : List WindowState) (act : Act) (i : ℕ)
     → place_from n vs act ≡ Some i
-    → is_on (windows_of vs) None act ≡ false
+    → is_on (windows_in vs) None act ≡ false
 off_table n [] act i e = cc
 off_table n (v ∷ vs) act i e =
     at (cases_Bool (is_on_window v.window act)) (λ k. off_table (suc n) vs act i k) where
       at :
           (is_on_window v.window act ≡ true) ⊎ (is_on_window v.window act ≡ false)
-          → (place_from (suc n) vs act ≡ Some i → is_on (windows_of vs) None act ≡ false)
-          → is_on (windows_of (v ∷ vs)) None act ≡ false
-      at (inl on) rest = on_first v.window (windows_of vs) act on
+          → (place_from (suc n) vs act ≡ Some i → is_on (windows_in vs) None act ≡ false)
+          → is_on (windows_in (v ∷ vs)) None act ≡ false
+      at (inl on) rest = on_first v.window (windows_in vs) act on
       at (inr off) rest =
-          off_first v.window (windows_of vs) act off
+          off_first v.window (windows_in vs) act off
           ∙ rest (subst (λ b. (if b then Some n else place_from (suc n) vs act) ≡ Some i) off e)
 
 on_table :
     (n : ℕ) (vs : List WindowState) (act : Act)
     → place_from n vs act ≡ None
-    → is_on (windows_of vs) None act ≡ true
+    → is_on (windows_in vs) None act ≡ true
 on_table n [] act e = refl
 on_table n (v ∷ vs) act e =
     at (cases_Bool (is_on_window v.window act)) (λ k. on_table (suc n) vs act k) where
       at :
           (is_on_window v.window act ≡ true) ⊎ (is_on_window v.window act ≡ false)
-          → (place_from (suc n) vs act ≡ None → is_on (windows_of vs) None act ≡ true)
-          → is_on (windows_of (v ∷ vs)) None act ≡ true
+          → (place_from (suc n) vs act ≡ None → is_on (windows_in vs) None act ≡ true)
+          → is_on (windows_in (v ∷ vs)) None act ≡ true
       at (inl on) rest = let clash :
           Some n ≡ None =
           subst (λ b. (if b then Some n else place_from (suc n) vs act) ≡ None) on e in cc
       at (inr off) rest =
-          off_first v.window (windows_of vs) act off
+          off_first v.window (windows_in vs) act off
           ∙ rest (subst (λ b. (if b then Some n else place_from (suc n) vs act) ≡ None) off e)
 
 -- ---- windows that stay
@@ -153,13 +153,13 @@ pub windows_stay :
     (vs : List WindowState) (k : ℕ) (v d : WindowState)
     → k < length vs
     → v.window ≡ (get_or vs k d).window
-    → windows_of (set vs k v) ≡ windows_of vs
+    → windows_in (set vs k v) ≡ windows_in vs
 windows_stay [] k v d within e = absurd (omega (arith, within))
-windows_stay (x ∷ xs) zero v d within e = ap (λ w. w ∷ windows_of xs) e
+windows_stay (x ∷ xs) zero v d within e = ap (λ w. w ∷ windows_in xs) e
 windows_stay (x ∷ xs) (suc k) v d within e =
     ap (λ ws. x.window ∷ ws) (windows_stay xs k v d (omega (arith, within)) e)
 
-pub windows_opened : (ws : List BusWindow) → windows_of (map opened ws) ≡ ws
+pub windows_opened : (ws : List BusWindow) → windows_in (map opened ws) ≡ ws
 windows_opened [] = refl
 windows_opened (w ∷ ws) = ap (λ vs. w ∷ vs) (windows_opened ws)
 
@@ -181,7 +181,7 @@ pub steps_on_window :
 steps_on_window s new l r i v u named first is ran same after =
     subst (RunsLine s l r) (sym after) (record { ran = sym all; windows = stay }) where
       ws : List BusWindow
-      ws = windows_of s.windows
+      ws = windows_in s.windows
 
       x : Reply × List State
       x = result_on s.table (get_or s.windows i v) l.act
@@ -211,7 +211,7 @@ steps_on_window s new l r i v u named first is ran same after =
           (here.runs v
           ∙ (λ j. ((told j).0, map (as_store s.table) (set s.windows i (left j))))))
 
-      stay : windows_of (set s.windows i u) ≡ ws
+      stay : windows_in (set s.windows i u) ≡ ws
       stay = windows_stay s.windows i u v here.inside (same ∙ ap (λ (z : WindowState). z.window) is)
 
 -- On the page table: the windows stay.
@@ -223,9 +223,9 @@ pub steps_on_table :
     → new.windows ≡ s.windows
     → RunsLine s l r new
 steps_on_table s new l r named none ran windows =
-    record { ran = told ∙ sym all; windows = ap windows_of windows } where
+    record { ran = told ∙ sym all; windows = ap windows_in windows } where
       ws : List BusWindow
-      ws = windows_of s.windows
+      ws = windows_in s.windows
 
       on : is_on ws s.table.window l.act ≡ true
       on = ap (λ o. is_on ws o l.act) named ∙ on_table 0 s.windows l.act none

@@ -9,7 +9,7 @@ use Rattle.run_model.specs.HeldLines.{AllHold}
 use Rattle.trace_line.specs.declared.line.TraceLine.{TraceLine}
 use Rattle.trace_reply.specs.declared.reply.Reply.{Reply}
 use Rattle.run_model.specs.SerialRun.{run_line, replies_from, stores_after, first_store}
-use Rattle.trace_runner.specs.Windows.{windows_of}
+use Rattle.run_model.specs.AllStores.{windows_in}
 
 -- The run state of a partition and its processors.
 abbrev pub run_state_of : PartitionState → List Processor → Store
@@ -36,21 +36,21 @@ pub record IsMachine
   where
     pub has_states : HasStates partition
     pub hold : AllHold partition.memory.table.states processors
-    pub differ : NumbersDiffer (windows_of windows)
+    pub differ : NumbersDiffer (windows_in windows)
 
 -- ---- the serial run from here on
 -- The line has this reply, and the stores are then so.
 pub record RunsLine (s : AllStores) (l : TraceLine) (r : Reply) (later : AllStores) : Type 0 where
-  pub ran : (r, all_stores later) ≡ run_line (windows_of s.windows) (all_stores s) l
-  pub windows : windows_of later.windows ≡ windows_of s.windows
+  pub ran : (r, all_stores later) ≡ run_line (windows_in s.windows) (all_stores s) l
+  pub windows : windows_in later.windows ≡ windows_in s.windows
 
 -- The replies to these lines, one after the other.
 abbrev pub replies_of : AllStores → List TraceLine → List Reply
-replies_of s lines = replies_from (windows_of s.windows) (all_stores s) lines
+replies_of s lines = replies_from (windows_in s.windows) (all_stores s) lines
 
 -- The stores behind them.
 abbrev pub stores_end : AllStores → List TraceLine → List Store
-stores_end s lines = stores_after (windows_of s.windows) (all_stores s) lines
+stores_end s lines = stores_after (windows_in s.windows) (all_stores s) lines
 
 -- The page table behind them.
 abbrev pub table_end : AllStores → List TraceLine → Store

@@ -10,7 +10,7 @@ use Rattle.trace_line.specs.declared.line.TraceLine.{TraceLine}
 use Rattle.trace_read.specs.Configuration.{NumbersDiffer}
 use Rattle.trace_reply.specs.declared.reply.Reply.{Reply}
 use Rattle.trace_reply.specs.Replies.{RepliedLine, AreReplies, lines_with_replies}
-use Rattle.run_model.specs.AllStores.{WindowState, AllStores, all_stores}
+use Rattle.run_model.specs.AllStores.{WindowState, AllStores, all_stores, windows_in}
 use Rattle.run_model.specs.ParallelRun.{RunsApart, RunsParallel}
 use Rattle.run_model.specs.Quiet.{cut}
 use Rattle.run_model.specs.Sections.{section_end_on}
@@ -18,7 +18,6 @@ use Rattle.run_model.specs.StoreContexts.{window_context}
 use Rattle.run_model.specs.Stores.{Store, is_on}
 use Rattle.trace_runner.specs.MachineState.{RunsLine}
 use Rattle.trace_runner.specs.Stores.{replied_on_store}
-use Rattle.trace_runner.specs.Windows.{windows_of}
 use Rattle.trace_runner.specs.StoreRuns.{AllPaired, IsMerged, section_on}
 use Rattle.trace_runner.specs.Workers.{Keeping}
 
@@ -26,7 +25,7 @@ use Rattle.trace_runner.specs.Workers.{Keeping}
 -- The lines of a section with these replies, on the store of this number.
 abbrev pub section_lines : AllStores → List TraceLine → List Reply → ℕ → List RepliedLine
 section_lines s lines news store =
-    replied_on_store (windows_of s.windows) store (lines_with_replies lines news)
+    replied_on_store (windows_in s.windows) store (lines_with_replies lines news)
 
 -- The window closed on what it has later.
 pub record WindowSectioned
@@ -72,13 +71,13 @@ abbrev pub Runs : AllStores → List RepliedLine → Type 0
 Runs s ts =
     let c = cut ts in
     AllByRecursion
-    (λ (x : Store). RunsParallel (is_on (windows_of s.windows) x.window) x c.0 c.1)
+    (λ (x : Store). RunsParallel (is_on (windows_in s.windows) x.window) x c.0 c.1)
     (all_stores s)
 
 -- The first store is the page table, and the numbers of the windows differ.
 pub record AreNamed (s : AllStores) : Type 0 where
   pub table : s.table.window ≡ None
-  pub differ : NumbersDiffer (windows_of s.windows)
+  pub differ : NumbersDiffer (windows_in s.windows)
 
 -- These replies to lines were put behind those of an output.
 abbrev pub HasGrown :

@@ -13,10 +13,9 @@ use Rattle.run_model.specs.Histories.{lines_of_processor}
 use Rattle.run_model.specs.ParallelRun.{RunsApart}
 use Rattle.run_model.specs.Stores.{context_of, states_of, plain_store}
 use Rattle.run_model.specs.Sections.{Section, processors_after_lines}
-use Rattle.run_model.specs.AllStores.{WindowState, AllStores}
+use Rattle.run_model.specs.AllStores.{WindowState, AllStores, windows_in}
 use Rattle.run_model.specs.StoreContexts.{StoreContext, window_context}
 use Rattle.trace_runner.specs.Stores.{lines_on_store, replied_on_store}
-use Rattle.trace_runner.specs.Windows.{windows_of}
 use Rattle.trace_runner.specs.Workers.{Keeping, NoneQuiet, AllNumbered, lines_of_cpu, replied_lines_of_cpu}
 
 -- ---- lists side by side
@@ -209,12 +208,12 @@ pub record RanStores
     pub middle : AllStores
     pub first : List (Vec L Z)
     pub table :
-        RanTable keeps s (lines_on_store (windows_of s.windows) 0 lines) middle [] first
+        RanTable keeps s (lines_on_store (windows_in s.windows) 0 lines) middle [] first
     pub same : later.table ≡ middle.table
     pub windows :
         AddsWindows
         keeps s.table.grants (length s.table.processors)
-        (λ store. lines_on_store (windows_of s.windows) store lines)
+        (λ store. lines_on_store (windows_in s.windows) store lines)
         s.windows later.windows first logs
 
 -- ---- replies in file order

@@ -1,13 +1,8 @@
--- The windows of a machine, and the one that a line is run on.
-use Rattle.std.specs.Prelude.{ℕ, suc, List, [], ◌∷◌, map, Option, Some, None, if◌then◌else◌}
-use Rattle.bus_window.specs.Windows.{BusWindow}
+-- The window that a line is run on.
+use Rattle.std.specs.Prelude.{ℕ, suc, List, [], ◌∷◌, Option, Some, None, if◌then◌else◌}
 use Rattle.trace_line.specs.declared.act.Act.{Act}
 use Rattle.run_model.specs.Stores.{is_on_window}
 use Rattle.run_model.specs.AllStores.{WindowState}
-
--- The windows without what their entries hold.
-abbrev pub windows_of : List WindowState → List BusWindow
-windows_of vs = map (λ (v : WindowState). v.window) vs
 
 -- The place of the first that the line names, where the first has this place. None where it names
 -- none of them.

@@ -12,9 +12,8 @@ use crate::log::RunLog;
 use crate::machine::Machine;
 use crate::store_run::{StoreRun, run_store};
 use crate::stores::deal_stores;
-use crate::windows::{WINDOW_ORDER, WindowEntries};
 use frame_grants::Grants;
-use run_model::Surroundings;
+use run_model::{Surroundings, WINDOW_ORDER, WindowEntries};
 use std::alloc::{AllocError, Global};
 use std::sync::Wait;
 use std::thread::Threads;
@@ -80,7 +79,7 @@ fn run_on_window<R: Threads + Wait + Sync, G: Gate + Sync, L: RunLog>(
     if lines.is_empty() {
         return Ok((entries, Vec::new(alloc)));
     }
-    let cpus = empty_cpus(alloc, count)?;
+    let cpus = empty_cpus(alloc, count as usize)?;
     let WindowEntries { window, states } = entries;
     let around = Surroundings {
         grants,

@@ -1,19 +1,20 @@
-ghost use Rattle.std.specs.Prelude.{◌≡◌, ◌<◌, ◌≤◌, ◌+◌, ◌-◌, ◌^◌, length, true, false, Some, None, IfOk, OnOk, vec_len};
+ghost use Rattle.std.specs.Prelude.{◌≡◌, ◌<◌, ◌≤◌, ◌+◌, ◌-◌, ◌^◌, length, true, false, Some, None, IfOk, OnOk};
 ghost use Rattle.trace_line.specs.Lines.{is_quiet};
 ghost use Rattle.run_model.specs.QuietLines.{run_quiet_line, run_resize, shown_of};
 ghost use Rattle.run_model.specs.AllStores.{opening_all};
 ghost use Rattle.run_model.specs.SerialRun.{run_on};
 ghost use Rattle.trace_runner.specs.MachineState.{RunsLine};
 ghost use Rattle.trace_reply.specs.Places.{reply_in};
-ghost use Rattle.trace_runner.specs.Windows.{place_from, windows_of};
+ghost use Rattle.trace_runner.specs.Windows.{place_from};
+ghost use Rattle.run_model.specs.AllStores.{windows_in};
 
 use crate::act::run_alone;
-use crate::windows::{WindowEntries, open_windows, place_of};
+use crate::windows::place_of;
 use entry_model::HReply;
 use papr_codes::{Hcall, Rc};
 use papr_table::PlainTable;
 use partition::Partition;
-use run_model::Surroundings;
+use run_model::{Surroundings, WindowEntries, open_windows};
 use std::alloc::{AllocError, Global};
 use std::marker::Model;
 use trace_line::{Act, TraceLine};
@@ -50,7 +51,7 @@ impl Machine {
         ensures { IfOk result (λ machine. machine ≡ opening_all config.now) }
     {
         let partition = Partition::open(alloc, config)?;
-        let cpus = empty_cpus(alloc, config.cpus)?;
+        let cpus = empty_cpus(alloc, config.cpus as usize)?;
         let windows = open_windows(alloc, config.windows.as_slice())?;
         Ok(Machine {
             partition,
@@ -78,7 +79,7 @@ impl Machine {
         ensures cpus { OnOk
             result
             (length self.new.table.processors ≡ length self.old.table.processors) }
-        ensures windows { OnOk result (windows_of self.new.windows ≡ windows_of self.old.windows) }
+        ensures windows { OnOk result (windows_in self.new.windows ≡ windows_in self.old.windows) }
     {
         if line.act.is_quiet() {
             return self.quiet(alloc, &line.act, place);
@@ -132,7 +133,7 @@ impl Machine {
         requires first { place_from 0 self.old.windows line.now.act ≡ Some at }
         ensures reply { RunsLine self.old line.now (reply_in place.new) self.new }
         ensures table { self.new.table ≡ self.old.table }
-        ensures windows { windows_of self.new.windows ≡ windows_of self.old.windows }
+        ensures windows { windows_in self.new.windows ≡ windows_in self.old.windows }
     {
         self.windows[at].line(self.partition.grants(), &line.act, place);
     }

@@ -1,13 +1,13 @@
 //! The replies of all stores, put into file order.
 ghost use Rattle.std.specs.Prelude.{◌≡◌, ℕ, ◌+◌, List, length, OnOk};
 ghost use Rattle.trace_reply.specs.declared.reply.Reply.{Reply};
-ghost use Rattle.trace_runner.specs.Windows.{windows_of};
+ghost use Rattle.run_model.specs.AllStores.{windows_in};
 ghost use Rattle.trace_runner.specs.StoreRuns.{StoresKeep};
 ghost use Rattle.trace_runner.specs.Sectioned.{AddsReplies};
 
 use crate::log::RunLog;
 use crate::stores::store_of;
-use crate::windows::WindowEntries;
+use run_model::WindowEntries;
 use std::alloc::AllocError;
 use trace_line::TraceLine;
 
@@ -21,12 +21,12 @@ pub fn merge_replies<L: RunLog>(
 ) -> Result<(), AllocError>
     requires stores { length logs.old.items ≡ 1 + length windows.now }
     requires kept { (picks : ℕ → ℕ → List Reply)
-        × StoresKeep L.keeps (windows_of windows.now) lines.now picks logs.old.items }
+        × StoresKeep L.keeps (windows_in windows.now) lines.now picks logs.old.items }
     ensures merged { OnOk
         result
         ((picks : ℕ → ℕ → List Reply)
-        → StoresKeep L.keeps (windows_of windows.now) lines.now picks logs.old.items
-        → AddsReplies L.has (windows_of windows.now) lines.now picks output.old output.new) }
+        → StoresKeep L.keeps (windows_in windows.now) lines.now picks logs.old.items
+        → AddsReplies L.has (windows_in windows.now) lines.now picks output.old output.new) }
 {
     for line in lines {
         let store = store_of(windows, &line.act);

@@ -1,5 +1,5 @@
 //! The threads of a section: one for each processor that has a pass.
-ghost use Rattle.std.specs.Prelude.{◌≡◌, ℕ, ◌<◌, ◌≤◌, length, is_some};
+ghost use Rattle.std.specs.Prelude.{◌≡◌, ◌<◌, ◌≤◌, length, is_some};
 ghost use Rattle.std.specs.List.{list_any};
 ghost use Rattle.std.specs.Thread.{IsSync, IsSend};
 ghost use Rattle.run_model.specs.StoreContexts.{context_on};

@@ -1,5 +1,5 @@
 //! The stretch of a section in which no memory is taken.
-ghost use Rattle.std.specs.Prelude.{◌≡◌, ℕ, ◌+◌, ◌<◌, ◌≤◌, length, vec_capacity};
+ghost use Rattle.std.specs.Prelude.{◌≡◌, ◌+◌, ◌<◌, ◌≤◌, length, vec_capacity};
 ghost use Rattle.run_model.specs.StoreContexts.{context_on};
 ghost use Rattle.trace_runner.specs.Workers.{count_with_lines, AreReady, NoneQuiet};
 ghost use Rattle.trace_runner.specs.SectionRun.{RanTogether};

@@ -19,9 +19,9 @@ use Rattle.entry_model.specs.Reply.{has_base}
 use Rattle.entry_model.specs.Run.{state_at}
 use Rattle.entry_model.specs.Trial.{trial_run, plan_run}
 use Rattle.page_grants.specs.Suited.{suits_grants}
-use Rattle.h_enter.specs.Checks.{h_enter_plan}
-use Rattle.h_enter.specs.Enter.{candidates}
-use Rattle.h_update.specs.Single.{h_read_plan}
+use Rattle.call_plan.specs.Checks.{h_enter_plan}
+use Rattle.call_plan.specs.Enter.{candidates}
+use Rattle.call_plan.specs.Single.{h_read_plan}
 use Rattle.hpt_resize.specs.TableMemory.{TableMemory, opening_memory, empty_states, prepare_result, commit_result, with_states}
 use Rattle.hpt_resize.specs.Rehash.{carried_page, target_of, first_with, collision_at, collision_of, entry_at, rehashed_states}
 use Rattle.hpt_resize.specs.Resize.{outcome_of_prepare, outcome_of_commit}

@@ -15,9 +15,9 @@ use Rattle.tlb_model.specs.Cache.{empty_cache, cached_line}
 use Rattle.entry_model.specs.Reply.{has_base}
 use Rattle.entry_model.specs.Trial.{trial_run, plan_run}
 use Rattle.page_grants.specs.Suited.{suits_grants}
-use Rattle.h_enter.specs.Checks.{h_enter_plan}
-use Rattle.h_enter.specs.Enter.{candidates}
-use Rattle.h_update.specs.Single.{h_remove_plan, h_protect_plan, h_clear_mod_plan}
+use Rattle.call_plan.specs.Checks.{h_enter_plan}
+use Rattle.call_plan.specs.Enter.{candidates}
+use Rattle.call_plan.specs.Single.{h_remove_plan, h_protect_plan, h_clear_mod_plan}
 use Rattle.hpt_walk.specs.Access.{outcome_of}
 use Rattle.tlb_model.specs.CacheAfter.{after_walk}
 use Rattle.tlb_model.specs.Processor.{new_processor}

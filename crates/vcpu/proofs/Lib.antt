@@ -1,3 +1,4 @@
 pub mod Hits
 pub mod Refills
+pub mod WalksFindPages
 mod Rows

@@ -12,6 +12,8 @@ use Rattle.tlb_model.specs.Cache.{is_of, line_of_page, set_of, set_number, cache
 use Rattle.tlb_model.proofs.CachedPages.{none_without, all_filter, all_put_last, all_in_set_of, all_written}
 use Rattle.tlb_model.specs.Sets.{with_set}
 use Rattle.entry_model.specs.Receipt.{found_of}
+use Rattle.entry_model.specs.CachedLines.{line_of}
+use Rattle.hpt_walk.specs.Translations.{TranslatesItsPage}
 use Rattle.tlb_model.specs.CacheAfter.{set_with, after_walk, cache_after, kept_line, with_kept}
 
 -- The cache without the page's line.
@@ -60,6 +62,13 @@ pub kept_is_of :
     → IfSome (kept_line page outcome found) (λ line. line.page ≡ page)
 kept_is_of page (At address) (Some r) = refl
 kept_is_of page outcome found = tt
+
+pub kept_translates :
+    (page : VirtualPage) (outcome : Outcome) (found : Option Receipt)
+    → IfSome found (λ r. TranslatesItsPage (line_of page r))
+    → IfSome (kept_line page outcome found) TranslatesItsPage
+kept_translates page (At address) (Some r) h = h
+kept_translates page outcome found h = tt
 
 pub kept_fits :
     (page : VirtualPage) (cache : List (List Line)) (kept : Option Line)

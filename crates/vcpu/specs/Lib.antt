@@ -1,1 +1,2 @@
 pub mod LentMasks
+pub mod Walked

@@ -9,13 +9,15 @@ ghost use Rattle.hpt_walk.specs.Access.{IsAccessReply, access_context, request};
 ghost use Rattle.tlb_model.specs.CacheAfter.{cache_after, gone_line};
 ghost use Rattle.std.specs.Borrow.{sem};
 ghost use Rattle.vcpu.specs.LentMasks.{LendsMasks};
+ghost use Rattle.vcpu.specs.Walked.{WalkFindsPage};
 
-use crate::passing::in_segment;
+use crate::passing::{in_segment, walked};
 use authority_mask::Masks;
-use entry_model::{AccessEnd, AccessReply, EntryStore, Outcome, Receipts};
+use entry_model::{AccessEnd, AccessReply, By, EntryStore, Line, Outcome, Receipt, Receipts};
 use frame_grants::Grants;
 use hpt_walk::Request;
-use slb_model::{BadSlb, Slb};
+use power_addr::Page;
+use slb_model::{BadSlb, Segment, Slb};
 use std::marker::Model;
 use storage_prot::Want;
 use tlb_model::Tlb;
@@ -78,6 +80,27 @@ impl Cpu {
         ensures now { result.now ≡ self.old.masks }
     {
         &mut self.masks
+    }
+
+    /// The authority masks as they are.
+    pub fn authority(&self) -> Masks
+        ensures { result ≡ self.now.masks }
+    {
+        self.masks
+    }
+
+    /// The segment that has the effective address, if there is one.
+    pub fn segment(&self, ea: u64) -> Option<Segment>
+        ensures { result ≡ segment_of self.now.slots ea }
+    {
+        self.slb.segment(ea)
+    }
+
+    /// The line of the page, if it is cached.
+    pub fn cached(&self, page: &Page) -> Option<Line>
+        ensures { result ≡ cached_line self.now.cache page.now }
+    {
+        self.tlb.find(page)
     }
 
     /// Forgets all cached translations.
@@ -189,6 +212,25 @@ impl Cpu {
                 };
                 in_segment(&mut self.tlb, store, grants, &segment, &request, receipts)
             }
+        }
+    }
+    /// Leaves the processor as it is after an access that was made elsewhere and ended so, with
+    /// these receipts. Where a walk landed, the line of the entry found takes the place of the
+    /// page's.
+    pub fn after_access(&mut self, ea: u64, end: &AccessEnd, receipts: &[Receipt])
+        requires { WalkFindsPage (segment_of self.old.slots ea) end.now.by receipts.now }
+        ensures { self.new
+            ≡ record self.old {
+              cache =
+                  cache_after
+                  self.old.cache
+                  (segment_of self.old.slots ea)
+                  end.now.by
+                  (access_reply_with end.now receipts.now);
+            } }
+    {
+        if let (Some(segment), Some(By::Walk)) = (self.slb.segment(ea), end.by) {
+            walked(&mut self.tlb, &segment, end, receipts);
         }
     }
 }

@@ -5,10 +5,10 @@ use crate::cpu::Cpu;
 use std::alloc::{AllocError, Global};
 
 /// So many processors, with no segment and nothing cached. The only error is want of memory.
-pub fn empty_cpus(alloc: Global, count: u32) -> Result<Vec<Cpu>, AllocError>
+pub fn empty_cpus(alloc: Global, count: usize) -> Result<Vec<Cpu>, AllocError>
     ensures { IfOk result (λ cpus. cpus.items ≡ replicate count new_processor) }
 {
-    let mut cpus = Vec::with_capacity(alloc, count as usize)?;
+    let mut cpus = Vec::with_capacity(alloc, count)?;
     for _ in 0..count {
         cpus.push(Cpu::new())?;
     }

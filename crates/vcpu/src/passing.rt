@@ -4,11 +4,14 @@ ghost use Rattle.entry_model.specs.CachedLines.{AllLater};
 ghost use Rattle.entry_model.specs.Replies.{access_reply_with};
 ghost use Rattle.hpt_walk.specs.Translations.{TranslatesItsPage};
 ghost use Rattle.hpt_walk.specs.Access.{IsByWay, access_context};
+ghost use Rattle.entry_model.specs.declared.access_reply.By.TheVariants.{Walk};
+ghost use Rattle.entry_model.specs.Receipt as receipts;
+ghost use Rattle.vcpu.specs.Walked.{FindsPage};
 ghost use Rattle.tlb_model.specs.CacheAfter.{cache_after, gone_by_way, with_kept};
 
 use crate::by_cache::by_cache;
-use crate::by_walk::{Walked, by_walk};
-use entry_model::{AccessEnd, EntryStore, Line, Receipts};
+use crate::by_walk::{Walked, by_walk, kept_line};
+use entry_model::{AccessEnd, Answer, EntryStore, Line, Receipt, Receipts};
 use frame_grants::Grants;
 use hpt_walk::Request;
 use slb_model::Segment;
@@ -69,4 +72,32 @@ pub fn refill(tlb: &mut Tlb, kept: Option<Line>)
         None => {}
         Some(line) => tlb.fill(line),
     }
+}
+
+/// The receipt of the entry that a walk found: the first that doesn't say NoMatch.
+fn found_of(list: &[Receipt]) -> Option<Receipt>
+    ensures { result ≡ receipts.found_of list.now }
+{
+    list.iter()
+        .copied()
+        .find(|receipt| !matches!(receipt.answer, Answer::NoMatch))
+}
+
+/// Leaves the cache as it is after a walk of the segment's page that ended so, with these receipts.
+pub fn walked(tlb: &mut Tlb, segment: &Segment, end: &AccessEnd, list: &[Receipt])
+    requires by { end.now.by ≡ Some Walk }
+    requires translate { AllCached TranslatesItsPage tlb.old }
+    requires found { FindsPage segment.now.page list.now }
+    ensures cache { tlb.new
+        ≡ cache_after
+        tlb.old
+        (Some segment.now)
+        end.now.by
+        (access_reply_with end.now list.now) }
+    ensures translate { AllCached TranslatesItsPage tlb.new }
+{
+    let found = found_of(list);
+    let kept = kept_line(&segment.page, end.outcome, &found);
+    tlb.drop_line(&segment.page);
+    refill(tlb, kept);
 }

@@ -1,6 +1,6 @@
 use Rattle.std.specs.Prelude.{flat_map}
 use Rattle.std.proofs.Common.{◌≡◌, ◌*◌, length, take}
-use Rattle.h_update.specs.Single.{both_words}
+use Rattle.call_plan.specs.Single.{both_words}
 use Rattle.call_plan.proofs.telling.words_read.Given as goal
 
 -- The words so far are those of the receipts before this one.

@@ -2,7 +2,7 @@ use Rattle.std.specs.Prelude.{None}
 use Rattle.std.proofs.Common.{◌∙◌, ap}
 use Rattle.run_model.specs.Stores.{is_on}
 use Rattle.history_check.specs.PartedText.{marked_lines, marked_text}
-use Rattle.history_check.specs.FoundStores.{windows_in}
+use Rattle.run_model.specs.AllStores.{windows_in}
 use Rattle.history_check.proofs.PartedTexts.{marked_is}
 use Rattle.history_check.proofs.judged_run.table_part.Goals as goal
 

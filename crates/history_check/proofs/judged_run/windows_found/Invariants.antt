@@ -1,5 +1,5 @@
 use Rattle.std.proofs.Common.{◌≡◌, take, drop, length}
-use Rattle.history_check.specs.FoundStores.{windows_in}
+use Rattle.run_model.specs.AllStores.{windows_in}
 use Rattle.history_check.specs.StoreParts.{HaveParts}
 use Rattle.history_check.proofs.judged_run.windows_found.Given as goal
 

@@ -1,5 +1,5 @@
 use Rattle.std.proofs.Common.{◌≡◌}
-use Rattle.call_trials.specs.Begun.{IsBegun}
+use Rattle.entry_model.specs.Begun.{IsBegun}
 use Rattle.call_plan.specs.Plans.{plan_of}
 use Rattle.lock_uses.proofs.trying.call_within.Given as goal
 

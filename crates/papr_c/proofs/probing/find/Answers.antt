@@ -1,8 +1,8 @@
 use Rattle.std.proofs.Common.{◌≡◌, ◌<◌, ◌≤◌, length, true, false, arith, refl, ap, sym, ◌∙◌}
 use Rattle.entry_model.specs.Receipt.{receipt_of, is_no_match}
 use Rattle.entry_model.specs.Trial.{Call, call, receipt_at}
-use Rattle.call_trials.proofs.BegunLaws.{at_end, at_has, at_inside}
-use Rattle.call_plan.specs.PageCalls.{calls_of}
+use Rattle.entry_model.proofs.BegunLaws.{at_end, at_has, at_inside}
+use Rattle.hpt_walk.specs.PageCalls.{calls_of}
 use Rattle.papr_c.proofs.LentEntries.{state_read}
 use Rattle.papr_c.proofs.FoundAsIs.{asked_on, asked_off, asked_none}
 use Rattle.c_layout.specs.Entries.{Entry, states_of}

@@ -1,6 +1,6 @@
 use Rattle.std.proofs.Common.{◌≡◌, ◌≤◌, drop, length}
 use Rattle.entry_model.specs.Receipt.{found_of}
-use Rattle.call_plan.specs.PageCalls.{calls_of}
+use Rattle.hpt_walk.specs.PageCalls.{calls_of}
 use Rattle.papr_c.specs.Walks.{each_as_is}
 use Rattle.c_layout.specs.Entries.{states_of}
 use Rattle.papr_c.proofs.probing.find.Given as goal

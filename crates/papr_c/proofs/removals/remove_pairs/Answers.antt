@@ -3,8 +3,8 @@ use Rattle.std.proofs.Common.{◌≡◌, ◌+◌, ◌*◌, [], ◌∷◌, ◌++�
 use Rattle.papr_codes.specs.declared.codes.Rc.TheVariants.{Success, Parameter, Hardware}
 use Rattle.entry_model.specs.Receipt.{IsReceiptOf, is_worn}
 use Rattle.entry_model.specs.declared.operation.Op.TheVariants.{Remove}
-use Rattle.h_update.specs.Bulk.{h_bulk_remove_plan, response, ill_formed, worn_status, status_of}
-use Rattle.h_update.proofs.BulkSteps.{ends_at_end, ends_at_refused, ends_at_worn, ends_behind_all, same_worn}
+use Rattle.call_plan.specs.Bulk.{h_bulk_remove_plan, response, ill_formed, worn_status, status_of}
+use Rattle.call_plan.proofs.BulkSteps.{ends_at_end, ends_at_refused, ends_at_worn, ends_behind_all, same_worn}
 use Rattle.c_layout.specs.Entries.{states_of}
 use Rattle.c_layout.specs.Stale.{is_stale}
 use Rattle.c_layout.proofs.Marks.{passed_none, passed_both, passed_marked}

@@ -6,11 +6,11 @@ use Rattle.papr_codes.specs.declared.codes.Rc.TheVariants.{Success}
 use Rattle.entry_model.specs.Receipt.{is_taken}
 use Rattle.entry_model.specs.declared.receipt.Receipt.{Receipt}
 use Rattle.entry_model.specs.Run.{states_after}
-use Rattle.entry_model.specs.Trial.{ending_of, goes_after, trial_run}
+use Rattle.entry_model.specs.Trial.{ending_of, trial_run}
 use Rattle.entry_model.specs.declared.operation.Op.TheVariants.{Read}
 use Rattle.entry_model.proofs.TrialSteps.{calls_from}
-use Rattle.h_enter.specs.Enter.{told_by_ending}
-use Rattle.h_enter.proofs.Search.{told_is}
+use Rattle.call_plan.specs.Enter.{told_by_ending}
+use Rattle.call_plan.proofs.Search.{told_is}
 use Rattle.call_plan.specs.Plans.{goes_of, told_of, most_of, plan_of_trial, IsToldOf}
 use Rattle.call_plan.proofs.TrialCalls.{trial_in}
 use Rattle.c_layout.specs.Places.{placed, shown_receipt}
@@ -39,9 +39,9 @@ try_lent-tried-requires-clause-few c = (trial_in c.args.order c.args.trial.now c
 pub returns-in-Entered-clause-told : goal.returns-in-Entered-clause-told
 returns-in-Entered-clause-told c =
     let t = c.args.trial.now in
-    let x = trial_run (goes_after (goes_of t.told)) (states_of c.args.entries.now)
+    let x = trial_run (goes_of t.told) (states_of c.args.entries.now)
     (calls_from t.op t.first t.count) in
-    let goes : goes_after (goes_of t.told) ≡ is_taken = ap (λ d. goes_after (goes_of d))
+    let goes : goes_of t.told ≡ is_taken = ap (λ d. goes_of d)
     c.in-Entered.is in
     let stale : c.ends_stale-stale.result ≡ any_stale x.0 =
     c.ends_stale-stale.ensures
@@ -56,13 +56,14 @@ returns-in-Entered-clause-told c =
     (λ g.
     any_stale (trial_run g (states_of c.args.entries.now) (calls_from t.op t.first t.count)).0)
     (sym goes) in
-    call_tried _ _ _ x c.registers.result.rc c.registers.result.words c.hand_over.result
+    call_tried _ _ _ x c.entered_registers.result.rc c.entered_registers.result.words
+    c.hand_over.result
     c.hand_over.new.words c.try_lent-tried.new.receipts (states_of c.try_lent-tried.new.entries)
     c.requires.table
     refl
-    (c.registers.ensures
+    (c.entered_registers.ensures
     ∙ ap told_by_ending c.try_lent-tried.ensures.ending
-    ∙ ap (λ d. told_by_ending (ending_of (goes_after (goes_of d)) x.0)) c.in-Entered.is
+    ∙ ap (λ d. told_by_ending (ending_of (goes_of d) x.0)) c.in-Entered.is
     ∙ told_is x.0
     ∙ ap (λ d. told_of d x.0) (sym c.in-Entered.is))
     (rw (c.try_lent-tried.ensures.count, stale) at c.hand_over.ensures.reply)
@@ -77,14 +78,14 @@ returns-in-Answer-clause-told c =
     let few : t.count ≤ 1 = subst (λ d. t.count ≤ most_of d) c.in-Answer.is c.requires.fits.few in
     let one : t.count ≡ 1 = omega (arith, few, c.requires.fits.some) in
     call_tried _ (plan_of_trial t) _ (r ∷ [], states_after (states_of c.args.entries.now) r)
-    c.registers-in-Answer.result.rc c.registers-in-Answer.result.words
+    c.answered_registers.result.rc c.answered_registers.result.words
     c.hand_over-in-Answer.result c.hand_over-in-Answer.new.words c.make-receipt.new.receipts
     (states_of c.make-receipt.new.entries)
     c.requires.table
     (alone t.op t.first (states_of c.args.entries.now) r c.make-receipt.ensures.receipt
-    ∙ λ k. trial_run (goes_after (goes_of (sym c.in-Answer.is k))) (states_of c.args.entries.now)
+    ∙ λ k. trial_run (goes_of (sym c.in-Answer.is k)) (states_of c.args.entries.now)
     (calls_from t.op t.first (sym one k)))
-    (c.registers-in-Answer.ensures ∙ ap (λ d. told_of d (r ∷ [])) (sym c.in-Answer.is))
+    (c.answered_registers.ensures ∙ ap (λ d. told_of d (r ∷ [])) (sym c.in-Answer.is))
     (rw (c.is_stale-stale.ensures, stale_alone r) at c.hand_over-in-Answer.ensures.reply)
     c.hand_over-in-Answer.ensures.words
     c.make-receipt.ensures.receipts
@@ -109,8 +110,8 @@ returns-in-Contents-clause-told c =
     let ws = words_of_entries entries t.first t.count in
     let read = reads entries t.first t.count in
     let op : t.op ≡ Read = subst (λ d. IsToldOf d t.op) c.in-Contents.is c.requires.fits.told in
-    let same : trial_run (goes_after (goes_of t.told)) entries (calls_from t.op t.first t.count) ≡ x
-    = λ k. trial_run (goes_after (goes_of (c.in-Contents.is k))) entries
+    let same : trial_run (goes_of t.told) entries (calls_from t.op t.first t.count) ≡ x
+    = λ k. trial_run (goes_of (c.in-Contents.is k)) entries
     (calls_from (op k) t.first t.count) in
     let stays : (states_of c.try_lent-tried-in-Contents.new.entries) ≡ entries =
     c.try_lent-tried-in-Contents.ensures.entries ∙ ap (λ z. z.1) same ∙ read.entries in

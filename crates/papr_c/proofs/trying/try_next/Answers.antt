@@ -1,6 +1,6 @@
 use Rattle.std.proofs.Common.{◌<◌, length, refl, sym, ◌∙◌}
 use Rattle.entry_model.specs.Trial.{Call}
-use Rattle.call_trials.proofs.BegunLaws.{at_has}
+use Rattle.entry_model.proofs.BegunLaws.{at_has}
 use Rattle.c_layout.specs.Entries.{states_of}
 use Rattle.c_layout.proofs.Marks.{passed_none}
 use Rattle.papr_c.proofs.trying.try_next.Goals as goal

@@ -1,7 +1,7 @@
 use Rattle.std.proofs.Common.{◌≡◌, Some, None, rules, arith, ap, sym, subst, ◌∙◌}
 use Rattle.entry_model.specs.State.{State}
 use Rattle.entry_model.specs.Receipt.{after_of, is_no_match}
-use Rattle.call_plan.specs.PageCalls.{calls_of}
+use Rattle.hpt_walk.specs.PageCalls.{calls_of}
 use Rattle.c_layout.specs.WalkEnds.{end_at}
 use Rattle.papr_c.proofs.EndedTrials.{IsLeft, ended_left}
 use Rattle.papr_c.proofs.LentEntries.{state_read}

@@ -1,6 +1,6 @@
 use Rattle.std.proofs.Common.{◌≡◌, ◌≤◌, length, arith, subst}
-use Rattle.call_trials.specs.Calls.{AreCallsIn}
-use Rattle.h_update.specs.Bulk.{h_bulk_remove_plan}
+use Rattle.entry_model.specs.Calls.{AreCallsIn}
+use Rattle.call_plan.specs.Bulk.{h_bulk_remove_plan}
 use Rattle.call_plan.proofs.RemovalCalls.{removals_in}
 use Rattle.pass_calls.proofs.plans.try_removals.Goals as goal
 

@@ -5,7 +5,7 @@ use Rattle.entry_model.specs.declared.receipt.Receipt.{Receipt}
 use Rattle.entry_model.specs.Receipt.{IsNormal}
 use Rattle.entry_model.specs.Trial.{Call, ending_of, receipts_added}
 use Rattle.entry_model.proofs.TrialSteps.{ending-off, added-push, behind-push}
-use Rattle.call_trials.proofs.BegunLaws.{at_has, at_end, begun_next, begun_ends, begun_whole, begun_short, begun_on}
+use Rattle.entry_model.proofs.BegunLaws.{at_has, at_end, begun_next, begun_ends, begun_whole, begun_short, begun_on}
 use Rattle.pass_calls.proofs.trying.try_calls.Goals as goal
 
 pub call_at-requires : goal.call_at-requires

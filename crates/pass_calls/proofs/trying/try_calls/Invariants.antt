@@ -1,6 +1,6 @@
 use Rattle.std.proofs.Common.{◌≡◌, ◌++◌, length}
 use Rattle.entry_model.specs.Trial.{receipts_added}
-use Rattle.call_trials.specs.Begun.{IsBegunTrial}
+use Rattle.entry_model.specs.Begun.{IsBegunTrial}
 use Rattle.pass_calls.proofs.trying.try_calls.Given as goal
 
 -- The receipts are of the calls before this one, and the trial went on after each.

@@ -11,7 +11,7 @@ from_utf8_unchecked-requires c =
     let w = c.write_receipt-start in
     IsUtf8-from_ascii _
     (rw (
-      take_all (64 - w.result) (drop w.result w.new.text)
+      take_all (48 - w.result) (drop w.result w.new.text)
           (omega (arith, length-drop w.result w.new.text)),
       w.ensures.written,
     ) (IsAscii-receipt_text c.args.receipt.now))
@@ -20,7 +20,7 @@ pub returns-clause-text : goal.returns-clause-text
 returns-clause-text c =
     let w = c.write_receipt-start in
     let same : c.from_utf8_unchecked.result.now ≡ receipt_text c.args.receipt.now =
-    c.from_utf8_unchecked.ensures ∙ take_all (64 - w.result) (drop w.result w.new.text)
+    c.from_utf8_unchecked.ensures ∙ take_all (48 - w.result) (drop w.result w.new.text)
     (omega (arith, length-drop w.result w.new.text)) ∙ w.ensures.written in
     OnOk-push_str c.push_str.result (string_bytes c.args.out.now) c.from_utf8_unchecked.result.now
     (string_bytes c.push_str.new.self) (receipt_text c.args.receipt.now)

@@ -1,5 +1,4 @@
 use Rattle.std.proofs.Common.{◌≡◌, ◌∙◌, ap, arith, append_assoc, append-nil}
-use Rattle.std.proofs.lemmas.Fmt.{length-decimal-le}
 use Rattle.std.proofs.lemmas.List.{drop_all}
 use Rattle.entry_model.specs.declared.receipt.Receipt.{Receipt}
 use Rattle.number_text.proofs.Lengths.{decimal_short, hex_short}
@@ -7,23 +6,23 @@ use Rattle.receipt_text.proofs.receipts.write_receipt.Goals as goal
 
 pub write_digits-stamp-requires : goal.write_digits-stamp-requires
 write_digits-stamp-requires c =
-    let long = length-decimal-le 20 c.from.result (omega arith) (omega arith) (omega arith) in
+    let long = decimal_short c.from.result (omega arith) in
     (omega arith, omega arith)
 
 pub write_piece-point-requires-clause-room : goal.write_piece-point-requires-clause-room
 write_piece-point-requires-clause-room c =
-    let long = length-decimal-le 20 c.from.result (omega arith) (omega arith) (omega arith) in
+    let long = decimal_short c.from.result (omega arith) in
     omega arith
 
 pub write_hexadecimal-entry-requires-clause-room : goal.write_hexadecimal-entry-requires-clause-room
 write_hexadecimal-entry-requires-clause-room c =
-    let long = length-decimal-le 20 c.from.result (omega arith) (omega arith) (omega arith) in
+    let long = decimal_short c.from.result (omega arith) in
     omega arith
 
 pub write_piece-requires-clause-room : goal.write_piece-requires-clause-room
 write_piece-requires-clause-room c =
-    let long = length-decimal-le 20 c.from.result (omega arith) (omega arith) (omega arith) in
-    omega arith
+    omega
+    (arith, decimal_short c.from.result (omega arith), hex_short c.from-2.result (omega arith))
 
 pub returns-clause-written : goal.returns-clause-written
 returns-clause-written c =
@@ -38,7 +37,7 @@ returns-clause-written c =
       c.write_digits-stamp.ensures.written,
       c.write_piece-bits.ensures.written,
       c.write_piece-word.ensures.written,
-      drop_all 64 c.args.text.now (omega arith),
+      drop_all 48 c.args.text.now (omega arith),
       append-nil,
       c.word_of.ensures.value,
       c.bits.ensures.value,

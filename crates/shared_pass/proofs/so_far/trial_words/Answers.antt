@@ -1,7 +1,7 @@
 use Rattle.std.proofs.Common.{[], arith, ap, sym, ◌∙◌, append-nil}
 use Rattle.entry_model.specs.Trial.{ending_of}
-use Rattle.call_trials.proofs.BegunLaws.{begun_on, begun_short}
-use Rattle.call_trials.proofs.Rows.{row_length}
+use Rattle.entry_model.proofs.BegunLaws.{begun_on, begun_short}
+use Rattle.entry_model.proofs.CallRows.{row_length}
 use Rattle.call_plan.specs.Plans.{plan_of_trial}
 use Rattle.shared_pass.proofs.so_far.trial_words.Goals as goal
 

@@ -1,10 +1,9 @@
 use Rattle.std.proofs.Common.{◌≡◌, ◌∙◌, [], sym, ap, subst, refl, length, vec_len, arith}
 use Rattle.std.proofs.lemmas.Bool.{eqb-true}
 use Rattle.frame_grants.specs.Grants.{GrantedMemory}
-use Rattle.run_model.specs.AllStores.{AllStores}
+use Rattle.run_model.specs.AllStores.{AllStores, windows_in}
 use Rattle.trace_read.specs.Configuration.{NumbersDiffer}
 use Rattle.trace_runner.specs.MachineState.{stores_of}
-use Rattle.trace_runner.specs.Windows.{windows_of}
 use Rattle.trace_runner.specs.Stores.{lines_on_store, AreOnStores}
 use Rattle.trace_runner.specs.StoreRuns.{AreRunnable, AllRunnable, AddsWindows}
 use Rattle.trace_runner.proofs.NewWorkers.{nil_of}
@@ -26,7 +25,7 @@ returns-then-is_empty g c =
 
 pub run_on_table-requires-2-clause-runnable : goal.run_on_table-requires-2-clause-runnable
 run_on_table-requires-2-clause-runnable g c κs within =
-    let ws = windows_of c.as_slice.result.now in
+    let ws = windows_in c.as_slice.result.now in
     let dealt = c.in_ok-dealt.dealt.items in
     let own = all_at (λ store w. w.items ≡ lines_on_store ws store c.args.lines.now) 0 0 0 dealt
     c.index.result.now refl (omega (arith, c.in_ok-dealt.ensures.size)) c.index.ensures
@@ -38,7 +37,7 @@ run_on_table-requires-2-clause-runnable g c κs within =
 
 pub run_on_windows-requires-clause-runnable : goal.run_on_windows-requires-clause-runnable
 run_on_windows-requires-clause-runnable g c κs within =
-    let ws = windows_of c.as_slice.result.now in
+    let ws = windows_in c.as_slice.result.now in
     let count : length c.args.machine.table.processors ≡ c.len-count.result = sym
     (ap (λ (s : AllStores). length s.table.processors) c.machine.view_is) ∙ sym
     c.machine.inside.cpus.ok.0 ∙ sym c.len-count.ensures in
@@ -49,11 +48,11 @@ run_on_windows-requires-clause-runnable g c κs within =
 
 pub invariant_of-result : goal.invariant_of-result
 invariant_of-result g c =
-    let ws = windows_of c.as_slice.result.now in
+    let ws = windows_in c.as_slice.result.now in
     let on_stores = subst (AreOnStores ws c.args.lines.now) (sym c.as_slice-all.ensures.value)
     c.in_ok-dealt.ensures.dealt in
     let h = c.in_ok-later.ensures ws c.args.lines.now on_stores in
-    let same : windows_of c.in_ok-later.later.items ≡ windows_of c.middle.inside.windows.items =
+    let same : windows_in c.in_ok-later.later.items ≡ windows_in c.middle.inside.windows.items =
     ran_windows_same g.L.ReplyLog.keeps c.grants-grants.result.now.grants c.len-count.result
     (λ store. lines_on_store ws store c.args.lines.now) 1 c.middle.inside.windows.items
     c.in_ok-later.later.items h.rest h.ran in
@@ -65,7 +64,7 @@ invariant_of-result g c =
 
 pub returns : goal.returns
 returns g c =
-    let ws = windows_of c.as_slice.result.now in
+    let ws = windows_in c.as_slice.result.now in
     let lines = c.args.lines.now in
     let s = c.args.machine in
     let later = stores_of c.middle.inside.partition c.middle.inside.cpus.items
@@ -73,12 +72,12 @@ returns g c =
     let dealt = c.in_ok-dealt.dealt.items in
     let on_stores = subst (AreOnStores ws lines) (sym c.as_slice-all.ensures.value)
     c.in_ok-dealt.ensures.dealt in
-    let same : ws ≡ windows_of s.windows = ap windows_of
+    let same : ws ≡ windows_in s.windows = ap windows_in
     (c.as_slice.ensures.value ∙ ap (λ (s : AllStores). s.windows) c.machine.view_is) in
     let own = all_at (λ store w. w.items ≡ lines_on_store ws store lines) 0 0 0 dealt
     c.index.result.now refl (omega (arith, c.in_ok-dealt.ensures.size)) c.index.ensures
     c.in_ok-dealt.ensures.dealt in
-    let own_is : c.as_slice-on_table.result.now ≡ lines_on_store (windows_of s.windows) 0 lines =
+    let own_is : c.as_slice-on_table.result.now ≡ lines_on_store (windows_in s.windows) 0 lines =
     c.as_slice-on_table.ensures.value ∙ own ∙ ap (λ us. lines_on_store us 0 lines) same in
     let count : c.len-count.result ≡ length s.table.processors = c.len-count.ensures ∙
     c.machine.inside.cpus.ok.0 ∙ ap (λ (s : AllStores). length s.table.processors)

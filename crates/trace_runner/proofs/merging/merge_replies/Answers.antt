@@ -1,7 +1,7 @@
 use Rattle.std.proofs.Common.{◌≡◌, ◌+◌, ◌<◌, ◌∙◌, refl, sym, ap, subst, length, drop, get_or, set, arith}
 use Rattle.std.specs.Vec.{with_item}
 use Rattle.std.proofs.lemmas.List.{length-set}
-use Rattle.trace_runner.specs.Windows.{windows_of}
+use Rattle.run_model.specs.AllStores.{windows_in}
 use Rattle.trace_runner.specs.Workers.{lines_of_cpu}
 use Rattle.trace_runner.specs.Stores.{store_of, lines_on_store}
 use Rattle.trace_runner.proofs.DealtLines.{past}
@@ -15,7 +15,7 @@ loop-line-init g c = record {
   size = refl;
   merging =
       λ picks k.
-      merging_none g.L.ReplyLog.keeps g.L.RunLog.has (windows_of c.args.windows.now)
+      merging_none g.L.ReplyLog.keeps g.L.RunLog.has (windows_in c.args.windows.now)
       c.args.lines.now picks c.args.logs.now.items c.args.output.now k;
 }
 
@@ -23,13 +23,13 @@ loop-line-init g c = record {
 taken :
     (g : Over) (c : After-index_mut g)
     →
-    (store_of (windows_of c.args.windows.now)
+    (store_of (windows_in c.args.windows.now)
     (get_or c.args.lines.now c.loop-line.line-index past).act
     < length c.loop-line.logs.items)
     ×
     (c.index_mut.result.now
     ≡ get_or c.loop-line.logs.items
-    (store_of (windows_of c.args.windows.now)
+    (store_of (windows_in c.args.windows.now)
     (get_or c.args.lines.now c.loop-line.line-index past).act) c.index_mut.result.now)
 taken g c =
     let logs = c.loop-line.logs.items in
@@ -43,7 +43,7 @@ taken g c =
 pub index_mut-requires-in-loop-line : goal.index_mut-requires-in-loop-line
 index_mut-requires-in-loop-line g c =
     let i = c.loop-line.invariant in
-    let ws = windows_of c.args.windows.now in
+    let ws = windows_in c.args.windows.now in
     let lines = c.args.lines.now in
     let k = c.loop-line.line-index in
     let logs = c.loop-line.logs.items in
@@ -57,7 +57,7 @@ index_mut-requires-in-loop-line g c =
 pub move_first-requires : goal.move_first-requires
 move_first-requires g c =
     let i = c.loop-line.invariant in
-    let ws = windows_of c.args.windows.now in
+    let ws = windows_in c.args.windows.now in
     let lines = c.args.lines.now in
     let k = c.loop-line.line-index in
     let l = get_or lines k past in
@@ -82,7 +82,7 @@ move_first-requires g c =
 pub loop-line-preserved : goal.loop-line-preserved
 loop-line-preserved g c =
     let i = c.loop-line.invariant in
-    let ws = windows_of c.args.windows.now in
+    let ws = windows_in c.args.windows.now in
     let lines = c.args.lines.now in
     let k = c.loop-line.line-index in
     let l = get_or lines k past in
@@ -113,7 +113,7 @@ returns g c =
     record {
       merged =
           λ picks keep.
-          merging_all g.L.ReplyLog.keeps g.L.RunLog.has (windows_of c.args.windows.now)
+          merging_all g.L.ReplyLog.keeps g.L.RunLog.has (windows_in c.args.windows.now)
           c.args.lines.now c.loop-line.line-index picks c.loop-line.logs.items
           c.args.output.now c.loop-line.output (omega (arith, c.loop-line-test.false))
           (c.loop-line.invariant.merging picks keep);

@@ -1,6 +1,6 @@
 use Rattle.std.proofs.Common.{◌≡◌, ◌+◌, ◌<◌, ◌∙◌, sym, ap, subst, length, get_or, set, arith}
 use Rattle.std.proofs.lemmas.List.{length-set}
-use Rattle.trace_runner.specs.Windows.{windows_of}
+use Rattle.run_model.specs.AllStores.{windows_in}
 use Rattle.trace_runner.specs.Stores.{store_of}
 use Rattle.trace_runner.proofs.DealtLines.{past}
 use Rattle.trace_runner.proofs.StoreNumbers.{AreUpTo, stores_more, stores_all}
@@ -9,7 +9,7 @@ use Rattle.trace_runner.proofs.stores.deal_stores.Goals as goal
 pub loop-line-preserved : goal.loop-line-preserved
 loop-line-preserved c =
     let i = c.loop-line.invariant in
-    let ws = windows_of c.args.windows.now in
+    let ws = windows_in c.args.windows.now in
     let lines = c.args.lines.now in
     let k = c.loop-line.line-index in
     let dealt = c.loop-line.dealt.items in
@@ -29,5 +29,5 @@ loop-line-preserved c =
 
 pub returns-clause-dealt : goal.returns-clause-dealt
 returns-clause-dealt c =
-    stores_all (windows_of c.args.windows.now) c.args.lines.now c.loop-line.line-index
+    stores_all (windows_in c.args.windows.now) c.args.lines.now c.loop-line.line-index
     c.loop-line.dealt.items (omega (arith, c.loop-line-test.false)) c.loop-line.invariant.dealt

@@ -1,5 +1,5 @@
 use Rattle.std.proofs.Common.{arith, sym}
-use Rattle.call_trials.proofs.Rows.{row_at, row_end}
+use Rattle.entry_model.proofs.CallRows.{row_at, row_end}
 use Rattle.call_plan.proofs.plan.TrialCallList.call_at.Goals as goal
 
 pub returns-then-made-self : goal.returns-then-made-self

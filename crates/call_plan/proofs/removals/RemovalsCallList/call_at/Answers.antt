@@ -1,6 +1,6 @@
 use Rattle.std.proofs.Common.{arith, ap, sym, ◌∙◌}
-use Rattle.h_update.specs.Bulk.{h_bulk_remove_plan}
-use Rattle.call_trials.proofs.BegunLaws.{at_end}
+use Rattle.call_plan.specs.Bulk.{h_bulk_remove_plan}
+use Rattle.entry_model.proofs.BegunLaws.{at_end}
 use Rattle.call_plan.proofs.RemovalCalls.{call_asked, removals_at, removals_few}
 use Rattle.call_plan.proofs.removals.RemovalsCallList.call_at.Goals as goal
 

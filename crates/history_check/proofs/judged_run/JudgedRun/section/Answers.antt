@@ -4,11 +4,10 @@ use Rattle.std.proofs.lemmas.Grind.{common_steps}
 use Rattle.trace_line.specs.Lines.{is_quiet}
 use Rattle.trace_line.specs.declared.line.TraceLine.{TraceLine}
 use Rattle.run_model.specs.Stores.{is_on, trace_lines_on}
-use Rattle.run_model.specs.AllStores.{AllStores}
+use Rattle.run_model.specs.AllStores.{AllStores, windows_in}
 use Rattle.history_check.specs.FoundSection.{ArePlain, AreOnProcessors}
 use Rattle.history_check.specs.JudgedRun.{run_state_of}
 use Rattle.history_check.specs.PartedText.{part_text}
-use Rattle.history_check.specs.FoundStores.{windows_in}
 use Rattle.history_check.proofs.WindowLoops.{own_each, own_few}
 use Rattle.history_check.proofs.JudgedStores.{table_alone, table_not_alone, not_on_windows, not_on_table, whole_found}
 use Rattle.history_check.proofs.judged_run.JudgedRun.section.Goals as goal

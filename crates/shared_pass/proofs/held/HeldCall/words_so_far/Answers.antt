@@ -1,5 +1,5 @@
 use Rattle.std.proofs.Common.{ap, sym, subst, ◌∙◌}
-use Rattle.h_update.specs.Bulk.{bulk_told, pairs_of, h_bulk_remove_plan}
+use Rattle.call_plan.specs.Bulk.{bulk_told, pairs_of, h_bulk_remove_plan}
 use Rattle.shared_pass.specs.Held.{plan_of_held, HeldFits}
 use Rattle.shared_pass.proofs.held.HeldCall.words_so_far.Goals as goal
 

@@ -1,6 +1,6 @@
 use Rattle.std.proofs.Common.{ap, sym, subst}
 use Rattle.entry_model.specs.Trial.{Plan}
-use Rattle.call_trials.specs.Begun.{IsBegun}
+use Rattle.entry_model.specs.Begun.{IsBegun}
 use Rattle.shared_pass.specs.Held.{HeldFits}
 use Rattle.shared_pass.specs.Made.{order_of}
 use Rattle.shared_pass.proofs.working.Working.attempt.Goals as goal

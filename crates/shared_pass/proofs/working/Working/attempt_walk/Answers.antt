@@ -1,8 +1,8 @@
 use Rattle.std.proofs.Common.{ap, sym, subst, ◌∙◌}
 use Rattle.entry_model.specs.Receipt.{is_no_match}
-use Rattle.call_trials.specs.Begun.{IsBegunTrial}
-use Rattle.call_trials.specs.Calls.{AreCallsIn}
-use Rattle.call_plan.specs.PageCalls.{calls_of}
+use Rattle.entry_model.specs.Begun.{IsBegunTrial}
+use Rattle.entry_model.specs.Calls.{AreCallsIn}
+use Rattle.hpt_walk.specs.PageCalls.{calls_of}
 use Rattle.shared_pass.specs.Made.{order_of}
 use Rattle.shared_pass.specs.Walks.{calls_of_walk}
 use Rattle.shared_pass.proofs.working.Working.attempt_walk.Goals as goal

@@ -3,13 +3,13 @@ use Rattle.frame_grants.specs.Grants.{GrantedMemory}
 use Rattle.trace_read.specs.Configuration.{NumbersDiffer}
 use Rattle.trace_reply.specs.Places.{reply_in}
 use Rattle.tlb_model.specs.Processor.{new_processor}
-use Rattle.run_model.specs.AllStores.{WindowState, AllStores}
+use Rattle.run_model.specs.AllStores.{WindowState, AllStores, windows_in}
 use Rattle.run_model.specs.SerialRun.{line_result}
 use Rattle.run_model.specs.StoreContexts.{window_context}
 use Rattle.run_model.specs.Stores.{is_on_window}
 use Rattle.trace_runner.specs.MachineState.{RunsLine, stores_of}
-use Rattle.trace_runner.specs.Windows.{windows_of, place_from}
-use Rattle.trace_runner.proofs.WindowPlaces.{RunsAt, placed, windows_stay, steps_on_window}
+use Rattle.trace_runner.specs.Windows.{place_from}
+use Rattle.trace_runner.proofs.WindowPlaces.{placed, windows_stay, steps_on_window}
 use Rattle.trace_runner.proofs.machine.Machine.run_on_window.Goals as goal
 
 pub index_mut-requires : goal.index_mut-requires
@@ -19,7 +19,7 @@ index_mut-requires c =
     let first = subst
     (λ (s : AllStores). place_from 0 s.windows c.args.line.now.act ≡ Some c.args.at)
     (sym c.self.view_is) c.requires.first in
-    let at = placed (windows_of s.windows) s.table c.args.line.now s.windows c.args.at first in
+    let at = placed (windows_in s.windows) s.table c.args.line.now s.windows c.args.at first in
     omega (arith, at.inside, c.self.inside.windows.ok.0)
 
 pub line-requires : goal.line-requires
@@ -29,7 +29,7 @@ line-requires c =
     let first = subst
     (λ (s : AllStores). place_from 0 s.windows c.args.line.now.act ≡ Some c.args.at)
     (sym c.self.view_is) c.requires.first in
-    let at = placed (windows_of s.windows) s.table c.args.line.now s.windows c.args.at first in
+    let at = placed (windows_in s.windows) s.table c.args.line.now s.windows c.args.at first in
     record {
       named =
           subst (λ (v : WindowState). is_on_window v.window c.args.line.now.act ≡ true)
@@ -44,7 +44,7 @@ invariant_of-self c =
     (λ (s : AllStores). place_from 0 s.windows c.args.line.now.act ≡ Some c.args.at)
     (sym c.self.view_is) c.requires.first in
     let v = c.index_mut.result.now in
-    let at = placed (windows_of s.windows) s.table c.args.line.now s.windows c.args.at first in
+    let at = placed (windows_in s.windows) s.table c.args.line.now s.windows c.args.at first in
     let stay = windows_stay s.windows c.args.at c.line.new.self v at.inside
     (c.line.ensures.window ∙ ap (λ (z : WindowState). z.window) c.index_mut.ensures.value) in
     record {
@@ -84,7 +84,7 @@ returns-clause-windows c =
     (λ (s : AllStores). place_from 0 s.windows c.args.line.now.act ≡ Some c.args.at)
     (sym c.self.view_is) c.requires.first in
     let v = c.index_mut.result.now in
-    let at = placed (windows_of s.windows) s.table c.args.line.now s.windows c.args.at first in
+    let at = placed (windows_in s.windows) s.table c.args.line.now s.windows c.args.at first in
     windows_stay s.windows c.args.at c.line.new.self v at.inside
     (c.line.ensures.window ∙ ap (λ (z : WindowState). z.window) c.index_mut.ensures.value)
-    ∙ ap (λ (s : AllStores). windows_of s.windows) c.self.view_is
+    ∙ ap (λ (s : AllStores). windows_in s.windows) c.self.view_is

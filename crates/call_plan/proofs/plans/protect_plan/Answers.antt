@@ -1,6 +1,0 @@
-use Rattle.h_update.specs.Single.{h_protect_plan}
-use Rattle.call_plan.proofs.plans.protect_plan.Goals as goal
-
-pub returns-clause-plan : goal.returns-clause-plan
-unfolding h_protect_plan
-returns-clause-plan c = rw c.protect_call.ensures at c.single_plan.ensures.plan

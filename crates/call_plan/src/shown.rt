@@ -1,0 +1,31 @@
+ghost use Rattle.std.specs.Prelude.{◌≡◌};
+ghost use Rattle.call_plan.specs.ShownWords.{words_shown};
+
+use entry_model::{Receipt, ReplyWords};
+
+/// The doublewords of the entry as it was that a reply shows.
+#[derive(Clone, Copy)]
+pub enum ShownWords {
+    Neither,
+    Second,
+    Both,
+}
+
+impl ShownWords {
+    /// These of the receipt's entry.
+    pub fn words(self, receipt: &Receipt) -> ReplyWords
+        ensures { result ≡ words_shown self receipt.now }
+    {
+        let (dword0, dword1) = receipt.before.words();
+        let mut words = ReplyWords::new();
+        match self {
+            ShownWords::Neither => {}
+            ShownWords::Second => words.push(dword1),
+            ShownWords::Both => {
+                words.push(dword0);
+                words.push(dword1);
+            }
+        }
+        words
+    }
+}

@@ -1,2 +1,0 @@
-pub mod BegunLaws
-pub mod Rows

@@ -1,3 +1,0 @@
-pub mod Search
-pub mod InTable
-pub mod Suited

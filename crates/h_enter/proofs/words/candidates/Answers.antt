@@ -1,7 +1,0 @@
-use Rattle.std.proofs.Common.{arith}
-use Rattle.h_enter.proofs.Search.{groups_of_eight}
-use Rattle.h_enter.proofs.words.candidates.Goals as goal
-
-pub returns-else-has-clause-in_table : goal.returns-else-has-clause-in_table
-returns-else-has-clause-in_table c =
-    λ order low inside. let whole = groups_of_eight order low in omega arith

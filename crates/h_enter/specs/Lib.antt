@@ -1,2 +1,0 @@
-pub mod Enter
-pub mod Checks

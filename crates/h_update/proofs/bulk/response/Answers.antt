@@ -1,6 +1,0 @@
-use Rattle.std.proofs.Common.{arith}
-use Rattle.h_update.proofs.RequestBits.{response_bits}
-use Rattle.h_update.proofs.bulk.response.Goals as goal
-
-pub returns : goal.returns
-returns c = rw c.from.ensures (response_bits c.args.status c.args.request (omega arith) c.requires)

@@ -41,7 +41,7 @@ use Rattle.entry_lock.proofs.Places.{control_set, control_else, data_else, read_
 use Rattle.entry_lock.proofs.SolePass.{unlocked}
 use Rattle.entry_lock.proofs.AlikeDoings.{noted_self, alike_next, alike_changes, alike_receipt, alike_still, later_receipt}
 use Rattle.entry_lock.proofs.Turns.{Takes, kept, me, entry_there, has_number, turn_shown, turn_ahead, change_of, moves_of}
-use Rattle.entry_lock.proofs.HolderOperations.{loaded_is}
+use Rattle.entry_lock.proofs.StoredWords.{loaded_is}
 use Rattle.entry_lock.proofs.StepKinds as kinds
 use lib.ListN.{get_elem?}
 use prog.Atomic.{either}

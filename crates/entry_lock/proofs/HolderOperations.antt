@@ -1,6 +1,6 @@
 -- Each atomic step of a holder keeps the rule.
 use Rattle.std.specs.Prelude.{slice_get}
-use Rattle.std.proofs.Common.{◌≡◌, ◌≢◌, ℕ, ◌+◌, ◌*◌, ◌<◌, ◌==◌, ◌&&◌, ◌||◌, not, Bool, true, false, List, ◌∷◌, length, set, get_or, length-set, inl, inr, ⊎_elim, refl, sym, ap, ◌∙◌, subst, arith, eq-eqb, Some, None}
+use Rattle.std.proofs.Common.{◌≡◌, ℕ, ◌+◌, ◌*◌, ◌<◌, ◌==◌, ◌&&◌, ◌||◌, not, Bool, true, false, List, ◌∷◌, length, set, get_or, length-set, inl, inr, ⊎_elim, refl, sym, ap, ◌∙◌, subst, arith, eq-eqb, Some, None}
 use Rattle.std.specs.Int.Bits.{bit_or, bit_and}
 use Rattle.std.proofs.lemmas.Bool.{false≢true}
 use mathlib.Core.Option.{some}
@@ -32,81 +32,12 @@ use Rattle.entry_lock.specs.HolderSteps.{LockTells, LoadTells, ShutTells, StoreT
 use Rattle.entry_lock.proofs.Bits.{lock_word, unlock_word, shut_word}
 use Rattle.entry_lock.proofs.ViewLists.{bool_is}
 use Rattle.entry_lock.proofs.MachineMoves.{in_table_is, entry_is}
-use Rattle.entry_lock.proofs.Places.{control_set, control_else, data_of, data_set, data_else, read_shows, data_found, data_before}
+use Rattle.entry_lock.proofs.Places.{control_set, control_else, data_set, data_else, read_shows, data_found, data_before}
 use Rattle.entry_lock.proofs.SolePass.{unlocked}
 use Rattle.entry_lock.proofs.Turns.{Takes, kept, me, entry_there, has_number, turn_shown, turn_ahead, change_of, moves_of}
 use Rattle.entry_lock.proofs.StepKinds as kinds
 use lib.ListN.{get_elem?}
-
-shut_same : (d d' : Doing) → HeldShut d ≡ HeldShut d' → d ≡ d'
-shut_same d d' h = cc
-
-held_same : (d d' : Doing) → Held d ≡ Held d' → d ≡ d'
-held_same d d' h = cc
-
--- What is loaded is the word found.
-pub loaded_is :
-    (second : Bool) (x : Entry) (d : Doing) (n : ℕ)
-    → n ≡ data_of second x
-    → doing_with_word second n d ≡ with_loaded second x d
-loaded_is false x d n h = λ i. record d { first = Some (h i) }
-loaded_is true x d n h = λ i. record d { second = Some (h i) }
-
-stored_control :
-    (second : Bool) (s : State) (x : Entry) → (with_stored second s x).control ≡ x.control
-stored_control true s x = refl
-stored_control false s x = refl
-
-stored_published :
-    (second : Bool) (s : State) (x : Entry) → (with_stored second s x).published ≡ x.published
-stored_published true s x = refl
-stored_published false s x = refl
-
-stored_data :
-    (second : Bool) (s : State) (x : Entry)
-    → doubleword second s ≡ data_of second (with_stored second s x)
-stored_data true s x = refl
-stored_data false s x = refl
-
-stored_other :
-    (second : Bool) (s : State) (x : Entry) (other : Bool)
-    → other ≢ second
-    → data_of other (with_stored second s x) ≡ data_of other x
-stored_other true s x true h = absurd (h refl)
-stored_other true s x false h = refl
-stored_other false s x true h = refl
-stored_other false s x false h = absurd (h refl)
-
-stored_marks :
-    (second : Bool) (v : View) (d : Doing) (x : Entry)
-    → AreStored v d x
-    → AreStored (view_with_store second v) d (with_stored second (next_state d) x)
-stored_marks false v d x a = record { first = λ t. refl; second = a.second }
-stored_marks true v d x a = record { first = a.first; second = λ t. refl }
-
-stored_actor : (second : Bool) (v : View) → (view_with_store second v).actor ≡ v.actor
-stored_actor false v = refl
-stored_actor true v = refl
-
-pub stored_numbers : (second : Bool) (v : View) → (view_with_store second v).numbers ≡ v.numbers
-stored_numbers false v = refl
-stored_numbers true v = refl
-
-pub stored_taken : (second : Bool) (v : View) → (view_with_store second v).taken ≡ v.taken
-stored_taken false v = refl
-stored_taken true v = refl
-
-stored_passes : (second : Bool) (v : View) → (view_with_store second v).passes ≡ v.passes
-stored_passes false v = refl
-stored_passes true v = refl
-
-stored_opening : (second : Bool) (v : View) → (view_with_store second v).opening ≡ v.opening
-stored_opening false v = refl
-stored_opening true v = refl
-
-stored_fronts : (second : Bool) (v : View) → (view_with_store second v).fronts ≡ v.fronts
-stored_fronts false v = refl
-stored_fronts true v = refl
+use Rattle.entry_lock.proofs.StoredWords.{shut_same, loaded_is, stored_control, stored_published, stored_data, stored_other, stored_marks, stored_actor, stored_numbers, stored_taken, stored_passes, stored_opening, stored_fronts}
 
 module _ (key : Opening) (s : TableState ℕ View) (steps : List (ℕ × Step))
     (h : ShowsSteps key steps s.words s.views) (id n : ℕ) (ns : List ℕ) (v : View)

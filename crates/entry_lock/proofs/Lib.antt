@@ -7,6 +7,7 @@ mod Turns
 mod StepKinds
 mod Places
 mod SolePass
+mod StoredWords
 mod HolderOperations
 mod AlikeDoings
 mod AccessOperations
@@ -15,6 +16,7 @@ mod ViewChanges
 mod SplitsAndJoins
 mod Closings
 mod Openings
+mod LineFronts
 mod LineOperations
 mod CallStepFacts
 mod LineFacts

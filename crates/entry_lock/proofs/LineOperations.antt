@@ -1,7 +1,7 @@
 -- Each atomic step by a line that was seen keeps the rule.
 use Rattle.std.specs.Prelude.{slice_get, is_some, if◌then◌else◌, option_map, Contains, unwrap_or}
-use Rattle.std.proofs.Common.{◌≡◌, ◌≢◌, ◌⊎◌, ℕ, zero, suc, ◌+◌, ◌*◌, ◌<◌, ◌≤◌, ◌==◌, ◌&&◌, ◌||◌, not, Bool, true, false, List, [], ◌∷◌, length, set, get_or, inl, inr, ⊎_elim, refl, sym, ap, ◌∙◌, subst, arith, eqb, eq-eqb, ne_eqb, find, Option, Some, None}
-use Rattle.std.proofs.lemmas.Bool.{false≢true, eqb-true}
+use Rattle.std.proofs.Common.{◌≡◌, ℕ, ◌+◌, ◌*◌, ◌<◌, ◌==◌, ◌&&◌, ◌||◌, not, Bool, true, false, List, ◌∷◌, length, set, get_or, ⊎_elim, refl, sym, ap, ◌∙◌, subst, arith, eqb, eq-eqb, ne_eqb, find, Option, Some, None}
+use Rattle.std.proofs.lemmas.Bool.{false≢true}
 use Rattle.std.proofs.lemmas.Option.{slice_get-get_or}
 use Rattle.std.specs.Option.{option_or}
 use mathlib.Core.Logic.{dite}
@@ -13,7 +13,6 @@ use Rattle.entry_model.specs.declared.line.Line.{Line}
 use Rattle.entry_model.specs.declared.operation.Op.{Op}
 use Rattle.entry_model.specs.CachedLines.{Holds, IsCurrent}
 use Rattle.entry_model.specs.Receipt.{is_access}
-use Rattle.entry_model.specs.History.{pair_of}
 use Rattle.entry_model.specs.Fronts.{front_at, IsGone}
 use Rattle.entry_model.specs.Run.{state_at}
 use Rattle.lock_core.specs.declared.control.Control.{Control}
@@ -23,12 +22,12 @@ use Rattle.lock_core.specs.declared.phase.Phase.{Phase}
 use Rattle.lock_core.specs.declared.phase.Phase.TheVariants.{Idle, HeldShut, Looked}
 use Rattle.lock_core.specs.declared.sighting.Sighting.{Sighting}
 use Rattle.lock_core.specs.declared.step.Step.{Step}
-use Rattle.lock_core.specs.Words.{without_bits, state_of, is_read, changes, next_state, is_still}
+use Rattle.lock_core.specs.Words.{without_bits, is_read, changes, next_state, is_still}
 use Rattle.lock_core.specs.Machine.{Actor, Machine, is_at, words_in, words_at, words_seen_in, words_seen, opening_at}
 use Rattle.lock_core.specs.Steps.{new_doing}
 use Rattle.lock_core.specs.Laws.{sighting_by}
 use Rattle.lock_core.proofs.Kept.{IsFresh}
-use Rattle.lock_core.proofs.Lists.{set_again, set_twice, some_of, some_same, none_some}
+use Rattle.lock_core.proofs.Lists.{set_again, set_twice, some_of}
 use Rattle.lock_core.proofs.Noted.{bits_cleared, cleared_same}
 use Rattle.entry_lock.specs.declared.rule.View.{View}
 use Rattle.entry_lock.specs.declared.rule.Opening.{Opening}
@@ -43,152 +42,14 @@ use Rattle.entry_lock.proofs.Bits.{same_word}
 use Rattle.entry_lock.proofs.ViewLists.{set_view, bool_is}
 use Rattle.entry_lock.proofs.Places.{word_read}
 use Rattle.entry_lock.proofs.Frame.{Fronts, other_phase, Frame, shows_put}
-use Rattle.entry_lock.proofs.Turns.{pair_low, pair_high, kept, me, entry_there, has_number}
+use Rattle.entry_lock.proofs.Turns.{kept, me, entry_there, has_number}
 use Rattle.entry_lock.proofs.TakenSteps.{own_still}
 use Rattle.lock_core.specs.declared.step.Step.TheVariants.{Look, Mark}
 use Rattle.entry_lock.proofs.AccessOperations.{look_open_step, look_again_step, mark_step}
 use Rattle.entry_lock.proofs.Closings.{seen_holds}
 use lib.ListN.{get_elem?}
 use prog.Atomic.{either}
-
--- ---- fronts that rise
-raised_low :
-    (f : List ℕ) (e n m : ℕ) → front_at f e ≤ m → n ≤ m → front_at (raised_fronts f e n) e ≤ m
-raised_low [] e n m a b = a
-raised_low (x ∷ xs) zero n m a b = omega arith
-raised_low (x ∷ xs) (suc e) n m a b = raised_low xs e n m a b
-
-raised_else : (f : List ℕ) (e n e' : ℕ) → e' ≢ e → front_at (raised_fronts f e n) e' ≡ front_at f e'
-raised_else [] e n e' other = refl
-raised_else (x ∷ xs) zero n zero other = absurd (other refl)
-raised_else (x ∷ xs) zero n (suc e') other = refl
-raised_else (x ∷ xs) (suc e) n zero other = refl
-raised_else (x ∷ xs) (suc e) n (suc e') other = raised_else xs e n e' (λ q. other (ap suc q))
-
-raised_length : (f : List ℕ) (e n : ℕ) → length (raised_fronts f e n) ≡ length f
-raised_length [] e n = refl
-raised_length (x ∷ xs) zero n = refl
-raised_length (x ∷ xs) (suc e) n = ap suc (raised_length xs e n)
-
-raised_high : (f : List ℕ) (e n : ℕ) → e < length f → n ≤ front_at (raised_fronts f e n) e
-raised_high [] e n h = absurd (omega arith)
-raised_high (x ∷ xs) zero n h = omega arith
-raised_high (x ∷ xs) (suc e) n h = raised_high xs e n (omega arith)
-
-both_ok :
-    (e : ℕ) (x : Entry) (a b c : ℕ)
-    → FrontFits Idle e x a
-    → FrontFits Idle e x b
-    → ((m : ℕ) → a ≤ m → b ≤ m → c ≤ m)
-    → FrontFits Idle e x c
-both_ok e x a b c f g up = let high = pair_high x.published in
-    ⊎_elim {C = FrontFits Idle e x c}
-    (λ (l : a ≤ pair_of x.published).
-    ⊎_elim {C = FrontFits Idle e x c}
-    (λ (k : b ≤ pair_of x.published). inl (up (pair_of x.published) l k))
-    (λ (t : (x.control.shut ≡ true) × (b ≤ (x.published.stamp + 1) * 4) × ¬ HoldsEntry e Idle).
-    inr (t.0, up ((x.published.stamp + 1) * 4) (omega arith) t.1, t.2)) g)
-    (λ (t : (x.control.shut ≡ true) × (a ≤ (x.published.stamp + 1) * 4) × ¬ HoldsEntry e Idle).
-    let low : b ≤ (x.published.stamp + 1) * 4 = ⊎_elim {C = b ≤ (x.published.stamp + 1) * 4}
-    (λ (k : b ≤ pair_of x.published). omega arith)
-    (λ (k : (x.control.shut ≡ true) × (b ≤ (x.published.stamp + 1) * 4) × ¬ HoldsEntry e Idle).
-    k.1) g in
-    inr (t.0, up ((x.published.stamp + 1) * 4) t.1 low, t.2)) f
-
--- ---- words that have left a stamp
-left_cases :
-    (shut valid same : Bool)
-    → (shut || (not valid || not same)) ≡ false
-    → (shut ≡ false) × (valid ≡ true) × (same ≡ true)
-left_cases true valid same h = absurd (false≢true (sym h))
-left_cases false false same h = absurd (false≢true (sym h))
-left_cases false true false h = absurd (false≢true (sym h))
-left_cases false true true h = (refl, refl, refl)
-
-pub stays :
-    (k : Control) (stamp : ℕ)
-    → is_gone_from k stamp ≡ false
-    → (k.shut ≡ false) × (k.valid ≡ true) × (k.stamp ≡ stamp)
-stays k stamp h =
-    let p = left_cases k.shut k.valid (k.stamp == stamp) h in (p.0, p.1, eqb-true k.stamp stamp p.2)
-
-left_if :
-    (shut valid same : Bool)
-    → (true && valid && not shut && same) ≡ false
-    → (shut || (not valid || not same)) ≡ true
-left_if true valid same h = refl
-left_if false false same h = refl
-left_if false true false h = refl
-left_if false true true h = absurd (false≢true (sym h))
-
--- Where no data word was loaded, a word that isn't still at the noted stamp has left it.
-gone_still :
-    (d : Doing) (k : Control) (stamp : ℕ)
-    → d.first ≡ None
-    → d.second ≡ None
-    → d.noted.stamp ≡ stamp
-    → is_still k d ≡ false
-    → is_gone_from k stamp ≡ true
-unfolding is_still
-gone_still d k stamp first second same h = left_if k.shut k.valid (k.stamp == stamp)
-    (sym
-    (λ i.
-    (not (is_some (first i)) && not (is_some (second i))) && k.valid && not k.shut &&
-    (k.stamp == same i))
-    ∙ h)
-
--- A line that holds of an entry whose word has left the line's stamp: the front is past the line.
-gone_front :
-    (e : ℕ) (x : Entry) (line : Line)
-    → (x.control.shut ≡ false → x.published ≡ state_of x.control x.dword0 x.dword1)
-    → Holds line x.published
-    → is_gone_from x.control line.stamp ≡ true
-    → FrontFits Idle e x ((line.stamp + 1) * 4)
-gone_front e x line free holds left = let low = pair_low x.published in
-    ⊎_elim {C = FrontFits Idle e x ((line.stamp + 1) * 4)}
-    (λ (past : line.stamp < x.published.stamp). inl (omega arith))
-    (λ (now : IsCurrent line x.published). let s = now.stamp in
-    ⊎_elim {C = FrontFits Idle e x ((line.stamp + 1) * 4)}
-    (λ (shut : x.control.shut ≡ true). inr (shut, (omega arith), (λ q. q)))
-    (λ (open' : x.control.shut ≡ false).
-    let is = free open' in
-    let valid : x.control.valid ≡ true = ap (λ (z : State). z.valid) (sym is) ∙ now.valid in
-    let stamp : x.control.stamp ≡ line.stamp = ap (λ (z : State). z.stamp) (sym is) ∙ now.stamp in
-    absurd
-    (false≢true
-    (sym
-    (λ i.
-    open' i || (not (valid i) || not (eq-eqb x.control.stamp line.stamp stamp i)))
-    ∙ left)))
-    (bool_is x.control.shut)) holds
-
--- ---- lines that were seen
-find_has :
-    (p : Sighting → Bool) (ls : List Sighting) (i : ℕ) (l : Sighting)
-    → slice_get ls i ≡ Some l
-    → p l ≡ true
-    → is_some (find p ls) ≡ true
-find_has p [] i l at is = absurd (none_some l at)
-find_has p (x ∷ xs) zero l at is = by (bool_is (p x)) where
-  by : (p x ≡ true) ⊎ (p x ≡ false) → is_some (find p (x ∷ xs)) ≡ true
-  by (inl here) = rw here refl
-  by (inr none') = absurd (false≢true (sym none' ∙ ap p (some_same x l at) ∙ is))
-find_has p (x ∷ xs) (suc i) l at is = by (bool_is (p x)) (find_has p xs i l at is) where
-  by : (p x ≡ true) ⊎ (p x ≡ false) → is_some (find p xs) ≡ true → is_some (find p (x ∷ xs)) ≡ true
-  by (inl here) rest = rw here refl
-  by (inr none') rest = rw none' rest
-
-or_first :
-    (o : Option Sighting) (other : Option (ℕ × ℕ))
-    → is_some o ≡ true
-    → is_some (option_or (option_map words_in o) other) ≡ true
-or_first None other h = absurd (false≢true h)
-or_first (Some l) other h = refl
-
-or_second :
-    (o : Option Sighting) (w : ℕ × ℕ) → is_some (option_or (option_map words_in o) (Some w)) ≡ true
-or_second None w = refl
-or_second (Some l) w = refl
+use Rattle.entry_lock.proofs.LineFronts.{raised_low, raised_else, raised_length, raised_high, both_ok, stays, gone_still, gone_front, find_has, or_first, or_second}
 
 module _ (key : Opening) (s : TableState ℕ View) (steps : List (ℕ × Step))
     (h : ShowsSteps key steps s.words s.views) (id n : ℕ) (ns : List ℕ) (v : View)

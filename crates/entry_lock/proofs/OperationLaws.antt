@@ -40,7 +40,8 @@ use Rattle.entry_lock.specs.Laws.{ShowsPass, TablesOpenOnTheirStates, EachOperat
 use Rattle.entry_lock.proofs.ViewLists.{bool_is}
 use Rattle.entry_lock.proofs.MachineMoves.{may_is, phase_is, actor_is}
 use Rattle.entry_lock.proofs.Turns.{kept, me}
-use Rattle.entry_lock.proofs.HolderOperations.{lock_step, load_step, shut_step, store_step, settle_step, release_step, stored_numbers, stored_taken}
+use Rattle.entry_lock.proofs.StoredWords.{stored_numbers, stored_taken}
+use Rattle.entry_lock.proofs.HolderOperations.{lock_step, load_step, shut_step, store_step, settle_step, release_step}
 use Rattle.entry_lock.proofs.AccessOperations.{look_step, looked_load_step, look_again_step, mark_step}
 use Rattle.entry_lock.proofs.LineOperations.{raise_shown}
 use Rattle.entry_lock.proofs.SplitsAndJoins.{shows_split, shows_join}

@@ -270,7 +270,7 @@ abbrev pairs_by_place : List Pair → List Pair
 pairs_by_place [] = []
 pairs_by_place (z ∷ zs) = put_pair z (pairs_by_place zs)
 
-cond_map : {A B : Type 0} (f : A → B) (b : Bool) (x y : A) → f (cond b x y) ≡ cond b (f x) (f y)
+pub cond_map : {A B : Type 0} (f : A → B) (b : Bool) (x y : A) → f (cond b x y) ≡ cond b (f x) (f y)
 cond_map f true x y = refl
 cond_map f false x y = refl
 

@@ -25,8 +25,7 @@ use Rattle.slb_model.specs.declared.segment.Segment.{Segment}
 use Rattle.slb_model.specs.Refusals.{mte_refusal}
 use Rattle.slb_model.specs.Buffer as buffer
 use Rattle.slb_model.specs.Buffer.{segment_of}
-use Rattle.hpt_walk.specs.Walk.{walk_calls}
-use Rattle.hpt_walk.specs.Access.{AccessContext, mode_for, outcome_of, hit_calls, IsWalk, IsByWay, IsAccessReply, request}
+use Rattle.hpt_walk.specs.Access.{AccessContext, outcome_of, hit_calls, IsWalk, IsByWay, IsAccessReply, request}
 use Rattle.hpt_walk.specs.declared.request.Request.{Request}
 use Rattle.tlb_model.specs.Processor.{Processor}
 use Rattle.authority_mask.specs.declared.masks.Masks.{Masks}
@@ -44,6 +43,7 @@ use Rattle.run_model.specs.StoreContexts.{StoreContext, access_of}
 use Rattle.receipt_text.specs.Receipts.{mark_of}
 use Rattle.history_check.specs.ReplyMarks.{SameWay, ShowsSame}
 use Rattle.history_check.specs.Steps.{step_op}
+use Rattle.run_model.proofs.OneReply.{calls_by_walk}
 use Rattle.history_check.proofs.Alike.{Pair, firsts, seconds, AllAlike, AllBefore}
 
 -- ---- receipts in pairs
@@ -151,9 +151,6 @@ segments_and_masks s = (s.slots, s.masks)
 abbrev LinePairs : Reply → Reply → List Pair
 LinePairs r q = zip (receipts_in r) (receipts_in q)
 
-abbrev walk_by : AccessContext → Segment → Request → List Call
-walk_by set seg a = walk_calls set.order seg.page (mode_for seg a)
-
 is_walk :
     (set : AccessContext) (seg : Segment) (a : Request) (c : Option Line) (r : AccessReply)
     → IsByWay set seg a c (Some Walk) r
@@ -185,8 +182,9 @@ way_alike set seg a (Some l) (Some l') (Some Hit) (Some Hit) r q h k w m =
 way_alike set seg a None d (Some Hit) (Some Hit) r q h k w m = absurd h
 way_alike set seg a (Some l) None (Some Hit) (Some Hit) r q h k w m = absurd k
 way_alike set seg a c d (Some Walk) (Some Walk) r q h k w m =
-    trial_alike is_no_match (walk_by set seg a) (walk_by set seg a) r.receipts q.receipts
-    (self_calls (walk_by set seg a)) (is_walk set seg a c r h).trial
+    trial_alike is_no_match (calls_by_walk set seg a) (calls_by_walk set seg a) r.receipts
+    q.receipts
+    (self_calls (calls_by_walk set seg a)) (is_walk set seg a c r h).trial
     (is_walk set seg a d q k).trial m
 way_alike set seg a c d (Some Hit) (Some Walk) r q h k w m = absurd (hit≢walk w)
 way_alike set seg a c d (Some Walk) (Some Hit) r q h k w m = absurd (hit≢walk (sym w))
@@ -394,7 +392,7 @@ way_same set seg a None (Some Hit) (Some Hit) r q x y h k w m z = absurd h
 way_same set seg a c (Some Walk) (Some Walk) r q x y h k w m z =
     let h' = is_walk set seg a c r h in
     let k' = is_walk set seg a c q k in
-    let e : r.receipts ≡ q.receipts = trial_same is_no_match (walk_by set seg a) r.receipts
+    let e : r.receipts ≡ q.receipts = trial_same is_no_match (calls_by_walk set seg a) r.receipts
     q.receipts h'.trial k'.trial m z in
     access_same r q (h'.outcome ∙ ap (outcome_of set.grants a.ea) e ∙ sym k'.outcome) (x ∙ sym y) e
 way_same set seg a c (Some Hit) (Some Walk) r q x y h k w m z = absurd (hit≢walk w)

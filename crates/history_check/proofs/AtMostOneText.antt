@@ -19,7 +19,8 @@ use Rattle.history_check.proofs.TextMarks.{line_shows, cancel}
 use Rattle.history_check.proofs.Short.{ShortLines}
 use Rattle.history_check.proofs.ShortStores.{ArePlainStores, stores_short, quiet_stores_plain, opening_stores_plain}
 use Rattle.history_check.proofs.GoodStores.{Parts, parts_of, AllGood, next_stores, quiet_reply, next_size, parts_good}
-use Rattle.history_check.proofs.AtMostOneRun.{Twice, ones, twos, Shown, Plain, AllSame, stores_same, cut_twice, rest_ones, rest_twos, both_ones, both_twos, cut_ones, cut_twos, AllCut, cut_each, uncut_each, PlainCut, cut_plain, ones_twos, twice_of, twice_ones, twice_twos, twice_cpus, same_replies}
+use Rattle.history_check.proofs.OneSection.{Twice, ones, twos, Shown, Plain, AllSame, stores_same}
+use Rattle.history_check.proofs.AtMostOneRun.{cut_twice, rest_ones, rest_twos, both_ones, both_twos, cut_ones, cut_twos, AllCut, cut_each, uncut_each, PlainCut, cut_plain, ones_twos, twice_of, twice_ones, twice_twos, twice_cpus, same_replies}
 
 -- ---- texts of replied_lines
 abbrev parts_text : List RepliedLine → List QuietPart → List ℕ
@@ -104,7 +105,7 @@ section_told s ps x y plain low n h g k e =
     let one = stores_short s (ones ps) cpus.0 plain g in
     let two = stores_short s (twos ps) cpus.1 plain k in
     let shown = shown_by ps x y n h one.0 two.0 e in
-    (stores_same s ps low n shown.0 g k, shown.1, one.1)
+    (stores_same s ps plain.named low n shown.0 g k, shown.1, one.1)
 
 -- ---- all sections
 three : (a b c x : List ℕ) → (a ++ (b ++ c)) ++ x ≡ a ++ (b ++ (c ++ x))

@@ -7,18 +7,19 @@ use Rattle.trace_read.specs.Trace.{AcceptedTrace}
 use Rattle.trace_reply.specs.declared.reply.Reply.{Reply}
 use Rattle.trace_reply.specs.Replies.{RepliedLine, IsOfKind, AreReplies, lines_with_replies}
 use Rattle.reply_text.specs.Text.{reply_text, text_from, text_of}
-use Rattle.run_model.specs.Quiet.{cut, cut_before}
+use Rattle.run_model.specs.Quiet.{cut, cut_before, NoneQuiet, AreOnProcessors}
 use Rattle.run_model.specs.AllStores.{AllStores, opening_all}
 use Rattle.run_model.specs.GoodRun.{IsGoodRun}
 use Rattle.history_check.specs.Verdict.{lines_to, trace_to, BeginsGood}
-use Rattle.history_check.specs.FoundSection.{ArePlain, AreOnProcessors, lines_text}
+use Rattle.history_check.specs.FoundSection.{lines_text}
 use Rattle.history_check.specs.FoundStores.{AreGoodOn, stores_behind, AreFound}
 use Rattle.history_check.proofs.GoodStores.{Parts, AllGood, next_stores, quiet_reply, parts_good, good_parts}
 use Rattle.history_check.proofs.Prefix.{with_rest, cut_at, lines_append, empty_good}
 use Rattle.history_check.proofs.TextMarks.{cancel}
 use Rattle.history_check.proofs.ShortStores.{ArePlainStores}
 use Rattle.history_check.proofs.AtMostOneText.{text_is, section_told, twice_kinds}
-use Rattle.history_check.proofs.AtMostOneRun.{ones, twos, Plain, twice_of, twice_ones, twice_twos, twice_cpus, same_replies}
+use Rattle.history_check.proofs.OneSection.{ones, twos, Plain}
+use Rattle.history_check.proofs.AtMostOneRun.{twice_of, twice_ones, twice_twos, twice_cpus, same_replies}
 
 -- ---- what explains a text
 -- Lines that run from these stores on, in good sections, with the text that stands before the rest.
@@ -58,7 +59,7 @@ next_reply w ms rs l = quiet_reply w (lines_with_replies ms rs) l.act
 -- ---- lines
 pub lines_plain :
     (k : ℕ) (ms : List TraceLine) (l : TraceLine) (ns : List TraceLine)
-    → ArePlain ms
+    → NoneQuiet ms
     → is_quiet l.act ≡ true
     → lines_to (suc k) (ms ++ l ∷ ns) ≡ ms ++ l ∷ lines_to k ns
 lines_plain k [] l ns h q = rw q refl
@@ -66,7 +67,7 @@ lines_plain k (m ∷ ms) l ns h q = rw h.0 (ap (λ z. m ∷ z) (lines_plain k ms
 
 cut_plain :
     (ms : List TraceLine) (rs : List Reply)
-    → ArePlain ms
+    → NoneQuiet ms
     → cut (lines_with_replies ms rs) ≡ (lines_with_replies ms rs, [])
 cut_plain [] rs h = refl
 cut_plain (m ∷ ms) [] h = refl
@@ -80,7 +81,7 @@ cut_plain (m ∷ ms) (r ∷ rs) h =
 cut_first :
     (ms : List TraceLine) (l : TraceLine) (ns : List TraceLine) (fs : List Reply) (r : Reply)
     (bs : List Reply)
-    → ArePlain ms
+    → NoneQuiet ms
     → is_quiet l.act ≡ true
     → AreReplies ms fs
     → cut (lines_with_replies (ms ++ l ∷ ns) (fs ++ r ∷ bs))
@@ -177,7 +178,7 @@ GoodParts w z = AllGood w z.0 z.1
 
 pub step_out :
     (w : AllStores) (ms : List TraceLine) (l : TraceLine) (ns : List TraceLine) (x last : List ℕ)
-    → ArePlain ms
+    → NoneQuiet ms
     → is_quiet l.act ≡ true
     → Explains w (ms ++ l ∷ ns) x last
     → IsStep w ms l ns x last
@@ -208,7 +209,7 @@ step_out w ms l ns x last h q e =
 
 pub step_in :
     (w : AllStores) (ms : List TraceLine) (l : TraceLine) (ns : List TraceLine) (x last : List ℕ)
-    → ArePlain ms
+    → NoneQuiet ms
     → is_quiet l.act ≡ true
     → IsStep w ms l ns x last
     → Explains w (ms ++ l ∷ ns) x last
@@ -226,7 +227,7 @@ step_in w ms l ns x last h q s =
     )
 
 -- ---- a section is found in one way
-plain_twice : (ms : List TraceLine) (rs qs : List Reply) → ArePlain ms → Plain (twice_of ms rs qs)
+plain_twice : (ms : List TraceLine) (rs qs : List Reply) → NoneQuiet ms → Plain (twice_of ms rs qs)
 plain_twice [] rs qs h = tt
 plain_twice (m ∷ ms) [] qs h = tt
 plain_twice (m ∷ ms) (r ∷ rs) [] h = tt
@@ -235,7 +236,7 @@ plain_twice (m ∷ ms) (r ∷ rs) (q ∷ qs) h = (h.0, plain_twice ms rs qs h.1)
 pub found_once :
     (w : AllStores) (ms : List TraceLine) (x : List ℕ) (rs qs : List Reply) (y z : List ℕ)
     → ArePlainStores w
-    → ArePlain ms
+    → NoneQuiet ms
     → AreOnProcessors (length w.table.processors) ms
     → AreFound w ms x rs y
     → AreFound w ms x qs z
@@ -262,7 +263,7 @@ pub behind_found :
     (w : AllStores) (ms : List TraceLine) (l : TraceLine) (ns : List TraceLine) (x : List ℕ)
     (rs : List Reply) (r : Reply) (y last : List ℕ)
     → ArePlainStores w
-    → ArePlain ms
+    → NoneQuiet ms
     → AreOnProcessors (length w.table.processors) ms
     → is_quiet l.act ≡ true
     → AreFound w ms x rs (reply_text l r ++ y)
@@ -304,7 +305,7 @@ pub reaches_next :
     (l : TraceLine) (ns : List TraceLine) (x : List ℕ) (rs : List Reply) (r : Reply)
     (y : List ℕ)
     → ArePlainStores w
-    → ArePlain ms
+    → NoneQuiet ms
     → AreOnProcessors (length w.table.processors) ms
     → is_quiet l.act ≡ true
     → IsOfKind l.act r
@@ -342,7 +343,7 @@ reaches_next t text k w ms l ns x rs r y plain h cpus q kind found said before j
 pub none_found :
     (t : AcceptedTrace) (text : List ℕ) (k : ℕ) (w : AllStores) (ms : List TraceLine)
     (l : TraceLine) (ns : List TraceLine) (x : List ℕ)
-    → ArePlain ms
+    → NoneQuiet ms
     → is_quiet l.act ≡ true
     →
     ((rs : List Reply) (r : Reply) (y : List ℕ)
@@ -374,13 +375,13 @@ reached_stands t text k w ns y h =
     ((h 0 y).1 ([], tt, empty_good w, none_text y)))
 
 -- ---- the last section, which no quiet line ends
-pub lines_all : (k : ℕ) (ms : List TraceLine) → ArePlain ms → lines_to (suc k) ms ≡ ms
+pub lines_all : (k : ℕ) (ms : List TraceLine) → NoneQuiet ms → lines_to (suc k) ms ≡ ms
 lines_all k [] h = refl
 lines_all k (m ∷ ms) h = rw h.0 (ap (λ z. m ∷ z) (lines_all k ms h.1))
 
 pub last_out :
     (w : AllStores) (ms : List TraceLine) (x last : List ℕ)
-    → ArePlain ms
+    → NoneQuiet ms
     → Explains w ms x last
     → (rs : List Reply) × AreFound w ms x rs last
 last_out w ms x last h e = (
@@ -394,7 +395,7 @@ last_out w ms x last h e = (
 
 pub last_in :
     (w : AllStores) (ms : List TraceLine) (x : List ℕ) (rs : List Reply) (last : List ℕ)
-    → ArePlain ms
+    → NoneQuiet ms
     → AreFound w ms x rs last
     → Explains w ms x last
 last_in w ms x rs last h f = (

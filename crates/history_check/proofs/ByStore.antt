@@ -1,87 +1,35 @@
--- Each line is on the page table or on a window: facts of all elements of a list by the stores of
--- their lines.
-use Rattle.std.specs.Prelude.{None}
-use Rattle.std.specs.Prelude.{◌||◌, not, filter}
-use Rattle.std.proofs.Common.{◌≡◌, List, [], ◌∷◌, Bool, true, false, ap, refl, ◌⊎◌, inl, inr, map}
-use Rattle.std.specs.List.{AllByRecursion, list_any}
+-- Each line is on a store: facts of all elements of a list by the stores of their lines.
+use Rattle.std.specs.Prelude.{None, filter}
+use Rattle.std.proofs.Common.{◌≡◌, ℕ, ◌≤◌, List, [], ◌∷◌, Bool, true, false, ap, refl, ◌⊎◌, inl, inr, map, length}
+use Rattle.std.specs.List.{AllByRecursion}
 use Rattle.std.proofs.lemmas.Bool.{cases_Bool}
-use Rattle.bus_window.specs.Windows.{BusWindow}
 use Rattle.trace_line.specs.declared.act.Act.{Act}
-use Rattle.run_model.specs.Stores.{is_on_window, is_on}
+use Rattle.run_model.specs.AllStores.{AllStores}
+use Rattle.run_model.specs.StoreNumbers.{store_at, store_of}
+use Rattle.run_model.specs.Stores.{is_on}
+use Rattle.run_model.proofs.Each.{each_under}
+use Rattle.run_model.proofs.StoreNumbers.{store_inside, on_own}
+use Rattle.history_check.specs.FoundStores.{windows_of}
 
-filter_head :
-    {A : Type 0} (P : A → Type 0) (f : A → Bool) (x : A) (xs : List A)
-    → f x ≡ true
-    → AllByRecursion P (filter f (x ∷ xs))
-    → P x
-filter_head P f x xs own h = let k = rw own at h in k.0
-
-filter_tail :
-    {A : Type 0} (P : A → Type 0) (f : A → Bool) (x : A) (xs : List A)
-    → AllByRecursion P (filter f (x ∷ xs))
-    → AllByRecursion P (filter f xs)
-filter_tail P f x xs h = at (cases_Bool (f x)) where
-  at : (f x ≡ true) ⊎ (f x ≡ false) → AllByRecursion P (filter f xs)
-  at (inl own) = let k = rw own at h in k.1
-  at (inr other) = let k = rw other at h in k
-
--- A fact of the elements that each of some tests lets through.
-abbrev EachPassed :
-    {A : Type 0} → (A → Type 0) → (BusWindow → A → Bool) → List A → List BusWindow → Type 0
-EachPassed P f xs ws = AllByRecursion (λ (w : BusWindow). AllByRecursion P (filter (f w) xs)) ws
-
-passed_tail :
-    {A : Type 0} (P : A → Type 0) (f : BusWindow → A → Bool) (x : A) (xs : List A)
-    (ws : List BusWindow)
-    → EachPassed P f (x ∷ xs) ws
-    → EachPassed P f xs ws
-passed_tail P f x xs [] h = tt
-passed_tail P f x xs (w ∷ ws) h = (filter_tail P (f w) x xs h.0, passed_tail P f x xs ws h.1)
-
-or_cases : (a b : Bool) → (a || b) ≡ true → (a ≡ true) ⊎ (b ≡ true)
-or_cases true b h = inl refl
-or_cases false b h = inr h
-
-passed_head :
-    {A : Type 0} (P : A → Type 0) (f : BusWindow → A → Bool) (x : A) (xs : List A)
-    (ws : List BusWindow)
-    → list_any (λ (w : BusWindow). f w x) ws ≡ true
-    → EachPassed P f (x ∷ xs) ws
-    → P x
-passed_head P f x xs [] some h = absurd (let no : false ≡ true = some in cc)
-passed_head P f x xs (w ∷ ws) some h =
-    at (or_cases (f w x) (list_any (λ (w : BusWindow). f w x) ws) some)
-    (λ other. passed_head P f x xs ws other h.1) where
-      at :
-          (f w x ≡ true) ⊎ (list_any (λ (w : BusWindow). f w x) ws ≡ true)
-          → (list_any (λ (w : BusWindow). f w x) ws ≡ true → P x)
-          → P x
-      at (inl own) rest = filter_head P (f w) x xs own h.0
-      at (inr other) rest = rest other
-
-not_cases : (b : Bool) → (not b ≡ true) ⊎ (b ≡ true)
-not_cases true = inr refl
-not_cases false = inl refl
-
--- What holds of the elements on the page table and of those on each window holds of all.
+-- What holds of the elements on each store holds of all.
 pub each_by_store :
-    {A : Type 0} (P : A → Type 0) (act : A → Act) (ws : List BusWindow) (xs : List A)
-    → AllByRecursion P (filter (λ x. is_on ws None (act x)) xs)
-    → AllByRecursion (λ (w : BusWindow). AllByRecursion P (filter (λ x. is_on_window w (act x)) xs))
-    ws
+    {A : Type 0} (P : A → Type 0) (act : A → Act) (s : AllStores) (xs : List A)
+    → s.table.window ≡ None
+    →
+    ((number : ℕ)
+    → number ≤ length s.windows
+    → AllByRecursion P
+    (filter (λ x. is_on (windows_of s) (store_at s number).window (act x)) xs))
     → AllByRecursion P xs
-each_by_store P act ws [] h k = tt
-each_by_store P act ws (x ∷ xs) h k = (
-  at (not_cases (list_any (λ (w : BusWindow). is_on_window w (act x)) ws)),
-  each_by_store P act ws xs (filter_tail P (λ x. is_on ws None (act x)) x xs h)
-      (passed_tail P (λ w x. is_on_window w (act x)) x xs ws k),
-) where
-  at :
-      (is_on ws None (act x) ≡ true)
-      ⊎ (list_any (λ (w : BusWindow). is_on_window w (act x)) ws ≡ true)
-      → P x
-  at (inl own) = filter_head P (λ x. is_on ws None (act x)) x xs own h
-  at (inr some) = passed_head P (λ w x. is_on_window w (act x)) x xs ws some k
+each_by_store P act s [] named h = tt
+each_by_store {A = A} P act s (x ∷ xs) named h =
+    let on : ℕ → A → Bool = λ number y. is_on (windows_of s) (store_at s number).window (act y) in
+    let own = store_of (windows_of s) (act x) in (
+      (each_under P (on own) x xs (h own (store_inside s.windows (act x)))).0
+          (on_own s (act x) named),
+      each_by_store P act s xs named
+          (λ number low. (each_under P (on number) x xs (h number low)).1),
+    )
 
 -- ---- filtered images
 pub filter_map :

@@ -12,6 +12,7 @@ use Rattle.run_model.specs.GoodRun.{IsGoodRun}
 use Rattle.history_check.specs.declared.verdict.Verdict.{Verdict}
 use Rattle.history_check.specs.declared.verdict.Verdict.TheVariants as verdicts
 use Rattle.history_check.specs.Verdict.{with_lines, lines_to, trace_to, section_count, BeginsGood, SectionStands, IsVerdict}
+use Rattle.history_check.proofs.TextMarks.{append_none}
 use Rattle.history_check.proofs.Prefix.{good_front}
 
 -- ---- replies up to a quiet line
@@ -185,9 +186,6 @@ fronts_stand t text (suc k) low h =
     )
 
 -- ---- verdicts
-append_none : (a : List ℕ) → a ++ [] ≡ a
-append_none [] = refl
-append_none (x ∷ a) = ap (λ z. x ∷ z) (append_none a)
 
 pub good_verdict :
     (t : AcceptedTrace) (rs : List Reply)

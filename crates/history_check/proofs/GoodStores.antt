@@ -1,37 +1,34 @@
 -- A good run is good replies to each part between two quiet lines, on all stores side by side.
 use Rattle.std.specs.Prelude.{IfSome}
-use Rattle.std.proofs.Common.{true, ◌≡◌, ℕ, List, [], ◌∷◌, ap, sym, ◌∙◌, refl, subst, map, length, suc, Option, Some, None}
+use Rattle.std.proofs.Common.{true, ◌≡◌, ℕ, zero, suc, ◌≤◌, List, [], ◌∷◌, ap, sym, ◌∙◌, refl, subst, map, length, arith, Option, Some, None}
 use Rattle.std.specs.List.{AllByRecursion}
-use Rattle.bus_window.specs.Windows.{BusWindow}
-use Rattle.tlb_model.specs.Processor.{Processor}
-use Rattle.papr_codes.specs.Hcalls.{hcall_of}
-use Rattle.papr_codes.specs.declared.calls.Hcall.{Hcall}
-use Rattle.papr_codes.specs.declared.calls.Hcall.TheVariants as calls
+use Rattle.std.proofs.lemmas.List.{length-replicate}
+use Rattle.tlb_model.specs.Processor.{Processor, new_processor}
 use Rattle.trace_line.specs.declared.act.Act.{Act}
-use Rattle.trace_line.specs.declared.act.Act.TheVariants as acts
+use Rattle.trace_line.specs.Lines.{is_quiet}
 use Rattle.trace_read.specs.Configuration.{Configuration}
 use Rattle.trace_read.specs.Trace.{AcceptedTrace}
 use Rattle.trace_reply.specs.declared.reply.Reply.{Reply}
 use Rattle.trace_reply.specs.Replies.{RepliedLine, AreReplies, lines_with_replies}
-use Rattle.trace_line.specs.Lines.{is_quiet}
-use Rattle.run_model.specs.AllStores.{WindowState, AllStores, opened, as_store, all_stores, opening_all}
+use Rattle.run_model.specs.AllStores.{WindowState, AllStores, as_store, all_stores, opening_all, windows_in}
 use Rattle.run_model.specs.GoodRun.{IsGoodRun, IsGoodSection}
 use Rattle.run_model.specs.Quiet.{QuietPart, cut}
-use Rattle.run_model.specs.QuietLines.{run_resize, run_quiet_line}
+use Rattle.run_model.specs.QuietLines.{run_quiet_line}
 use Rattle.run_model.specs.Sections.{section_end, states_behind, processors_after_lines, quiet_on, after_quiet}
 use Rattle.run_model.specs.SideBySide.{part_on, left_by, AreGood}
 use Rattle.run_model.specs.SideBySide.{stores_behind as behind_all}
-use Rattle.run_model.specs.Stores.{Store, states_of, page_table, plain_store, window_store, lines_on, is_on, is_on_window}
+use Rattle.run_model.specs.StoreNumbers.{store_at}
+use Rattle.run_model.specs.Stores.{Store, states_of, page_table, opening_stores, plain_store, window_store, lines_on, is_on, is_on_window}
 use Rattle.run_model.proofs.CallLines.{AllQuiet, cut_quiet}
-use Rattle.run_model.proofs.Each.{over_map, under_map}
+use Rattle.run_model.proofs.Each.{each_at, each_by_index}
 use Rattle.run_model.proofs.SectionGood.{quiet_size, section_good}
-use Rattle.run_model.proofs.SerialGood.{opening_processors}
 use Rattle.run_model.proofs.SideBySide.{side_by_side}
 use Rattle.run_model.proofs.StoreLines.{quiet_on_table, quiet_off_window}
-use Rattle.run_model.proofs.TableNamed.{quiet_window, closed_window}
+use Rattle.run_model.proofs.StoreNumbers.{stores_count, window_at, windows_opened}
+use Rattle.run_model.proofs.TableNamed.{quiet_grants, quiet_window, closed_window}
 use Rattle.run_model.proofs.WindowLines.{opened_all, window_closes_on}
-use Rattle.history_check.specs.FoundSection.{Opening, opening_of, closing_of, IsGoodPart, IsGoodOn}
-use Rattle.history_check.specs.FoundStores.{windows_of, window_part, AreGoodOn, stores_behind, run_quiet_on}
+use Rattle.history_check.specs.FoundSection.{Opening, opening_of, IsGoodOn}
+use Rattle.history_check.specs.FoundStores.{windows_of, lines_at, AreGoodOn, stores_behind, run_quiet_on}
 
 -- ---- parts
 abbrev pub Parts : Type 0
@@ -53,60 +50,8 @@ AllGood s ts (q ∷ qs) =
     × (q.0.reply ≡ quiet_reply s ts q.0.line.act)
     × AllGood (next_stores s ts q.0.line.act) q.1 qs
 
--- ---- facts of images
-pub mapped_to :
-    {A B : Type 0} (P : B → Type 0) (f : A → B) (xs : List A)
-    → AllByRecursion (λ x. P (f x)) xs
-    → AllByRecursion P (map f xs)
-mapped_to P f [] h = tt
-mapped_to P f (x ∷ xs) h = (h.0, mapped_to P f xs h.1)
-
-pub mapped_from :
-    {A B : Type 0} (P : B → Type 0) (f : A → B) (xs : List A)
-    → AllByRecursion P (map f xs)
-    → AllByRecursion (λ x. P (f x)) xs
-mapped_from P f [] h = tt
-mapped_from P f (x ∷ xs) h = (h.0, mapped_from P f xs h.1)
-
-pub each_pair :
-    {A : Type 0} (P Q : A → Type 0) (xs : List A)
-    → AllByRecursion P xs
-    → AllByRecursion Q xs
-    → AllByRecursion (λ x. P x × Q x) xs
-each_pair P Q [] h k = tt
-each_pair P Q (x ∷ xs) h k = ((h.0, k.0), each_pair P Q xs h.1 k.1)
-
-pub each_of_all :
-    {A : Type 0} (P : A → Type 0) (xs : List A) → ((x : A) → P x) → AllByRecursion P xs
-each_of_all P [] f = tt
-each_of_all P (x ∷ xs) f = (f x, each_of_all P xs f)
-
 -- ---- stores of a run
--- The stores of a run of this configuration.
-pub record IsOfRun (c : Configuration) (s : AllStores) : Type 0 where
-  pub grants : s.table.grants ≡ c.granted.grants
-  pub cpus : length s.table.processors ≡ c.cpus
-  pub windows : windows_of s ≡ c.windows
-  pub named : s.table.window ≡ None
-
-resize_grants :
-    (w : Store) (call : Hcall) (args : List ℕ) → (run_resize w call args).1.grants ≡ w.grants
-unfolding run_resize
-resize_grants w calls.Prepare args = refl
-resize_grants w calls.Commit args = refl
-resize_grants w other args = refl
-
-quiet_grants : (w : Store) (act : Act) → (run_quiet_line w act).1.grants ≡ w.grants
-unfolding run_quiet_line
-quiet_grants w (acts.Call number args spelt) = resize_grants w (hcall_of number) args
-quiet_grants w (acts.Access want ea user) = refl
-quiet_grants w (acts.Device write liobn ioba) = refl
-quiet_grants w (acts.SlbMte rb rs) = refl
-quiet_grants w acts.SlbClear = refl
-quiet_grants w (acts.SetMask name value) = refl
-quiet_grants w acts.Dump = refl
-
-closed_grants : (w : Store) (ts : List RepliedLine) → (section_end w ts).grants ≡ w.grants
+pub closed_grants : (w : Store) (ts : List RepliedLine) → (section_end w ts).grants ≡ w.grants
 unfolding section_end
 closed_grants w ts = refl
 
@@ -128,62 +73,57 @@ closed_states w ts = refl
 
 -- The windows keep their numbers and pages.
 windows_stay :
-    (s : AllStores) (ts : List RepliedLine) (vs : List WindowState)
-    → map (λ (v : WindowState). v.window)
-    (map (λ (v : WindowState). record v { states = closing_of (window_part s ts v) }) vs)
-    ≡ map (λ (v : WindowState). v.window) vs
-windows_stay s ts [] = refl
-windows_stay s ts (v ∷ vs) = ap (λ z. v.window ∷ z) (windows_stay s ts vs)
+    (table : Store) (ts : List RepliedLine) (vs : List WindowState)
+    → windows_in
+    (map
+    (λ (v : WindowState).
+    record v {
+      states = states_behind (as_store table v) (lines_on (is_on_window v.window) ts);
+    }) vs)
+    ≡ windows_in vs
+windows_stay table ts [] = refl
+windows_stay table ts (v ∷ vs) = ap (λ z. v.window ∷ z) (windows_stay table ts vs)
+
+pub next_windows :
+    (s : AllStores) (ts : List RepliedLine) (act : Act)
+    → windows_of (next_stores s ts act) ≡ windows_of s
+next_windows s ts act = windows_stay s.table ts s.windows
 
 -- The processors are as many.
 pub next_size :
     (s : AllStores) (ts : List RepliedLine) (act : Act)
     → length (next_stores s ts act).table.processors ≡ length s.table.processors
 next_size s ts act =
-    quiet_size (stores_behind s ts).table act
-    ∙ closed_size s.table (lines_on (is_on (windows_of s) None) ts)
+    quiet_size (stores_behind s ts).table act ∙ closed_size s.table (lines_at s 0 ts)
 
-pub next_of_run :
-    (c : Configuration) (s : AllStores) (ts : List RepliedLine) (act : Act)
-    → IsOfRun c s
-    → IsOfRun c (next_stores s ts act)
-next_of_run c s ts act h = record {
-  grants =
-      quiet_grants (stores_behind s ts).table act
-      ∙ closed_grants s.table (lines_on (is_on (windows_of s) None) ts)
-      ∙ h.grants;
-  cpus = next_size s ts act ∙ h.cpus;
-  windows = windows_stay s ts s.windows ∙ h.windows;
-  named =
-      quiet_window (stores_behind s ts).table act
-      ∙ closed_window s.table (lines_on (is_on (windows_of s) None) ts)
-      ∙ h.named;
-}
+-- The first store stays the page table.
+pub next_named :
+    (s : AllStores) (ts : List RepliedLine) (act : Act)
+    → s.table.window ≡ None
+    → (next_stores s ts act).table.window ≡ None
+next_named s ts act named =
+    quiet_window (stores_behind s ts).table act
+    ∙ closed_window s.table (lines_at s 0 ts)
+    ∙ named
 
-opened_grants : (c : Configuration) → (page_table c).grants ≡ c.granted.grants
+pub opening_named : (c : Configuration) → (opening_all c).table.window ≡ None
 unfolding page_table
-opened_grants c = refl
+opening_named c = refl
 
-opened_named : (c : Configuration) → (page_table c).window ≡ None
-unfolding page_table
-opened_named c = refl
-
-opened_windows : (ws : List BusWindow) → map (λ (v : WindowState). v.window) (map opened ws) ≡ ws
-opened_windows [] = refl
-opened_windows (w ∷ ws) = ap (λ z. w ∷ z) (opened_windows ws)
-
-pub opening_of_run : (t : AcceptedTrace) → IsOfRun t.config (opening_all t.config)
-opening_of_run t =
-    record {
-      grants = opened_grants t.config;
-      cpus = opening_processors t;
-      windows = opened_windows t.config.windows;
-      named = opened_named t.config;
-    }
+-- Each store has as many processors.
+pub each_size :
+    (s : AllStores) (number : ℕ)
+    → number ≤ length s.windows
+    → length (store_at s number).processors ≡ length s.table.processors
+each_size s zero low = refl
+each_size s (suc k) low =
+    ap (λ (x : Store). length x.processors)
+    ((window_at s.table s.windows k (omega (arith, low))).store s.table)
+    ∙ length-replicate (length s.table.processors) new_processor
 
 -- ---- a section of one store
 -- A window behind its lines.
-window_end :
+pub window_end :
     (table : Store) (ts : List RepliedLine) (v : WindowState)
     → section_end (as_store table v) (lines_on (is_on_window v.window) ts)
     ≡ as_store table
@@ -225,190 +165,157 @@ store_empty o =
     to_part s [] None
     (section_good (record { before = s; replied_lines = []; quiet = None }) o.states tt refl tt)
 
--- ---- from a good run and back
--- A quiet line is on the page table.
-quiet_there :
-    (ws : List BusWindow) (o : Option BusWindow) (q : RepliedLine)
-    → o ≡ None
-    → is_quiet q.line.act ≡ true
-    → quiet_on (is_on ws o) q ≡ Some q
-quiet_there ws o q named h = ap (λ z. quiet_on (is_on ws z) q) named ∙ table where
-  table : quiet_on (is_on ws None) q ≡ Some q
-  table = rw (quiet_on_table ws q.line.act h) refl
+-- ---- a section of all stores
+module _ (s : AllStores) (ts : List RepliedLine) where
+  abbrev IsGoodAt : Option RepliedLine → Store → Type 0
+  IsGoodAt quiet x = IsGoodSection (part_on (windows_of s) ts quiet x)
 
-quiet_away :
-    (ws : List BusWindow) (w : BusWindow) (q : RepliedLine)
-    → is_quiet q.line.act ≡ true
-    → quiet_on (is_on ws (Some w)) q ≡ None
-quiet_away ws w q h = rw (quiet_off_window w q.line.act h) refl
+  -- The lines on a store.
+  abbrev on : Store → List RepliedLine
+  on x = lines_on (is_on (windows_of s) x.window) ts
 
-module _ (c : Configuration) (s : AllStores) (ts : List RepliedLine) (is : IsOfRun c s) where
-  abbrev own : List RepliedLine
-  own = lines_on (is_on c.windows s.table.window) ts
+  one_to :
+      (quiet : Option RepliedLine) (x : Store) → IsGoodAt quiet x → IsGoodOn (opening_of x) (on x)
+  one_to None x k = to_part x (on x) None k
+  one_to (Some q) x k = to_part x (on x) (quiet_on (is_on (windows_of s) x.window) q) k
 
-  -- The lines on the page table, by the windows of the run.
-  own_is : own ≡ lines_on (is_on (windows_of s) None) ts
-  own_is = λ i. lines_on (is_on (sym is.windows i) (is.named i)) ts
-
-  -- The parts of a section on all stores.
   to_parts :
       (quiet : Option RepliedLine)
-      → AllByRecursion (λ (x : Store). IsGoodSection (part_on c.windows ts quiet x)) (all_stores s)
+      → AllByRecursion (IsGoodAt quiet) (all_stores s)
       → AreGoodOn s ts
-  to_parts None h = record {
-    table = subst (IsGoodOn (opening_of s.table)) own_is (to_part s.table own None h.0);
-    windows =
-        under_map (λ (v : WindowState). IsGoodPart (window_part s ts v))
-        (λ (x : Store). IsGoodSection (part_on c.windows ts None x)) (as_store s.table)
-        s.windows
-        (λ v k. to_part (as_store s.table v) (lines_on (is_on_window v.window) ts) None k) h.1;
-  }
-  to_parts (Some q) h = record {
-    table =
-        subst (IsGoodOn (opening_of s.table)) own_is
-        (to_part s.table own (quiet_on (is_on c.windows s.table.window) q) h.0);
-    windows =
-        under_map (λ (v : WindowState). IsGoodPart (window_part s ts v))
-        (λ (x : Store). IsGoodSection (part_on c.windows ts (Some q) x)) (as_store s.table)
-        s.windows
-        (λ v k.
-        to_part (as_store s.table v) (lines_on (is_on_window v.window) ts)
-        (quiet_on (is_on_window v.window) q) k) h.1;
-  }
+  to_parts quiet h number low =
+      one_to quiet (store_at s number)
+      (each_at (IsGoodAt quiet) (all_stores s) number s.table h.0 h)
 
-  from_last :
-      AreGoodOn s ts
-      → AllByRecursion (λ (x : Store). IsGoodSection (part_on c.windows ts None x)) (all_stores s)
-  from_last g = (
-    from_part s.table own None (subst (IsGoodOn (opening_of s.table)) (sym own_is) g.table) tt,
-    over_map (λ (v : WindowState). IsGoodPart (window_part s ts v))
-        (λ (x : Store). IsGoodSection (part_on c.windows ts None x)) (as_store s.table) s.windows
-        (λ v k. from_part (as_store s.table v) (lines_on (is_on_window v.window) ts) None k tt)
-        g.windows,
-  )
+  from_last : AreGoodOn s ts → AllByRecursion (IsGoodAt None) (all_stores s)
+  from_last g =
+      each_by_index (IsGoodAt None) (all_stores s) s.table
+      (λ number low.
+      from_part (store_at s number) (on (store_at s number)) None
+      (g number (omega (arith, low, stores_count s))) tt)
 
-  module _ (q : RepliedLine) (quiet : is_quiet q.line.act ≡ true) where
-    abbrev there : Option RepliedLine
-    there = quiet_on (is_on c.windows s.table.window) q
+  -- A quiet line behind the section, which is on the page table.
+  module _ (q : RepliedLine) (named : s.table.window ≡ None) (quiet : is_quiet q.line.act ≡ true)
+    where
+      abbrev quiet_at : Store → Option RepliedLine
+      quiet_at x = quiet_on (is_on (windows_of s) x.window) q
 
-    there_is : there ≡ Some q
-    there_is = quiet_there c.windows s.table.window q is.named quiet
+      there : quiet_at s.table ≡ Some q
+      there = ap (λ o. quiet_on (is_on (windows_of s) o) q) named ∙ table where
+        table : quiet_on (is_on (windows_of s) None) q ≡ Some q
+        table = rw (quiet_on_table (windows_of s) q.line.act quiet) refl
 
-    end_is : section_end s.table own ≡ (stores_behind s ts).table
-    end_is = ap (section_end s.table) own_is
+      away : (v : WindowState) → quiet_on (is_on_window v.window) q ≡ None
+      away v = rw (quiet_off_window v.window q.line.act quiet) refl
 
-    -- The reply to the quiet line.
-    to_reply :
-        IfSome there (λ z. z.reply ≡ (run_quiet_line (section_end s.table own) z.line.act).0)
-        → q.reply ≡ quiet_reply s ts q.line.act
-    to_reply h =
-        let k : q.reply ≡ (run_quiet_line (section_end s.table own) q.line.act).0 = subst
-        (λ (o : Option RepliedLine).
-        IfSome o (λ z. z.reply ≡ (run_quiet_line (section_end s.table own) z.line.act).0))
-        there_is h in
-        k ∙ ap (λ v. (run_quiet_line v q.line.act).0) end_is
+      -- It has the reply that the store gives behind its lines, if it is on it.
+      abbrev IsSaid : Store → Option RepliedLine → Type 0
+      IsSaid x o = IfSome o (λ z. z.reply ≡ (run_quiet_line (section_end x (on x)) z.line.act).0)
 
-    from_reply :
-        q.reply ≡ quiet_reply s ts q.line.act
-        → IfSome there (λ z. z.reply ≡ (run_quiet_line (section_end s.table own) z.line.act).0)
-    from_reply h =
-        let k : q.reply ≡ (run_quiet_line (section_end s.table own) q.line.act).0 = h ∙ sym
-        (ap (λ v. (run_quiet_line v q.line.act).0) end_is) in
-        subst
-        (λ (o : Option RepliedLine).
-        IfSome o (λ z. z.reply ≡ (run_quiet_line (section_end s.table own) z.line.act).0))
-        (sym there_is) k
+      to_reply : IsSaid s.table (quiet_at s.table) → q.reply ≡ quiet_reply s ts q.line.act
+      to_reply h = subst (IsSaid s.table) there h
 
-    from_section :
-        AreGoodOn s ts
-        → q.reply ≡ quiet_reply s ts q.line.act
-        → AllByRecursion (λ (x : Store). IsGoodSection (part_on c.windows ts (Some q) x))
-        (all_stores s)
-    from_section g said = (
-      from_part s.table own there (subst (IsGoodOn (opening_of s.table)) (sym own_is) g.table)
-          (from_reply said),
-      over_map (λ (v : WindowState). IsGoodPart (window_part s ts v))
-          (λ (x : Store). IsGoodSection (part_on c.windows ts (Some q) x)) (as_store s.table)
-          s.windows
-          (λ v k.
-          from_part (as_store s.table v) (lines_on (is_on_window v.window) ts)
-          (quiet_on (is_on_window v.window) q) k
-          (subst
-          (λ (o : Option RepliedLine).
-          IfSome o
-          (λ z.
-          z.reply
-          ≡
-          (run_quiet_line
-          (section_end (as_store s.table v)
-          (lines_on (is_on_window v.window) ts)) z.line.act).0))
-          (sym (quiet_away c.windows v.window q quiet)) tt)) g.windows,
-    )
+      said_at :
+          q.reply ≡ quiet_reply s ts q.line.act
+          → (number : ℕ)
+          → number ≤ length s.windows
+          → IsSaid (store_at s number) (quiet_at (store_at s number))
+      said_at said zero low = subst (IsSaid s.table) (sym there) said
+      said_at said (suc k) low =
+          let w = window_at s.table s.windows k (omega (arith, low)) in
+          let none : quiet_at (store_at s (suc k)) ≡ None = ap quiet_at (w.store s.table) ∙
+          away w.window in
+          subst (IsSaid (store_at s (suc k))) (sym none) tt
 
-    -- What the section and the quiet line leave.
-    abbrev next : AllStores
-    next = next_stores s ts q.line.act
+      from_section :
+          AreGoodOn s ts
+          → q.reply ≡ quiet_reply s ts q.line.act
+          → AllByRecursion (IsGoodAt (Some q)) (all_stores s)
+      from_section g said =
+          each_by_index (IsGoodAt (Some q)) (all_stores s) s.table
+          (λ number low.
+          let inside : number ≤ length s.windows = omega (arith, low, stores_count s) in
+          from_part (store_at s number) (on (store_at s number)) (quiet_at (store_at s number))
+          (g number inside) (said_at said number inside))
 
-    table_left : left_by (part_on c.windows ts (Some q) s.table) ≡ next.table
-    table_left =
-        ap (after_quiet (section_end s.table own)) there_is
-        ∙ ap (λ v. (run_quiet_line v q.line.act).1) end_is
+      -- What the section and the quiet line leave.
+      abbrev next : AllStores
+      next = next_stores s ts q.line.act
 
-    granted : s.table.grants ≡ next.table.grants
-    granted =
-        sym
-        (quiet_grants (stores_behind s ts).table q.line.act
-        ∙ closed_grants s.table (lines_on (is_on (windows_of s) None) ts))
+      table_left : left_by (part_on (windows_of s) ts (Some q) s.table) ≡ next.table
+      table_left = ap (after_quiet (section_end s.table (on s.table))) there
 
-    window_left :
-        (v : WindowState)
-        → left_by (part_on c.windows ts (Some q) (as_store s.table v))
-        ≡ as_store next.table (record v { states = closing_of (window_part s ts v) })
-    window_left v =
-        ap (after_quiet (section_end (as_store s.table v) (lines_on (is_on_window v.window) ts)))
-        (quiet_away c.windows v.window q quiet)
-        ∙ window_end s.table ts v
-        ∙
-        (λ i.
-        window_store (granted i) (sym (next_size s ts q.line.act) i)
-        (closing_of (window_part s ts v)) v.window)
+      granted : s.table.grants ≡ next.table.grants
+      granted =
+          sym
+          (quiet_grants (stores_behind s ts).table q.line.act
+          ∙ closed_grants s.table (lines_at s 0 ts))
 
-    windows_left :
-        (vs : List WindowState)
-        → map (λ (x : Store). left_by (part_on c.windows ts (Some q) x)) (map (as_store s.table) vs)
-        ≡ map (as_store next.table)
-        (map (λ (v : WindowState). record v { states = closing_of (window_part s ts v) }) vs)
-    windows_left [] = refl
-    windows_left (v ∷ vs) = λ i. window_left v i ∷ windows_left vs i
+      window_left :
+          (v : WindowState)
+          → left_by (part_on (windows_of s) ts (Some q) (as_store s.table v))
+          ≡ as_store next.table
+          (record v {
+            states = states_behind (as_store s.table v) (lines_on (is_on_window v.window) ts);
+          })
+      window_left v =
+          ap (after_quiet (section_end (as_store s.table v) (lines_on (is_on_window v.window) ts)))
+          (away v)
+          ∙ window_end s.table ts v
+          ∙
+          (λ i.
+          window_store (granted i) (sym (next_size s ts q.line.act) i)
+          (states_behind (as_store s.table v) (lines_on (is_on_window v.window) ts)) v.window)
 
-    left_is : behind_all c.windows (all_stores s) ts q ≡ all_stores next
-    left_is = λ i. table_left i ∷ windows_left s.windows i
+      windows_left :
+          (vs : List WindowState)
+          → map (λ (x : Store). left_by (part_on (windows_of s) ts (Some q) x))
+          (map (as_store s.table) vs)
+          ≡ map (as_store next.table)
+          (map
+          (λ (v : WindowState).
+          record v {
+            states = states_behind (as_store s.table v) (lines_on (is_on_window v.window) ts);
+          }) vs)
+      windows_left [] = refl
+      windows_left (v ∷ vs) = λ i. window_left v i ∷ windows_left vs i
+
+      left_is : behind_all (windows_of s) (all_stores s) ts q ≡ all_stores next
+      left_is = λ i. table_left i ∷ windows_left s.windows i
+
+      -- The rest of the run, from there.
+      rest_is :
+          (us : List RepliedLine) (qs : List QuietPart)
+          → AreGood (windows_of s) (behind_all (windows_of s) (all_stores s) ts q) us qs
+          ≡ AreGood (windows_of next) (all_stores next) us qs
+      rest_is us qs =
+          λ i. AreGood (sym (next_windows s ts q.line.act) i) (left_is i) us qs
 
 all_good :
-    (c : Configuration) (s : AllStores) (ts : List RepliedLine) (qs : List QuietPart)
-    → IsOfRun c s
+    (s : AllStores) (ts : List RepliedLine) (qs : List QuietPart)
+    → s.table.window ≡ None
     → AllQuiet qs
-    → AreGood c.windows (all_stores s) ts qs
+    → AreGood (windows_of s) (all_stores s) ts qs
     → AllGood s ts qs
-all_good c s ts [] is quiet h = to_parts c s ts is None h
-all_good c s ts (q ∷ qs) is quiet h = (
-  to_parts c s ts is (Some q.0) h.0,
-  to_reply c s ts is q.0 quiet.0 h.0.0.quiet,
-  all_good c (next_stores s ts q.0.line.act) q.1 qs (next_of_run c s ts q.0.line.act is) quiet.1
-      (subst (λ ss. AreGood c.windows ss q.1 qs) (left_is c s ts is q.0 quiet.0) h.1),
+all_good s ts [] named quiet h = to_parts s ts None h
+all_good s ts (q ∷ qs) named quiet h = (
+  to_parts s ts (Some q.0) h.0,
+  to_reply s ts q.0 named quiet.0 h.0.0.quiet,
+  all_good (next_stores s ts q.0.line.act) q.1 qs (next_named s ts q.0.line.act named) quiet.1
+      (subst (λ (X : Type 0). X) (rest_is s ts q.0 named quiet.0 q.1 qs) h.1),
 )
 
 all_from :
-    (c : Configuration) (s : AllStores) (ts : List RepliedLine) (qs : List QuietPart)
-    → IsOfRun c s
+    (s : AllStores) (ts : List RepliedLine) (qs : List QuietPart)
+    → s.table.window ≡ None
     → AllQuiet qs
     → AllGood s ts qs
-    → AreGood c.windows (all_stores s) ts qs
-all_from c s ts [] is quiet g = from_last c s ts is g
-all_from c s ts (q ∷ qs) is quiet g = (
-  from_section c s ts is q.0 quiet.0 g.0 g.1,
-  subst (λ ss. AreGood c.windows ss q.1 qs) (sym (left_is c s ts is q.0 quiet.0))
-      (all_from c (next_stores s ts q.0.line.act) q.1 qs (next_of_run c s ts q.0.line.act is)
+    → AreGood (windows_of s) (all_stores s) ts qs
+all_from s ts [] named quiet g = from_last s ts g
+all_from s ts (q ∷ qs) named quiet g = (
+  from_section s ts q.0 named quiet.0 g.0 g.1,
+  subst (λ (X : Type 0). X) (sym (rest_is s ts q.0 named quiet.0 q.1 qs))
+      (all_from (next_stores s ts q.0.line.act) q.1 qs (next_named s ts q.0.line.act named)
       quiet.1 g.2),
 )
 
@@ -417,6 +324,14 @@ all_from c s ts (q ∷ qs) is quiet g = (
 abbrev pub parts_of : AcceptedTrace → List Reply → Parts
 parts_of t rs = cut (lines_with_replies t.lines rs)
 
+-- The stores that it opens with.
+opening_is :
+    (t : AcceptedTrace) (ts : List RepliedLine) (qs : List QuietPart)
+    → AreGood (windows_of (opening_all t.config)) (all_stores (opening_all t.config)) ts qs
+    ≡ AreGood t.config.windows (opening_stores t.config) ts qs
+opening_is t ts qs =
+    λ i. AreGood (windows_opened t.config.windows i) (opened_all t.config i) ts qs
+
 -- The parts of a good run.
 pub parts_good :
     (t : AcceptedTrace) (rs : List Reply)
@@ -424,10 +339,9 @@ pub parts_good :
     → AllGood (opening_all t.config) (parts_of t rs).0 (parts_of t rs).1
 parts_good t rs g =
     let x = parts_of t rs in
-    all_good t.config (opening_all t.config) x.0 x.1 (opening_of_run t)
+    all_good (opening_all t.config) x.0 x.1 (opening_named t.config)
     (cut_quiet (lines_with_replies t.lines rs))
-    (subst (λ ss. AreGood t.config.windows ss x.0 x.1) (sym (opened_all t.config))
-    ((side_by_side t rs).0 g).sections)
+    (subst (λ (X : Type 0). X) (sym (opening_is t x.0 x.1)) ((side_by_side t rs).0 g).sections)
 
 -- And the other way round.
 pub good_parts :
@@ -441,7 +355,7 @@ good_parts t rs kinds g =
     (record {
       kinds = kinds;
       sections =
-          subst (λ ss. AreGood t.config.windows ss x.0 x.1) (opened_all t.config)
-          (all_from t.config (opening_all t.config) x.0 x.1 (opening_of_run t)
+          subst (λ (X : Type 0). X) (opening_is t x.0 x.1)
+          (all_from (opening_all t.config) x.0 x.1 (opening_named t.config)
           (cut_quiet (lines_with_replies t.lines rs)) g);
     })

@@ -1,16 +1,13 @@
 -- The reply to an access by a cached line, on the state that its one operation found.
-use Rattle.std.specs.Prelude.{not, MatchBool}
-use Rattle.std.proofs.Common.{◌≡◌, List, [], ◌∷◌, Bool, true, false, ap, sym, ◌∙◌, refl, subst, Some, length, get_or, arith}
+use Rattle.std.proofs.Common.{◌≡◌, List, [], ◌∷◌, ap, sym, ◌∙◌, refl, subst, Some, length, get_or, arith}
 use Rattle.entry_model.specs.State.{State}
 use Rattle.entry_model.specs.declared.line.Line.{Line}
 use Rattle.entry_model.specs.declared.operation.Op.{Op}
-use Rattle.entry_model.specs.declared.operation.Answer.{Answer}
-use Rattle.entry_model.specs.declared.operation.Answer.TheVariants.{Denied, Masked, At}
 use Rattle.entry_model.specs.declared.receipt.Receipt.{Receipt}
 use Rattle.entry_model.specs.declared.access_reply.AccessReply.{AccessReply}
 use Rattle.entry_model.specs.declared.access_reply.Outcome.{Outcome}
 use Rattle.entry_model.specs.declared.access_reply.By.TheVariants.{Hit}
-use Rattle.entry_model.specs.Receipt.{is_decided, is_no_match, found_of}
+use Rattle.entry_model.specs.Receipt.{is_no_match, found_of}
 use Rattle.entry_model.proofs.Exact.{exact, same}
 use Rattle.hpte_fields.specs.Fields.{is_secondary}
 use Rattle.slb_model.specs.declared.segment.Segment.{Segment}
@@ -19,17 +16,8 @@ use Rattle.entry_model.specs.Trial.{IsTrial}
 use Rattle.hpt_walk.specs.Access.{AccessContext, hit_calls, mode_for, outcome_by, outcome_of, IsHit}
 use Rattle.hpt_walk.specs.declared.request.Request.{Request}
 use Rattle.history_check.specs.Hits.{IsHitBy}
+use Rattle.vcpu.proofs.Hits.{decided_is_found, at_end}
 use Rattle.history_check.specs.Replay.{before_each}
-
-decided_is_found : (answer : Answer) → is_decided answer ≡ true → not (is_no_match answer) ≡ true
-decided_is_found At h = refl
-decided_is_found Denied h = refl
-decided_is_found Masked h = refl
-decided_is_found other h = cc
-
-at_end : (goes : Bool) → MatchBool goes (Unit {0}) (let none : List Receipt = [] in none ≡ [])
-at_end true = tt
-at_end false = refl
 
 abbrev hit_op : Segment → Request → Line → Op
 hit_op seg a line = access_op seg.page (mode_for seg a) (is_secondary line.dword0)

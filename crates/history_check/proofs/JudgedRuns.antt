@@ -1,7 +1,6 @@
 -- A section that is found from what it needs of a run is found of the run.
-use Rattle.std.proofs.Common.{◌≡◌, ℕ, ◌-◌, ◌^◌, ◌≤◌, ◌∙◌, sym, subst, length, arith, true, false, List, Option, Some, None, Result, Ok, Err}
+use Rattle.std.proofs.Common.{◌≡◌, ℕ, ◌≤◌, ◌∙◌, sym, subst, length, true, false, List, Option, Some, None, Result, Ok, Err}
 use Rattle.std.specs.Prelude.{is_some, IfOk, IfSome, IfNone}
-use Rattle.std.proofs.Math.Pow.{pow_mono}
 use Rattle.entry_model.specs.State.{State}
 use Rattle.tlb_model.specs.Processor.{Processor}
 use Rattle.trace_line.specs.declared.line.TraceLine.{TraceLine}
@@ -10,8 +9,7 @@ use Rattle.hpt_resize.specs.TableMemory.{with_states}
 use Rattle.run_model.specs.Stores.{Store}
 use Rattle.run_model.specs.Sections.{section_end}
 use Rattle.history_check.specs.FoundSection.{Opening, opening_of, HasSection, HasNoSection, TellsSection}
-use Rattle.history_check.specs.StoreParts.{HasTablePart}
-use Rattle.hpte_fields.specs.TableSize.{entry_count, greatest_order}
+use Rattle.history_check.specs.StoreParts.{LeavesStore}
 
 -- The run with these states of its table, and these processors.
 abbrev pub run_with : Store → List State → List Processor → Store
@@ -31,7 +29,7 @@ pub found_in_run :
     → opening_of old ≡ o
     → new ≡ run_with old states processors
     → IfOk found (λ f. TellsSection o lines text f states processors)
-    → IfOk found (λ f. IfSome f (λ n. HasTablePart old new lines text n))
+    → IfOk found (λ f. IfSome f (λ n. LeavesStore old new lines text n))
 found_in_run (Ok (Some n)) old new o lines text states processors is after h =
     let found : HasSection (opening_of old) lines text n states processors = subst
     (λ z. HasSection z lines text n states processors) (sym is) h.1 in

@@ -1,12 +1,13 @@
 -- The judge's loop: where it stands between two sections, and what each of its ends says of the
 -- whole text.
-use Rattle.std.proofs.Common.{◌≡◌, ℕ, zero, suc, ◌+◌, ◌<◌, ◌≤◌, ◌^◌, List, [], ◌∷◌, ◌++◌, true, false, ap, sym, ◌∙◌, refl, subst, length, arith, append-nil, zero-add, ◌⊎◌, inl, inr}
-use Rattle.std.specs.Prelude.{count_by, if◌then◌else◌, nat_le}
+use Rattle.std.proofs.Common.{◌≡◌, ℕ, zero, suc, ◌+◌, ◌<◌, ◌≤◌, List, [], ◌∷◌, ◌++◌, true, false, ap, sym, ◌∙◌, refl, subst, length, arith, append-nil, zero-add, ◌⊎◌, inl, inr}
+use Rattle.std.specs.Prelude.{if◌then◌else◌, nat_le}
 use Rattle.std.proofs.lemmas.List.{length-append}
 use Rattle.std.proofs.lemmas.List.Sums.{sum_by-cons}
 use Rattle.std.proofs.lemmas.Bool.{cases_Bool, le-leb, leb-true, lt-leb}
 use Rattle.trace_line.specs.declared.line.TraceLine.{TraceLine}
 use Rattle.trace_line.specs.Lines.{is_quiet, most_lines}
+use Rattle.trace_read.specs.Counts.{quiet_count}
 use Rattle.trace_read.specs.Trace.{AcceptedTrace, IsAccepted}
 use Rattle.trace_reply.specs.declared.reply.Reply.{Reply}
 use Rattle.trace_reply.specs.Replies.{RepliedLine, IsOfKind, lines_with_replies}
@@ -19,7 +20,7 @@ use Rattle.run_model.proofs.Each.{each_front, each_back}
 use Rattle.run_model.proofs.SerialGood.{quiet_kind, opening_processors}
 use Rattle.history_check.specs.declared.verdict.Verdict.TheVariants as verdicts
 use Rattle.history_check.specs.Verdict.{lines_to, trace_to, section_count, BeginsGood, IsGoodText, SectionStands, IsVerdict}
-use Rattle.history_check.specs.FoundSection.{ArePlain, AreOnProcessors}
+use Rattle.run_model.specs.Quiet.{NoneQuiet, AreOnProcessors}
 use Rattle.history_check.specs.FoundStores.{stores_behind, run_quiet_on, AreFound}
 use Rattle.history_check.proofs.EarlierSections.{fronts_stand}
 use Rattle.history_check.proofs.GoodStores.{next_size, good_parts}
@@ -43,9 +44,6 @@ lines_to_twice (suc j) (suc k) (l ∷ ls) low =
           → lines_to (suc j) (lines_to (suc k) (l ∷ ls)) ≡ lines_to (suc j) (l ∷ ls)
       at (inl q) here more = rw q (ap (λ z. l ∷ z) here)
       at (inr q) here more = rw q (ap (λ z. l ∷ z) more)
-
-abbrev quiet_count : List TraceLine → ℕ
-quiet_count ls = count_by (λ (l : TraceLine). is_quiet l.act) ls
 
 quiet_counts :
     (l : TraceLine) (ls : List TraceLine)
@@ -78,13 +76,13 @@ lines_to_end k (l ∷ ls) few =
       at (suc k) h (inl q) more =
           rw q (ap (λ z. l ∷ z) (more k (omega (arith, h, quiet_counts l ls q))))
 
-quiet_plain_lines : (ms : List TraceLine) → ArePlain ms → quiet_count ms ≡ 0
+quiet_plain_lines : (ms : List TraceLine) → NoneQuiet ms → quiet_count ms ≡ 0
 quiet_plain_lines [] h = refl
 quiet_plain_lines (m ∷ ms) h = quiet_skips m ms h.0 ∙ quiet_plain_lines ms h.1
 
 quiet_behind :
     (ms : List TraceLine) (l : TraceLine) (ns : List TraceLine)
-    → ArePlain ms
+    → NoneQuiet ms
     → is_quiet l.act ≡ true
     → quiet_count (ms ++ l ∷ ns) ≡ 1 + quiet_count ns
 quiet_behind [] l ns h q = quiet_counts l ns q
@@ -179,7 +177,7 @@ first_number t = refl
 -- ---- a section and its quiet line
 module _ (t : AcceptedTrace) (text : List ℕ) (k : ℕ) (w : AllStores) (ms : List TraceLine)
     (l : TraceLine) (ns : List TraceLine) (x : List ℕ) (h : AtSection t text k w (ms ++ l ∷ ns) x)
-    (plain : ArePlain ms) (quiet : is_quiet l.act ≡ true) where
+    (plain : NoneQuiet ms) (quiet : is_quiet l.act ≡ true) where
   front : AreOnProcessors (length w.table.processors) ms
   front = front_cpus t text k w ms l ns x h
 
@@ -265,7 +263,7 @@ module _ (t : AcceptedTrace) (text : List ℕ) (k : ℕ) (w : AllStores) (ms : L
 
 -- ---- the last section
 module _ (t : AcceptedTrace) (text : List ℕ) (k : ℕ) (w : AllStores) (ms : List TraceLine)
-    (x : List ℕ) (h : AtSection t text k w ms x) (plain : ArePlain ms) where
+    (x : List ℕ) (h : AtSection t text k w ms x) (plain : NoneQuiet ms) where
   last : section_count t ≡ k + 1
   last = let none : quiet_count ms ≡ 0 = quiet_plain_lines ms plain in omega (arith, none, h.count)
 

@@ -17,6 +17,7 @@ use Rattle.trace_line.specs.declared.line.TraceLine.{TraceLine}
 use Rattle.history_check.specs.declared.mark_steps.LineStep.{LineStep}
 use Rattle.history_check.specs.Steps.{after_step, found_states, ending_states}
 use Rattle.history_check.specs.PlacedSteps.{PlacedStep, FoundStep, with_states_found, FindStates}
+use Rattle.run_model.proofs.LinesByProcessor.{differs}
 use Rattle.history_check.specs.OrderedSteps.{Numbered, Found, IsStepOf, numbered, numbered_by, IsOrder, found_in_order, ending_in_order, with_written, AreWritten}
 
 -- ---- numbers
@@ -28,12 +29,6 @@ numbered_indices :
 unfolding indices
 numbered_indices i [] = refl
 numbered_indices i (x ∷ xs) = ap (λ l. i ∷ l) (numbered_indices (i + 1) xs)
-
-apart : (a b : ℕ) → a < b → eqb a b ≡ false
-apart a b h = at (cases_Bool (eqb a b)) where
-  at : (eqb a b ≡ true) ⊎ (eqb a b ≡ false) → eqb a b ≡ false
-  at (inl e) = let same : a ≡ b = eqb-true a b e in absurd (omega arith)
-  at (inr e) = e
 
 flips : (a b : ℕ) → eqb a b ≡ eqb b a
 flips a b = at (cases_Bool (eqb a b)) (cases_Bool (eqb b a)) where
@@ -48,7 +43,7 @@ flips a b = at (cases_Bool (eqb a b)) (cases_Bool (eqb b a)) where
 
 range_above : (k n m : ℕ) → m < k → AllByRecursion (λ y. eqb m y ≡ false) (range_with_len k n)
 range_above k zero m h = tt
-range_above k (suc n) m h = (apart m k h, range_above (k + 1) n m (omega arith))
+range_above k (suc n) m h = (differs m k h, range_above (k + 1) n m (omega arith))
 
 range_distinct : (k n : ℕ) → IsDistinct eqb (range_with_len k n)
 unfolding IsDistinct

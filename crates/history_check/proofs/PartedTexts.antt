@@ -6,7 +6,6 @@ use Rattle.std.proofs.Common.{◌≡◌, ℕ, zero, suc, ◌+◌, ◌-◌, ◌�
 use Rattle.std.proofs.lemmas.Bool.{cases_Bool, eqb-true, false≢true}
 use Rattle.std.proofs.lemmas.List.{length-append}
 use Rattle.std.proofs.Math.Seq.{take-append_seam, drop-append_seam}
-use Rattle.bus_window.specs.Windows.{BusWindow}
 use Rattle.trace_line.specs.declared.act.Act.{Act}
 use Rattle.trace_line.specs.declared.line.TraceLine.{TraceLine}
 use Rattle.trace_line.specs.Lines.{is_quiet}
@@ -16,9 +15,13 @@ use Rattle.receipt_text.specs.Cuts.{lacks}
 use Rattle.receipt_text.specs.Receipts.{receipts_text}
 use Rattle.receipt_text.proofs.Bytes.{lacks_append, lacks_back, cut_at}
 use Rattle.receipt_text.proofs.ReadBack.{receipts_lack}
-use Rattle.run_model.specs.Stores.{is_on_window, is_on}
+use Rattle.run_model.specs.AllStores.{AllStores}
+use Rattle.run_model.specs.StoreNumbers.{store_at, store_of}
+use Rattle.run_model.specs.Stores.{is_on}
+use Rattle.run_model.proofs.StoreNumbers.{store_inside, on_own}
 use Rattle.history_check.specs.FoundSection.{lines_text}
-use Rattle.history_check.specs.PartedText.{first_told, behind_told, behind_lines, marked_lines, marked_text, part_text}
+use Rattle.history_check.specs.FoundStores.{windows_of}
+use Rattle.history_check.specs.PartedText.{first_told, behind_told, behind_lines, part_text}
 use Rattle.history_check.proofs.LineMarks.{line_of}
 
 -- ---- up to the first end of a line
@@ -154,21 +157,6 @@ cut_here told others text none is =
           ∙ sym (ap behind_told is ∙ k.1),
     )
 
--- ---- marked lines
-pub marked_is :
-    (f : Act → Bool) (ls : List TraceLine)
-    → marked_lines (map (λ (l : TraceLine). f l.act) ls) ls ≡ filter (λ (l : TraceLine). f l.act) ls
-marked_is f [] = refl
-marked_is f (l ∷ ls) = at (cases_Bool (f l.act)) (marked_is f ls) where
-  at :
-      (f l.act ≡ true) ⊎ (f l.act ≡ false)
-      → marked_lines (map (λ (l : TraceLine). f l.act) ls) ls
-      ≡ filter (λ (l : TraceLine). f l.act) ls
-      → marked_lines (map (λ (l : TraceLine). f l.act) (l ∷ ls)) (l ∷ ls)
-      ≡ filter (λ (l : TraceLine). f l.act) (l ∷ ls)
-  at (inl q) rest = rw q (ap (λ z. l ∷ z) rest)
-  at (inr q) rest = rw q rest
-
 -- ---- what lines tell
 -- Where the test passes a line, its reply is the next line of text.
 abbrev pub Tell : (Act → Bool) → List RepliedLine → List ℕ → Type 0
@@ -267,18 +255,23 @@ tells_part f (t ∷ ts) text h =
       at (inl q) rest = rw q (λ i. h.0 i ++ rest i)
       at (inr q) rest = rw q rest
 
-none_told : (ms : List Bool) → marked_text ms [] ≡ []
-none_told [] = refl
-none_told (true ∷ ms) = none_told ms
-none_told (false ∷ ms) = none_told ms
+none_told : (f : Act → Bool) (ls : List TraceLine) → part_text f ls [] ≡ []
+none_told f [] = refl
+none_told f (l ∷ ls) = at (cases_Bool (f l.act)) (none_told f ls) where
+  at :
+      (f l.act ≡ true) ⊎ (f l.act ≡ false)
+      → part_text f ls [] ≡ []
+      → part_text f (l ∷ ls) [] ≡ []
+  at (inl q) rest = rw q rest
+  at (inr q) rest = rw q rest
 
 -- A part that begins with a reply is of a text that begins with it.
 head_tells :
-    (t : RepliedLine) (ms : List Bool) (text rest : List ℕ)
+    (t : RepliedLine) (f : Act → Bool) (ls : List TraceLine) (text rest : List ℕ)
     → IsPlainReply t
-    → first_told text ++ marked_text ms (behind_told text) ≡ reply_text t.line t.reply ++ rest
-    → (first_told text ≡ reply_text t.line t.reply) × (marked_text ms (behind_told text) ≡ rest)
-head_tells t ms text rest h e = at (end_of text) where
+    → first_told text ++ part_text f ls (behind_told text) ≡ reply_text t.line t.reply ++ rest
+    → (first_told text ≡ reply_text t.line t.reply) × (part_text f ls (behind_told text) ≡ rest)
+head_tells t f ls text rest h e = at (end_of text) where
   is : IsToldBy t
   is = told_by t h
 
@@ -287,11 +280,11 @@ head_tells t ms text rest h e = at (end_of text) where
 
   at :
       (lacks 10 text ≡ true) ⊎ HasEnd text
-      → (first_told text ≡ reply_text t.line t.reply) × (marked_text ms (behind_told text) ≡ rest)
+      → (first_told text ≡ reply_text t.line t.reply) × (part_text f ls (behind_told text) ≡ rest)
   at (inl none) =
       let k = first_none text none in
       let all : text ≡ is.words ++ 10 ∷ rest = sym (append-nil text) ∙
-      (λ i. sym k.0 i ++ sym (ap (marked_text ms) k.1 ∙ none_told ms) i) ∙ e ∙ whole in
+      (λ i. sym k.0 i ++ sym (ap (part_text f ls) k.1 ∙ none_told f ls) i) ∙ e ∙ whole in
       absurd
       (let no : false ≡ true = lacks_back 10 is.words (10 ∷ rest)
       (subst (λ z. lacks 10 z ≡ true) all none) in
@@ -299,10 +292,10 @@ head_tells t ms text rest h e = at (end_of text) where
   at (inr end) =
       let k = first_at end.before end.after end.none in
       let first : first_told text ≡ end.before ++ 10 ∷ [] = ap first_told end.cut ∙ k.0 in
-      let c = cut_at 10 end.before is.words (marked_text ms (behind_told text)) rest end.none
+      let c = cut_at 10 end.before is.words (part_text f ls (behind_told text)) rest end.none
       is.none
-      (sym (append_assoc end.before (10 ∷ []) (marked_text ms (behind_told text)))
-      ∙ ap (λ z. z ++ marked_text ms (behind_told text)) (sym first)
+      (sym (append_assoc end.before (10 ∷ []) (part_text f ls (behind_told text)))
+      ∙ ap (λ z. z ++ part_text f ls (behind_told text)) (sym first)
       ∙ e
       ∙ whole) in
       (first ∙ ap (λ z. z ++ 10 ∷ []) c.0 ∙ sym is.text, c.1)
@@ -324,7 +317,7 @@ part_tells f (t ∷ ts) text rest h e =
           → Tell f (t ∷ ts) text
       at (inl q) go =
           let mine = rw q at e in
-          let k = head_tells t (map (λ (l : TraceLine). f l.act) (lines_in ts)) text
+          let k = head_tells t f (lines_in ts) text
           (lines_text (passed f ts) ++ rest) h.0
           (mine ∙ append_assoc (reply_text t.line t.reply) (lines_text (passed f ts)) rest) in
           ((λ on. k.0), go k.1)
@@ -332,40 +325,17 @@ part_tells f (t ∷ ts) text rest h e =
           ((λ on. absurd (let no : false ≡ true = sym q ∙ on in false≢true no)), go (rw q at e))
 
 -- ---- each line is on a store
-window_tells :
-    (ws : List BusWindow) (t : RepliedLine) (ts : List RepliedLine) (text : List ℕ)
-    → is_on ws None t.line.act ≡ false
-    → AllByRecursion (λ (w : BusWindow). Tell (is_on_window w) (t ∷ ts) text) ws
-    → first_told text ≡ reply_text t.line t.reply
-window_tells [] t ts text off h = cc
-window_tells (w ∷ ws) t ts text off h =
-    at (cases_Bool (is_on_window w t.line.act)) (λ z. window_tells ws t ts text z h.1) where
-      at :
-          (is_on_window w t.line.act ≡ true) ⊎ (is_on_window w t.line.act ≡ false)
-          → (is_on ws None t.line.act ≡ false → first_told text ≡ reply_text t.line t.reply)
-          → first_told text ≡ reply_text t.line t.reply
-      at (inl q) rest = h.0.0 q
-      at (inr q) rest = rest (rw q at off)
-
-tails_tell :
-    (ws : List BusWindow) (t : RepliedLine) (ts : List RepliedLine) (text : List ℕ)
-    → AllByRecursion (λ (w : BusWindow). Tell (is_on_window w) (t ∷ ts) text) ws
-    → AllByRecursion (λ (w : BusWindow). Tell (is_on_window w) ts (behind_told text)) ws
-tails_tell [] t ts text h = tt
-tails_tell (w ∷ ws) t ts text h = (h.0.1, tails_tell ws t ts text h.1)
-
 pub all_tell :
-    (ws : List BusWindow) (ts : List RepliedLine) (text : List ℕ)
-    → Tell (is_on ws None) ts text
-    → AllByRecursion (λ (w : BusWindow). Tell (is_on_window w) ts text) ws
+    (s : AllStores) (ts : List RepliedLine) (text : List ℕ)
+    → s.table.window ≡ None
+    →
+    ((number : ℕ)
+    → number ≤ length s.windows
+    → Tell (is_on (windows_of s) (store_at s number).window) ts text)
     → AllTell ts text
-all_tell ws [] text h k = tt
-all_tell ws (t ∷ ts) text h k = (
-  at (cases_Bool (is_on ws None t.line.act)),
-  all_tell ws ts (behind_told text) h.1 (tails_tell ws t ts text k),
-) where
-  at :
-      (is_on ws None t.line.act ≡ true) ⊎ (is_on ws None t.line.act ≡ false)
-      → first_told text ≡ reply_text t.line t.reply
-  at (inl on) = h.0 on
-  at (inr off) = window_tells ws t ts text off k
+all_tell s [] text named h = tt
+all_tell s (t ∷ ts) text named h = (
+  (h (store_of (windows_of s) t.line.act) (store_inside s.windows t.line.act)).0
+      (on_own s t.line.act named),
+  all_tell s ts (behind_told text) named (λ number low. (h number low).1),
+)

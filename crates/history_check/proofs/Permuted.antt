@@ -4,12 +4,9 @@ use Rattle.std.specs.Prelude.{IsPermutation}
 use Rattle.std.specs.List.{swap, AllByRecursion}
 use Rattle.std.specs.List.Sorted.{apply_swaps, SwapsInRange, IsNonDecreasingBy}
 use Rattle.entry_model.specs.declared.receipt.Receipt.{Receipt}
-use Rattle.entry_model.specs.History.{place, Regrouped, nothing, kept, swapped, twice}
+use Rattle.entry_model.specs.History.{place, Regrouped, kept, swapped, twice}
+use Rattle.entry_model.proofs.Regroup.{regrouped_self}
 use Rattle.history_check.proofs.Serialized.{Ascending}
-
-same_order : (xs : List Receipt) → Regrouped xs xs
-same_order [] = nothing
-same_order (x ∷ xs) = kept x (same_order xs)
 
 with_first :
     (x : Receipt) (xs : List Receipt) (j : ℕ) (e : Receipt)
@@ -28,7 +25,7 @@ exchanged :
     → j < length xs
     → Regrouped xs (set (set xs i (get_or xs j e)) j (get_or xs i e))
 exchanged [] i j e low high = absurd (omega arith)
-exchanged (x ∷ xs) zero zero e low high = same_order (x ∷ xs)
+exchanged (x ∷ xs) zero zero e low high = regrouped_self (x ∷ xs)
 exchanged (x ∷ xs) zero (suc j) e low high = with_first x xs j e (omega arith)
 exchanged (x ∷ xs) (suc i) zero e low high = with_first x xs i e (omega arith)
 exchanged (x ∷ xs) (suc i) (suc j) e low high =
@@ -49,7 +46,7 @@ swaps_regroup :
     (xs : List Receipt) (ms : List (ℕ × ℕ))
     → SwapsInRange (length xs) ms
     → Regrouped xs (apply_swaps xs ms) × (length (apply_swaps xs ms) ≡ length xs)
-swaps_regroup xs [] h = (same_order xs, refl)
+swaps_regroup xs [] h = (regrouped_self xs, refl)
 swaps_regroup xs (p ∷ ps) h =
     let rest = swaps_regroup xs ps h.2 in
     let ys = apply_swaps xs ps in (

@@ -1,5 +1,5 @@
 -- The replies of a good run up to a quiet line are a good run of the lines up to it.
-use Rattle.std.proofs.Common.{◌≡◌, List, [], ◌∷◌, ◌++◌, true, false, ap, sym, ◌∙◌, refl, subst, length, ◌⊎◌, inl, inr}
+use Rattle.std.proofs.Common.{◌≡◌, List, [], ◌∷◌, ◌++◌, true, false, ap, sym, ◌∙◌, refl, subst, ◌⊎◌, inl, inr}
 use Rattle.std.proofs.lemmas.Bool.{cases_Bool}
 use Rattle.trace_line.specs.declared.line.TraceLine.{TraceLine}
 use Rattle.trace_line.specs.Lines.{is_quiet}
@@ -9,10 +9,11 @@ use Rattle.trace_reply.specs.Replies.{RepliedLine, AreReplies, lines_with_replie
 use Rattle.run_model.specs.Quiet.{QuietPart, cut, cut_before}
 use Rattle.run_model.specs.AllStores.{AllStores, opening_all}
 use Rattle.run_model.specs.GoodRun.{IsGoodRun}
-use Rattle.history_check.specs.FoundSection.{Opening, opening_of, section_on, IsGoodOn, closing_of, IsGoodTo, IsGoodPart}
-use Rattle.history_check.specs.FoundStores.{window_opening, window_part, AreGoodOn}
+use Rattle.run_model.specs.StoreNumbers.{store_at}
+use Rattle.history_check.specs.FoundSection.{opening_of}
+use Rattle.history_check.specs.FoundStores.{AreGoodOn}
 use Rattle.history_check.specs.Verdict.{with_lines}
-use Rattle.history_check.proofs.GoodStores.{Parts, AllGood, next_stores, each_of_all, store_empty, parts_good, good_parts}
+use Rattle.history_check.proofs.GoodStores.{Parts, AllGood, next_stores, store_empty, parts_good, good_parts}
 
 abbrev pub with_rest : Parts → List QuietPart → Parts
 with_rest x zs = (x.0, x.1 ++ zs)
@@ -37,13 +38,7 @@ cut_at (x ∷ xs) q ys h =
     ap (cut_before x) (cut_at xs q ys h) ∙ front_rest x (cut xs) ((q, (cut ys).0) ∷ (cut ys).1)
 
 pub empty_good : (s : AllStores) → AreGoodOn s []
-empty_good s =
-    record {
-      table = store_empty (opening_of s.table);
-      windows =
-          each_of_all (λ v. IsGoodPart (window_part s [] v)) s.windows
-          (λ v. store_empty (window_opening s.table.grants (length s.table.processors) v));
-    }
+empty_good s number low = store_empty (opening_of (store_at s number))
 
 parts_front :
     (s : AllStores) (ts : List RepliedLine) (qs : List QuietPart) (q : RepliedLine)

@@ -17,7 +17,8 @@ use Rattle.receipt_text.proofs.Bytes.{lacks_append, lacks_back, lacks_head, cut_
 use Rattle.receipt_text.proofs.MarkTexts.{marks_once}
 use Rattle.receipt_text.proofs.ReadBack.{line_has_marks, receipts_lack}
 use Rattle.history_check.specs.declared.mark_steps.LineStep.{LineStep}
-use Rattle.history_check.specs.FoundSection.{lines_text, ArePlain}
+use Rattle.run_model.specs.Quiet.{NoneQuiet}
+use Rattle.history_check.specs.FoundSection.{lines_text}
 use Rattle.history_check.specs.PlacedSteps.{named_ops}
 use Rattle.history_check.specs.OrderedSteps.{IsStepOf, past_lines, numbered_by}
 use Rattle.history_check.specs.MarkSteps.{mark_steps, lines_steps}
@@ -258,7 +259,7 @@ module _ (context : StoreContext) (size : ℕ) (ls : List TraceLine) (text : Lis
 pub plain_at :
     (ls : List TraceLine) (i : ℕ) (d : TraceLine)
     → i < length ls
-    → ArePlain ls
+    → NoneQuiet ls
     → is_quiet (get_or ls i d).act ≡ false
 plain_at [] i d within h = absurd (omega arith)
 plain_at (l ∷ ls) zero d within h = h.0
@@ -267,7 +268,7 @@ plain_at (l ∷ ls) (suc i) d within h = plain_at ls i d (omega arith) h.1
 module _ (context : StoreContext) (size : ℕ) (ls : List TraceLine) (text : List ℕ) (i : ℕ)
     (rest : List ℕ) (read : List LineStep) (sizes : List ℕ)
     (h : AreReadTo context size ls text i rest read sizes) (within : i < length ls)
-    (plain : ArePlain ls) where
+    (plain : NoneQuiet ls) where
   abbrev line_here : TraceLine
   line_here = get_or ls i past_lines
 

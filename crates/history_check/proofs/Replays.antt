@@ -1,6 +1,6 @@
 -- Given each state before, calls have one trial, and a line has one reply.
 use Rattle.std.proofs.Common.{length, arith, ◌≡◌, ℕ, ◌+◌, List, [], ◌∷◌, Bool, true, false, ap, sym, ◌∙◌, refl, ◌⊎◌, inl, inr, map, MatchBool, Option, Some, None}
-use Rattle.std.specs.Prelude.{◌||◌, ◌==◌, drop, if◌then◌else◌, nat_lt, ◌-◌, ◌^◌, slice_index}
+use Rattle.std.specs.Prelude.{◌||◌, ◌==◌, drop, nat_lt, ◌-◌, ◌^◌, slice_index}
 use Rattle.std.specs.List.{AllByRecursion}
 use Rattle.std.specs.Option.{option_map_or}
 use Rattle.std.proofs.lemmas.Bool.{cases_Bool, cond_both}
@@ -35,6 +35,7 @@ use Rattle.call_plan.specs.Single.{single_plan, h_remove_plan, h_protect_plan, h
 use Rattle.call_plan.proofs.Tame.{h_bulk_remove_each}
 use Rattle.run_model.specs.StoreContexts.{StoreContext}
 use Rattle.run_model.specs.LineReplies.{put_plan, get_plan, hcall_plan, IsDeviceLine}
+use Rattle.history_check.proofs.Alike.{either_P}
 use Rattle.history_check.specs.Replay.{before_each, next_state, ReplayState, after_receipt, IsReplayed}
 
 -- ---- trials
@@ -139,13 +140,6 @@ replayed_before goes (c ∷ cs) a b (r ∷ rs) (s ∷ ss) stops fresh given g h 
           ∙ none_given ss (omega (arith, size, ap length none))
 
 -- ---- hypervisor calls
-either_P :
-    (b : Bool) (p q : Answer × State) (P : Answer × State → Type 0)
-    → P p
-    → P q
-    → P (if◌then◌else◌ {A = Answer × State} b p q)
-either_P true p q P h k = h
-either_P false p q P h k = k
 
 abbrev Undecided : Answer × State → Type 0
 Undecided x = is_decided x.0 ≡ false

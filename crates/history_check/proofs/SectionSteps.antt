@@ -9,13 +9,13 @@ use Rattle.trace_line.specs.Lines.{is_quiet}
 use Rattle.trace_reply.specs.declared.reply.Reply.{Reply}
 use Rattle.trace_reply.specs.Replies.{RepliedLine, lines_with_replies}
 use Rattle.reply_text.specs.Text.{reply_text}
-use Rattle.run_model.specs.Processors.{processor_at, processor_after, processors_after}
+use Rattle.run_model.specs.Processors.{processor_at, processor_after, processors_after, processors_behind}
 use Rattle.run_model.specs.Histories.{InOrder, lines_of_processor, events_in, events_by}
 use Rattle.run_model.proofs.LinesByProcessor.{own_yes, own_no, processor_own, processor_other}
 use Rattle.history_check.specs.FoundSection.{lines_text}
 use Rattle.history_check.specs.FrontKeeping.{AllLeadTo}
 use Rattle.history_check.specs.LineReply.{HasReply}
-use Rattle.history_check.specs.JudgedLines.{processors_behind, AllStand, AllInOrder, judged, AreReplied}
+use Rattle.history_check.specs.JudgedLines.{AllStand, AllInOrder, judged, AreReplied}
 use Rattle.history_check.proofs.OneReply.{one_reply}
 
 -- ---- fronts

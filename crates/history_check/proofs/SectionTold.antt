@@ -10,7 +10,8 @@ use Rattle.trace_reply.specs.declared.reply.Reply.{Reply}
 use Rattle.history_check.specs.declared.mark_steps.LineStep.{LineStep}
 use Rattle.history_check.specs.PlacedSteps.{PlacedStep, FindStates}
 use Rattle.history_check.specs.OrderedSteps.{numbered, numbered_by}
-use Rattle.history_check.specs.FoundSection.{ArePlain, AreOnProcessors, Opening, HasSection, HasNoSection, TellsSection}
+use Rattle.run_model.specs.Quiet.{NoneQuiet, AreOnProcessors}
+use Rattle.history_check.specs.FoundSection.{Opening, HasSection, HasNoSection, TellsSection}
 use Rattle.history_check.specs.JudgedLines.{judged, AreReplied, TellsLines}
 use Rattle.history_check.specs.SectionMarks.{ReadMarks, NoMarks}
 use Rattle.history_check.proofs.Short.{LowStates}
@@ -20,7 +21,7 @@ use Rattle.hpte_fields.specs.TableSize.{entry_count, greatest_order}
 -- ---- what the parts tell of one opening
 -- What is asked of the opening.
 pub record IsOpening (o : Opening) (ls : List TraceLine) : Type 0 where
-  pub plain : ArePlain ls
+  pub plain : NoneQuiet ls
   pub cpus : AreOnProcessors (length o.processors) ls
   pub few : length o.states ≤ entry_count greatest_order
   pub low : LowStates o.states

@@ -1,18 +1,17 @@
 -- Sorted by place, the receipts of a section are a run on the states that it opens on; and such a
 -- run fixes each state before.
-use Rattle.std.proofs.Common.{◌≡◌, ℕ, ◌<◌, ◌≤◌, List, [], ◌∷◌, true, false, ap, sym, ◌∙◌, refl, subst, ◌⊎◌, inl, inr, map, length, length-set, arith, eqb}
-use Rattle.std.specs.Prelude.{filter, slice_set}
+use Rattle.std.proofs.Common.{◌≡◌, ℕ, ◌<◌, ◌≤◌, List, [], ◌∷◌, true, false, ap, sym, ◌∙◌, refl, subst, ◌⊎◌, inl, inr, map, length, length-set, eqb}
+use Rattle.std.specs.Prelude.{slice_set}
 use Rattle.std.specs.List.{AllByRecursion}
 use Rattle.std.proofs.lemmas.Bool.{cases_Bool}
-use Rattle.std.proofs.lemmas.Bool.Decides.{nat_tests}
 use Rattle.entry_model.specs.State.{State}
 use Rattle.entry_model.specs.declared.receipt.Receipt.{Receipt}
 use Rattle.entry_model.specs.Run.{state_at, states_after, IsRun}
-use Rattle.entry_model.specs.History.{IsLegal, history, by_place, put_in, precedes, place, Regrouped}
+use Rattle.entry_model.specs.History.{IsLegal, history, by_place, put_in, place, Regrouped}
 use Rattle.entry_model.proofs.Regroup.{history_regrouped}
 use Rattle.entry_model.proofs.RunHistory.{run_history}
 use Rattle.run_model.proofs.SectionGood.{each_regrouped}
-use Rattle.run_model.proofs.OneProcessor.{chain_run}
+use Rattle.run_model.proofs.OneProcessor.{chain_run, precedes_level, of_entry}
 use Rattle.history_check.specs.Replay.{before_each}
 use Rattle.history_check.specs.Steps.{step_op, unless_worn, next_by, step_of, after_step, found_states, ending_states}
 use Rattle.history_check.proofs.NextStates.{step_next}
@@ -25,19 +24,13 @@ abbrev pub Ascending : List Receipt → Type 0
 Ascending [] = Unit {0}
 Ascending (x ∷ xs) = NotBefore x xs × Ascending xs
 
-level : (x y : Receipt) → place x ≤ place y → precedes x y ≡ true
-level x y h = grind (arith, nat_tests)
-
 put_first : (x : Receipt) (xs : List Receipt) → NotBefore x xs → put_in x xs ≡ x ∷ xs
 put_first x [] h = refl
-put_first x (y ∷ ys) h = rw (level x y h.0) refl
+put_first x (y ∷ ys) h = rw (precedes_level x y h.0) refl
 
 sorted_is : (xs : List Receipt) → Ascending xs → by_place xs ≡ xs
 sorted_is [] h = refl
 sorted_is (x ∷ xs) h = ap (put_in x) (sorted_is xs h.1) ∙ put_first x xs h.0
-
-abbrev of_entry : ℕ → List Receipt → List Receipt
-of_entry e xs = filter (λ (r : Receipt). eqb r.entry e) xs
 
 not_before_of :
     (e : ℕ) (x : Receipt) (ys : List Receipt) → NotBefore x ys → NotBefore x (of_entry e ys)

@@ -30,7 +30,7 @@ use Rattle.run_model.specs.QuietLines.{run_resize, run_quiet_line}
 use Rattle.run_model.specs.Histories.{receipts_by}
 use Rattle.run_model.specs.Sections.{section_end}
 use Rattle.run_model.specs.Sections.{Section, made_in}
-use Rattle.run_model.proofs.Each.{each_map, each_at, each_of_map, each_front, each_back}
+use Rattle.run_model.proofs.Each.{each_map, each_at, each_both, each_of_map, each_front, each_back}
 use Rattle.run_model.proofs.Memories.{IsAllowed, MemoryStands, memory_prepared, memory_committed, opening_stands}
 use Rattle.run_model.proofs.OpeningEntries.{each_opening}
 use Rattle.run_model.proofs.LowStamps.{each_from_histories, each_state, closed_size}
@@ -39,7 +39,6 @@ use Rattle.run_model.proofs.OneProcessor.{closing_size}
 use Rattle.run_model.proofs.SectionGood.{OnCpus, each_regrouped}
 use Rattle.entry_model.proofs.Regroup.{regrouped_back}
 use Rattle.history_check.proofs.TextMarks.{IsShort, AreShort}
-use Rattle.history_check.proofs.GoodStores.{each_pair}
 use Rattle.history_check.specs.FoundSection.{closing_of, IsLegalTo}
 
 abbrev pub IsLow : State → Type 0
@@ -87,7 +86,7 @@ section_low s closing size few low g =
     (each_at IsLow (states_of s.before) e (empty_state 0) (omega arith) low) in
     let stamps = each_from_histories (λ (r : Receipt). IsLow r.before) n (made_in s) g.in_table
     (λ e k. (along e k).0) in
-    let both = each_pair (λ (r : Receipt). r.entry < n) (λ (r : Receipt). IsLow r.before)
+    let both = each_both (λ (r : Receipt). r.entry < n) (λ (r : Receipt). IsLow r.before)
     (made_in s) g.in_table stamps in (
       each_map (λ (r : Receipt). (r.entry < n) × IsLow r.before) IsShort (made_in s)
           (λ r x. record { entry = omega (arith, x.0); stamp = omega (arith, x.1) }) both,

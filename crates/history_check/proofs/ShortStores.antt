@@ -1,37 +1,47 @@
 -- In a good run entries and stamps of all stores are numbers that a text tells.
 use Rattle.std.specs.Prelude.{None}
-use Rattle.std.proofs.Common.{◌≡◌, ◌<◌, ◌≤◌, ◌^◌, List, sym, subst, length, arith}
+use Rattle.std.proofs.Common.{◌≡◌, ℕ, zero, suc, ◌<◌, ◌≤◌, List, [], ◌∷◌, ap, sym, ◌∙◌, refl, subst, length, map, get_or, arith}
 use Rattle.std.specs.List.{AllByRecursion}
-use Rattle.std.proofs.lemmas.List.{length-replicate}
 use Rattle.hpte_fields.specs.TableSize.{entry_count, greatest_order, least_order}
 use Rattle.entry_model.specs.State.{State, empty_state}
-use Rattle.tlb_model.specs.Processor.{new_processor}
 use Rattle.trace_line.specs.declared.act.Act.{Act}
 use Rattle.trace_read.specs.Trace.{AcceptedTrace, IsAccepted}
 use Rattle.trace_reply.specs.Replies.{RepliedLine, receipts_in}
-use Rattle.run_model.specs.AllStores.{WindowState, AllStores, opening_all}
-use Rattle.run_model.specs.Sections.{Section, made_in}
-use Rattle.run_model.specs.Stores.{is_on, is_on_window, opening_window, lines_on, states_of}
-use Rattle.run_model.proofs.Each.{each_map, each_filter, each_replicate, each_of_map}
+use Rattle.run_model.specs.AllStores.{WindowState, AllStores, opened, as_store, opening_all}
+use Rattle.run_model.specs.Sections.{Section, made_in, states_behind}
+use Rattle.run_model.specs.StoreNumbers.{store_at}
+use Rattle.run_model.specs.Stores.{Store, is_on, is_on_window, opening_window, lines_on, states_of}
+use Rattle.run_model.proofs.Each.{each_filter, each_replicate, each_of_map}
 use Rattle.run_model.proofs.LinesByProcessor.{Cpus}
 use Rattle.run_model.proofs.OneProcessor.{closing_size}
 use Rattle.run_model.proofs.SectionGood.{OnCpus}
-use Rattle.run_model.specs.AllStores.{opened}
+use Rattle.run_model.proofs.StoreNumbers.{window_at}
 use Rattle.run_model.proofs.StoreSerial.{opening_size}
+use Rattle.run_model.proofs.TableNamed.{quiet_window, closed_window}
+use Rattle.history_check.specs.FoundSection.{opening_of, section_on, closing_of, IsLegalTo}
+use Rattle.history_check.specs.FoundStores.{windows_of, lines_at, AreGoodOn, stores_behind, run_quiet_on}
 use Rattle.history_check.proofs.ByStore.{each_by_store}
-use Rattle.history_check.specs.FoundStores.{windows_of, table_part, window_part, AreGoodOn, stores_behind, run_quiet_on}
-use Rattle.history_check.proofs.TextMarks.{AreShort}
+use Rattle.history_check.proofs.GoodStores.{closed_states, each_size, opening_named}
 use Rattle.history_check.proofs.Short.{IsLow, LowStates, IsPlain, ShortLines, small_table, section_low, closed_plain, lines_short, quiet_plain, opening_plain}
-use Rattle.history_check.proofs.GoodStores.{closed_states, mapped_to, each_pair}
-use Rattle.history_check.specs.FoundSection.{closing_of, IsGoodPart, IsLegalTo}
+use Rattle.history_check.proofs.TextMarks.{AreShort}
+
+each_inside :
+    {A : Type 0} (P : A → Type 0) (xs : List A) (k : ℕ) (d : A)
+    → k < length xs
+    → AllByRecursion P xs
+    → P (get_or xs k d)
+each_inside P [] k d low h = absurd (omega (arith, low))
+each_inside P (x ∷ xs) zero d low h = h.0
+each_inside P (x ∷ xs) (suc k) d low h = each_inside P xs k d (omega (arith, low)) h.1
 
 -- A store of no more entries than the largest table has, with low stamps.
 pub record IsSmall (states : List State) : Type 0 where
   pub few : length states ≤ entry_count greatest_order
   pub low : LowStates states
 
--- The page table and each window are such.
+-- The page table, which is the first, and each window are such.
 pub record ArePlainStores (s : AllStores) : Type 0 where
+  pub named : s.table.window ≡ None
   pub table : IsPlain s.table
   pub windows : AllByRecursion (λ (v : WindowState). IsSmall v.states) s.windows
 
@@ -51,72 +61,85 @@ section_small s within h g =
       },
     )
 
-window_small :
-    (s : AllStores) (ts : List RepliedLine) (v : WindowState)
-    → Cpus (length s.table.processors) ts
-    → IsSmall v.states
-    → IsGoodPart (window_part s ts v)
-    → ShortLines (lines_on (is_on_window v.window) ts) × IsSmall (closing_of (window_part s ts v))
-window_small s ts v within h g =
-    let n = length s.table.processors in
-    let cpus : Cpus n (lines_on (is_on_window v.window) ts) = each_filter
-    (λ (t : RepliedLine). t.line.cpu < n)
-    (λ (t : RepliedLine). is_on_window v.window t.line.act) ts within in
-    section_small (window_part s ts v)
-    (subst (λ m. Cpus m (lines_on (is_on_window v.window) ts))
-    (sym (length-replicate n new_processor)) cpus) h g.0
+module _ (s : AllStores) (ts : List RepliedLine) (within : Cpus (length s.table.processors) ts)
+    (h : ArePlainStores s) (g : AreGoodOn s ts) where
+  small_at : (number : ℕ) → number ≤ length s.windows → IsSmall (states_of (store_at s number))
+  small_at zero low = record { few = small_table s.table h.table; low = h.table.low }
+  small_at (suc k) low =
+      let w = window_at s.table s.windows k (omega (arith, low)) in
+      subst (λ (x : Store). IsSmall (states_of x)) (sym (w.store s.table))
+      (subst (λ (v : WindowState). IsSmall v.states) (w.state w.window)
+      (each_inside (λ (v : WindowState). IsSmall v.states) s.windows k w.window
+      (omega (arith, low)) h.windows))
 
-pub stores_short :
-    (s : AllStores) (ts : List RepliedLine)
-    → Cpus (length s.table.processors) ts
-    → ArePlainStores s
-    → AreGoodOn s ts
-    → ShortLines ts × ArePlainStores (stores_behind s ts)
-stores_short s ts within h g =
-    let n = length s.table.processors in
-    let ws = windows_of s in
-    let own = lines_on (is_on ws None) ts in
-    let cpus : Cpus n own = each_filter (λ (t : RepliedLine). t.line.cpu < n)
-    (λ (t : RepliedLine). is_on ws None t.line.act) ts within in
-    let table = section_small (table_part s ts) cpus
-    (record { few = small_table s.table h.table; low = h.table.low }) g.table.0 in
-    let each = each_map (λ v. IsSmall v.states × IsGoodPart (window_part s ts v))
-    (λ (v : WindowState).
-    ShortLines (lines_on (is_on_window v.window) ts)
-    × IsSmall (closing_of (window_part s ts v))) s.windows
-    (λ v k. window_small s ts v within k.0 k.1)
-    (each_pair (λ (v : WindowState). IsSmall v.states) (λ v. IsGoodPart (window_part s ts v))
-    s.windows h.windows g.windows) in
-    let lines = each_map
-    (λ (v : WindowState).
-    ShortLines (lines_on (is_on_window v.window) ts)
-    × IsSmall (closing_of (window_part s ts v)))
-    (λ (v : WindowState). ShortLines (lines_on (is_on_window v.window) ts)) s.windows
-    (λ v k. k.0) each in
-    let closed = each_map
-    (λ (v : WindowState).
-    ShortLines (lines_on (is_on_window v.window) ts)
-    × IsSmall (closing_of (window_part s ts v)))
-    (λ (v : WindowState). IsSmall (closing_of (window_part s ts v))) s.windows (λ v k. k.1) each
-    in (
-      each_by_store (λ (t : RepliedLine). AreShort (receipts_in t.reply))
-          (λ (t : RepliedLine). t.line.act) ws ts table.0
-          (mapped_to (λ w. ShortLines (lines_on (is_on_window w) ts))
-          (λ (v : WindowState). v.window) s.windows lines),
-      record {
-        table =
-            closed_plain s.table own h.table
-            (subst LowStates (sym (closed_states s.table own)) table.1.low);
-        windows =
-            mapped_to (λ (v : WindowState). IsSmall v.states)
-            (λ (v : WindowState). record v { states = closing_of (window_part s ts v) })
-            s.windows closed;
-      },
+  -- The section of each store.
+  each_small :
+      (number : ℕ)
+      → number ≤ length s.windows
+      → ShortLines (lines_at s number ts)
+      × IsSmall (states_behind (store_at s number) (lines_at s number ts))
+  each_small number low =
+      let x = store_at s number in
+      let cpus : Cpus (length x.processors) (lines_at s number ts) = subst
+      (λ n. Cpus n (lines_at s number ts)) (sym (each_size s number low))
+      (each_filter (λ (t : RepliedLine). t.line.cpu < length s.table.processors)
+      (λ (t : RepliedLine). is_on (windows_of s) x.window t.line.act) ts within) in
+      section_small (section_on (opening_of x) (lines_at s number ts)) cpus (small_at number low)
+      (g number low).0
+
+  pub stores_short : ShortLines ts × ArePlainStores (stores_behind s ts)
+  stores_short = (
+    each_by_store (λ (t : RepliedLine). AreShort (receipts_in t.reply))
+        (λ (t : RepliedLine). t.line.act) s ts h.named (λ number low. (each_small number low).0),
+    record {
+      named = closed_window s.table (lines_at s 0 ts) ∙ h.named;
+      table =
+          closed_plain s.table (lines_at s 0 ts) h.table
+          (subst LowStates (sym (closed_states s.table (lines_at s 0 ts)))
+          (each_small 0 (omega arith)).1.low);
+      windows = windows_small s.windows (λ k v low is. here k v low is);
+    },
+  ) where
+    here :
+        (k : ℕ) (v : WindowState)
+        → k < length s.windows
+        → v ≡ get_or s.windows k v
+        → IsSmall (states_behind (as_store s.table v) (lines_on (is_on_window v.window) ts))
+    here k v low is =
+        let w = window_at s.table s.windows k low in
+        let x : store_at s (suc k) ≡ as_store s.table v = w.store s.table ∙ ap (as_store s.table)
+        (sym (is ∙ w.state v)) in
+        subst
+        (λ (y : Store).
+        IsSmall (states_behind y (lines_on (is_on (windows_of s) y.window) ts))) x
+        (each_small (suc k) (omega (arith, low))).1
+
+    windows_small :
+        (vs : List WindowState)
+        →
+        ((k : ℕ) (v : WindowState)
+        → k < length vs
+        → v ≡ get_or vs k v
+        → IsSmall (states_behind (as_store s.table v) (lines_on (is_on_window v.window) ts)))
+        → AllByRecursion (λ (v : WindowState). IsSmall v.states)
+        (map
+        (λ (v : WindowState).
+        record v {
+          states = states_behind (as_store s.table v) (lines_on (is_on_window v.window) ts);
+        }) vs)
+    windows_small [] f = tt
+    windows_small (v ∷ vs) f = (
+      f 0 v (omega arith) refl,
+      windows_small vs (λ k u low is. f (suc k) u (omega (arith, low)) is),
     )
 
 pub quiet_stores_plain :
     (s : AllStores) (act : Act) → ArePlainStores s → ArePlainStores (run_quiet_on s act).1
-quiet_stores_plain s act h = record { table = quiet_plain s.table act h.table; windows = h.windows }
+quiet_stores_plain s act h = record {
+  named = quiet_window s.table act ∙ h.named;
+  table = quiet_plain s.table act h.table;
+  windows = h.windows;
+}
 
 opened_low : LowStates opening_window
 unfolding opening_window
@@ -133,6 +156,7 @@ pub opening_stores_plain :
     (t : AcceptedTrace) → IsAccepted t → ArePlainStores (opening_all t.config)
 opening_stores_plain t is =
     record {
+      named = opening_named t.config;
       table = opening_plain t is;
       windows =
           each_of_map (λ (v : WindowState). IsSmall v.states) opened t.config.windows

@@ -78,7 +78,7 @@ unspaced (x ∷ a) (y ∷ b) e =
     let m : a ≡ b = unspaced a b rest in
     λ i. head i ∷ m i
 
-append_none : (a : List ℕ) → a ++ [] ≡ a
+pub append_none : (a : List ℕ) → a ++ [] ≡ a
 append_none [] = refl
 append_none (x ∷ a) = ap (λ z. x ∷ z) (append_none a)
 

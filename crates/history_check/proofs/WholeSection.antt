@@ -1,6 +1,6 @@
 -- A section, from what its parts tell of it.
 use Rattle.std.specs.List.{AllByRecursion}
-use Rattle.std.proofs.Common.{◌≡◌, ℕ, zero, suc, ◌+◌, ◌<◌, ◌≤◌, ◌^◌, List, [], ◌∷◌, ◌++◌, ap, sym, ◌∙◌, refl, subst, map, take, drop, length, arith}
+use Rattle.std.proofs.Common.{◌≡◌, ℕ, ◌+◌, ◌<◌, ◌≤◌, List, [], ◌∷◌, ◌++◌, ap, sym, ◌∙◌, refl, subst, map, take, drop, length, arith}
 use Rattle.std.proofs.lemmas.List.{length-map, length-append, take-append-drop}
 use Rattle.std.proofs.Math.Seq.{take-append_seam, drop-append_seam}
 use Rattle.entry_model.specs.State.{State}
@@ -13,14 +13,14 @@ use Rattle.tlb_model.specs.Processor.{Processor}
 use Rattle.trace_line.specs.declared.line.TraceLine.{TraceLine}
 use Rattle.trace_reply.specs.declared.reply.Reply.{Reply}
 use Rattle.trace_reply.specs.Replies.{RepliedLine, AreReplies, receipts_in, lines_with_replies}
-use Rattle.run_model.specs.Processors.{processor_at, processors_after}
+use Rattle.run_model.specs.Processors.{processor_at, processors_after, processors_behind}
 use Rattle.run_model.specs.LineReplies.{IsCallReply, IsReplyToAccess}
 use Rattle.run_model.specs.Histories.{InOrder, receipts_by, lines_of_processor, events_by}
 use Rattle.run_model.specs.GoodRun.{EachLineOfProcessor, IsAccessLine}
-use Rattle.run_model.proofs.Undisturbed.{processors_on}
 use Rattle.entry_model.proofs.Regroup.{regrouped_back}
 use Rattle.run_model.proofs.Each.{each_front, each_back}
 use Rattle.run_model.proofs.SectionGood.{each_regrouped}
+use Rattle.run_model.proofs.SerialParallel.{front_of}
 use Rattle.run_model.proofs.LinesByProcessor.{Cpus, InFileOrder, own_lines, file_lines, file_listed, own_processors}
 use Rattle.receipt_text.specs.declared.mark.Mark.{Mark}
 use Rattle.receipt_text.specs.Receipts.{mark_of}
@@ -29,9 +29,10 @@ use Rattle.history_check.specs.ReplyMarks.{marks_in}
 use Rattle.history_check.specs.Replay.{before_each}
 use Rattle.history_check.specs.PlacedSteps.{PlacedStep, placed_step, placed_line, FindStates, AreInTable}
 use Rattle.history_check.specs.OrderedSteps.{numbered, numbered_by}
-use Rattle.history_check.specs.FoundSection.{ArePlain, AreOnProcessors, Opening, section_on, IsFound, HasSection, HasNoSection, closing_of}
+use Rattle.run_model.specs.Quiet.{NoneQuiet, AreOnProcessors}
+use Rattle.history_check.specs.FoundSection.{Opening, section_on, IsFound, HasSection, HasNoSection, closing_of}
 use Rattle.history_check.specs.LineReply.{StandsOn}
-use Rattle.history_check.specs.JudgedLines.{processors_behind, AllStand, AllInOrder, AreReplied, judged}
+use Rattle.history_check.specs.JudgedLines.{AllStand, AllInOrder, AreReplied, judged}
 use Rattle.history_check.specs.SectionMarks.{section_steps, HasItsMarks, ShowMarks, MarkEntries, ReadMarks, NoMarks}
 use Rattle.history_check.proofs.TextMarks.{short_marks}
 use Rattle.history_check.proofs.Short.{LowStates, ShortLines, lines_short}
@@ -40,16 +41,6 @@ use Rattle.history_check.proofs.FoundStates.{section_finds, found_section}
 use Rattle.hpte_fields.specs.TableSize.{entry_count, greatest_order}
 
 -- ---- fronts
-front_is : (a : List State) (e : ℕ) → front_at (opening_fronts a) e ≡ pair_of (state_at a e)
-unfolding pair_of
-front_is [] e = refl
-front_is (s ∷ a) zero = refl
-front_is (s ∷ a) (suc e) = front_is a e
-
-behind_is :
-    (ps : List Processor) (ts : List RepliedLine) → processors_behind ps ts ≡ processors_on ps ts
-behind_is ps [] = refl
-behind_is ps (t ∷ ts) = behind_is (processors_after ps t) ts
 
 cpus_of :
     (n : ℕ) (ls : List TraceLine) (rs : List Reply)
@@ -135,7 +126,7 @@ stand_accesses context closing ps (l ∷ ls) (n ∷ ns) found (r ∷ rs) h = (
 stand_marks :
     (context : StoreContext) (closing : List State) (ps : List Processor) (ls : List TraceLine)
     (ns : List ℕ) (found : List State) (rs : List Reply)
-    → ArePlain ls
+    → NoneQuiet ls
     → AllStand context closing ps ls ns found rs
     → AllByRecursion (HasItsMarks context) (lines_with_replies ls rs)
 stand_marks context closing ps [] ns found rs plain h = tt
@@ -155,7 +146,7 @@ stand_marks context closing ps (l ∷ ls) (n ∷ ns) found (r ∷ rs) plain h = 
 -- ---- steps by marks
 steps_by_marks :
     (context : StoreContext) (ps : List Processor) (ls : List TraceLine) (rs : List Reply)
-    → ArePlain ls
+    → NoneQuiet ls
     → AreReplies ls rs
     → InFileOrder (λ p t. IsCallReply context t.line.act t.reply) ps (lines_with_replies ls rs)
     → InFileOrder (λ p t. IsReplyToAccess (access_of context) p t.line.act t.reply) ps
@@ -209,12 +200,12 @@ found_order :
     (events_by (processor_at ps cpu) (lines_of_processor cpu ts))
 found_order a ps ts h cpu e =
     subst (λ p. InOrder e p (events_by (processor_at ps cpu) (lines_of_processor cpu ts)))
-    (front_is a e) (h cpu e)
+    (front_of a e) (h cpu e)
 
 pub told_section :
     (o : Opening) (ls : List TraceLine) (given : List ℕ) (n : ℕ) (closing : List State)
     (later : List Processor)
-    → ArePlain ls
+    → NoneQuiet ls
     → AreOnProcessors (length o.processors) ls
     → Told o ls given n closing later
     → HasSection o ls given n closing later
@@ -261,7 +252,7 @@ told_section o ls given n closing later plain on h =
             text = h.replied.text;
           };
       closes = found.1;
-      behind = own_processors ps ts cpus ∙ sym (behind_is ps ts) ∙ sym h.replied.behind;
+      behind = own_processors ps ts cpus ∙ sym h.replied.behind;
     }
 
 -- ---- a section that isn't
@@ -316,7 +307,7 @@ good_stand context closing ps (l ∷ ls) (r ∷ rs) kinds short calls accesses =
 
 short_shows :
     (context : StoreContext) (ps : List Processor) (ls : List TraceLine) (rs : List Reply)
-    → ArePlain ls
+    → NoneQuiet ls
     → AreReplies ls rs
     → ShortLines (lines_with_replies ls rs)
     → InFileOrder (λ p t. IsCallReply context t.line.act t.reply) ps (lines_with_replies ls rs)
@@ -355,7 +346,7 @@ record Good (o : Opening) (ls : List TraceLine) (given : List ℕ) (rs : List Re
 
 good_facts :
     (o : Opening) (ls : List TraceLine) (given : List ℕ) (rs : List Reply) (rest : List ℕ)
-    → ArePlain ls
+    → NoneQuiet ls
     → AreOnProcessors (length o.processors) ls
     → length o.states ≤ entry_count greatest_order
     → LowStates o.states
@@ -413,7 +404,7 @@ mark_entries size (l ∷ ls) (r ∷ rs) kinds h = (
 -- no marks were read
 pub no_marks :
     (o : Opening) (ls : List TraceLine) (given : List ℕ)
-    → ArePlain ls
+    → NoneQuiet ls
     → AreOnProcessors (length o.processors) ls
     → length o.states ≤ entry_count greatest_order
     → LowStates o.states
@@ -438,7 +429,7 @@ map_length (r ∷ rs) = ap (λ l. length (marks_in r) ∷ l) (map_length rs)
 pub no_replies :
     (o : Opening) (ls : List TraceLine) (given : List ℕ) (steps : List LineStep) (counts : List ℕ)
     (listed closing : List State)
-    → ArePlain ls
+    → NoneQuiet ls
     → AreOnProcessors (length o.processors) ls
     → length o.states ≤ entry_count greatest_order
     → LowStates o.states
@@ -481,7 +472,7 @@ no_replies o ls given steps counts listed closing plain on few low read find non
       in_order =
           λ cpu e.
           subst (λ p. InOrder e p (events_by (processor_at ps cpu) (lines_of_processor cpu ts)))
-          (sym (front_is o.states e)) (h.good.1 cpu e);
+          (sym (front_of o.states e)) (h.good.1 cpu e);
       text = h.text;
       behind = refl;
     })

@@ -1,10 +1,9 @@
 -- One section of a run, found where a text begins.
-use Rattle.std.specs.Prelude.{◌≡◌, ℕ, ◌<◌, ◌≤◌, Option, Some, None, List, [], ◌∷◌, ◌++◌, drop, length, false}
+use Rattle.std.specs.Prelude.{◌≡◌, ℕ, ◌<◌, ◌≤◌, Option, Some, None, List, [], ◌∷◌, ◌++◌, drop, length}
 use Rattle.std.specs.List.{AllByRecursion}
 use Rattle.entry_model.specs.State.{State}
 use Rattle.tlb_model.specs.Processor.{Processor}
 use Rattle.trace_line.specs.declared.line.TraceLine.{TraceLine}
-use Rattle.trace_line.specs.Lines.{is_quiet}
 use Rattle.trace_reply.specs.declared.reply.Reply.{Reply}
 use Rattle.trace_reply.specs.Replies.{RepliedLine, AreReplies, lines_with_replies}
 use Rattle.reply_text.specs.Text.{reply_text}
@@ -17,14 +16,6 @@ use Rattle.run_model.specs.StoreContexts.{StoreContext, access_of}
 use Rattle.run_model.specs.Stores.{Store, context_of, states_of, plain_store}
 
 -- ---- the lines of a section
--- None of the lines is quiet.
-abbrev pub ArePlain : List TraceLine → Type 0
-ArePlain ls = AllByRecursion (λ (l : TraceLine). is_quiet l.act ≡ false) ls
-
--- Each line's processor is one of n.
-abbrev pub AreOnProcessors : ℕ → List TraceLine → Type 0
-AreOnProcessors n ls = AllByRecursion (λ (l : TraceLine). l.cpu < n) ls
-
 -- The text of lines with their replies.
 abbrev pub lines_text : List RepliedLine → List ℕ
 lines_text [] = []

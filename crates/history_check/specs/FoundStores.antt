@@ -1,65 +1,43 @@
 -- The lines of a section on all stores of a run, and where a text begins with good replies to them.
-use Rattle.std.specs.Prelude.{None}
-use Rattle.std.specs.Prelude.{◌≡◌, ℕ, List, ◌++◌, map, replicate, length}
-use Rattle.std.specs.List.{AllByRecursion}
+use Rattle.std.specs.Prelude.{◌≡◌, ℕ, ◌≤◌, List, ◌++◌, map, length}
 use Rattle.bus_window.specs.Windows.{BusWindow}
-use Rattle.frame_grants.specs.declared.grant.Grant.{Grant}
-use Rattle.tlb_model.specs.Processor.{new_processor}
 use Rattle.trace_line.specs.declared.act.Act.{Act}
 use Rattle.trace_line.specs.declared.line.TraceLine.{TraceLine}
 use Rattle.trace_reply.specs.declared.reply.Reply.{Reply}
 use Rattle.trace_reply.specs.Replies.{RepliedLine, AreReplies, lines_with_replies}
+use Rattle.run_model.specs.AllStores.{WindowState, AllStores, as_store, windows_in}
 use Rattle.run_model.specs.QuietLines.{run_quiet_line}
-use Rattle.run_model.specs.Sections.{section_end}
-use Rattle.run_model.specs.AllStores.{WindowState, AllStores, windows_in}
-use Rattle.run_model.specs.StoreContexts.{window_context}
-use Rattle.run_model.specs.Sections.{Section}
+use Rattle.run_model.specs.Sections.{section_end, states_behind}
+use Rattle.run_model.specs.StoreNumbers.{store_at}
 use Rattle.run_model.specs.Stores.{lines_on, is_on, is_on_window}
-use Rattle.history_check.specs.FoundSection.{lines_text, Opening, opening_of, section_on, IsGoodOn, closing_of}
+use Rattle.history_check.specs.FoundSection.{lines_text, opening_of, IsGoodOn}
 
 -- ---- the stores
 -- The windows of a run.
 abbrev pub windows_of : AllStores → List BusWindow
 windows_of s = windows_in s.windows
 
--- What a section of a window needs of what was before it, where this memory is granted and there
--- are so many processors. Its lines use nothing that a processor keeps, so these are new ones.
-abbrev pub window_opening : List Grant → ℕ → WindowState → Opening
-window_opening grants cpus v = record {
-  context = window_context grants v.window;
-  states = v.states;
-  processors = replicate cpus new_processor;
-}
-
--- The section that these lines are on the page table.
-abbrev pub table_part : AllStores → List RepliedLine → Section
-table_part s ts = section_on (opening_of s.table) (lines_on (is_on (windows_of s) None) ts)
-
--- The section that they are on a window.
-abbrev pub window_part : AllStores → List RepliedLine → WindowState → Section
-window_part s ts v =
-    section_on
-    (window_opening s.table.grants (length s.table.processors) v)
-    (lines_on (is_on_window v.window) ts)
+-- Of these lines those on the store of this number.
+abbrev pub lines_at : AllStores → ℕ → List RepliedLine → List RepliedLine
+lines_at s number ts = lines_on (is_on (windows_of s) (store_at s number).window) ts
 
 -- The section is good on each store.
-pub record AreGoodOn (s : AllStores) (ts : List RepliedLine) : Type 0 where
-  pub table : IsGoodOn (opening_of s.table) (lines_on (is_on (windows_of s) None) ts)
-  pub windows :
-      AllByRecursion
-      (λ (v : WindowState).
-      IsGoodOn
-      (window_opening s.table.grants (length s.table.processors) v)
-      (lines_on (is_on_window v.window) ts))
-      s.windows
+abbrev pub AreGoodOn : AllStores → List RepliedLine → Type 0
+AreGoodOn s ts =
+    (number : ℕ)
+    → number ≤ length s.windows
+    → IsGoodOn (opening_of (store_at s number)) (lines_at s number ts)
 
--- What the run carries behind the section.
+-- What the run carries behind the section: each store is as behind its lines.
 abbrev pub stores_behind : AllStores → List RepliedLine → AllStores
 stores_behind s ts = record {
-  table = section_end s.table (lines_on (is_on (windows_of s) None) ts);
+  table = section_end s.table (lines_at s 0 ts);
   windows =
       map
-      (λ (v : WindowState). record v { states = closing_of (window_part s ts v) })
+      (λ (v : WindowState).
+      record v {
+        states = states_behind (as_store s.table v) (lines_on (is_on_window v.window) ts);
+      })
       s.windows;
 }
 

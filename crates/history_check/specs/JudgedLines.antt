@@ -6,17 +6,12 @@ use Rattle.tlb_model.specs.Processor.{Processor}
 use Rattle.trace_line.specs.declared.line.TraceLine.{TraceLine}
 use Rattle.trace_reply.specs.declared.reply.Reply.{Reply}
 use Rattle.trace_reply.specs.Replies.{RepliedLine, lines_with_replies}
-use Rattle.run_model.specs.Processors.{processor_at, processor_after, processors_after}
+use Rattle.run_model.specs.Processors.{processor_at, processor_after, processors_after, processors_behind}
 use Rattle.run_model.specs.Histories.{Event, InOrder, lines_of_processor, events_in, events_by}
 use Rattle.reply_text.specs.Text.{reply_text}
 use Rattle.history_check.specs.FoundSection.{lines_text}
 use Rattle.history_check.specs.FrontKeeping.{LeadsTo, AllLeadTo}
 use Rattle.history_check.specs.LineReply.{StandsOn, HasReply}
-
--- The processors behind these lines.
-abbrev pub processors_behind : List Processor → List RepliedLine → List Processor
-processors_behind processors [] = processors
-processors_behind processors (t ∷ ts) = processors_behind (processors_after processors t) ts
 
 -- There is one reply for each line, which stands on as many of the states found as the line's count
 -- says; none is left over.

@@ -1,8 +1,11 @@
 -- The lines of a section by stores, and their parts of a text: the reply to a line that isn't quiet
 -- is one line of text.
-use Rattle.std.specs.Prelude.{ℕ, zero, suc, ◌==◌, Bool, List, [], ◌∷◌, ◌++◌, map, if◌then◌else◌}
+use Rattle.std.specs.Prelude.{◌≡◌, ℕ, zero, suc, ◌<◌, ◌==◌, Bool, List, [], ◌∷◌, ◌++◌, length, slice_index_or, if◌then◌else◌}
+use Rattle.bus_window.specs.Windows.{BusWindow}
 use Rattle.trace_line.specs.declared.act.Act.{Act}
 use Rattle.trace_line.specs.declared.line.TraceLine.{TraceLine}
+use Rattle.run_model.specs.StoreNumbers.{store_of, lines_on_store}
+use Rattle.history_check.specs.declared.parting.Part.{Part}
 
 -- ---- lines of text
 -- What stands up to the first LF, and with it; all where there is none.
@@ -20,20 +23,33 @@ abbrev pub behind_lines : ℕ → List ℕ → List ℕ
 behind_lines zero text = text
 behind_lines (suc n) text = behind_lines n (behind_told text)
 
--- ---- those that are marked
--- The lines that are marked.
-abbrev pub marked_lines : List Bool → List TraceLine → List TraceLine
-marked_lines [] ls = []
-marked_lines (m ∷ ms) [] = []
-marked_lines (m ∷ ms) (l ∷ ls) =
-    if m then l ∷ marked_lines ms ls else marked_lines ms ls
-
--- The lines of text that are marked, one after the other.
-abbrev pub marked_text : List Bool → List ℕ → List ℕ
-marked_text [] text = []
-marked_text (m ∷ ms) text =
-    (if m then first_told text else []) ++ marked_text ms (behind_told text)
-
--- The part of a text that is that of the lines that pass a test.
+-- ---- those of some lines
+-- The part of a text that is that of the lines that pass a test: each line has one line of text.
 abbrev pub part_text : (Act → Bool) → List TraceLine → List ℕ → List ℕ
-part_text f ls text = marked_text (map (λ (l : TraceLine). f l.act) ls) text
+part_text f [] text = []
+part_text f (l ∷ ls) text =
+    (if f l.act then first_told text else []) ++ part_text f ls (behind_told text)
+
+-- The part that is that of the lines on the store of a number.
+abbrev pub part_on_store : List BusWindow → ℕ → List TraceLine → List ℕ → List ℕ
+part_on_store ws number ls text = part_text (λ act. store_of ws act == number) ls text
+
+-- ---- lines dealt to their stores
+-- These are the lines on the store of the number, and their part of the text.
+pub record IsPartOf
+    (ws : List BusWindow)
+    (number : ℕ)
+    (ls : List TraceLine)
+    (text : List ℕ)
+    (part : Part)
+    : Type 0
+  where
+    pub lines : part.lines.items ≡ lines_on_store ws number ls
+    pub told : part.text.items ≡ part_on_store ws number ls text
+
+-- There is one of each number.
+abbrev pub AreParts : List BusWindow → List TraceLine → List ℕ → List Part → Type 0
+AreParts ws ls text parts =
+    (number : ℕ) (d : Part)
+    → number < length parts
+    → IsPartOf ws number ls text (slice_index_or parts number d)

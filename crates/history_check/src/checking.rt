@@ -2,7 +2,7 @@ ghost use Rattle.std.specs.Prelude.{◌≡◌, ◌≤◌, ◌<◌, ◌+◌, ◌-
 ghost use Rattle.trace_line.specs.Lines.{is_quiet};
 ghost use Rattle.reply_text.specs.Text.{reply_text};
 ghost use Rattle.run_model.specs.AllStores.{opening_all};
-ghost use Rattle.history_check.specs.FoundSection.{ArePlain};
+ghost use Rattle.run_model.specs.Quiet.{NoneQuiet};
 ghost use Rattle.history_check.specs.FoundStores.{run_quiet_on};
 ghost use Rattle.history_check.specs.Verdict.{IsVerdict};
 
@@ -19,9 +19,9 @@ fn first_section(lines: &[TraceLine]) -> Option<(&[TraceLine], &TraceLine, &[Tra
     ensures parts { IfSome
         result
         (λ parts. lines.now ≡ parts.0.now ++ parts.1.now ∷ parts.2.now) }
-    ensures plain { IfSome result (λ parts. ArePlain parts.0.now) }
+    ensures plain { IfSome result (λ parts. NoneQuiet parts.0.now) }
     ensures quiet { IfSome result (λ parts. is_quiet parts.1.now.act ≡ true) }
-    ensures none { IfNone result (ArePlain lines.now) }
+    ensures none { IfNone result (NoneQuiet lines.now) }
 {
     for (i, line) in lines.iter().enumerate() {
         if line.act.is_quiet() {

@@ -1,29 +1,27 @@
-ghost use Rattle.std.specs.Prelude.{◌≡◌, ◌≤◌, ◌<◌, ◌+◌, ◌-◌, ◌^◌, ℕ, List, length, drop, map, true, false, IfOk, IfSome, IfNone, OnOk};
-ghost use Rattle.std.specs.List.{list_any};
-ghost use Rattle.bus_window.specs.Windows.{BusWindow};
+ghost use Rattle.std.specs.Prelude.{◌≡◌, ◌≤◌, ◌<◌, ◌+◌, ◌-◌, ◌^◌, ℕ, List, true, length, drop, IfOk, IfSome, IfNone, OnOk};
 ghost use Rattle.partition.specs.PartitionState.{HasStates};
+ghost use Rattle.tlb_model.specs.Processor.{Processor};
 ghost use Rattle.trace_line.specs.Lines.{is_quiet, most_lines};
-ghost use Rattle.trace_line.specs.declared.line.TraceLine.{TraceLine};
 ghost use Rattle.trace_reply.specs.declared.reply.Reply.{Reply};
 ghost use Rattle.trace_reply.specs.Replies.{lines_with_replies};
 ghost use Rattle.run_model.specs.QuietLines.{shown_of};
-ghost use Rattle.run_model.specs.AllStores.{opening_all, windows_in};
-ghost use Rattle.run_model.specs.Stores as run_stores;
-ghost use Rattle.history_check.specs.FoundSection.{ArePlain, AreOnProcessors, HasNoSection, opening_of};
+ghost use Rattle.run_model.specs.AllStores.{opening_all, table_store};
+ghost use Rattle.run_model.specs.StoreNumbers.{store_at};
+ghost use Rattle.run_model.specs.Stores.{window_store};
+ghost use Rattle.run_model.specs.Quiet.{NoneQuiet, AreOnProcessors};
+ghost use Rattle.history_check.specs.FoundSection.{HasNoSection, TellsSection, opening_of};
 ghost use Rattle.history_check.specs.FoundStores.{AreFound, run_quiet_on, stores_behind};
-ghost use Rattle.history_check.specs.JudgedRun.{resize_on, run_state_of};
-ghost use Rattle.history_check.specs.PartedText.{part_text};
-ghost use Rattle.history_check.specs.StoreParts.{HasTablePart, HaveParts, HaveNoParts};
+ghost use Rattle.history_check.specs.JudgedRun.{resize_on};
+ghost use Rattle.history_check.specs.StoreParts.{LeavesStore, FoundOn};
 
 use crate::context::Context;
-use crate::parting::{Part, is_on_window, lines_end, marked_part};
+use crate::parting::{deal_parts, lines_end};
 use crate::section::section_found;
-use crate::window_entries::window_found;
 use entry_model::HReply;
 use frame_grants::Grants;
 use papr_codes::{Hcall, Rc};
 use partition::Partition;
-use run_model::{WindowEntries, open_windows};
+use run_model::{WINDOW_ORDER, WindowEntries, open_windows};
 use std::alloc::{AllocError, Global};
 use std::marker::Model;
 use trace_line::{Act, TraceLine};
@@ -41,74 +39,15 @@ pub struct JudgedRun {
 
 impl Model for JudgedRun {
     ghost use Rattle.partition.specs.PartitionState.{HasStates};
-    ghost use Rattle.run_model.specs.AllStores.{AllStores};
+    ghost use Rattle.run_model.specs.AllStores.{AllStores, machine_stores, windows_in};
     ghost use Rattle.trace_read.specs.Configuration.{NumbersDiffer};
-    ghost use Rattle.history_check.specs.JudgedRun.{stores_of};
-    ghost use Rattle.run_model.specs.AllStores.{windows_in};
 
     ghost Value = { AllStores };
 
-    ghost view = { λ r. stores_of r.partition r.processors.items r.windows.items };
+    ghost view = { λ r. machine_stores r.partition.granted.grants r.partition.memory r.processors.items r.windows.items };
 
     ghost invariant = { λ r.
         HasStates r.partition × NumbersDiffer (windows_in r.windows.items) };
-}
-
-/// Whether a line names one of the windows.
-fn is_on_any(windows: &[WindowEntries], act: &Act) -> bool
-    ensures { result
-        ≡ list_any (λ (w : BusWindow). run_stores.is_on_window w act.now) (windows_in windows.now) }
-{
-    for entries in windows {
-        if is_on_window(&entries.window, act) {
-            return true;
-        }
-    }
-    false
-}
-
-/// Which of the lines name none of the windows.
-fn marks_of_table(
-    alloc: Global,
-    windows: &[WindowEntries],
-    lines: &[TraceLine],
-) -> Result<Vec<bool>, AllocError>
-    ensures { IfOk
-        result
-        (λ marks.
-        marks.items
-        ≡ map
-        (λ (l : TraceLine). run_stores.is_on (windows_in windows.now) None l.act)
-        lines.now) }
-{
-    let mut marks = Vec::with_capacity(alloc, lines.len())?;
-    for line in lines {
-        marks.push(!is_on_any(windows, &line.act))?;
-    }
-    Ok(marks)
-}
-
-/// The lines that name none of the windows, and their part of the text.
-fn table_part(
-    alloc: Global,
-    windows: &[WindowEntries],
-    lines: &[TraceLine],
-    text: &[u8],
-) -> Result<Part, AllocError>
-    ensures lines { IfOk
-        result
-        (λ part.
-        part.lines.items
-        ≡ run_stores.trace_lines_on (run_stores.is_on (windows_in windows.now) None) lines.now) }
-    ensures text { IfOk
-        result
-        (λ part.
-        part.text.items
-        ≡ part_text (run_stores.is_on (windows_in windows.now) None) lines.now text.now) }
-{
-    let marks = marks_of_table(alloc, windows, lines)?;
-    let part = marked_part(alloc, lines, text, marks.as_slice())?;
-    Ok(part)
 }
 
 /// Finds a section of the page table: how many bytes stand first that are the text of good replies
@@ -121,7 +60,7 @@ fn table_found(
     text: &[u8],
 ) -> Result<Option<usize>, AllocError>
     requires has_states { HasStates partition.old }
-    requires plain { ArePlain lines.now }
+    requires plain { NoneQuiet lines.now }
     requires cpus { AreOnProcessors (length processors.old.items) lines.now }
     requires few { length lines.now ≤ most_lines }
     ensures within { IfOk result (λ found. IfSome found (λ count. count ≤ length text.now)) }
@@ -131,9 +70,9 @@ fn table_found(
         IfSome
         found
         (λ count.
-        HasTablePart
-        (run_state_of partition.old processors.old.items)
-        (run_state_of partition.new processors.new.items)
+        LeavesStore
+        (table_store partition.old.granted.grants partition.old.memory processors.old.items)
+        (table_store partition.new.granted.grants partition.new.memory processors.new.items)
         lines.now
         text.now
         count)) }
@@ -143,7 +82,7 @@ fn table_found(
         IfNone
         found
         (HasNoSection
-        (opening_of (run_state_of partition.old processors.old.items))
+        (opening_of (table_store partition.old.granted.grants partition.old.memory processors.old.items))
         lines.now
         text.now)) }
     ensures has_states { HasStates partition.new }
@@ -160,43 +99,46 @@ fn table_found(
     found
 }
 
-/// Finds the section of each window: whether the part of the text that is its lines' begins with
-/// good replies to them. Where one has no such replies, nothing is told of the windows.
-fn windows_found(
+/// Finds a section of a window, as of the page table; so many new processors run it.
+fn window_found(
     alloc: Global,
     grants: &Grants,
     cpus: usize,
-    windows: &mut Vec<WindowEntries>,
+    entries: &mut WindowEntries,
     lines: &[TraceLine],
     text: &[u8],
-) -> Result<bool, AllocError>
-    requires plain { ArePlain lines.now }
+) -> Result<Option<usize>, AllocError>
+    requires plain { NoneQuiet lines.now }
     requires cpus { AreOnProcessors cpus lines.now }
     requires few { length lines.now ≤ most_lines }
-    ensures some { IfOk
+    ensures told { IfOk
         result
         (λ found.
-        found ≡ true
-        → HaveParts
-        grants.now.grants
-        cpus
+        (later : List Processor)
+        × TellsSection
+        (opening_of
+        (window_store grants.now.grants cpus entries.old.states entries.old.window))
         lines.now
         text.now
-        windows.old.items
-        windows.new.items) }
-    ensures none { IfOk
-        result
-        (λ found.
-        found ≡ false
-        → HaveNoParts grants.now.grants cpus lines.now text.now windows.old.items) }
-    ensures windows { windows_in windows.new.items ≡ windows_in windows.old.items }
+        found
+        entries.new.states
+        later) }
+    ensures window { entries.new.window ≡ entries.old.window }
 {
-    for i in 0..windows.len() {
-        if !window_found(alloc, grants, cpus, &mut windows[i], lines, text)? {
-            return Ok(false);
-        }
-    }
-    Ok(true)
+    let mut processors = empty_cpus(alloc, cpus)?;
+    let context = Context {
+        order: WINDOW_ORDER,
+        grants,
+        window: Some(entries.window),
+    };
+    section_found(
+        alloc,
+        &context,
+        &mut entries.states,
+        &mut processors,
+        lines,
+        text,
+    )
 }
 
 impl JudgedRun {
@@ -223,7 +165,7 @@ impl JudgedRun {
         lines: &[TraceLine],
         text: &[u8],
     ) -> Result<Option<usize>, AllocError>
-        requires plain { ArePlain lines.now }
+        requires plain { NoneQuiet lines.now }
         requires cpus { AreOnProcessors (length self.old.table.processors) lines.now }
         requires few { length lines.now ≤ most_lines }
         ensures within { IfOk result (λ found. IfSome found (λ count. count ≤ length text.now)) }
@@ -246,6 +188,50 @@ impl JudgedRun {
             → ⊥)) }
     {
         if self.windows.is_empty() {
+            return self.found_on(alloc, 0, lines, text);
+        }
+        let parts = deal_parts(alloc, self.windows.as_slice(), lines, text)?;
+        for number in 0..parts.len() {
+            let part = &parts[number];
+            let own = part.lines.as_slice();
+            let found = self.found_on(alloc, number, own, part.text.as_slice())?;
+            if found.is_none() {
+                return Ok(None);
+            }
+        }
+        Ok(Some(lines_end(text, lines.len())))
+    }
+
+    // Finds a section of the store of this number: how many bytes stand first that are the text of
+    // good replies to these lines. `None` where there are no such replies; then nothing is told of
+    // the run.
+    fn found_on(
+        &mut self,
+        alloc: Global,
+        number: usize,
+        lines: &[TraceLine],
+        text: &[u8],
+    ) -> Result<Option<usize>, AllocError>
+        requires inside { number ≤ length self.old.windows }
+        requires plain { NoneQuiet lines.now }
+        requires cpus { AreOnProcessors (length self.old.table.processors) lines.now }
+        requires few { length lines.now ≤ most_lines }
+        ensures within { IfOk result (λ found. IfSome found (λ count. count ≤ length text.now)) }
+        ensures some { IfOk
+            result
+            (λ found.
+            IfSome found
+            (λ count. FoundOn self.old number lines.now text.now count self.new)) }
+        ensures none { IfOk
+            result
+            (λ found.
+            IfNone found
+            (HasNoSection (opening_of (store_at self.old number)) lines.now text.now)) }
+    {
+        if lines.is_empty() {
+            return Ok(Some(0));
+        }
+        if number == 0 {
             let found = table_found(
                 alloc,
                 &mut self.partition,
@@ -257,21 +243,9 @@ impl JudgedRun {
         }
         let grants = self.partition.grants();
         let cpus = self.processors.len();
-        if !windows_found(alloc, grants, cpus, &mut self.windows, lines, text)? {
-            return Ok(None);
-        }
-        let part = table_part(alloc, self.windows.as_slice(), lines, text)?;
-        let found = table_found(
-            alloc,
-            &mut self.partition,
-            &mut self.processors,
-            part.lines.as_slice(),
-            part.text.as_slice(),
-        )?;
-        match found {
-            None => Ok(None),
-            Some(_) => Ok(Some(lines_end(text, lines.len()))),
-        }
+        let entries = &mut self.windows[number - 1];
+        let found = window_found(alloc, grants, cpus, entries, lines, text)?;
+        Ok(found)
     }
 
     /// The reply to a quiet line, as the run gives it.
@@ -300,14 +274,7 @@ impl JudgedRun {
     fn shown(&self, alloc: Global) -> Result<Shown, AllocError>
         ensures { IfOk result (λ shown. shown ≡ shown_of self.now.table.memory) }
     {
-        let order = self.partition.order();
-        Shown::of_table(
-            alloc,
-            self.partition.table(),
-            order,
-            self.partition.place(),
-            self.partition.states(),
-        )
+        self.partition.shown(alloc)
     }
 
     // One of the two resize calls. A committed resize clears each processor's cache.

@@ -1,7 +1,7 @@
 ghost use Rattle.std.specs.Prelude.{◌≡◌, ◌<◌, length, ℕ, false, IfOk};
 ghost use Rattle.entry_model.specs.Fronts.{front_at};
 ghost use Rattle.trace_line.specs.Lines.{is_quiet};
-ghost use Rattle.history_check.specs.FoundSection.{ArePlain, AreOnProcessors};
+ghost use Rattle.run_model.specs.Quiet.{NoneQuiet, AreOnProcessors};
 ghost use Rattle.history_check.specs.FrontKeeping.{fronts_of};
 ghost use Rattle.history_check.specs.JudgedLines.{judged, TellsLine, TellsLines};
 
@@ -92,7 +92,7 @@ fn judge_each(
     found: &[EntryState],
     given: &[u8],
 ) -> Result<Option<usize>, AllocError>
-    requires plain { ArePlain lines.now }
+    requires plain { NoneQuiet lines.now }
     requires cpus { AreOnProcessors (length processors.old.items) lines.now }
     requires size { length counts.now ≡ length lines.now }
     requires fronts { length fronts.old.items ≡ length processors.old.items }
@@ -151,7 +151,7 @@ pub fn judge_lines(
     found: &[EntryState],
     given: &[u8],
 ) -> Result<Option<usize>, AllocError>
-    requires plain { ArePlain lines.now }
+    requires plain { NoneQuiet lines.now }
     requires cpus { AreOnProcessors (length processors.old.items) lines.now }
     requires size { length counts.now ≡ length lines.now }
     ensures told { IfOk

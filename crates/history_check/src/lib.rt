@@ -23,7 +23,6 @@ mod replay;
 mod section;
 mod steps;
 mod verdict;
-mod window_entries;
 
 pub use checking::check_replies;
 pub use laws::{at_most_one, earlier_sections_stand, good_runs_are_good, one_verdict};

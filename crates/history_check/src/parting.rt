@@ -1,13 +1,13 @@
-ghost use Rattle.std.specs.Prelude.{◌≡◌, ◌≤◌, ◌++◌, ◌∷◌, [], length, drop, map, if◌then◌else◌, IfOk, OnOk};
-ghost use Rattle.std.specs.List.{list_any};
-ghost use Rattle.trace_line.specs.declared.line.TraceLine.{TraceLine};
-ghost use Rattle.run_model.specs.Stores as run_stores;
-ghost use Rattle.history_check.specs.PartedText.{first_told, behind_told, behind_lines, marked_lines, marked_text};
+ghost use Rattle.std.specs.Prelude.{◌≡◌, ◌≤◌, ◌+◌, ◌++◌, ◌∷◌, [], length, drop, IfOk, OnOk};
+ghost use Rattle.std.specs.List.{AllByRecursion};
+ghost use Rattle.run_model.specs.AllStores.{windows_in};
+ghost use Rattle.history_check.specs.declared.parting.Part.{Part as PartOf};
+ghost use Rattle.history_check.specs.PartedText.{first_told, behind_told, behind_lines, AreParts};
 
 use crate::reading::first_line;
-use bus_window::Window;
+use run_model::{WindowEntries, store_of};
 use std::alloc::{AllocError, Global};
-use trace_line::{Act, TraceLine};
+use trace_line::TraceLine;
 
 /// Lines of a section, and their part of a text.
 #[derive(Drop)]
@@ -43,90 +43,54 @@ pub fn lines_end(text: &[u8], count: usize) -> usize
     text.len() - rest.len()
 }
 
-/// Whether a line names the window.
-pub fn is_on_window(window: &Window, act: &Act) -> bool
-    ensures { result ≡ run_stores.is_on_window window.now act.now }
+/// Puts a line and its text behind those of a part.
+fn put_line(part: &mut Part, line: &TraceLine, told: &[u8]) -> Result<(), AllocError>
+    ensures lines { OnOk result (part.new.lines.items ≡ part.old.lines.items ++ line.now ∷ []) }
+    ensures text { OnOk result (part.new.text.items ≡ part.old.text.items ++ told.now) }
 {
-    match act.bus() {
-        None => false,
-        Some(number) => window.has_number(number),
-    }
-}
-
-/// Whether one of the lines names the window.
-pub fn is_named(window: &Window, lines: &[TraceLine]) -> bool
-    ensures { result
-        ≡ list_any (λ (l : TraceLine). run_stores.is_on_window window.now l.act) lines.now }
-{
-    for line in lines {
-        if is_on_window(window, &line.act) {
-            return true;
-        }
-    }
-    false
-}
-
-/// Which of the lines name the window.
-pub fn marks_of_window(
-    alloc: Global,
-    window: &Window,
-    lines: &[TraceLine],
-) -> Result<Vec<bool>, AllocError>
-    ensures { IfOk
-        result
-        (λ marks.
-        marks.items
-        ≡ map (λ (l : TraceLine). run_stores.is_on_window window.now l.act) lines.now) }
-{
-    let mut marks = Vec::with_capacity(alloc, lines.len())?;
-    for line in lines {
-        marks.push(is_on_window(window, &line.act))?;
-    }
-    Ok(marks)
-}
-
-/// Puts a line and its text behind those of a part, if the line is marked.
-fn put_marked(
-    part: &mut Part,
-    line: &TraceLine,
-    told: &[u8],
-    marked: bool,
-) -> Result<(), AllocError>
-    ensures lines { OnOk
-        result
-        (part.new.lines.items ≡ part.old.lines.items ++ (if marked then line.now ∷ [] else [])) }
-    ensures text { OnOk
-        result
-        (part.new.text.items ≡ part.old.text.items ++ (if marked then told.now else [])) }
-{
-    if marked {
-        part.lines.push(*line)?;
-        part.text.extend_from_slice(told)?;
-    }
+    part.lines.push(*line)?;
+    part.text.extend_from_slice(told)?;
     Ok(())
 }
 
-/// The lines that are marked, and the lines of a text that are marked: the marks are those of its
-/// first lines.
-pub fn marked_part(
+/// So many parts of no lines.
+fn empty_parts(alloc: Global, count: usize) -> Result<Vec<Part>, AllocError>
+    ensures size { IfOk result (λ parts. length parts.items ≡ count) }
+    ensures empty { IfOk result
+        (λ parts.
+        AllByRecursion
+        (λ (part : PartOf). (part.lines.items ≡ []) × (part.text.items ≡ []))
+        parts.items) }
+{
+    let mut parts = Vec::with_capacity(alloc, count)?;
+    for _ in 0..count {
+        parts.push(Part {
+            lines: Vec::new(alloc),
+            text: Vec::new(alloc),
+        })?;
+    }
+    Ok(parts)
+}
+
+/// For each store its lines, and their part of the text: the reply to a line that isn't quiet is
+/// one line of text.
+pub fn deal_parts(
     alloc: Global,
+    windows: &[WindowEntries],
     lines: &[TraceLine],
     text: &[u8],
-    marks: &[bool],
-) -> Result<Part, AllocError>
-    requires { length marks.now ≡ length lines.now }
-    ensures lines { IfOk result (λ part. part.lines.items ≡ marked_lines marks.now lines.now) }
-    ensures text { IfOk result (λ part. part.text.items ≡ marked_text marks.now text.now) }
+) -> Result<Vec<Part>, AllocError>
+    ensures size { IfOk result (λ parts. length parts.items ≡ 1 + length windows.now) }
+    ensures parts { IfOk result
+        (λ parts. AreParts (windows_in windows.now) lines.now text.now parts.items) }
 {
-    let mut part = Part {
-        lines: Vec::new(alloc),
-        text: Vec::new(alloc),
-    };
+    let mut parts = empty_parts(alloc, windows.len() + 1)?;
     let mut rest = text;
-    for i in 0..marks.len() {
+    for line in lines {
         let (told, others) = cut_line(rest);
-        put_marked(&mut part, &lines[i], told, marks[i])?;
+        let number = store_of(windows, &line.act);
+        put_line(&mut parts[number], line, told)?;
         rest = others;
     }
-    Ok(part)
+    Ok(parts)
 }

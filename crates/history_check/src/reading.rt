@@ -2,7 +2,7 @@ ghost use Rattle.std.specs.Prelude.{◌≡◌, ◌<◌, ◌≤◌, ◌++◌, ◌
 ghost use Rattle.std.specs.List.{AllByRecursion};
 ghost use Rattle.receipt_text.specs.Cuts.{lacks};
 ghost use Rattle.receipt_text.specs.declared.mark.Mark.{Mark};
-ghost use Rattle.history_check.specs.FoundSection.{ArePlain};
+ghost use Rattle.run_model.specs.Quiet.{NoneQuiet};
 ghost use Rattle.history_check.specs.SectionMarks.{NoMarks, ReadMarks};
 ghost use Rattle.trace_line.specs.Lines.{most_lines};
 
@@ -56,7 +56,7 @@ pub fn read_section(
     lines: &[TraceLine],
     text: &[u8],
 ) -> Result<Option<SectionSteps>, AllocError>
-    requires plain { ArePlain lines.now }
+    requires plain { NoneQuiet lines.now }
     requires few { length lines.now ≤ most_lines }
     ensures some { IfOk
         result

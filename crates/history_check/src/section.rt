@@ -2,7 +2,8 @@ ghost use Rattle.std.specs.Prelude.{◌≡◌, ◌≤◌, ◌<◌, ◌^◌, leng
 ghost use Rattle.std.specs.List.{AllByRecursion};
 ghost use Rattle.entry_model.specs.State.{State};
 ghost use Rattle.entry_model.specs.Fronts.{opening_fronts};
-ghost use Rattle.history_check.specs.FoundSection.{ArePlain, AreOnProcessors, TellsSection};
+ghost use Rattle.run_model.specs.Quiet.{NoneQuiet, AreOnProcessors};
+ghost use Rattle.history_check.specs.FoundSection.{TellsSection};
 ghost use Rattle.history_check.specs.SectionMarks.{ReadMarks};
 ghost use Rattle.hpte_fields.specs.TableSize.{entry_count, greatest_order};
 ghost use Rattle.trace_line.specs.Lines.{most_lines};
@@ -47,7 +48,7 @@ fn section_by_steps(
     counts: &[usize],
     text: &[u8],
 ) -> Result<Option<usize>, AllocError>
-    requires plain { ArePlain lines.now }
+    requires plain { NoneQuiet lines.now }
     requires cpus { AreOnProcessors (length processors.old.items) lines.now }
     requires few { length states.old.items ≤ entry_count greatest_order }
     requires low { AllByRecursion (λ (s : State). s.stamp < 2 ^ 32) states.old.items }
@@ -103,7 +104,7 @@ pub fn section_found(
     lines: &[TraceLine],
     text: &[u8],
 ) -> Result<Option<usize>, AllocError>
-    requires plain { ArePlain lines.now }
+    requires plain { NoneQuiet lines.now }
     requires cpus { AreOnProcessors (length processors.old.items) lines.now }
     requires few { length states.old.items ≤ entry_count greatest_order }
     requires few_lines { length lines.now ≤ most_lines }

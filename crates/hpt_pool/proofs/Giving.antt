@@ -8,7 +8,7 @@ use Rattle.hpt_pool.specs.declared.tree.Node.TheVariants.{Taken, Open}
 use Rattle.hpt_pool.specs.Pool.{Block, block_at, taken_without}
 use Rattle.hpt_pool.specs.Tree.{root_of, left_of, right_of, block_or, blocks_below, hidden_blocks, largest_of, free_below, IsTruthful, IsTree}
 use Rattle.hpt_pool.proofs.Halves.{LiesIn, without_left, without_right, without_alone, contained_left, contained_right}
-use Rattle.hpt_pool.proofs.Rooms.{both_whole, double_order}
+use Rattle.hpt_pool.proofs.TreeHalves.{both_whole, double_order}
 use Rattle.hpt_pool.proofs.Truth.{free_whole, halves, within}
 use Rattle.hpt_pool.proofs.Parts.{parts_truthful, parts_blocks, blocks_hidden, open_blocks, some_nodes, root_truthful, root_blocks}
 use Rattle.hpt_pool.proofs.Mending.{MadeOf}

@@ -10,7 +10,7 @@ use Rattle.hpt_pool.specs.Tree.{blocks_below, IsTree}
 use Rattle.hpt_pool.specs.Way.{IsHalf, IsWay, AreMended}
 use Rattle.hpt_pool.proofs.Powers.{pow_most}
 use Rattle.hpt_pool.proofs.Halves.{LiesIn}
-use Rattle.hpt_pool.proofs.Rooms.{double_order}
+use Rattle.hpt_pool.proofs.TreeHalves.{double_order}
 use Rattle.hpt_pool.proofs.Truth.{within}
 use Rattle.hpt_pool.proofs.Parts.{half_trees}
 use Rattle.hpt_pool.proofs.Subtrees.{tree_at, end_at, sizes, tree_whole, left-tree, right-tree, ChangesWithin, changes_wider, changes_one, tree_root_set, made_left, made_right}

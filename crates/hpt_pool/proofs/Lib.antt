@@ -2,6 +2,7 @@ mod Lists
 pub mod Powers
 mod Shape
 mod Halves
+mod TreeHalves
 mod Rooms
 mod Truth
 mod Parts

@@ -8,7 +8,7 @@ use Rattle.hpt_pool.specs.declared.tree.Node.{Node}
 use Rattle.hpt_pool.specs.declared.tree.Node.TheVariants.{Taken, Open}
 use Rattle.hpt_pool.specs.Tree.{root_of, left_of, right_of, largest_of}
 use Rattle.hpt_pool.specs.Way.{node_at, JoinsAt}
-use Rattle.hpt_pool.proofs.Rooms.{joins_same}
+use Rattle.hpt_pool.proofs.TreeHalves.{joins_same}
 use Rattle.hpt_pool.proofs.Shape.{twice, right_drop}
 use Rattle.hpt_pool.proofs.Mending.{MadeOf}
 

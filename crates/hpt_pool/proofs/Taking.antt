@@ -12,7 +12,7 @@ use Rattle.hpt_pool.specs.Free.{is_met, IsFirstFree}
 use Rattle.hpt_pool.proofs.Halves.{LiesIn, lies_wider, met_left, met_right, unmet, unmet_above, unmet_below, with_left, with_right, with_alone}
 use Rattle.hpt_pool.proofs.Mending.{MadeOf}
 use Rattle.hpt_pool.proofs.Parts.{parts_truthful, parts_blocks, open_blocks, root_open, some_nodes, root_truthful, root_blocks}
-use Rattle.hpt_pool.proofs.Rooms.{steps_double, step_ends, step_right, other_half}
+use Rattle.hpt_pool.proofs.TreeHalves.{steps_double, step_ends, step_right, other_half}
 use Rattle.hpt_pool.proofs.Truth.{most, largest_free, free_is_largest, free_whole, halves, within, met}
 
 -- ---- the first free place

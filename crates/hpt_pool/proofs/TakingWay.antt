@@ -4,7 +4,7 @@ use Rattle.hpt_pool.specs.declared.tree.Node.{Node}
 use Rattle.hpt_pool.specs.declared.tree.Node.TheVariants.{Taken, Open}
 use Rattle.hpt_pool.specs.Tree.{root_of, left_of, largest_of, IsTree}
 use Rattle.hpt_pool.specs.Way.{node_at, IsWay, AreMended}
-use Rattle.hpt_pool.proofs.Rooms.{double_order}
+use Rattle.hpt_pool.proofs.TreeHalves.{double_order}
 use Rattle.hpt_pool.proofs.Truth.{most}
 use Rattle.hpt_pool.proofs.Parts.{half_trees}
 use Rattle.hpt_pool.proofs.Subtrees.{tree_at, end_at, sizes, tree_whole, root-tree, left-tree, right-tree, ChangesWithin, changes_wider, changes_one, tree_root_set, made_left, made_right}

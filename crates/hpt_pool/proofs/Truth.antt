@@ -8,7 +8,8 @@ use Rattle.hpt_pool.specs.declared.tree.Node.TheVariants.{Taken, Open}
 use Rattle.hpt_pool.specs.Pool.{block_at}
 use Rattle.hpt_pool.specs.Tree.{root_of, left_of, right_of, block_or, blocks_below, hidden_blocks, largest_of, free_below, JoinsHalves, IsTruthful}
 use Rattle.hpt_pool.specs.Free.{MeetsAll, IsLargestFree}
-use Rattle.hpt_pool.proofs.Rooms.{double_order, step_ends, inside_met, room_none, none_largest, AreHalves, joined_largest, largest_joins}
+use Rattle.hpt_pool.proofs.TreeHalves.{double_order, step_ends}
+use Rattle.hpt_pool.proofs.Rooms.{inside_met, room_none, none_largest, AreHalves, joined_largest, largest_joins}
 use Rattle.hpt_pool.proofs.Halves.{LiesIn, lies_wider}
 
 -- ---- one node

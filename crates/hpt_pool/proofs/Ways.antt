@@ -8,7 +8,7 @@ use Rattle.hpt_pool.specs.declared.tree.Node.TheVariants.{Open}
 use Rattle.hpt_pool.specs.Tree.{largest_of, JoinsHalves}
 use Rattle.hpt_pool.specs.Way.{node_at, IsHalf, IsWay, JoinsAt, AreMended}
 use Rattle.hpt_pool.proofs.Powers.{pow_most}
-use Rattle.hpt_pool.proofs.Rooms.{joins_same}
+use Rattle.hpt_pool.proofs.TreeHalves.{joins_same}
 use Rattle.hpt_pool.proofs.Subtrees.{end_at, HasSizes, sizes}
 
 -- ---- where the way leads

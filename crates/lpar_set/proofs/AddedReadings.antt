@@ -1,17 +1,13 @@
 -- The readings of a set behind a line of one partition: that partition's is told anew, and the
 -- others stay.
 use Rattle.std.specs.Prelude.{unwrap_or}
-use Rattle.std.proofs.Common.{◌≡◌, ◌≢◌, ◌∙◌, ℕ, ◌<◌, List, length, get_or, Option, Some, None, ap, sym, subst}
+use Rattle.std.proofs.Common.{◌≡◌, ◌≢◌, ◌∙◌, ℕ, ◌<◌, List, length, get_or, Option, Some, None, ap}
 use Rattle.std.proofs.lemmas.List.{get_or-set_same, get_or-set_other}
 use Rattle.trace_read.specs.declared.given.Given.{Given}
 use Rattle.trace_read.specs.Grammar.{Reading, reading_beside}
 use Rattle.lpar_set.specs.SetGrammar.{SetReading, reading_of}
-use Rattle.lpar_set.specs.SetReadings.{IsSetReading, reading_at}
+use Rattle.lpar_set.specs.SetReadings.{reading_at}
 use Rattle.lpar_set.proofs.LinesTaken.{IsAdded, counted}
-
-pub inside_eight :
-    (r : SetReading) (number : ℕ) → IsSetReading r → number < 8 → number < length r.readings
-inside_eight r number is below = subst (λ n. number < n) (sym is.eight) below
 
 pub own_at :
     (r s : SetReading) (number : ℕ) (new : Reading) (given : Given)

@@ -4,7 +4,6 @@ use Rattle.std.specs.Prelude.{◌<◌, length, option_map, MatchOption, Bool}
 use Rattle.std.specs.List.{AllByRecursion}
 use Rattle.std.proofs.Math.Path.{transport, transport⁻¹}
 use Rattle.std.proofs.lemmas.Bool.{cases_Bool}
-use Rattle.bus_window.specs.Windows.{BusWindow}
 use Rattle.frame_grants.specs.Grants.{GrantedMemory}
 use Rattle.entry_model.specs.Run.{state_at}
 use Rattle.papr_codes.specs.declared.calls.Hcall.{Hcall}
@@ -24,7 +23,6 @@ use Rattle.run_model.specs.CommittedResizes.{commits_call, commits_by, is_commit
 use Rattle.run_model.specs.Landings.{AccessesLand, IsUnworn}
 use Rattle.run_model.specs.DeviceLandings.{DeviceLands}
 use Rattle.run_model.specs.Assurances.{Assures}
-use Rattle.run_model.proofs.Each.{each_filter}
 use Rattle.run_model.proofs.StoreLines.{kinds_each}
 use Rattle.lpar_set.specs.SetLaws.{without_place}
 use Rattle.papr_codes.specs.declared.calls.Hcall.TheVariants as calls

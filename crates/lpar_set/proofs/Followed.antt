@@ -1,7 +1,7 @@
 -- The lines of a set, followed: what its reading has is what the lines before say by themselves.
 use Rattle.std.specs.Prelude.{is_some, unwrap_or}
 use Rattle.std.specs.List.{list_all, list_any}
-use Rattle.std.proofs.Common.{◌≡◌, ◌≢◌, ◌∙◌, ℕ, ◌+◌, ◌^◌, ◌<◌, Bool, true, false, List, [], ◌∷◌, ◌++◌, length, Option, Some, None, Ok, refl, sym, ap, subst, if◌then◌else◌, ltb, ◌&&◌, ◌||◌, inl, inr, ◌⊎◌, arith}
+use Rattle.std.proofs.Common.{◌≡◌, ◌≢◌, ◌∙◌, ℕ, ◌+◌, ◌<◌, Bool, true, false, List, [], ◌∷◌, ◌++◌, length, Option, Some, None, Ok, refl, sym, ap, subst, if◌then◌else◌, ltb, ◌&&◌, ◌||◌, inl, inr, ◌⊎◌, arith}
 use Rattle.std.proofs.lemmas.Bool.{cases_eq, eq-eqb, ne_eqb, false≢true}
 use Rattle.std.proofs.lemmas.List.{append_assoc, append-nil, length_push, map-append}
 use Rattle.std.proofs.lemmas.List.Elements.{filter_map-append}
@@ -15,14 +15,14 @@ use Rattle.lpar_set.specs.PartitionLines.{words_in, is_remark_line, is_shared, f
 use Rattle.lpar_set.specs.SetGrammar.{SetReading, after_set_line, opening_set_reading, reading_of, set_beside}
 use Rattle.lpar_set.specs.SetReadings.{IsSetReading, reading_at}
 use Rattle.lpar_set.proofs.EmptySet.{none_there, opening_set_reading_is}
-use Rattle.lpar_set.proofs.AddedReadings.{inside_eight, own_at, other_at, own_there, other_there, same_start}
+use Rattle.lpar_set.proofs.AddedReadings.{own_at, other_at, own_there, other_there, same_start}
 use Rattle.lpar_set.proofs.LinesTaken.{Takes, takes_remark, takes_shared, takes_member, IsMemberLine, begun_if, begin_given, counted, gives_begin, member_added, run_given, set_line_taken, shared_so}
 use Rattle.lpar_set.proofs.OwnLines.{own_moves, is_run as gives_run}
 use Rattle.lpar_set.proofs.OwnReadings.{one_taken}
 use Rattle.lpar_set.proofs.OwnText.{own_line_read, remark_read}
 use Rattle.lpar_set.proofs.PlainLines.{none_begins, none_of_it, none_runs, remark_numberless, remarks_begin_none, remarks_name_none, remarks_read, remarks_run_none, shared_numberless, stays_remark}
 use Rattle.lpar_set.proofs.SetLinesKept.{set_line_keeps}
-use Rattle.lpar_set.proofs.SetReadingsKept.{retaken}
+use Rattle.lpar_set.proofs.SetReadingsKept.{retaken, inside_eight}
 use Rattle.lpar_set.proofs.TurnOrder.{AreOrdered, counted_ordered, member_ordered, none_ordered}
 use Rattle.trace_line.specs.Lines.{most_lines}
 

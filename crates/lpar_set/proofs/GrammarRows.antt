@@ -11,7 +11,7 @@ use Rattle.trace_line.specs.declared.act.Act.TheVariants.{Call, Access}
 use Rattle.trace_line.specs.declared.line.TraceLine.{TraceLine}
 use Rattle.trace_line.specs.Lines.{is_quiet}
 use Rattle.trace_read.specs.declared.why.Why.TheVariants as whys
-use Rattle.trace_read.specs.Acts.{number_at, arguments_from, mode_at, act_by, run_act, dump_act}
+use Rattle.trace_read.specs.Acts.{number_at, arguments_from, mode_at, act_by, read_act, dump_act}
 use Rattle.trace_read.specs.Counts.{may_add}
 use Rattle.trace_read.specs.Forms.{call_named, other_verb, verb_of, form_named, run_form, form_of}
 use Rattle.trace_read.specs.Grammar.{after_act, after_form, after_words, after_text}
@@ -62,7 +62,7 @@ unfolding set_of after_set_lines after_set_line after_set_words after_allowed af
     with_shared after_member after_own with_given after_text after_words after_form form_of
     form_named run_form verb_of call_named other_verb number_within with_order pool_named
     grant_named with_granted with_begin number_at number_of range_refusal add_refusal grant_refusals
-    with_grant run_act dump_act act_by arguments_from mode_at after_act may_add is_quiet hcall_of
+    with_grant read_act dump_act act_by arguments_from mode_at after_act may_add is_quiet hcall_of
     row_of lowest_place multiples taken_with read_partition run_line
 two = refl
 
@@ -77,7 +77,7 @@ unfolding set_of after_set_lines after_set_line after_set_words after_allowed af
     with_shared after_member after_own with_given after_text after_words after_form form_of
     form_named run_form verb_of call_named other_verb number_within with_order pool_named
     grant_named with_granted with_begin number_at number_of range_refusal add_refusal grant_refusals
-    with_grant run_act dump_act act_by arguments_from mode_at after_act may_add is_quiet hcall_of
+    with_grant read_act dump_act act_by arguments_from mode_at after_act may_add is_quiet hcall_of
     row_of lowest_place multiples taken_with
 refused_stranger = refl
 
@@ -91,7 +91,7 @@ unfolding set_of after_set_lines after_set_line after_set_words after_allowed af
     with_shared after_member after_own with_given after_text after_words after_form form_of
     form_named run_form verb_of call_named other_verb number_within with_order pool_named
     grant_named with_granted with_begin number_at number_of range_refusal add_refusal grant_refusals
-    with_grant run_act dump_act act_by arguments_from mode_at after_act may_add is_quiet hcall_of
+    with_grant read_act dump_act act_by arguments_from mode_at after_act may_add is_quiet hcall_of
     row_of lowest_place multiples taken_with
 refused_number = refl
 
@@ -101,7 +101,7 @@ unfolding set_of after_set_lines after_set_line after_set_words after_allowed af
     with_shared after_member after_own with_given after_text after_words after_form form_of
     form_named run_form verb_of call_named other_verb number_within with_order pool_named
     grant_named with_granted with_begin number_at number_of range_refusal add_refusal grant_refusals
-    with_grant run_act dump_act act_by arguments_from mode_at after_act may_add is_quiet hcall_of
+    with_grant read_act dump_act act_by arguments_from mode_at after_act may_add is_quiet hcall_of
     row_of lowest_place multiples taken_with
 refused_word = refl
 
@@ -111,7 +111,7 @@ unfolding set_of after_set_lines after_set_line after_set_words after_allowed af
     with_shared after_member after_own with_given after_text after_words after_form form_of
     form_named run_form verb_of call_named other_verb number_within with_order pool_named
     grant_named with_granted with_begin number_at number_of range_refusal add_refusal grant_refusals
-    with_grant run_act dump_act act_by arguments_from mode_at after_act may_add is_quiet hcall_of
+    with_grant read_act dump_act act_by arguments_from mode_at after_act may_add is_quiet hcall_of
     row_of lowest_place multiples taken_with
 refused_shared_pool = refl
 
@@ -120,7 +120,7 @@ unfolding set_of after_set_lines after_set_line after_set_words after_allowed af
     with_shared after_member after_own with_given after_text after_words after_form form_of
     form_named run_form verb_of call_named other_verb number_within with_order pool_named
     grant_named with_granted with_begin number_at number_of range_refusal add_refusal grant_refusals
-    with_grant run_act dump_act act_by arguments_from mode_at after_act may_add is_quiet hcall_of
+    with_grant read_act dump_act act_by arguments_from mode_at after_act may_add is_quiet hcall_of
     row_of lowest_place multiples taken_with
 refused_pool = refl
 
@@ -129,7 +129,7 @@ unfolding set_of after_set_lines after_set_line after_set_words after_allowed af
     with_shared after_member after_own with_given after_text after_words after_form form_of
     form_named run_form verb_of call_named other_verb number_within with_order pool_named
     grant_named with_granted with_begin number_at number_of range_refusal add_refusal grant_refusals
-    with_grant run_act dump_act act_by arguments_from mode_at after_act may_add is_quiet hcall_of
+    with_grant read_act dump_act act_by arguments_from mode_at after_act may_add is_quiet hcall_of
     row_of lowest_place multiples taken_with
 refused_entry = refl
 
@@ -138,7 +138,7 @@ unfolding set_of after_set_lines after_set_line after_set_words after_allowed af
     with_shared after_member after_own with_given after_text after_words after_form form_of
     form_named run_form verb_of call_named other_verb number_within with_order pool_named
     grant_named with_granted with_begin number_at number_of range_refusal add_refusal grant_refusals
-    with_grant run_act dump_act act_by arguments_from mode_at after_act may_add is_quiet hcall_of
+    with_grant read_act dump_act act_by arguments_from mode_at after_act may_add is_quiet hcall_of
     row_of lowest_place multiples taken_with
 refused_window = refl
 
@@ -148,7 +148,7 @@ unfolding set_of after_set_lines after_set_line after_set_words after_allowed af
     with_shared after_member after_own with_given after_text after_words after_form form_of
     form_named run_form verb_of call_named other_verb number_within with_order pool_named
     grant_named with_granted with_begin number_at number_of range_refusal add_refusal grant_refusals
-    with_grant run_act dump_act act_by arguments_from mode_at after_act may_add is_quiet hcall_of
+    with_grant read_act dump_act act_by arguments_from mode_at after_act may_add is_quiet hcall_of
     row_of lowest_place multiples taken_with
 refused_shared = refl
 
@@ -158,7 +158,7 @@ unfolding set_of after_set_lines after_set_line after_set_words after_allowed af
     with_shared after_member after_own with_given after_text after_words after_form form_of
     form_named run_form verb_of call_named other_verb number_within with_order pool_named
     grant_named with_granted with_begin number_at number_of range_refusal add_refusal grant_refusals
-    with_grant run_act dump_act act_by arguments_from mode_at after_act may_add is_quiet hcall_of
+    with_grant read_act dump_act act_by arguments_from mode_at after_act may_add is_quiet hcall_of
     row_of lowest_place multiples taken_with
 refused_second = refl
 
@@ -167,7 +167,7 @@ unfolding set_of after_set_lines after_set_line after_set_words after_allowed af
     with_shared after_member after_own with_given after_text after_words after_form form_of
     form_named run_form verb_of call_named other_verb number_within with_order pool_named
     grant_named with_granted with_begin number_at number_of range_refusal add_refusal grant_refusals
-    with_grant run_act dump_act act_by arguments_from mode_at after_act may_add is_quiet hcall_of
+    with_grant read_act dump_act act_by arguments_from mode_at after_act may_add is_quiet hcall_of
     row_of lowest_place multiples taken_with
 refused_behind_remark = refl
 
@@ -178,7 +178,7 @@ unfolding set_of after_set_lines after_set_line after_set_words after_allowed af
     with_shared after_member after_own with_given after_text after_words after_form form_of
     form_named run_form verb_of call_named other_verb number_within with_order pool_named
     grant_named with_granted with_begin number_at number_of range_refusal add_refusal grant_refusals
-    with_grant run_act dump_act act_by arguments_from mode_at after_act may_add is_quiet hcall_of
+    with_grant read_act dump_act act_by arguments_from mode_at after_act may_add is_quiet hcall_of
     row_of lowest_place multiples taken_with
 refused_setting = refl
 
@@ -189,7 +189,7 @@ unfolding set_of after_set_lines after_set_line after_set_words after_allowed af
     with_shared after_member after_own with_given after_text after_words after_form form_of
     form_named run_form verb_of call_named other_verb number_within with_order pool_named
     grant_named with_granted with_begin number_at number_of range_refusal add_refusal grant_refusals
-    with_grant run_act dump_act act_by arguments_from mode_at after_act may_add is_quiet hcall_of
+    with_grant read_act dump_act act_by arguments_from mode_at after_act may_add is_quiet hcall_of
     row_of lowest_place multiples taken_with
 refused_third = refl
 
@@ -200,7 +200,7 @@ unfolding set_of after_set_lines after_set_line after_set_words after_allowed af
     with_shared after_member after_own with_given after_text after_words after_form form_of
     form_named run_form verb_of call_named other_verb number_within with_order pool_named
     grant_named with_granted with_begin number_at number_of range_refusal add_refusal grant_refusals
-    with_grant run_act dump_act act_by arguments_from mode_at after_act may_add is_quiet hcall_of
+    with_grant read_act dump_act act_by arguments_from mode_at after_act may_add is_quiet hcall_of
     row_of lowest_place multiples taken_with
 refused_tables = refl
 
@@ -213,7 +213,7 @@ unfolding set_of after_set_lines after_set_line after_set_words after_allowed af
     with_shared after_member after_own with_given after_text after_words after_form form_of
     form_named run_form verb_of call_named other_verb number_within with_order pool_named
     grant_named with_granted with_begin number_at number_of range_refusal add_refusal grant_refusals
-    with_grant run_act dump_act act_by arguments_from mode_at after_act may_add is_quiet hcall_of
+    with_grant read_act dump_act act_by arguments_from mode_at after_act may_add is_quiet hcall_of
     row_of lowest_place multiples taken_with
 refused_stranger_first = refl
 
@@ -223,7 +223,7 @@ unfolding set_of after_set_lines after_set_line after_set_words after_allowed af
     with_shared after_member after_own with_given after_text after_words after_form form_of
     form_named run_form verb_of call_named other_verb number_within with_order pool_named
     grant_named with_granted with_begin number_at number_of range_refusal add_refusal grant_refusals
-    with_grant run_act dump_act act_by arguments_from mode_at after_act may_add is_quiet hcall_of
+    with_grant read_act dump_act act_by arguments_from mode_at after_act may_add is_quiet hcall_of
     row_of lowest_place multiples taken_with
 refused_nothing = refl
 
@@ -232,7 +232,7 @@ unfolding set_of after_set_lines after_set_line after_set_words after_allowed af
     with_shared after_member after_own with_given after_text after_words after_form form_of
     form_named run_form verb_of call_named other_verb number_within with_order pool_named
     grant_named with_granted with_begin number_at number_of range_refusal add_refusal grant_refusals
-    with_grant run_act dump_act act_by arguments_from mode_at after_act may_add is_quiet hcall_of
+    with_grant read_act dump_act act_by arguments_from mode_at after_act may_add is_quiet hcall_of
     row_of lowest_place multiples taken_with
 refused_no_partition = refl
 
@@ -242,6 +242,6 @@ unfolding set_of after_set_lines after_set_line after_set_words after_allowed af
     with_shared after_member after_own with_given after_text after_words after_form form_of
     form_named run_form verb_of call_named other_verb number_within with_order pool_named
     grant_named with_granted with_begin number_at number_of range_refusal add_refusal grant_refusals
-    with_grant run_act dump_act act_by arguments_from mode_at after_act may_add is_quiet hcall_of
+    with_grant read_act dump_act act_by arguments_from mode_at after_act may_add is_quiet hcall_of
     row_of lowest_place multiples taken_with
 refused_no_begin = refl

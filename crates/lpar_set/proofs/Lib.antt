@@ -31,6 +31,7 @@ pub mod SetRuns
 pub mod EarlyLines
 pub mod ReadLines
 pub mod TakenSteps
+pub mod LineMoves
 pub mod OwnLines
 pub mod GrantsApart
 pub mod SetPlaces

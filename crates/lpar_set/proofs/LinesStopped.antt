@@ -1,6 +1,6 @@
 -- A line that the set has something against is not accepted.
 use Rattle.std.specs.Prelude.{codes, is_some}
-use Rattle.std.proofs.Common.{◌≡◌, ◌∙◌, ℕ, ◌^◌, ◌<◌, Bool, true, false, List, [], ◌∷◌, length, Option, Some, None, Result, Ok, Err, refl, sym, ap, subst, if◌then◌else◌, ltb, not, inl, inr, ◌⊎◌, arith}
+use Rattle.std.proofs.Common.{◌≡◌, ◌∙◌, ℕ, ◌<◌, Bool, true, false, List, [], ◌∷◌, length, Option, Some, None, Result, Ok, Err, refl, sym, ap, subst, if◌then◌else◌, ltb, not, inl, inr, ◌⊎◌, arith}
 use Rattle.std.proofs.lemmas.Bool.{both_ways, cases_Bool, eqb-true, false≢true, lt-ltb, not-true}
 use Rattle.std.proofs.lemmas.Slice.Eq.{bytes_eq-Decides}
 use Rattle.frame_grants.specs.declared.grant.Grant.{Grant}
@@ -23,7 +23,8 @@ use Rattle.lpar_set.specs.SetGrammar.{SetReading, after_set_line, below_8, is_of
 use Rattle.lpar_set.proofs.Followed.{IsFollowed}
 use Rattle.lpar_set.proofs.LinesBefore.{place_is, stranger_met}
 use Rattle.lpar_set.proofs.LinesTaken.{IsTakenLine, Takes, takes_remark, takes_shared, takes_member, begin_given, counted, formless, gives_begin, set_line_taken}
-use Rattle.lpar_set.proofs.OwnLines.{HasMoved, HasOpened, own_moves}
+use Rattle.lpar_set.proofs.LineMoves.{HasMoved, HasOpened}
+use Rattle.lpar_set.proofs.OwnLines.{own_moves}
 use Rattle.lpar_set.proofs.PlainLines.{remark_numberless, shared_numberless}
 use Rattle.lpar_set.proofs.SetReadingsKept.{retaken}
 use Rattle.lpar_set.proofs.TakenSteps.{behind_guard}

@@ -2,7 +2,7 @@
 use Rattle.std.specs.Prelude.{codes, is_some}
 use Rattle.std.specs.List.{list_all}
 use Rattle.std.specs.Str.{bytes_eq}
-use Rattle.std.proofs.Common.{◌≡◌, ◌∙◌, ℕ, ◌+◌, ◌^◌, ◌<◌, Bool, true, false, List, [], ◌∷◌, ◌++◌, length, slice_set, Option, Some, None, Result, Ok, Err, refl, sym, subst, if◌then◌else◌, ltb, not, ◌&&◌, ◌||◌, inl, inr, ◌⊎◌, arith}
+use Rattle.std.proofs.Common.{◌≡◌, ◌∙◌, ℕ, ◌+◌, ◌<◌, Bool, true, false, List, [], ◌∷◌, ◌++◌, length, slice_set, Option, Some, None, Result, Ok, Err, refl, sym, subst, if◌then◌else◌, ltb, not, ◌&&◌, ◌||◌, inl, inr, ◌⊎◌, arith}
 use Rattle.std.proofs.lemmas.Bool.{cases_Bool, eqb-true, false≢true, ltb-true, lt-ltb, not-true}
 use Rattle.std.proofs.lemmas.List.{append-nil, length_push}
 use Rattle.frame_grants.specs.declared.grant.Grant.{Grant}
@@ -23,7 +23,8 @@ use Rattle.trace_read.specs.TextLines.{without_cr, is_printable, words_of, is_re
 use Rattle.lpar_set.specs.declared.turn.Turn.{Turn}
 use Rattle.lpar_set.specs.PartitionLines.{words_in, is_shared, first_number, own_words, is_begin, is_run}
 use Rattle.lpar_set.specs.SetGrammar.{SetReading, after_allowed, after_member, after_numbered_words, after_own, after_set_line, after_set_words, below_8, is_of_the_whole, meets_stranger, partition_named, reading_of, set_beside, with_given, with_shared}
-use Rattle.lpar_set.proofs.OwnLines.{HasMoved, is_run as gives_run}
+use Rattle.lpar_set.proofs.LineMoves.{HasMoved}
+use Rattle.lpar_set.proofs.OwnLines.{is_run as gives_run}
 use Rattle.lpar_set.proofs.RunsKept.{next_turn}
 use Rattle.lpar_set.proofs.SetLinesKept.{named_below}
 use Rattle.lpar_set.proofs.SetReadingsKept.{retaken}

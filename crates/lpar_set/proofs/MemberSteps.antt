@@ -1,6 +1,5 @@
 -- What the two resize calls leave of a partition of a set, and of its pool.
-use Rattle.std.proofs.Common.{◌≡◌, ℕ, ◌-◌, ◌^◌, ◌≤◌, List, ap, sym, ◌∙◌, subst, Option, arith}
-use Rattle.std.proofs.Math.Pow.{pow_mono}
+use Rattle.std.proofs.Common.{◌≡◌, ℕ, List, ap, sym, ◌∙◌, subst, Option}
 use Rattle.hpt_pool.specs.Pool.{PoolState}
 use Rattle.tlb_model.specs.Processor.{Processor}
 use Rattle.entry_model.specs.declared.hreply.HReply.{HReply}
@@ -20,7 +19,6 @@ use Rattle.lpar_set.specs.SetRun.{MemberState, with_pool}
 use Rattle.run_model.specs.HeldLines.{AllHold}
 use Rattle.run_model.proofs.Commits.{Moves, commit_moves, cleared, moved_hold}
 use Rattle.lpar_set.specs.BetweenLines.{IsBetweenLines}
-use Rattle.hpte_fields.specs.TableSize.{greatest_order}
 
 abbrev pub replied : Reply → Store → Reply × Store
 replied reply w = (reply, w)

@@ -16,6 +16,7 @@ use Rattle.run_model.specs.Stores.{Store}
 use Rattle.run_model.specs.QuietLines.{after_commit, shown_of}
 use Rattle.run_model.specs.SerialRun.{with_result}
 use Rattle.lpar_set.specs.SetLaws.{without_place}
+use Rattle.partition.proofs.Resizing.{answer_at}
 use Rattle.trace_reply.specs.declared.reply.Reply.TheVariants as replies
 
 -- ---- other places
@@ -56,7 +57,7 @@ pub result_like :
 result_like v pool place other l x =
     record { reply = refl; pool = pool; place = place; other = other; state = refl }
 
--- An answer alone.
+-- An answer_at alone.
 pub answer_like :
     (v : Store) (pool : PoolState) (place other : ℕ) (reply : Reply)
     → IsLikeAfter (reply, v) (reply, moved v pool place other)
@@ -72,16 +73,13 @@ dump_like v pool place other =
     record { reply = refl; pool = pool; place = place; other = other; state = refl }
 
 -- ---- commit
--- A code, and what is at memory.
-abbrev pub answer : Rc → TableMemory → Rc × TableMemory
-answer code memory = (code, memory)
 
 -- The same code, and the same at memory but for the places.
 pub record IsLikeMemory (x y : Rc × TableMemory) : Type 0 where
   pub pool : PoolState
   pub place : ℕ
   pub other : ℕ
-  pub same : y ≡ answer x.0 (moved_memory x.1 pool place other)
+  pub same : y ≡ answer_at x.0 (moved_memory x.1 pool place other)
 
 -- The memory after a commit with this outcome.
 abbrev committed : TableMemory → CommitOutcome → Rc × TableMemory

@@ -8,9 +8,10 @@ use Rattle.hpt_pool.specs.Pool.{PoolState, block_at, lowest_place, with_block}
 use Rattle.hpt_resize.specs.Pending.{PendingTable}
 use Rattle.hpt_resize.specs.Resize.{PrepareOutcome, prepare_outcome, is_prepare_request, pool_without, is_pending, new_table_outcome, start_outcome, advance_outcome, outcome_of_prepare}
 use Rattle.hpt_resize.specs.TableMemory.{TableMemory, prepare_result}
+use Rattle.partition.proofs.Resizing.{answer_at}
 use Rattle.partition.proofs.PoolKept.{asked_low}
 use Rattle.lpar_set.specs.SetLaws.{is_no_mem_code}
-use Rattle.lpar_set.proofs.Moved.{pending_at, moved_memory, answer, IsLikeMemory}
+use Rattle.lpar_set.proofs.Moved.{pending_at, moved_memory, IsLikeMemory}
 use Rattle.hpte_fields.specs.TableSize.{least_order}
 
 -- Where the one pool has room for a table, beside all but the one that is being prepared, the other
@@ -133,7 +134,7 @@ outcome_like limit flags shift pending pool pool_too other room =
 -- The memory after a prepare with this outcome.
 abbrev prepared : TableMemory → PrepareOutcome → Rc × TableMemory
 prepared memory after =
-    answer after.rc (record memory { pool = after.pool; pending = after.pending })
+    answer_at after.rc (record memory { pool = after.pool; pending = after.pending })
 
 prepared_like :
     (memory : TableMemory) (pool : PoolState) (place other : ℕ) (one two : PrepareOutcome)

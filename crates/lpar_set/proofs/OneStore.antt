@@ -1,5 +1,4 @@
 -- The serial run of lines that are all on one store.
-use Rattle.std.specs.Prelude.{None}
 use Rattle.std.proofs.Common.{◌≡◌, List, [], ◌∷◌, true, ap, ◌∙◌, refl}
 use Rattle.trace_line.specs.declared.line.TraceLine.{TraceLine}
 use Rattle.trace_reply.specs.declared.reply.Reply.{Reply}

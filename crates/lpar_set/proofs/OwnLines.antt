@@ -1,7 +1,7 @@
 -- What a line of a partition does to the reading of its lines.
 use Rattle.std.specs.Prelude.{codes}
 use Rattle.std.specs.Str.{bytes_eq}
-use Rattle.std.proofs.Common.{◌≡◌, ◌∙◌, ℕ, ◌+◌, Bool, true, false, List, [], ◌∷◌, ◌++◌, length, Option, Some, None, Result, Ok, Err, refl, ap, sym, subst, if◌then◌else◌, leb, eqb}
+use Rattle.std.proofs.Common.{◌≡◌, ◌∙◌, ℕ, ◌+◌, Bool, true, false, List, [], ◌∷◌, length, Option, Some, None, Result, Ok, Err, refl, ap, sym, subst, if◌then◌else◌, leb, eqb}
 use Rattle.std.proofs.lemmas.Bool.{false≢true, or_parts}
 use Rattle.std.proofs.lemmas.List.{length_push}
 use Rattle.frame_grants.specs.declared.error.GrantError.{GrantError}
@@ -10,7 +10,6 @@ use Rattle.frame_grants.specs.declared.grant.Kind.{Kind}
 use Rattle.frame_grants.specs.declared.grant.Kind.TheVariants.{Ram, Io}
 use Rattle.frame_grants.specs.Grants.{add_refusal, with_grant}
 use Rattle.trace_line.specs.declared.act.Act.{Act}
-use Rattle.trace_line.specs.declared.line.TraceLine.{TraceLine}
 use Rattle.trace_read.specs.declared.forms.Form.{Form}
 use Rattle.trace_read.specs.declared.forms.Form.TheVariants as forms
 use Rattle.trace_read.specs.declared.given.Given.{Given}
@@ -19,7 +18,7 @@ use Rattle.trace_read.specs.declared.stage.Stage.{Stage}
 use Rattle.trace_read.specs.declared.stage.Stage.TheVariants as stages
 use Rattle.trace_read.specs.declared.why.Why.{Why}
 use Rattle.trace_read.specs.declared.why.Why.TheVariants as whys
-use Rattle.trace_read.specs.Acts.{run_act, dump_act}
+use Rattle.trace_read.specs.Acts.{read_act, dump_act}
 use Rattle.trace_read.specs.Configuration.{Configuration, greatest_trace_order, most_processors}
 use Rattle.trace_read.specs.Counts.{may_add}
 use Rattle.trace_read.specs.Forms.{form_named, form_of, run_form, begins_with_digit, verb_of}
@@ -32,55 +31,7 @@ use Rattle.trace_read.specs.Whys.{guard, required}
 use Rattle.lpar_set.specs.SetGrammar.{is_of_the_whole}
 use Rattle.lpar_set.proofs.TakenSteps.{same_ok, never_ok, never_some, steps_taken, guard_taken, required_taken}
 use Rattle.hpte_fields.specs.TableSize.{least_order}
-
--- ---- what lines do
--- A setting leaves the grants. It comes before `begin`, as it leaves the partition.
-pub record HasSet (old new : Reading) : Type 0 where
-  pub granted : new.config.granted ≡ old.config.granted
-  pub lines : new.lines ≡ old.lines
-  pub before : is_running old.stage ≡ false
-  pub after : is_running new.stage ≡ false
-
--- A grant is one more, before `begin`.
-pub record HasGranted (grant : Grant) (old new : Reading) : Type 0 where
-  pub granted : new.config.granted ≡ with_grant old.config.granted grant
-  pub lines : new.lines ≡ old.lines
-  pub before : is_running old.stage ≡ false
-  pub after : is_running new.stage ≡ false
-
--- `begin` leaves all but that the partition runs from now on.
-pub record HasOpened (opening : ℕ) (old new : Reading) : Type 0 where
-  pub order : opening ≡ old.config.order
-  pub config : new.config ≡ old.config
-  pub lines : new.lines ≡ old.lines
-  pub before : is_running old.stage ≡ false
-  pub after : is_running new.stage ≡ true
-
--- A run line is one more line of a partition that runs, with its number.
-pub record HasRun (old new : Reading) : Type 0 where
-  pub config : new.config ≡ old.config
-  pub line : TraceLine
-  pub number : line.number ≡ old.taken
-  pub lines : new.lines ≡ old.lines ++ line ∷ []
-  pub before : is_running old.stage ≡ true
-  pub after : is_running new.stage ≡ true
-
--- So does a line that gives this.
-abbrev pub Moves : Given → Reading → Reading → Type 0
-Moves givens.Remark old new = new ≡ old
-Moves givens.Setting old new = HasSet old new
-Moves (givens.Grant grant) old new = HasGranted grant old new
-Moves (givens.Begin order) old new = HasOpened order old new
-Moves givens.Run old new = HasRun old new
-
--- And no line of a set moves the pool, gives an entry or a window, or counts itself.
-pub record HasMoved (given : Given) (old new : Reading) : Type 0 where
-  pub taken : new.taken ≡ old.taken
-  pub base : new.config.granted.pool_base ≡ old.config.granted.pool_base
-  pub order : new.config.granted.pool_order ≡ old.config.granted.pool_order
-  pub entries : new.config.entries ≡ old.config.entries
-  pub windows : new.config.windows ≡ old.config.windows
-  pub moves : Moves given old new
+use Rattle.lpar_set.proofs.LineMoves.{HasRun, HasMoved}
 
 -- ---- configuration lines
 -- A setting leaves the grants, the entries and the windows.
@@ -301,7 +252,8 @@ form_moves forms.Entry r ws s own here e = absurd (false≢true own)
 form_moves forms.Window r ws s own here e = absurd (false≢true own)
 form_moves forms.Begin r ws s own here e =
     begin_moves r ws s (not_running forms.Begin r.stage refl here) e
-form_moves (forms.Run verb) r ws s own here e = act_moves r (run_act r.config.cpus verb ws) s here e
+form_moves (forms.Run verb) r ws s own here e =
+    act_moves r (read_act r.config.cpus verb ws) s here e
 form_moves forms.Dump r ws s own here e = act_moves r (dump_act ws) s here e
 
 -- ---- which forms there are

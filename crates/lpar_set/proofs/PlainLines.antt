@@ -1,7 +1,7 @@
 -- Lines that name no partition: remarks, and `shared`.
 use Rattle.std.specs.Prelude.{codes}
 use Rattle.std.specs.List.{list_all, list_any}
-use Rattle.std.proofs.Common.{◌≡◌, ◌∙◌, ℕ, ◌+◌, ◌^◌, ◌≤◌, Bool, true, false, List, [], ◌∷◌, length, Option, Some, None, Ok, refl, sym, ap, if◌then◌else◌, ltb, ◌&&◌, arith}
+use Rattle.std.proofs.Common.{◌≡◌, ◌∙◌, ℕ, ◌+◌, ◌≤◌, Bool, true, false, List, [], ◌∷◌, length, Option, Some, None, Ok, refl, sym, ap, if◌then◌else◌, ltb, ◌&&◌, arith}
 use Rattle.std.proofs.lemmas.Bool.{eqb-true, false≢true}
 use Rattle.std.proofs.lemmas.Slice.Eq.{bytes_eq-Decides}
 use Rattle.trace_read.specs.Grammar.{Reading}
@@ -13,7 +13,7 @@ use Rattle.lpar_set.proofs.OwnText.{remark_read}
 use Rattle.trace_line.specs.Lines.{most_lines}
 
 -- ---- words that are no number
-and_false : (a b : Bool) → b ≡ false → (a && b) ≡ false
+pub and_false : (a b : Bool) → b ≡ false → (a && b) ≡ false
 and_false true b e = e
 and_false false b e = refl
 
@@ -72,7 +72,7 @@ stays_remark number line other = rw other refl
 abbrev AreRemarks : List ℕ → List (List ℕ) → Type 0
 AreRemarks line rest = (is_remark_line line ≡ true) × (list_all is_remark_line rest ≡ true)
 
-both_hold : (a b : Bool) → (a && b) ≡ true → (a ≡ true) × (b ≡ true)
+pub both_hold : (a b : Bool) → (a && b) ≡ true → (a ≡ true) × (b ≡ true)
 both_hold true b e = (refl, e)
 both_hold false b e = absurd (false≢true e)
 

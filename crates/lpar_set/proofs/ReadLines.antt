@@ -15,7 +15,8 @@ use Rattle.lpar_set.specs.SetGrammar.{SetReading, is_of_the_whole, reading_of, m
 use Rattle.lpar_set.specs.SetReadings.{reading_at}
 use Rattle.lpar_set.specs.SetRead.{TakesTo, MayBeGiven, is_early, with_own}
 use Rattle.lpar_set.proofs.EarlyLines.{own_line, member_by}
-use Rattle.lpar_set.proofs.OwnLines.{HasMoved, Moves, own_moves}
+use Rattle.lpar_set.proofs.LineMoves.{HasMoved, Moves}
+use Rattle.lpar_set.proofs.OwnLines.{own_moves}
 use Rattle.hpte_fields.specs.TableSize.{greatest_order, least_order}
 
 -- The set with something else in the place of a partition's reading.

@@ -1,6 +1,6 @@
 -- Before each line the readings are ready for it, and behind it all holds that held.
 use Rattle.std.specs.Prelude.{OnOk}
-use Rattle.std.proofs.Common.{ℕ, ◌+◌, ◌^◌, ◌<◌, ◌≤◌, List, Result, Ok, Err, arith}
+use Rattle.std.proofs.Common.{ℕ, ◌+◌, ◌<◌, ◌≤◌, List, Result, Ok, Err, arith}
 use Rattle.trace_read.specs.declared.stop.Stop.{Stop}
 use Rattle.lpar_set.specs.SetGrammar.{SetReading, reading_of, after_set_line}
 use Rattle.lpar_set.specs.SetReadings.{IsSetReading}

@@ -2,7 +2,7 @@
 use Rattle.std.specs.Prelude.{codes, is_none}
 use Rattle.std.specs.List.{list_all}
 use Rattle.std.specs.Str.{bytes_eq}
-use Rattle.std.proofs.Common.{◌≡◌, ℕ, ◌+◌, ◌^◌, ◌<◌, ◌≤◌, Bool, true, false, List, [], ◌∷◌, length, Option, Some, None, Ok, refl, subst, if◌then◌else◌, ltb, eqb, not, arith}
+use Rattle.std.proofs.Common.{◌≡◌, ℕ, ◌+◌, ◌<◌, ◌≤◌, Bool, true, false, List, [], ◌∷◌, length, Option, Some, None, Ok, refl, subst, if◌then◌else◌, ltb, eqb, not, arith}
 use Rattle.std.proofs.lemmas.Bool.{ltb-true, not-true}
 use Rattle.pool_range.specs.Ranges.{IsPoolRange, range_refusal}
 use Rattle.trace_read.specs.declared.why.Why.TheVariants as whys

@@ -17,7 +17,8 @@ use Rattle.lpar_set.specs.SetGrammar.{SetReading, grants_read, is_of_the_whole, 
 use Rattle.lpar_set.specs.SetReadings.{IsBeside, IsSetReading, reading_at}
 use Rattle.lpar_set.proofs.BegunKept.{Begins, begun_keeps}
 use Rattle.lpar_set.proofs.GrantsApart.{granted_strangers, pairs_both, stranger_clear, strangers_back}
-use Rattle.lpar_set.proofs.OwnLines.{HasMoved, HasGranted, HasOpened, HasRun, HasSet, Moves, own_moves, run_counts}
+use Rattle.lpar_set.proofs.LineMoves.{HasMoved, HasGranted, HasOpened, HasRun, HasSet, Moves}
+use Rattle.lpar_set.proofs.OwnLines.{own_moves, run_counts}
 use Rattle.lpar_set.proofs.Retold.{IsRetold, IsSteady, steady_keeps}
 use Rattle.lpar_set.proofs.RunsKept.{run_keeps}
 use Rattle.lpar_set.proofs.SetPlaces.{grants_there, is_beside}
@@ -112,7 +113,7 @@ same_grants :
     → new.config.granted.grants ≡ old.config.granted.grants
 same_grants old new same = ap (λ g. g.grants) same
 
-inside_eight :
+pub inside_eight :
     (r : SetReading) (number : ℕ) → IsSetReading r → number < 8 → number < length r.readings
 inside_eight r number is below = subst (λ n. number < n) (sym is.eight) below
 

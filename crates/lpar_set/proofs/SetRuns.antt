@@ -30,6 +30,7 @@ use Rattle.lpar_set.specs.SetTrace.{NumberedTrace, AcceptedSet, IsAcceptedSet, n
 use Rattle.lpar_set.specs.SetRun.{MemberState, SetState, with_pool, without_pool, no_member, member_at, opening_table, opening_members, opening_set, set_line, replies_from}
 use Rattle.lpar_set.specs.SetText.{numbered_reply, text_from}
 use Rattle.lpar_set.proofs.SetSteps.{in_set}
+use Rattle.lpar_set.proofs.LoneOpening.{opening_count}
 use Rattle.lpar_set.proofs.Turns.{turn_inside, line_cpu}
 
 -- ---- how many tables there were
@@ -147,11 +148,6 @@ line_ready s w n k l inside ready =
           (λ same. let most = counts.number in omega (arith, most, old)) (omega (arith, other));
     }
 
-opened_count :
-    (pool : PoolState) (ps : List NumberedTrace) → length (opening_members pool ps) ≡ length ps
-opened_count pool [] = refl
-opened_count pool (p ∷ ps) = ap suc (opened_count (with_opening pool p.trace.config.order) ps)
-
 opened_cpus :
     (pool : PoolState) (ps : List NumberedTrace) (k : ℕ)
     → k < length ps
@@ -174,7 +170,7 @@ pub opening_ready : (s : AcceptedSet) → IsReady s (opening_set s) 0
 opening_ready s =
     let pool = no_blocks s.pool_base s.pool_order in
     record {
-      count = opened_count pool s.partitions;
+      count = opening_count pool s.partitions;
       cpus = opened_cpus pool s.partitions;
       number = opened_number pool s.partitions;
     }

@@ -14,11 +14,12 @@ use Rattle.lpar_set.specs.declared.turn.Turn.{Turn}
 use Rattle.lpar_set.specs.SetTrace.{no_line}
 use Rattle.lpar_set.specs.SetGrammar.{SetReading, reading_of}
 use Rattle.lpar_set.specs.SetReadings.{IsSetReading, count_at}
-use Rattle.lpar_set.proofs.AddedReadings.{inside_eight, own_there, other_there}
+use Rattle.lpar_set.proofs.AddedReadings.{own_there, other_there}
 use Rattle.lpar_set.proofs.LinesTaken.{IsMemberLine, begun_if, counted, gives_begin, turn_if}
-use Rattle.lpar_set.proofs.OwnLines.{Moves, is_run}
+use Rattle.lpar_set.proofs.LineMoves.{Moves}
+use Rattle.lpar_set.proofs.OwnLines.{is_run}
 use Rattle.lpar_set.proofs.RunsKept.{next_turn}
-use Rattle.lpar_set.proofs.SetReadingsKept.{retaken}
+use Rattle.lpar_set.proofs.SetReadingsKept.{retaken, inside_eight}
 use Rattle.lpar_set.proofs.TurnLines.{stands_at}
 use Rattle.lpar_set.proofs.Turns.{all_below, line_named}
 

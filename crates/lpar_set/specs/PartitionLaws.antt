@@ -1,6 +1,6 @@
 -- Which set an input is, in words of its lines: what an accepted set has, and what a line is
 -- refused for.
-use Rattle.std.specs.Prelude.{◌≡◌, ◌≢◌, ℕ, ◌+◌, ◌^◌, ◌<◌, ◌≤◌, true, false, List, ◌∷◌, ◌++◌, length, map, Contains, Some, None, Ok, Err}
+use Rattle.std.specs.Prelude.{◌≡◌, ◌≢◌, ℕ, ◌+◌, ◌<◌, ◌≤◌, true, false, List, ◌∷◌, ◌++◌, length, map, Contains, Some, None, Ok, Err}
 use Rattle.std.specs.List.{AllPairs, list_all, list_any}
 use Rattle.frame_grants.specs.declared.grant.Grant.{Grant}
 use Rattle.frame_grants.specs.Grants.{meets_machine}

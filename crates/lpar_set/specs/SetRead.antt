@@ -1,5 +1,5 @@
 -- What the code that reads a set answers, and what it needs.
-use Rattle.std.specs.Prelude.{◌≡◌, ℕ, ◌<◌, ◌≤◌, ◌^◌, ◌&&◌, not, Bool, true, false, List, length, nat_lt, slice_index_or, slice_set, unwrap_or, Option, None, Some, Result, Ok, Err}
+use Rattle.std.specs.Prelude.{◌≡◌, ℕ, ◌<◌, ◌≤◌, ◌&&◌, not, Bool, true, false, List, length, nat_lt, slice_index_or, slice_set, unwrap_or, Option, None, Some, Result, Ok, Err}
 use Rattle.trace_read.specs.declared.given.Given.{Given}
 use Rattle.trace_read.specs.declared.given.Given.TheVariants as givens
 use Rattle.trace_read.specs.declared.parser.TraceError.{TraceError}
@@ -12,7 +12,7 @@ use Rattle.trace_read.specs.Grammar.{Reading}
 use Rattle.trace_read.specs.Places.{is_running}
 use Rattle.lpar_set.specs.SetTrace.{NumberedTrace}
 use Rattle.lpar_set.specs.SetGrammar.{SetReading, reading_of, trace_read_so}
-use Rattle.hpte_fields.specs.TableSize.{greatest_order, least_order, IsTableOrder}
+use Rattle.hpte_fields.specs.TableSize.{IsTableOrder}
 use Rattle.trace_line.specs.Lines.{most_lines}
 
 -- The set after a line is as the line says, or it is refused as it says, unless there is no memory.

@@ -1,5 +1,5 @@
 -- What holds of the reading of a set between two lines.
-use Rattle.std.specs.Prelude.{◌≡◌, ◌≢◌, ℕ, ◌<◌, ◌≤◌, ◌^◌, true, false, List, [], length, map, slice_index_or, Option, None, IfSome, Contains}
+use Rattle.std.specs.Prelude.{◌≡◌, ◌≢◌, ℕ, ◌<◌, ◌≤◌, true, false, List, [], length, map, slice_index_or, Option, None, IfSome, Contains}
 use Rattle.std.specs.List.{AllByRecursion, AllPairs, range_with_len}
 use Rattle.pool_range.specs.Ranges.{IsPoolRange}
 use Rattle.hpt_pool.specs.Pool.{no_blocks}

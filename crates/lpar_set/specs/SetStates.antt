@@ -1,7 +1,7 @@
 -- What holds of a set between two lines.
-use Rattle.std.specs.Prelude.{◌≡◌, ◌≢◌, ◌≤◌, List, [], ◌∷◌, length, Option, None, Some, IfSome, Contains}
+use Rattle.std.specs.Prelude.{◌≡◌, ◌≢◌, List, [], ◌∷◌, length, Option, None, Some, IfSome, Contains}
 use Rattle.std.specs.List.{AllByRecursion, AllPairs, flat_map}
-use Rattle.hpte_fields.specs.TableSize.{entry_count, greatest_order, least_order, IsTableOrder}
+use Rattle.hpte_fields.specs.TableSize.{entry_count, IsTableOrder}
 use Rattle.hpt_pool.specs.Pool.{Block, IsSound, block_at}
 use Rattle.hpt_resize.specs.Pending.{PendingTable}
 use Rattle.lpar_set.specs.SetRun.{MemberState, SetState}

@@ -1,5 +1,5 @@
 -- What an input to be judged is refused for, from its parts.
-use Rattle.std.proofs.Common.{◌^◌, ◌≤◌, ℕ, List, length, Some, Err, ap, ◌∙◌, ◌≡◌}
+use Rattle.std.proofs.Common.{◌≤◌, ℕ, List, length, Some, Err, ap, ◌∙◌, ◌≡◌}
 use Rattle.trace_read.specs.TextLines.{raw_lines}
 use Rattle.papr_edge.specs.declared.reading.NoInput.{NoInput}
 use Rattle.papr_edge.specs.declared.reading.NoInput.TheVariants as missing

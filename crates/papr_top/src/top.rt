@@ -1,7 +1,7 @@
-ghost use Rattle.std.specs.Prelude.{◌≡◌, ◌≢◌, ◌≤◌, None, false};
+ghost use Rattle.std.specs.Prelude.{◌≡◌, ◌≢◌, ◌≤◌, None, false, IfSome};
 ghost use Rattle.trace_io.specs.Outside.{Rose};
 ghost use Rattle.trace_gen.specs.Generated.{generated_trace};
-ghost use Rattle.papr_edge.specs.Commands.{without_par};
+ghost use Rattle.papr_edge.specs.Commands.{without_par, IsInRange};
 ghost use Rattle.papr_edge.specs.Commands as words_of;
 ghost use Rattle.papr_top.specs.Top.{EndsDrill};
 ghost use Rattle.papr_top.specs.Ends.{EndsCommand, reads_source};
@@ -39,6 +39,51 @@ fn drill<K: Sink>(alloc: Global, seed: u64, lines: u32, sink: &mut K) -> Status
     match summary(alloc, seed, lines) {
         Ok(text) => finish(sink, text.as_bytes(), Status::Done),
         Err(_) => Status::Memory,
+    }
+}
+
+/// What a command does, of those that run on one thread; `par` is answered as a usage is.
+fn run_command<S: Source, K: Sink>(
+    alloc: Global,
+    command: Option<Command>,
+    source: &mut S,
+    sink: &mut K,
+) -> Status
+    requires range { IfSome command IsInRange }
+    ensures ends { EndsCommand
+        (without_par command)
+        (record {
+          run = record {
+            left = S.left source.old;
+            left_after = S.left source.new;
+            taken = K.taken sink.old;
+            taken_after = K.taken sink.new;
+          };
+          source_faults = S.faults source.old;
+          source_faults_after = S.faults source.new;
+          sink_faults = K.faults sink.old;
+          sink_faults_after = K.faults sink.new;
+        })
+        result }
+    ensures untouched { reads_source (without_par command) ≡ false → source.new ≡ source.old }
+{
+    match command {
+        Some(Command::Run) => answer_input(alloc, source, sink, |trace| run_answer(alloc, trace)),
+        Some(Command::Check) => answer_input(
+            alloc,
+            source,
+            sink,
+            |input| verdict_answer(alloc, input),
+        ),
+        Some(Command::Set) => answer_input(alloc, source, sink, |input| set_answer(alloc, input)),
+        Some(Command::Image(layout)) => answer_input(
+            alloc,
+            source,
+            sink,
+            |trace| image_answer(alloc, layout, trace),
+        ),
+        Some(Command::Drill { seed, lines }) => drill(alloc, seed, lines, sink),
+        None | Some(Command::Par) => finish(sink, b"papr: usage\n", Status::Usage),
     }
 }
 
@@ -81,24 +126,7 @@ pub fn papr_serial<S: Source, K: Sink>(
     ensures untouched { reads_source (without_par (words_of.command_of words.now)) ≡ false
         → source.new ≡ source.old }
 {
-    match command_of(words) {
-        Some(Command::Run) => answer_input(alloc, source, sink, |trace| run_answer(alloc, trace)),
-        Some(Command::Check) => answer_input(
-            alloc,
-            source,
-            sink,
-            |input| verdict_answer(alloc, input),
-        ),
-        Some(Command::Set) => answer_input(alloc, source, sink, |input| set_answer(alloc, input)),
-        Some(Command::Image(layout)) => answer_input(
-            alloc,
-            source,
-            sink,
-            |trace| image_answer(alloc, layout, trace),
-        ),
-        Some(Command::Drill { seed, lines }) => drill(alloc, seed, lines, sink),
-        None | Some(Command::Par) => finish(sink, b"papr: usage\n", Status::Usage),
-    }
+    run_command(alloc, command_of(words), source, sink)
 }
 
 /// All that the program does, with the words behind its name: [`papr_serial`], and `par`, which
@@ -139,6 +167,6 @@ pub fn papr<R: Threads + Wait + Sync, S: Source, K: Sink, G: Gate + Sync>(
             sink,
             |trace| par_answer(rt, alloc, trace, gate),
         ),
-        _ => papr_serial(alloc, words, source, sink),
+        command => run_command(alloc, command, source, sink),
     }
 }

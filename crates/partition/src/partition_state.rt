@@ -3,6 +3,7 @@ ghost use Rattle.hpt_pool.specs.Pool.{no_blocks};
 ghost use Rattle.hpte_fields.specs.TableSize.{entry_count};
 ghost use Rattle.hpt_resize.specs.Resize.{needs_table};
 ghost use Rattle.hpt_resize.specs.TableMemory.{prepare_result, commit_result, with_states};
+ghost use Rattle.trace_reply.specs.ShownTable.{table_shown};
 ghost use Rattle.partition.specs.PartitionState.{HasStates, HasNoStates, IsPartition, CountsTables, opening_partition, with_memory, reply_of_code};
 
 use crate::states::opening_states;
@@ -15,6 +16,7 @@ use std::alloc::{AllocError, Global};
 use std::marker::Model;
 use std::mem;
 use trace_read::Config;
+use trace_reply::Shown;
 
 /// A partition: its page table, the table that is being prepared, the pool of table memory, and the
 /// memory that is granted to the guest. The states of the table's entries may be taken out, for
@@ -106,6 +108,28 @@ impl Partition {
         ensures { result ≡ self.now.memory.table.place }
     {
         self.current.place
+    }
+
+    /// The table, as a dump shows it.
+    pub fn shown(&self, alloc: Global) -> Result<Shown, AllocError>
+        requires { HasStates self.now }
+        ensures { IfOk
+            result
+            (λ shown.
+            shown
+            ≡ table_shown
+            self.now.memory.table.number
+            self.now.memory.table.order
+            self.now.memory.table.place
+            self.now.memory.table.states) }
+    {
+        Shown::of_table(
+            alloc,
+            self.current.number,
+            self.current.order,
+            self.current.place,
+            self.current.states.as_slice(),
+        )
     }
 
     pub fn grants(&self) -> &Grants

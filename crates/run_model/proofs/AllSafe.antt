@@ -1,6 +1,6 @@
 -- In a good run each access lands by its entry, and no entry is worn.
 use Rattle.std.specs.Prelude.{Bool, IfSome}
-use Rattle.std.proofs.Common.{◌≡◌, ℕ, ◌+◌, ◌*◌, ◌^◌, ◌<◌, ◌≤◌, List, [], ◌∷◌, true, false, sym, subst, ◌⊎◌, inl, inr, length, Option, Some, None, arith}
+use Rattle.std.proofs.Common.{◌≡◌, ℕ, ◌+◌, ◌*◌, ◌<◌, ◌≤◌, List, [], ◌∷◌, true, false, sym, subst, ◌⊎◌, inl, inr, length, Option, Some, None, arith}
 use Rattle.std.specs.List.{AllByRecursion}
 use Rattle.std.proofs.lemmas.Bool.{cases_Bool}
 use Rattle.frame_grants.specs.Grants.{GrantedMemory, AreApart}

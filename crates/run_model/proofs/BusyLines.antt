@@ -1,6 +1,5 @@
 -- H_PUT_TCE is H_BUSY exactly where a receipt says Taken, and never in the serial run.
-use Rattle.std.specs.Prelude.{◌≢◌, IfSome}
-use Rattle.std.specs.Option.{option_map_or}
+use Rattle.std.specs.Prelude.{◌≢◌}
 use Rattle.std.proofs.Common.{◌≡◌, ℕ, ◌↔◌, List, [], ◌∷◌, true, ap, sym, ◌∙◌, Option, Some, None}
 use Rattle.std.specs.List.{AllByRecursion}
 use Rattle.std.proofs.lemmas.Bool.{cond_both, false≢true}
@@ -18,7 +17,7 @@ use Rattle.entry_model.specs.State.{State}
 use Rattle.entry_model.specs.declared.hreply.HReply.{HReply}
 use Rattle.entry_model.specs.declared.receipt.Receipt.{Receipt}
 use Rattle.entry_model.specs.Trial.{IsTrial, IsReplyOf, plan_of_code, plan_run}
-use Rattle.tlb_model.specs.Processor.{Processor, new_processor}
+use Rattle.tlb_model.specs.Processor.{Processor}
 use Rattle.trace_line.specs.Lines.{is_quiet, is_resize}
 use Rattle.trace_line.specs.declared.act.Act.{Act}
 use Rattle.trace_line.specs.declared.act.Act.TheVariants as acts

@@ -1,7 +1,7 @@
 -- Facts of each line of a good run, on the page table or on a window, by its reply as a call's.
 use Rattle.std.specs.Prelude.{◌==◌, Bool, IfSome, Option, Some, None}
 use Rattle.std.specs.Option.{option_map_or}
-use Rattle.std.proofs.Common.{◌≡◌, ℕ, List, [], ◌∷◌, true, false, sym, ◌∙◌, refl, subst}
+use Rattle.std.proofs.Common.{◌≡◌, ℕ, List, [], ◌∷◌, true, false, ◌∙◌, refl}
 use Rattle.std.specs.List.{AllByRecursion}
 use Rattle.std.proofs.lemmas.Bool.{cond_both, eq-eqb, false≢true}
 use Rattle.bus_window.specs.Windows.{BusWindow}

@@ -1,6 +1,6 @@
 -- Facts of each element of a list.
 use Rattle.std.specs.Prelude.{filter, replicate}
-use Rattle.std.proofs.Common.{◌≡◌, ℕ, zero, suc, ◌≤◌, List, [], ◌∷◌, ◌++◌, Bool, true, false, refl, sym, ◌∙◌, ◌⊎◌, inl, inr, get_or, set, map, drop, length, arith}
+use Rattle.std.proofs.Common.{◌≡◌, ℕ, zero, suc, ◌<◌, ◌≤◌, List, [], ◌∷◌, ◌++◌, Bool, true, false, refl, sym, ◌∙◌, ◌⊎◌, inl, inr, get_or, set, map, drop, length, arith}
 use Rattle.std.specs.List.{AllByRecursion}
 use Rattle.std.proofs.lemmas.Bool.{cases_Bool, cond_both, false≢true}
 
@@ -51,6 +51,15 @@ pub each_at :
 each_at P [] i d p h = p
 each_at P (x ∷ xs) zero d p h = h.0
 each_at P (x ∷ xs) (suc i) d p h = each_at P xs i d p h.1
+
+-- What each has by its index, all have.
+pub each_by_index :
+    {A : Type 0} (P : A → Type 0) (xs : List A) (d : A)
+    → ((k : ℕ) → k < length xs → P (get_or xs k d))
+    → AllByRecursion P xs
+each_by_index P [] d f = tt
+each_by_index P (x ∷ xs) d f =
+    (f 0 (omega arith), each_by_index P xs d (λ k low. f (suc k) (omega (arith, low))))
 
 pub each_filter :
     {A : Type 0} (P : A → Type 0) (f : A → Bool) (xs : List A)

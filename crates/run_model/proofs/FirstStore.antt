@@ -1,12 +1,12 @@
 -- What each line on the page table keeps holds of it after any lines of a serial run.
-use Rattle.std.proofs.Common.{◌≡◌, List, [], ◌∷◌, true, false}
+use Rattle.std.proofs.Common.{List, [], ◌∷◌}
 use Rattle.std.proofs.lemmas.Bool.{cond_both}
 use Rattle.bus_window.specs.Windows.{BusWindow}
 use Rattle.trace_line.specs.declared.line.TraceLine.{TraceLine}
 use Rattle.trace_read.specs.Configuration.{Configuration}
 use Rattle.trace_reply.specs.declared.reply.Reply.{Reply}
 use Rattle.run_model.specs.SerialRun.{run_on, run_line, stores_after, first_store, table_after}
-use Rattle.run_model.specs.Stores.{Store, page_table, opening_store, opening_stores, is_on}
+use Rattle.run_model.specs.Stores.{Store, page_table, opening_stores, is_on}
 
 module _ (P : Store → Type 0) (keeps : (s : Store) (l : TraceLine) → P s → P (run_on s l).1)
     (d : Store) where

@@ -4,6 +4,7 @@ pub mod Commits
 pub mod LinesByProcessor
 pub mod LineReceipts
 pub mod StoreLines
+pub mod StoreNumbers
 pub mod TableNamed
 pub mod Undisturbed
 pub mod SectionGood

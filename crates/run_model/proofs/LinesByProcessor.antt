@@ -8,11 +8,10 @@ use Rattle.entry_model.specs.History.{Regrouped, nothing, kept, swapped, twice}
 use Rattle.entry_model.proofs.Regroup.{regrouped_self}
 use Rattle.trace_reply.specs.Replies.{RepliedLine, receipts_in}
 use Rattle.tlb_model.specs.Processor.{Processor, new_processor}
-use Rattle.run_model.specs.Processors.{processor_at, processor_after, processors_after}
+use Rattle.run_model.specs.Processors.{processor_at, processor_after, processors_after, processors_behind}
 use Rattle.run_model.specs.Histories.{lines_of_processor, receipts_by, receipts_from_processor}
 use Rattle.run_model.specs.Sections.{processor_after_lines, processors_after_lines}
 use Rattle.run_model.specs.GoodRun.{EachLineOfProcessor}
-use Rattle.run_model.proofs.Undisturbed.{processors_on}
 
 -- each line's processor is one of n
 abbrev pub Cpus : ℕ → List RepliedLine → Type 0
@@ -30,7 +29,7 @@ pub own_no :
     → lines_of_processor c (t ∷ ts) ≡ lines_of_processor c ts
 own_no c t ts e = rw e refl
 
-differs : (a b : ℕ) → a < b → eqb a b ≡ false
+pub differs : (a b : ℕ) → a < b → eqb a b ≡ false
 differs a b h = at (cases_Bool (eqb a b)) where
   at : (eqb a b ≡ true) ⊎ (eqb a b ≡ false) → eqb a b ≡ false
   at (inl e) = let same : a ≡ b = eqb-true a b e in absurd (omega arith)
@@ -219,7 +218,7 @@ none_processors c (s ∷ ss) = ap (λ l. s ∷ l) (none_processors (suc c) ss)
 pub own_processors :
     (processors : List Processor) (ts : List RepliedLine)
     → Cpus (length processors) ts
-    → processors_after_lines 0 processors ts ≡ processors_on processors ts
+    → processors_after_lines 0 processors ts ≡ processors_behind processors ts
 own_processors processors [] h = none_processors 0 processors
 own_processors processors (t ∷ ts) h =
     sym (front_processors 0 t.line.cpu processors t ts (omega arith) h.0)

@@ -18,9 +18,10 @@ use Rattle.entry_model.proofs.PlanBounds.{EntersOnly, NoneWorn}
 use Rattle.hpt_walk.proofs.Granted.{IsGranted, IsGrantedWords, reply_granted, empty_granted}
 use Rattle.trace_reply.specs.Replies.{RepliedLine}
 use Rattle.run_model.specs.Stores.{Store, states_of}
-use Rattle.run_model.specs.Histories.{closing_from, closing_states, receipts_from_processor}
+use Rattle.run_model.specs.Histories.{closing_from, receipts_from_processor}
 use Rattle.run_model.specs.Sections.{section_end}
 use Rattle.run_model.proofs.Each.{each_map, each_filter, each_at, each_under}
+use Rattle.run_model.proofs.OneProcessor.{closing_size}
 use Rattle.run_model.proofs.SectionGood.{each_regrouped}
 
 -- ---- states
@@ -137,11 +138,6 @@ closing_from_size :
     → length (closing_from e states rs) ≡ length states
 closing_from_size e [] rs = refl
 closing_from_size e (s ∷ ss) rs = ap suc (closing_from_size (suc e) ss rs)
-
-pub closing_size :
-    (states : List State) (rs : List Receipt) → length (closing_states states rs) ≡ length states
-unfolding closing_states
-closing_size states rs = closing_from_size 0 states rs
 
 pub closed_size :
     (w : Store) (ts : List RepliedLine)

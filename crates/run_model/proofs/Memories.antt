@@ -1,5 +1,5 @@
 -- What the two resize calls keep of a partition at memory.
-use Rattle.std.specs.Prelude.{◌==◌, ◌&&◌, ◌||◌, nat_lt, nat_le, IfSome}
+use Rattle.std.specs.Prelude.{◌==◌, ◌||◌, nat_lt, nat_le, IfSome}
 use Rattle.std.proofs.Common.{◌≡◌, ℕ, ◌-◌, ◌^◌, ◌≤◌, Bool, true, false, refl, ◌⊎◌, inl, inr, not, List, length, Option, Some, None, arith}
 use Rattle.std.proofs.lemmas.Bool.{cond_both, and_parts, ltb-false, leb-true}
 use Rattle.papr_codes.specs.declared.codes.Rc.{Rc}

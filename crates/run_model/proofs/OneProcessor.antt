@@ -32,7 +32,6 @@ use Rattle.run_model.proofs.SectionGood.{each_regrouped, AllCpus, OnCpus, RunsAl
 use Rattle.run_model.proofs.Undisturbed.{AreUndisturbed}
 use Rattle.trace_line.specs.declared.line.TraceLine.{TraceLine}
 use Rattle.trace_line.specs.Lines.{is_quiet}
-use Rattle.trace_read.specs.Trace.{AcceptedTrace}
 use Rattle.trace_reply.specs.declared.reply.Reply.{Reply}
 use Rattle.trace_reply.specs.Replies.{RepliedLine, receipts_in, lines_with_replies}
 use Rattle.entry_model.specs.Fronts.{pair_beyond}
@@ -56,7 +55,7 @@ in_place x y h = at (rises x) where
       omega (arith, (flag y).0)
   at (inr more) = omega (arith, (flag x).1, (flag y).0)
 
-precedes_level : (x y : Receipt) → place x ≤ place y → precedes x y ≡ true
+pub precedes_level : (x y : Receipt) → place x ≤ place y → precedes x y ≡ true
 precedes_level x y h = grind (arith, nat_tests)
 
 put_first :

@@ -95,7 +95,7 @@ hit_current seg a line [] states b trial all run = absurd trial
 hit_current seg a line (r ∷ rs) states b trial all run =
     subst (IsCurrent line) (run.1.before ∙ ap (state_at states) trial.0.entry) all.0
 
-abbrev calls_by_walk : AccessContext → Segment → Request → List Call
+abbrev pub calls_by_walk : AccessContext → Segment → Request → List Call
 calls_by_walk set seg a = walk_calls set.order seg.page (mode_for seg a)
 
 way_is :

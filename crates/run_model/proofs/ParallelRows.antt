@@ -33,7 +33,7 @@ present =
       stamp = 1;
     }
 
-abbrev entered : Receipt
+abbrev pub entered : Receipt
 entered = receipt_of 0 (empty_state 0) (ops.Enter 0x1001 0x3012)
 
 abbrev read : State → Receipt

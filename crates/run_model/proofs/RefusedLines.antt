@@ -41,7 +41,7 @@ use Rattle.trace_read.specs.Trace.{AcceptedTrace, IsAccepted}
 use Rattle.trace_reply.specs.declared.reply.Reply.{Reply}
 use Rattle.trace_reply.specs.Replies.{RepliedLine}
 use Rattle.run_model.proofs.TableNamed.{IsTable, table_is, all_table}
-use Rattle.run_model.specs.StoreContexts.{StoreContext, access_of, table_context}
+use Rattle.run_model.specs.StoreContexts.{access_of, table_context}
 use Rattle.run_model.specs.Processors.{processor_after, processor_at, slots_or}
 use Rattle.run_model.specs.Histories.{lines_of_processor}
 use Rattle.run_model.specs.LineReplies.{IsCallReply, IsReplyToAccess}

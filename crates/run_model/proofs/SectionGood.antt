@@ -26,7 +26,7 @@ use Rattle.entry_model.specs.Fronts.{pair_beyond}
 use Rattle.run_model.specs.GoodRun.{EachLineOfProcessor, IsAccessLine, IsGoodSection}
 use Rattle.run_model.specs.Histories.{lines_of_processor, receipts_by, closing_from, closing_states, Event, made, InOrder, gone_events, events_by}
 use Rattle.run_model.specs.LineReplies.{IsCallReply}
-use Rattle.run_model.specs.Processors.{processor_at, processor_after, processors_after, gone_line_of}
+use Rattle.run_model.specs.Processors.{processor_at, processor_after, processors_after, gone_line_of, processors_behind}
 use Rattle.run_model.specs.Quiet.{QuietPart}
 use Rattle.run_model.specs.QuietLines.{run_resize, run_quiet_line}
 use Rattle.run_model.specs.Sections.{Section, made_in, closing, section_end, after_quiet, quiet_on, section_of, processors_after_lines, sections_from}
@@ -34,7 +34,7 @@ use Rattle.run_model.specs.StoreContexts.{StoreContext, access_of}
 use Rattle.run_model.specs.Stores.{Store, context_of, states_of}
 use Rattle.run_model.proofs.Each.{each_filter}
 use Rattle.run_model.proofs.LinesByProcessor.{Cpus, InFileOrder, own_yes, own_no, processor_own, processor_other, processors_size, cpus_after, own_lines, own_processors, file_listed}
-use Rattle.run_model.proofs.Undisturbed.{AreUndisturbed, processors_on}
+use Rattle.run_model.proofs.Undisturbed.{AreUndisturbed}
 use Rattle.papr_codes.specs.declared.calls.Hcall.TheVariants as calls
 use Rattle.trace_line.specs.declared.act.Act.TheVariants as acts
 
@@ -248,7 +248,7 @@ replied_lines_calls set processors a b [] h = tt
 replied_lines_calls set processors a b (t ∷ ts) h =
     (h.1.call, replied_lines_calls set (processors_after processors t) h.0 b ts h.2)
 
-gone_on :
+pub gone_on :
     (a b : List State) (rs : List Receipt) (line : Option Line)
     → IsRun a rs b
     → IfSome line (λ l. l.stamp < (state_at a l.entry).stamp)
@@ -287,7 +287,7 @@ abbrev pub behind : Section → List State → Store
 behind s b =
     record s.before {
       memory = with_states s.before.memory b;
-      processors = processors_on s.before.processors s.replied_lines;
+      processors = processors_behind s.before.processors s.replied_lines;
     }
 
 -- The quiet line has the reply of that store.
@@ -327,7 +327,8 @@ pub closes : (s : Section) (b : List State) → OnCpus s → RunsAlone s b → c
 unfolding section_end
 closes s b within h =
     let states : closing_states (states_of s.before) (made_in s) ≡ b = alone_closes s b within h in
-    let processors : processors_after_lines 0 s.before.processors s.replied_lines ≡ processors_on
+    let processors :
+    processors_after_lines 0 s.before.processors s.replied_lines ≡ processors_behind
     s.before.processors s.replied_lines = own_processors s.before.processors s.replied_lines
     within in
     λ i.
@@ -387,7 +388,7 @@ Stands on s ts (q ∷ qs) =
 
 pub processors_on_size :
     (processors : List Processor) (ts : List RepliedLine)
-    → length (processors_on processors ts) ≡ length processors
+    → length (processors_behind processors ts) ≡ length processors
 processors_on_size processors [] = refl
 processors_on_size processors (t ∷ ts) =
     processors_on_size (processors_after processors t) ts ∙ processors_size processors t

@@ -38,6 +38,7 @@ use Rattle.run_model.specs.Sections.{Section, made_in, closing, section_end, sec
 use Rattle.trace_reply.specs.Replies.{RepliedLine}
 use Rattle.run_model.specs.QuietLines.{reply_of_code, run_quiet_line, run_resize, shown_of}
 use Rattle.run_model.specs.Stores.{context_of, is_on}
+use Rattle.run_model.proofs.ParallelRows.{entered}
 use Rattle.run_model.proofs.SmallPartition.{small}
 use Rattle.entry_model.specs.declared.operation.Op.TheVariants as ops
 use Rattle.trace_reply.specs.declared.reply.Reply.TheVariants as replies
@@ -61,9 +62,6 @@ at_stamp stamp =
 
 with_r : State
 with_r = record (at_stamp 2) { referenced = true }
-
-entered : Receipt
-entered = receipt_of 0 (empty_state 0) (ops.Enter 0x1001 0x3012)
 
 protected : Receipt
 protected = receipt_of 0 (at_stamp 1) (ops.Protect (record { avpn = None; andcond = None }) 0x2)

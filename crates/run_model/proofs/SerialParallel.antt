@@ -16,7 +16,7 @@ use Rattle.entry_model.specs.History.{bits, pair_of}
 use Rattle.entry_model.specs.Fronts.{front_at, opening_fronts, fronts_after, AreBelow, KeepsFronts, IsGone}
 use Rattle.entry_model.proofs.RunFollows.{run_follows}
 use Rattle.entry_model.proofs.FrontLaws.{below_self, below_on, lower_keeps}
-use Rattle.entry_model.proofs.LineLaws.{run_leaves, run_past}
+use Rattle.entry_model.proofs.LineLaws.{run_past}
 use Rattle.tlb_model.specs.Processor.{Processor}
 use Rattle.trace_line.specs.declared.act.Act.{Act}
 use Rattle.trace_read.specs.Trace.{AcceptedTrace, IsAccepted}
@@ -32,13 +32,13 @@ use Rattle.run_model.specs.StoreContexts.{StoreContext}
 use Rattle.run_model.specs.Stores.{Store, context_of, states_of, opening_stores, is_on}
 use Rattle.run_model.proofs.Each.{each_map}
 use Rattle.run_model.proofs.LinesByProcessor.{Cpus, own_yes, own_no, processor_own, processor_other, cpus_after, own_processors, file_listed}
-use Rattle.run_model.proofs.SectionGood.{AllCpus, OnCpus, RunsAlone, QuietMeets, Stands, behind, alone_run, within_run, each_regrouped, section_legal, follows_pair, stamp_pair, on_cpus, after_size, processors_on_size}
+use Rattle.run_model.proofs.SectionGood.{AllCpus, OnCpus, RunsAlone, QuietMeets, Stands, behind, alone_run, within_run, each_regrouped, section_legal, follows_pair, stamp_pair, on_cpus, after_size, processors_on_size, gone_on}
 use Rattle.run_model.proofs.StoreSerial.{RunsHere, each_runs, serial_cpus}
 use Rattle.run_model.proofs.Undisturbed.{IsUndisturbed, AreUndisturbed}
 use Rattle.hpt_resize.specs.TableMemory.{with_states}
 
 -- ---- the fronts of states
-front_of : (a : List State) (e : ℕ) → front_at (opening_fronts a) e ≡ pair_of (state_at a e)
+pub front_of : (a : List State) (e : ℕ) → front_at (opening_fronts a) e ≡ pair_of (state_at a e)
 unfolding pair_of
 front_of [] e = refl
 front_of (s ∷ a) zero = refl
@@ -89,7 +89,7 @@ gone_by b line h = let high :
     stamp_pair line.stamp (state_at b line.entry) h in omega
     (arith, high, front_of b line.entry)
 
-bits_few : (r c : Bool) → (if r then 1 else 0) + (if c then 1 else 0) ≤ 2
+pub bits_few : (r c : Bool) → (if r then 1 else 0) + (if c then 1 else 0) ≤ 2
 bits_few true true = omega arith
 bits_few true false = omega arith
 bits_few false true = omega arith
@@ -120,14 +120,6 @@ left_gone :
     → IfSome line (IsGone (opening_fronts mid))
 left_gone mid None h = tt
 left_gone mid (Some line) h = gone_by mid line h
-
-gone_on :
-    (a mid : List State) (rs : List Receipt) (line : Option Line)
-    → IsRun a rs mid
-    → IfSome line (λ l. l.stamp < (state_at a l.entry).stamp)
-    → IfSome line (λ l. l.stamp < (state_at mid l.entry).stamp)
-gone_on a mid rs None run h = tt
-gone_on a mid rs (Some line) run h = run_leaves a mid rs line run h
 
 past_by :
     (a mid : List State) (rs : List Receipt) (line : Option Line)

@@ -1,5 +1,5 @@
 -- A run is good store by store exactly where it is good section by section.
-use Rattle.std.specs.Prelude.{Option, Some, None, ◌↔◌}
+use Rattle.std.specs.Prelude.{Some, None, ◌↔◌}
 use Rattle.std.proofs.Common.{◌≡◌, List, [], ◌∷◌, ap, sym, ◌∙◌, subst}
 use Rattle.std.specs.List.{AllByRecursion}
 use Rattle.bus_window.specs.Windows.{BusWindow}
@@ -9,7 +9,7 @@ use Rattle.trace_reply.specs.Replies.{RepliedLine, lines_with_replies}
 use Rattle.run_model.specs.Quiet.{QuietPart, cut}
 use Rattle.run_model.proofs.Each.{each_map, each_both, over_map, under_map}
 use Rattle.run_model.specs.Stores.{Store, is_on, opening_stores}
-use Rattle.run_model.specs.Sections.{Section, closing, after_quiet, sections_from}
+use Rattle.run_model.specs.Sections.{Section, closing, sections_from}
 use Rattle.run_model.specs.GoodRun.{IsGoodSection, IsGoodRun}
 use Rattle.run_model.specs.SideBySide.{part_on, left_by, stores_behind, AreGood, IsGoodSideBySide}
 use Rattle.run_model.proofs.TableNamed.{after_window, closed_window}

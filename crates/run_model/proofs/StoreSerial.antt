@@ -1,7 +1,7 @@
 -- In the serial run of all stores the lines on each store run alone there: the page table and the
 -- windows alike.
 use Rattle.std.specs.Prelude.{IfSome, Bool, ◌==◌, if◌then◌else◌}
-use Rattle.std.proofs.Common.{◌≡◌, ℕ, List, [], ◌∷◌, true, false, ap, sym, ◌∙◌, refl, subst, map, length, ◌⊎◌, inl, inr, Option, Some, None, arith, ◌^◌, ◌<◌}
+use Rattle.std.proofs.Common.{◌≡◌, ℕ, List, [], ◌∷◌, true, false, ap, sym, ◌∙◌, refl, subst, map, length, ◌⊎◌, inl, inr, Option, Some, None, arith, ◌^◌}
 use Rattle.std.specs.List.{AllByRecursion}
 use Rattle.std.proofs.lemmas.Bool.{cases_Bool, cond_both, eqb-true}
 use Rattle.std.proofs.lemmas.List.{length-replicate}
@@ -18,7 +18,7 @@ use Rattle.tlb_model.specs.Processor.{Processor, new_processor, without_cache}
 use Rattle.trace_line.specs.Lines.{is_quiet}
 use Rattle.trace_line.specs.declared.act.Act.{Act}
 use Rattle.trace_line.specs.declared.line.TraceLine.{TraceLine}
-use Rattle.trace_read.specs.Configuration.{Configuration, NumbersDiffer}
+use Rattle.trace_read.specs.Configuration.{NumbersDiffer}
 use Rattle.trace_read.specs.Trace.{AcceptedTrace, IsAccepted}
 use Rattle.trace_reply.specs.declared.reply.Reply.{Reply}
 use Rattle.trace_reply.specs.Replies.{RepliedLine, AreReplies, IsOfKind, lines_with_replies}
@@ -36,7 +36,7 @@ use Rattle.run_model.proofs.SectionGood.{AllCpus, Stands, sections_good}
 use Rattle.run_model.proofs.SerialGood.{cut_cpus, lines_on_cpus, opening_processors, one_kind}
 use Rattle.run_model.proofs.SerialReplies.{replied_line_meets}
 use Rattle.run_model.proofs.StoreLines.{other_window, on_first, off_first, SomeHas, names, opening_has}
-use Rattle.run_model.proofs.TableNamed.{IsTable, quiet_window, line_window, opening_table}
+use Rattle.run_model.proofs.TableNamed.{quiet_window, line_window, opening_table}
 use Rattle.run_model.proofs.Undisturbed.{IsUndisturbed}
 use Rattle.papr_codes.specs.declared.calls.Hcall.TheVariants as calls
 use Rattle.trace_line.specs.declared.act.Act.TheVariants as acts
@@ -238,7 +238,8 @@ quiet_off_front :
     → Stands on s [] ((t, x.0) ∷ x.1)
 quiet_off_front on s t x off h = rw off (states_of s, refl, tt, h)
 
-quiet_is : (s : Store) (l : TraceLine) → is_quiet l.act ≡ true → run_on s l ≡ run_quiet_line s l.act
+pub quiet_is :
+    (s : Store) (l : TraceLine) → is_quiet l.act ≡ true → run_on s l ≡ run_quiet_line s l.act
 unfolding run_on
 quiet_is s l q = rw q refl
 

@@ -1,5 +1,5 @@
 -- The page table's entries are no window's: in each section of a run, and after each quiet line.
-use Rattle.std.proofs.Common.{◌≡◌, ℕ, List, [], ◌∷◌, ap, sym, ◌∙◌, refl, true, false, ◌⊎◌, inl, inr}
+use Rattle.std.proofs.Common.{◌≡◌, ℕ, List, [], ◌∷◌, ap, ◌∙◌, refl, true, false, ◌⊎◌, inl, inr}
 use Rattle.std.specs.Prelude.{Bool, Option, Some, None}
 use Rattle.std.specs.List.{AllByRecursion}
 use Rattle.bus_window.specs.Windows.{BusWindow}
@@ -41,6 +41,18 @@ pub quiet_window : (w : Store) (act : Act) → (run_quiet_line w act).1.window �
 unfolding run_quiet_line
 quiet_window w (acts.Call number args spelt) = resize_window w (hcall_of number) args
 quiet_window w other = refl
+
+resize_grants :
+    (w : Store) (call : Hcall) (args : List ℕ) → (run_resize w call args).1.grants ≡ w.grants
+unfolding run_resize
+resize_grants w calls.Prepare args = refl
+resize_grants w calls.Commit args = refl
+resize_grants w other args = refl
+
+pub quiet_grants : (w : Store) (act : Act) → (run_quiet_line w act).1.grants ≡ w.grants
+unfolding run_quiet_line
+quiet_grants w (acts.Call number args spelt) = resize_grants w (hcall_of number) args
+quiet_grants w other = refl
 
 -- So of each line.
 pub line_window : (w : Store) (l : TraceLine) → (run_on w l).1.window ≡ w.window

@@ -1,7 +1,7 @@
 -- A table has as many entries as its order says, and one of the orders that the project allows,
 -- after each line of a serial run.
 use Rattle.std.specs.Prelude.{slice_index, IfSome}
-use Rattle.std.proofs.Common.{◌≡◌, ℕ, ◌-◌, ◌^◌, ◌<◌, ◌≤◌, List, [], ◌∷◌, Bool, true, false, Option, Some, None, length, refl, sym, ◌∙◌, subst, arith, ◌⊎◌, inl, inr}
+use Rattle.std.proofs.Common.{◌≡◌, ℕ, ◌^◌, ◌<◌, ◌≤◌, List, [], ◌∷◌, Bool, true, false, Option, Some, None, length, refl, sym, ◌∙◌, subst, arith, ◌⊎◌, inl, inr}
 use Rattle.hpte_fields.proofs.TableSizes.{entries_few}
 use Rattle.std.proofs.lemmas.Bool.{cases_Bool, cond_both}
 use Rattle.std.proofs.lemmas.List.{length-set}
@@ -35,10 +35,10 @@ use Rattle.trace_line.specs.declared.act.Act.{Act}
 use Rattle.trace_line.specs.declared.line.TraceLine.{TraceLine}
 use Rattle.trace_line.specs.Lines.{is_quiet}
 use Rattle.trace_read.specs.Trace.{AcceptedTrace, IsAccepted}
-use Rattle.run_model.specs.StoreContexts.{StoreContext, access_of, table_context}
+use Rattle.run_model.specs.StoreContexts.{StoreContext, access_of}
 use Rattle.run_model.specs.LineReplies.{hcall_plan}
 use Rattle.run_model.specs.Processors.{processor_at}
-use Rattle.run_model.specs.Stores.{Store, context_of, states_of, page_table, trace_lines_on, is_on}
+use Rattle.run_model.specs.Stores.{Store, context_of, states_of, page_table}
 use Rattle.run_model.specs.QuietLines.{run_resize, run_quiet_line}
 use Rattle.run_model.specs.OpeningAgain.{memory_after}
 use Rattle.run_model.proofs.FirstStore.{first_after}

@@ -8,9 +8,6 @@ use Rattle.tlb_model.specs.Processor.{Processor}
 use Rattle.trace_reply.specs.Replies.{RepliedLine, receipts_in}
 use Rattle.run_model.specs.Processors.{processor_at, processors_after, gone_line_of}
 use Rattle.run_model.specs.LineReplies.{IsCallReply, IsReplyToAccess}
-use Rattle.run_model.specs.Stores.{Store, context_of, states_of}
-use Rattle.run_model.specs.QuietLines.{run_quiet_line}
-use Rattle.hpt_resize.specs.TableMemory.{with_states}
 
 -- A line that isn't quiet, from these states to those.
 pub record IsUndisturbed (set : StoreContext) (processor : Processor) (a : List State)
@@ -30,7 +27,3 @@ AreUndisturbed set processors a (t ∷ ts) b =
     (mid : List State)
     × IsUndisturbed set (processor_at processors t.line.cpu) a t mid
     × AreUndisturbed set (processors_after processors t) mid ts b
-
-abbrev pub processors_on : List Processor → List RepliedLine → List Processor
-processors_on processors [] = processors
-processors_on processors (t ∷ ts) = processors_on (processors_after processors t) ts

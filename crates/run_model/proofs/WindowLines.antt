@@ -1,5 +1,5 @@
 -- Lines on a window use nothing of a processor, and change none.
-use Rattle.std.specs.Prelude.{replicate, slice_set, slice_index_or, Bool}
+use Rattle.std.specs.Prelude.{replicate, slice_set, slice_index_or}
 use Rattle.std.proofs.Common.{◌≡◌, ℕ, zero, suc, List, [], ◌∷◌, true, ap, ◌∙◌, refl, length, map, Some}
 use Rattle.std.specs.List.{AllByRecursion}
 use Rattle.std.proofs.lemmas.List.{length-replicate}
@@ -19,9 +19,9 @@ use Rattle.run_model.specs.Processors.{processor_at, processor_after, processors
 use Rattle.run_model.specs.Sections.{section_end_on, processor_after_lines, processors_after_lines}
 use Rattle.run_model.specs.SerialRun.{line_result, with_result, run_on}
 use Rattle.run_model.specs.StoreContexts.{window_context}
-use Rattle.run_model.specs.Stores.{Store, page_table, opening_window, opening_store, opening_stores, window_store, is_on_window, lines_on}
+use Rattle.run_model.specs.Stores.{page_table, opening_window, opening_store, opening_stores, window_store, is_on_window, lines_on}
 use Rattle.run_model.proofs.Each.{each_at, each_filter, each_passes, each_replicate}
-use Rattle.run_model.proofs.SerialGood.{opening_processors}
+use Rattle.run_model.proofs.LowStampRuns.{opening_grants}
 use Rattle.run_model.proofs.StoreLines.{on_window_bus, on_window_plain}
 use Rattle.trace_line.specs.declared.act.Act.TheVariants as acts
 
@@ -116,9 +116,6 @@ window_closes_on grants n w a b ts =
     (each_passes (λ (t : RepliedLine). is_on_window w t.line.act) ts))
 
 -- ---- the opening stores
-opening_grants : (c : Configuration) → (page_table c).grants ≡ c.granted.grants
-unfolding page_table
-opening_grants c = refl
 
 opening_count : (c : Configuration) → length (page_table c).processors ≡ c.cpus
 unfolding page_table

@@ -1,6 +1,6 @@
 -- In a good run no entry is worn, of the page table or of a window, and each access of a device
 -- lands by its TCE.
-use Rattle.std.proofs.Common.{◌≡◌, ℕ, ◌+◌, ◌*◌, ◌^◌, ◌<◌, ◌≤◌, List, [], ◌∷◌, Bool, true, false, sym, ap, ◌∙◌, refl, subst, ◌⊎◌, inl, inr, length, Option, Some, None, arith}
+use Rattle.std.proofs.Common.{◌≡◌, ℕ, ◌+◌, ◌*◌, ◌<◌, ◌≤◌, List, [], ◌∷◌, Bool, true, false, sym, ap, ◌∙◌, refl, subst, ◌⊎◌, inl, inr, length, Option, Some, None, arith}
 use Rattle.std.specs.Prelude.{IfSome}
 use Rattle.std.specs.List.{AllByRecursion}
 use Rattle.std.proofs.lemmas.Bool.{cases_Bool, false≢true, true≢false}
@@ -10,7 +10,6 @@ use Rattle.dma_window.specs.Devices.{IsDeviceReplyBy, logical_of, outcome_by, ou
 use Rattle.dma_window.specs.Entries.{address_of, permits, tce_of}
 use Rattle.dma_window.specs.Pages.{is_ram}
 use Rattle.dma_window.proofs.Ungranted.{ungranted_where}
-use Rattle.frame_grants.specs.declared.grant.Grant.{Grant}
 use Rattle.frame_grants.specs.declared.grant.Kind.{Kind}
 use Rattle.frame_grants.specs.Grants.{GrantedMemory, AreApart, machine_range}
 use Rattle.frame_grants.proofs.Landing.{lands_off_pool}
@@ -26,7 +25,6 @@ use Rattle.entry_model.specs.Trial.{IsTrial, call}
 use Rattle.entry_model.proofs.Heights.{height, weight, weight_regrouped}
 use Rattle.entry_model.proofs.Regroup.{regrouped_back}
 use Rattle.tlb_model.specs.Processor.{new_processor}
-use Rattle.hpt_walk.specs.Access.{AccessContext}
 use Rattle.trace_line.specs.Lines.{is_quiet, most_lines}
 use Rattle.trace_line.specs.declared.act.Act.{Act}
 use Rattle.trace_line.specs.declared.act.Act.TheVariants as acts
@@ -38,7 +36,7 @@ use Rattle.trace_reply.specs.declared.reply.Reply.TheVariants as replies
 use Rattle.trace_reply.specs.Replies.{RepliedLine, AreReplies, receipts_in, lines_with_replies}
 use Rattle.run_model.specs.Quiet.{QuietPart, cut}
 use Rattle.run_model.specs.GoodRun.{IsGoodSection, IsGoodOn, IsGoodRun}
-use Rattle.run_model.specs.Histories.{receipts_by, receipts_from_processor}
+use Rattle.run_model.specs.Histories.{receipts_by}
 use Rattle.run_model.specs.LineReplies.{IsDeviceLine, IsCallReply}
 use Rattle.run_model.specs.Sections.{made_in, closing, section_end, after_quiet, quiet_on, section_of, sections_from}
 use Rattle.run_model.specs.StoreContexts.{StoreContext, window_context}
@@ -54,7 +52,7 @@ use Rattle.run_model.proofs.TableNamed.{opening_table}
 use Rattle.run_model.proofs.LineReceipts.{each_receipt, receipts_of_each, weight_by_lines}
 use Rattle.run_model.proofs.LinesByProcessor.{Cpus, file_listed}
 use Rattle.run_model.proofs.SectionGood.{each_regrouped}
-use Rattle.run_model.proofs.LowStamps.{top, fine_below, closing_size, states_kept}
+use Rattle.run_model.proofs.LowStamps.{top, fine_below, states_kept, closed_size}
 use Rattle.run_model.proofs.RamBytes.{byte_is_ram}
 use Rattle.run_model.proofs.WindowStates.{HasTce, IsTceState, empty_tce, TceOp, tce_kept, IsTceLine, tce_line}
 
@@ -243,12 +241,6 @@ closed_tces granted cpus w n m s ts h states =
       states = states;
     }
 
-end_size :
-    (s : Store) (ts : List RepliedLine)
-    → length (states_of (section_end s ts)) ≡ length (states_of s)
-unfolding section_end
-end_size s ts = closing_size (states_of s) (receipts_from_processor (length s.processors) 0 ts)
-
 section_safe :
     (granted : GrantedMemory) (cpus : ℕ) (ws : List BusWindow) (w : BusWindow) (n m : ℕ) (s : Store)
     (ts : List RepliedLine) (quiet : Option RepliedLine)
@@ -290,7 +282,7 @@ section_safe granted cpus ws w n m s ts quiet apart first lines low high good =
     (λ t h. h.made) made) in
     let all = states_kept (TceOp granted.grants) (IsTceState granted.grants) n m (states_of s)
     (states_of (closing x)) (made_in x) (tce_kept granted.grants) (empty_tce granted.grants n)
-    first.states good.legal.in_table good.legal.legal (end_size s us)
+    first.states good.legal.in_table good.legal.legal (closed_size s us)
     (each_regrouped (λ (r : Receipt). TceOp granted.grants r.op) listed ops)
     (omega (arith, filter_length on ts)) in
     let back : FromTces granted m (receipts_by us) = each_regrouped

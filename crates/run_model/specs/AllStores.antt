@@ -1,8 +1,11 @@
 -- The stores of a run as a machine carries them: of a window which it is, and what its entries
 -- hold.
-use Rattle.std.specs.Prelude.{List, ◌∷◌, map, length}
+use Rattle.std.specs.Prelude.{List, ◌∷◌, map, length, None}
 use Rattle.bus_window.specs.Windows.{BusWindow}
 use Rattle.entry_model.specs.State.{State}
+use Rattle.frame_grants.specs.declared.grant.Grant.{Grant}
+use Rattle.hpt_resize.specs.TableMemory.{TableMemory}
+use Rattle.tlb_model.specs.Processor.{Processor}
 use Rattle.trace_read.specs.Configuration.{Configuration}
 use Rattle.run_model.specs.Stores.{Store, page_table, opening_window, window_store}
 
@@ -28,6 +31,23 @@ as_store table v = window_store table.grants (length table.processors) v.states 
 -- The page table, and each window.
 abbrev pub all_stores : AllStores → List Store
 all_stores s = s.table ∷ map (as_store s.table) s.windows
+
+-- The page table of this memory, where this is granted, with these processors.
+abbrev pub table_store : List Grant → TableMemory → List Processor → Store
+table_store grants memory processors = record {
+  grants = grants;
+  window = None;
+  memory = memory;
+  processors = processors;
+}
+
+-- The stores of a machine with such a page table and these windows.
+abbrev pub machine_stores :
+    List Grant → TableMemory → List Processor → List WindowState → AllStores
+machine_stores grants memory processors windows = record {
+  table = table_store grants memory processors;
+  windows = windows;
+}
 
 -- A window before the first line.
 abbrev pub opened : BusWindow → WindowState

@@ -3,6 +3,7 @@ pub mod Quiet
 pub mod Stores
 pub mod QuietLines
 pub mod AllStores
+pub mod StoreNumbers
 pub mod HeldLines
 pub mod Processors
 pub mod LineReplies

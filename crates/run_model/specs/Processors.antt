@@ -1,6 +1,6 @@
 -- The processors of a partition: what each keeps after one of its lines, by that line and its reply
 -- alone.
-use Rattle.std.specs.Prelude.{ℕ, List, Option, Some, None, slice_index_or, slice_set}
+use Rattle.std.specs.Prelude.{ℕ, List, [], ◌∷◌, Option, Some, None, slice_index_or, slice_set}
 use Rattle.entry_model.specs.declared.line.Line.{Line}
 use Rattle.slb_model.specs.declared.error.BadSlb.{BadSlb}
 use Rattle.slb_model.specs.declared.slot.Slot.{Slot}
@@ -43,6 +43,11 @@ processors_after processors t =
     processors
     t.line.cpu
     (processor_after (processor_at processors t.line.cpu) t.line.act t.reply)
+
+-- The processors behind these lines.
+abbrev pub processors_behind : List Processor → List RepliedLine → List Processor
+processors_behind processors [] = processors
+processors_behind processors (t ∷ ts) = processors_behind (processors_after processors t) ts
 
 -- The cached line that was gone when a line was run: that of the page which an access then walked.
 abbrev pub gone_line_of : Processor → Act → Reply → Option Line

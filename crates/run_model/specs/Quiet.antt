@@ -1,6 +1,8 @@
 -- Lines cut at the quiet ones.
-use Rattle.std.specs.Prelude.{List, [], ◌∷◌, if◌then◌else◌}
+use Rattle.std.specs.Prelude.{◌≡◌, ℕ, ◌<◌, false, List, [], ◌∷◌, if◌then◌else◌}
+use Rattle.std.specs.List.{AllByRecursion}
 use Rattle.trace_line.specs.Lines.{is_quiet}
+use Rattle.trace_line.specs.declared.line.TraceLine.{TraceLine}
 use Rattle.trace_reply.specs.Replies.{RepliedLine}
 
 -- A quiet line, and the lines behind it up to the next one.
@@ -16,3 +18,11 @@ cut_before t x = if is_quiet t.line.act then ([], (t, x.0) ∷ x.1) else (t ∷ 
 abbrev pub cut : List RepliedLine → List RepliedLine × List QuietPart
 cut [] = ([], [])
 cut (t ∷ ts) = cut_before t (cut ts)
+
+-- None of the lines is quiet.
+abbrev pub NoneQuiet : List TraceLine → Type 0
+NoneQuiet ls = AllByRecursion (λ (l : TraceLine). is_quiet l.act ≡ false) ls
+
+-- Each line's processor is one of so many.
+abbrev pub AreOnProcessors : ℕ → List TraceLine → Type 0
+AreOnProcessors cpus ls = AllByRecursion (λ (l : TraceLine). l.cpu < cpus) ls

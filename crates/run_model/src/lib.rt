@@ -12,6 +12,7 @@ mod bus_lines;
 mod calls;
 mod laws;
 mod store_laws;
+mod store_numbers;
 mod surroundings;
 mod windows;
 
@@ -25,5 +26,6 @@ pub use laws::{
     serial_is_good, serial_is_parallel, serial_puts_are_not_busy, zero_masks_refuse_nothing,
 };
 pub use store_laws::{changes_have_places_of_their_own, refused_calls_leave_entries};
+pub use store_numbers::{store_of, window_of};
 pub use surroundings::Surroundings;
 pub use windows::{WINDOW_ORDER, WindowEntries, open_windows};

@@ -1,5 +1,5 @@
 -- A line whose number follows on the last one, and lines past the most that may be.
-use Rattle.std.proofs.Common.{◌≡◌, ◌∙◌, ◌<◌, sym, ℕ, ◌+◌, ◌-◌, ◌^◌, ◌≤◌, List, ◌∷◌, Err, refl, arith}
+use Rattle.std.proofs.Common.{◌≡◌, ◌∙◌, ◌<◌, sym, ℕ, ◌+◌, ◌-◌, ◌≤◌, List, ◌∷◌, Err, refl, arith}
 use Rattle.std.proofs.lemmas.Bool.{le-ltb, lt-ltb}
 use Rattle.trace_read.specs.declared.given.LineRefused.{LineRefused}
 use Rattle.trace_read.specs.declared.given.LineRefused.TheVariants as refusals

@@ -12,7 +12,7 @@ use Rattle.trace_read.specs.declared.verbs.Verb.{Verb}
 use Rattle.trace_read.specs.declared.verbs.Verb.TheVariants as verbs
 use Rattle.trace_read.specs.declared.why.Why.{Why}
 use Rattle.trace_read.specs.declared.why.Why.TheVariants as whys
-use Rattle.trace_read.specs.Acts.{number_at, arguments_from, mode_at, act_by, run_act, dump_act}
+use Rattle.trace_read.specs.Acts.{number_at, arguments_from, mode_at, act_by, read_act, dump_act}
 use Rattle.trace_read.specs.Configuration.{Configuration}
 use Rattle.trace_line.specs.Lines.{is_quiet, is_dump}
 use Rattle.trace_read.specs.Counts.{may_add, dump_count, quiet_count}
@@ -226,8 +226,8 @@ plain_act verbs.SlbClear ws = plain_ok _
 plain_act (verbs.SetMask name) ws = plain_steps _ _ (plain_number ws 2) (λ value. plain_ok _)
 
 pub plain_run :
-    (cpus : ℕ) (verb : Option Verb) (ws : List (List ℕ)) → IsPlain (run_act cpus verb ws)
-unfolding run_act
+    (cpus : ℕ) (verb : Option Verb) (ws : List (List ℕ)) → IsPlain (read_act cpus verb ws)
+unfolding read_act
 plain_run cpus verb ws =
     plain_steps _ _ (plain_required verb whys.Count refl)
     (λ named. plain_steps _ _ (plain_guard _ whys.Count refl)

@@ -12,7 +12,7 @@ use Rattle.trace_line.specs.Lines.{is_quiet}
 use Rattle.trace_read.specs.declared.given.Given.TheVariants as givens
 use Rattle.trace_read.specs.declared.why.Why.TheVariants as whys
 use Rattle.trace_read.specs.declared.stage.Stage.TheVariants as stages
-use Rattle.trace_read.specs.Acts.{number_at, arguments_from, mode_at, act_by, run_act, dump_act}
+use Rattle.trace_read.specs.Acts.{number_at, arguments_from, mode_at, act_by, read_act, dump_act}
 use Rattle.trace_read.specs.Counts.{may_add}
 use Rattle.trace_read.specs.Forms.{call_named, other_verb, verb_of, form_named, run_form, form_of}
 use Rattle.trace_read.specs.Givens.{given_of, refused_grant, is_setting}
@@ -27,7 +27,7 @@ unfoldable lines_on_literals : ⊤
 unfolding after_lines after_line after_text after_words after_form form_of form_named run_form
     verb_of call_named other_verb number_within with_order with_limit with_cpus pool_named with_pool
     grant_named with_granted with_begin number_at number_of range_refusal add_refusal grant_refusals
-    with_grant run_act dump_act act_by arguments_from mode_at after_act may_add is_quiet hcall_of
+    with_grant read_act dump_act act_by arguments_from mode_at after_act may_add is_quiet hcall_of
     row_of
 lines_on_literals = tt
 

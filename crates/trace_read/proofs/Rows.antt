@@ -5,213 +5,16 @@ use Rattle.frame_grants.specs.declared.grant.Kind.TheVariants.{Ram}
 use Rattle.frame_grants.specs.Grants.{no_grant, no_grants, add_refusal, refusals as grant_refusals, with_grant}
 use Rattle.pool_range.specs.Ranges.{range_refusal}
 use Rattle.papr_codes.specs.Hcalls.{hcall_of, row_of}
-use Rattle.storage_prot.specs.declared.want.Want.TheVariants.{Load, Store, Fetch}
-use Rattle.trace_line.specs.declared.act.Act.{Act}
-use Rattle.authority_mask.specs.declared.masks.MaskName.TheVariants.{Amr, Iamr}
-use Rattle.trace_line.specs.declared.act.Act.TheVariants.{Call, Access, Device, SlbMte, SlbClear, SetMask, Dump}
-use Rattle.trace_line.specs.declared.line.TraceLine.{TraceLine}
+use Rattle.trace_line.specs.declared.act.Act.TheVariants.{Call, Dump}
 use Rattle.trace_read.specs.declared.why.Why.TheVariants as whys
-use Rattle.trace_read.specs.Acts.{number_at, arguments_from, mode_at, act_by, run_act, dump_act}
+use Rattle.trace_read.specs.Acts.{number_at, arguments_from, mode_at, act_by, read_act, dump_act}
 use Rattle.trace_read.specs.Counts.{may_add}
 use Rattle.trace_read.specs.Forms.{call_named, other_verb, verb_of, form_named, run_form, form_of}
 use Rattle.trace_read.specs.Grammar.{opening_reading, after_act, after_form, after_words, after_text, after_line, after_lines, trace_of}
 use Rattle.trace_read.specs.Numbers.{number_of}
 use Rattle.trace_read.specs.Settings.{default_settings, number_within, with_order, with_limit, with_cpus, pool_named, with_pool, grant_named, with_granted, with_begin}
 use Rattle.trace_line.specs.Lines.{is_quiet}
-
-run_line : ℕ → ℕ → Act → TraceLine
-run_line number cpu act = record { number = number; cpu = cpu; act = act }
-
--- ---- accepted
--- Nothing but `begin`: every value is the default.
-defaults :
-    trace_of (codes "begin")
-    ≡ Ok
-    (record {
-      config =
-          record {
-            order = 18;
-            limit = 22;
-            cpus = 1;
-            granted = record { pool_base = 0x1000000000; pool_order = 24; grants = [] };
-            entries = [];
-            windows = [];
-          };
-      lines = [];
-    })
-unfolding trace_of after_lines after_line after_text after_words after_form form_of form_named
-    run_form verb_of call_named other_verb number_within with_order with_limit with_cpus pool_named
-    with_pool grant_named with_granted with_begin number_at number_of range_refusal add_refusal
-    grant_refusals with_grant run_act dump_act act_by arguments_from mode_at after_act may_add
-    is_quiet hcall_of row_of
-defaults = refl
-
--- Every configuration line; the grant lies where the default pool would.
-configured :
-    trace_of
-    (codes
-    "order 19\nlimit 20\ncpus 64\npool 0x2000000000 20\nram 0x0 0x1000000000 0x1000\nbegin\n")
-    ≡ Ok
-    (record {
-      config =
-          record {
-            order = 19;
-            limit = 20;
-            cpus = 64;
-            granted =
-                record {
-                  pool_base = 0x2000000000;
-                  pool_order = 20;
-                  grants =
-                      record {
-                        logical = 0;
-                        machine = 0x1000000000;
-                        length = 0x1000;
-                        kind = Ram;
-                      }
-                      ∷ [];
-                };
-            entries = [];
-            windows = [];
-          };
-      lines = [];
-    })
-unfolding trace_of after_lines after_line after_text after_words after_form form_of form_named
-    run_form verb_of call_named other_verb number_within with_order with_limit with_cpus pool_named
-    with_pool grant_named with_granted with_begin number_at number_of range_refusal add_refusal
-    grant_refusals with_grant run_act dump_act act_by arguments_from mode_at after_act may_add
-    is_quiet hcall_of row_of
-configured = refl
-
--- Blanks, a remark, and CR at the lines' ends, also of the last line, which has no LF.
-read_one :
-    trace_of
-    (codes
-    "order 18\r\nram 0x0 0x2000000000 0X40000000\n\n# remark\nbegin\n0\t H_ENTER 0x0 32 0x1001 0x3012\r")
-    ≡ Ok
-    (record {
-      config =
-          record {
-            order = 18;
-            limit = 22;
-            cpus = 1;
-            granted =
-                record {
-                  pool_base = 0x1000000000;
-                  pool_order = 24;
-                  grants =
-                      record {
-                        logical = 0;
-                        machine = 0x2000000000;
-                        length = 0x40000000;
-                        kind = Ram;
-                      }
-                      ∷ [];
-                };
-            entries = [];
-            windows = [];
-          };
-      lines =
-          run_line 6 0 (Call 8 (0 ∷ 32 ∷ 0x1001 ∷ 0x3012 ∷ 0 ∷ 0 ∷ 0 ∷ 0 ∷ []) true) ∷ [];
-    })
-unfolding trace_of after_lines after_line after_text after_words after_form form_of form_named
-    run_form verb_of call_named other_verb number_within with_order with_limit with_cpus pool_named
-    with_pool grant_named with_granted with_begin number_at number_of range_refusal add_refusal
-    grant_refusals with_grant run_act dump_act act_by arguments_from mode_at after_act may_add
-    is_quiet hcall_of row_of run_line
-read_one = refl
-
--- The other run lines.
-read_each :
-    trace_of
-    (codes
-    "cpus 2\nbegin\n1 load 0x5000 user\n0 store 1 priv\n1 fetch 2 user\n0 slbmte 3 4\n1 slbclear\ndump\n0 H_RESIZE_HPT_PREPARE 0 19\n")
-    ≡ Ok
-    (record {
-      config = record default_settings { cpus = 2 };
-      lines =
-          run_line 3 1 (Access Load 0x5000 true)
-          ∷ run_line 4 0 (Access Store 1 false)
-          ∷ run_line 5 1 (Access Fetch 2 true)
-          ∷ run_line 6 0 (SlbMte 3 4)
-          ∷ run_line 7 1 SlbClear
-          ∷ run_line 8 0 Dump
-          ∷ run_line 9 0 (Call 0x36C (0 ∷ 19 ∷ 0 ∷ 0 ∷ 0 ∷ 0 ∷ 0 ∷ 0 ∷ []) true)
-          ∷ [];
-    })
-unfolding trace_of after_lines after_line after_text after_words after_form form_of form_named
-    run_form verb_of call_named other_verb number_within with_order with_limit with_cpus pool_named
-    with_pool grant_named with_granted with_begin number_at number_of range_refusal add_refusal
-    grant_refusals with_grant run_act dump_act act_by arguments_from mode_at after_act may_add
-    is_quiet hcall_of row_of run_line
-read_each = refl
-
--- A window's calls, and a device's accesses.
-read_device :
-    trace_of
-    (codes
-    "begin\n0 H_PUT_TCE 0x1 0x5000 0x3001\n0 H_GET_TCE 1 0\n0 dmaread 0x1 0x5008\n0 dmawrite 2 0\n")
-    ≡ Ok
-    (record {
-      config = default_settings;
-      lines =
-          run_line 2 0 (Call 0x20 (1 ∷ 0x5000 ∷ 0x3001 ∷ 0 ∷ 0 ∷ 0 ∷ 0 ∷ 0 ∷ []) true)
-          ∷ run_line 3 0 (Call 0x1C (1 ∷ 0 ∷ 0 ∷ 0 ∷ 0 ∷ 0 ∷ 0 ∷ 0 ∷ []) true)
-          ∷ run_line 4 0 (Device false 1 0x5008)
-          ∷ run_line 5 0 (Device true 2 0)
-          ∷ [];
-    })
-unfolding trace_of after_lines after_line after_text after_words after_form form_of form_named
-    run_form verb_of call_named other_verb number_within with_order with_limit with_cpus pool_named
-    with_pool grant_named with_granted with_begin number_at number_of range_refusal add_refusal
-    grant_refusals with_grant run_act dump_act act_by arguments_from mode_at after_act may_add
-    is_quiet hcall_of row_of run_line
-read_device = refl
-
--- The masks of a processor.
-read_masks :
-    trace_of (codes "begin\n0 amr 0x2000000000000000\n0 iamr 3\n")
-    ≡ Ok
-    (record {
-      config = default_settings;
-      lines =
-          run_line 2 0 (SetMask Amr 0x2000000000000000) ∷ run_line 3 0 (SetMask Iamr 3) ∷ [];
-    })
-unfolding trace_of after_lines after_line after_text after_words after_form form_of form_named
-    run_form verb_of call_named other_verb number_within with_order with_limit with_cpus pool_named
-    with_pool grant_named with_granted with_begin number_at number_of range_refusal add_refusal
-    grant_refusals with_grant run_act dump_act act_by arguments_from mode_at after_act may_add
-    is_quiet hcall_of row_of run_line
-read_masks = refl
-
--- A call by its number: the arguments that the line leaves out are 0.
-read_number :
-    trace_of (codes "begin\n0 hcall 0x36C 7\n")
-    ≡ Ok
-    (record {
-      config = default_settings;
-      lines = run_line 2 0 (Call 0x36C (7 ∷ 0 ∷ 0 ∷ 0 ∷ 0 ∷ 0 ∷ 0 ∷ 0 ∷ []) false) ∷ [];
-    })
-unfolding trace_of after_lines after_line after_text after_words after_form form_of form_named
-    run_form verb_of call_named other_verb number_within with_order with_limit with_cpus pool_named
-    with_pool grant_named with_granted with_begin number_at number_of range_refusal add_refusal
-    grant_refusals with_grant run_act dump_act act_by arguments_from mode_at after_act may_add
-    is_quiet hcall_of row_of run_line
-read_number = refl
-
-read_most :
-    trace_of (codes "begin\n0 hcall 999 1 2 3 4 5 6 7 8\n")
-    ≡ Ok
-    (record {
-      config = default_settings;
-      lines = run_line 2 0 (Call 999 (1 ∷ 2 ∷ 3 ∷ 4 ∷ 5 ∷ 6 ∷ 7 ∷ 8 ∷ []) false) ∷ [];
-    })
-unfolding trace_of after_lines after_line after_text after_words after_form form_of form_named
-    run_form verb_of call_named other_verb number_within with_order with_limit with_cpus pool_named
-    with_pool grant_named with_granted with_begin number_at number_of range_refusal add_refusal
-    grant_refusals with_grant run_act dump_act act_by arguments_from mode_at after_act may_add
-    is_quiet hcall_of row_of run_line
-read_most = refl
+use Rattle.trace_read.proofs.AcceptedRows.{run_line}
 
 -- ---- refused, in the order of the reasons
 -- More bytes than an input may have.
@@ -225,7 +28,7 @@ refused_lines :
 unfolding trace_of after_lines after_line after_text after_words after_form form_of form_named
     run_form verb_of call_named other_verb number_within with_order with_limit with_cpus pool_named
     with_pool grant_named with_granted with_begin number_at number_of range_refusal add_refusal
-    grant_refusals with_grant run_act dump_act act_by arguments_from mode_at after_act may_add
+    grant_refusals with_grant read_act dump_act act_by arguments_from mode_at after_act may_add
     is_quiet hcall_of row_of
 refused_lines = refl
 
@@ -235,7 +38,7 @@ last_line :
 unfolding trace_of after_lines after_line after_text after_words after_form form_of form_named
     run_form verb_of call_named other_verb number_within with_order with_limit with_cpus pool_named
     with_pool grant_named with_granted with_begin number_at number_of range_refusal add_refusal
-    grant_refusals with_grant run_act dump_act act_by arguments_from mode_at after_act may_add
+    grant_refusals with_grant read_act dump_act act_by arguments_from mode_at after_act may_add
     is_quiet hcall_of row_of
 last_line = refl
 
@@ -244,7 +47,7 @@ refused_ascii : trace_of (codes "#\n# a remark with a CR \r inside\n") ≡ Err (
 unfolding trace_of after_lines after_line after_text after_words after_form form_of form_named
     run_form verb_of call_named other_verb number_within with_order with_limit with_cpus pool_named
     with_pool grant_named with_granted with_begin number_at number_of range_refusal add_refusal
-    grant_refusals with_grant run_act dump_act act_by arguments_from mode_at after_act may_add
+    grant_refusals with_grant read_act dump_act act_by arguments_from mode_at after_act may_add
     is_quiet hcall_of row_of
 refused_ascii = refl
 
@@ -252,7 +55,7 @@ refused_second_cr : trace_of (codes "order 18\r\r\n") ≡ Err (1, whys.Ascii)
 unfolding trace_of after_lines after_line after_text after_words after_form form_of form_named
     run_form verb_of call_named other_verb number_within with_order with_limit with_cpus pool_named
     with_pool grant_named with_granted with_begin number_at number_of range_refusal add_refusal
-    grant_refusals with_grant run_act dump_act act_by arguments_from mode_at after_act may_add
+    grant_refusals with_grant read_act dump_act act_by arguments_from mode_at after_act may_add
     is_quiet hcall_of row_of
 refused_second_cr = refl
 
@@ -261,7 +64,7 @@ refused_word : trace_of (codes "order 18\nbegin\n0 H_FLUSH 0x0\n") ≡ Err (3, w
 unfolding trace_of after_lines after_line after_text after_words after_form form_of form_named
     run_form verb_of call_named other_verb number_within with_order with_limit with_cpus pool_named
     with_pool grant_named with_granted with_begin number_at number_of range_refusal add_refusal
-    grant_refusals with_grant run_act dump_act act_by arguments_from mode_at after_act may_add
+    grant_refusals with_grant read_act dump_act act_by arguments_from mode_at after_act may_add
     is_quiet hcall_of row_of
 refused_word = refl
 
@@ -269,7 +72,7 @@ refused_word_of_place : trace_of (codes "0 H_FLUSH\n") ≡ Err (1, whys.Word)
 unfolding trace_of after_lines after_line after_text after_words after_form form_of form_named
     run_form verb_of call_named other_verb number_within with_order with_limit with_cpus pool_named
     with_pool grant_named with_granted with_begin number_at number_of range_refusal add_refusal
-    grant_refusals with_grant run_act dump_act act_by arguments_from mode_at after_act may_add
+    grant_refusals with_grant read_act dump_act act_by arguments_from mode_at after_act may_add
     is_quiet hcall_of row_of
 refused_word_of_place = refl
 
@@ -277,7 +80,7 @@ refused_first_word : trace_of (codes "begin\nH_ENTER\n") ≡ Err (2, whys.Word)
 unfolding trace_of after_lines after_line after_text after_words after_form form_of form_named
     run_form verb_of call_named other_verb number_within with_order with_limit with_cpus pool_named
     with_pool grant_named with_granted with_begin number_at number_of range_refusal add_refusal
-    grant_refusals with_grant run_act dump_act act_by arguments_from mode_at after_act may_add
+    grant_refusals with_grant read_act dump_act act_by arguments_from mode_at after_act may_add
     is_quiet hcall_of row_of
 refused_first_word = refl
 
@@ -286,7 +89,7 @@ refused_place : trace_of (codes "begin\nbegin\n") ≡ Err (2, whys.Place)
 unfolding trace_of after_lines after_line after_text after_words after_form form_of form_named
     run_form verb_of call_named other_verb number_within with_order with_limit with_cpus pool_named
     with_pool grant_named with_granted with_begin number_at number_of range_refusal add_refusal
-    grant_refusals with_grant run_act dump_act act_by arguments_from mode_at after_act may_add
+    grant_refusals with_grant read_act dump_act act_by arguments_from mode_at after_act may_add
     is_quiet hcall_of row_of
 refused_place = refl
 
@@ -294,7 +97,7 @@ refused_repeated : trace_of (codes "limit 18\nlimit 18\n") ≡ Err (2, whys.Plac
 unfolding trace_of after_lines after_line after_text after_words after_form form_of form_named
     run_form verb_of call_named other_verb number_within with_order with_limit with_cpus pool_named
     with_pool grant_named with_granted with_begin number_at number_of range_refusal add_refusal
-    grant_refusals with_grant run_act dump_act act_by arguments_from mode_at after_act may_add
+    grant_refusals with_grant read_act dump_act act_by arguments_from mode_at after_act may_add
     is_quiet hcall_of row_of
 refused_repeated = refl
 
@@ -302,7 +105,7 @@ refused_order : trace_of (codes "cpus 1\norder x\n") ≡ Err (2, whys.Place)
 unfolding trace_of after_lines after_line after_text after_words after_form form_of form_named
     run_form verb_of call_named other_verb number_within with_order with_limit with_cpus pool_named
     with_pool grant_named with_granted with_begin number_at number_of range_refusal add_refusal
-    grant_refusals with_grant run_act dump_act act_by arguments_from mode_at after_act may_add
+    grant_refusals with_grant read_act dump_act act_by arguments_from mode_at after_act may_add
     is_quiet hcall_of row_of
 refused_order = refl
 
@@ -310,7 +113,7 @@ refused_pool : trace_of (codes "io 0 0x1000 0x1000\npool\n") ≡ Err (2, whys.Pl
 unfolding trace_of after_lines after_line after_text after_words after_form form_of form_named
     run_form verb_of call_named other_verb number_within with_order with_limit with_cpus pool_named
     with_pool grant_named with_granted with_begin number_at number_of range_refusal add_refusal
-    grant_refusals with_grant run_act dump_act act_by arguments_from mode_at after_act may_add
+    grant_refusals with_grant read_act dump_act act_by arguments_from mode_at after_act may_add
     is_quiet hcall_of row_of
 refused_pool = refl
 
@@ -318,7 +121,7 @@ refused_early : trace_of (codes "0 load\n") ≡ Err (1, whys.Place)
 unfolding trace_of after_lines after_line after_text after_words after_form form_of form_named
     run_form verb_of call_named other_verb number_within with_order with_limit with_cpus pool_named
     with_pool grant_named with_granted with_begin number_at number_of range_refusal add_refusal
-    grant_refusals with_grant run_act dump_act act_by arguments_from mode_at after_act may_add
+    grant_refusals with_grant read_act dump_act act_by arguments_from mode_at after_act may_add
     is_quiet hcall_of row_of
 refused_early = refl
 
@@ -326,7 +129,7 @@ refused_early_dump : trace_of (codes "dump\n") ≡ Err (1, whys.Place)
 unfolding trace_of after_lines after_line after_text after_words after_form form_of form_named
     run_form verb_of call_named other_verb number_within with_order with_limit with_cpus pool_named
     with_pool grant_named with_granted with_begin number_at number_of range_refusal add_refusal
-    grant_refusals with_grant run_act dump_act act_by arguments_from mode_at after_act may_add
+    grant_refusals with_grant read_act dump_act act_by arguments_from mode_at after_act may_add
     is_quiet hcall_of row_of
 refused_early_dump = refl
 
@@ -335,7 +138,7 @@ refused_number_alone : trace_of (codes "5x\n") ≡ Err (1, whys.Place)
 unfolding trace_of after_lines after_line after_text after_words after_form form_of form_named
     run_form verb_of call_named other_verb number_within with_order with_limit with_cpus pool_named
     with_pool grant_named with_granted with_begin number_at number_of range_refusal add_refusal
-    grant_refusals with_grant run_act dump_act act_by arguments_from mode_at after_act may_add
+    grant_refusals with_grant read_act dump_act act_by arguments_from mode_at after_act may_add
     is_quiet hcall_of row_of
 refused_number_alone = refl
 
@@ -343,7 +146,7 @@ refused_count : trace_of (codes "begin\n5x\n") ≡ Err (2, whys.Count)
 unfolding trace_of after_lines after_line after_text after_words after_form form_of form_named
     run_form verb_of call_named other_verb number_within with_order with_limit with_cpus pool_named
     with_pool grant_named with_granted with_begin number_at number_of range_refusal add_refusal
-    grant_refusals with_grant run_act dump_act act_by arguments_from mode_at after_act may_add
+    grant_refusals with_grant read_act dump_act act_by arguments_from mode_at after_act may_add
     is_quiet hcall_of row_of
 refused_count = refl
 
@@ -352,7 +155,7 @@ refused_few : trace_of (codes "begin\n0 H_ENTER 0x0 0x20 y\n") ≡ Err (2, whys.
 unfolding trace_of after_lines after_line after_text after_words after_form form_of form_named
     run_form verb_of call_named other_verb number_within with_order with_limit with_cpus pool_named
     with_pool grant_named with_granted with_begin number_at number_of range_refusal add_refusal
-    grant_refusals with_grant run_act dump_act act_by arguments_from mode_at after_act may_add
+    grant_refusals with_grant read_act dump_act act_by arguments_from mode_at after_act may_add
     is_quiet hcall_of row_of
 refused_few = refl
 
@@ -360,7 +163,7 @@ refused_many_words : trace_of (codes "begin\n0 H_READ 0 0 z\n") ≡ Err (2, whys
 unfolding trace_of after_lines after_line after_text after_words after_form form_of form_named
     run_form verb_of call_named other_verb number_within with_order with_limit with_cpus pool_named
     with_pool grant_named with_granted with_begin number_at number_of range_refusal add_refusal
-    grant_refusals with_grant run_act dump_act act_by arguments_from mode_at after_act may_add
+    grant_refusals with_grant read_act dump_act act_by arguments_from mode_at after_act may_add
     is_quiet hcall_of row_of
 refused_many_words = refl
 
@@ -368,7 +171,7 @@ refused_bulk : trace_of (codes "begin\n0 H_BULK_REMOVE 0 0 0 0 0 0 0\n") ≡ Err
 unfolding trace_of after_lines after_line after_text after_words after_form form_of form_named
     run_form verb_of call_named other_verb number_within with_order with_limit with_cpus pool_named
     with_pool grant_named with_granted with_begin number_at number_of range_refusal add_refusal
-    grant_refusals with_grant run_act dump_act act_by arguments_from mode_at after_act may_add
+    grant_refusals with_grant read_act dump_act act_by arguments_from mode_at after_act may_add
     is_quiet hcall_of row_of
 refused_bulk = refl
 
@@ -376,7 +179,7 @@ refused_nine : trace_of (codes "begin\n0 hcall 1 1 2 3 4 5 6 7 8 9\n") ≡ Err (
 unfolding trace_of after_lines after_line after_text after_words after_form form_of form_named
     run_form verb_of call_named other_verb number_within with_order with_limit with_cpus pool_named
     with_pool grant_named with_granted with_begin number_at number_of range_refusal add_refusal
-    grant_refusals with_grant run_act dump_act act_by arguments_from mode_at after_act may_add
+    grant_refusals with_grant read_act dump_act act_by arguments_from mode_at after_act may_add
     is_quiet hcall_of row_of
 refused_nine = refl
 
@@ -384,7 +187,7 @@ refused_begin_words : trace_of (codes "begin 1\n") ≡ Err (1, whys.Count)
 unfolding trace_of after_lines after_line after_text after_words after_form form_of form_named
     run_form verb_of call_named other_verb number_within with_order with_limit with_cpus pool_named
     with_pool grant_named with_granted with_begin number_at number_of range_refusal add_refusal
-    grant_refusals with_grant run_act dump_act act_by arguments_from mode_at after_act may_add
+    grant_refusals with_grant read_act dump_act act_by arguments_from mode_at after_act may_add
     is_quiet hcall_of row_of
 refused_begin_words = refl
 
@@ -394,7 +197,7 @@ refused_number : trace_of (codes "begin\n0 H_ENTER 0x0 0x20 0x1001 0x\n") ≡ Er
 unfolding trace_of after_lines after_line after_text after_words after_form form_of form_named
     run_form verb_of call_named other_verb number_within with_order with_limit with_cpus pool_named
     with_pool grant_named with_granted with_begin number_at number_of range_refusal add_refusal
-    grant_refusals with_grant run_act dump_act act_by arguments_from mode_at after_act may_add
+    grant_refusals with_grant read_act dump_act act_by arguments_from mode_at after_act may_add
     is_quiet hcall_of row_of
 refused_number = refl
 
@@ -402,7 +205,7 @@ refused_digits : trace_of (codes "pool 0x00000000000000001 24\n") ≡ Err (1, wh
 unfolding trace_of after_lines after_line after_text after_words after_form form_of form_named
     run_form verb_of call_named other_verb number_within with_order with_limit with_cpus pool_named
     with_pool grant_named with_granted with_begin number_at number_of range_refusal add_refusal
-    grant_refusals with_grant run_act dump_act act_by arguments_from mode_at after_act may_add
+    grant_refusals with_grant read_act dump_act act_by arguments_from mode_at after_act may_add
     is_quiet hcall_of row_of
 refused_digits = refl
 
@@ -410,7 +213,7 @@ refused_processor : trace_of (codes "begin\n0x load 0 root\n") ≡ Err (2, whys.
 unfolding trace_of after_lines after_line after_text after_words after_form form_of form_named
     run_form verb_of call_named other_verb number_within with_order with_limit with_cpus pool_named
     with_pool grant_named with_granted with_begin number_at number_of range_refusal add_refusal
-    grant_refusals with_grant run_act dump_act act_by arguments_from mode_at after_act may_add
+    grant_refusals with_grant read_act dump_act act_by arguments_from mode_at after_act may_add
     is_quiet hcall_of row_of
 refused_processor = refl
 
@@ -419,7 +222,7 @@ refused_mode : trace_of (codes "begin\n1 load 0 root\n") ≡ Err (2, whys.Mode)
 unfolding trace_of after_lines after_line after_text after_words after_form form_of form_named
     run_form verb_of call_named other_verb number_within with_order with_limit with_cpus pool_named
     with_pool grant_named with_granted with_begin number_at number_of range_refusal add_refusal
-    grant_refusals with_grant run_act dump_act act_by arguments_from mode_at after_act may_add
+    grant_refusals with_grant read_act dump_act act_by arguments_from mode_at after_act may_add
     is_quiet hcall_of row_of
 refused_mode = refl
 
@@ -427,7 +230,7 @@ refused_cpu : trace_of (codes "cpus 2\nbegin\n2 load 0 user\n") ≡ Err (3, whys
 unfolding trace_of after_lines after_line after_text after_words after_form form_of form_named
     run_form verb_of call_named other_verb number_within with_order with_limit with_cpus pool_named
     with_pool grant_named with_granted with_begin number_at number_of range_refusal add_refusal
-    grant_refusals with_grant run_act dump_act act_by arguments_from mode_at after_act may_add
+    grant_refusals with_grant read_act dump_act act_by arguments_from mode_at after_act may_add
     is_quiet hcall_of row_of
 refused_cpu = refl
 
@@ -436,7 +239,7 @@ refused_dumps : may_add (replicate 256 (run_line 2 0 Dump)) Dump ≡ Err whys.Du
 unfolding trace_of after_lines after_line after_text after_words after_form form_of form_named
     run_form verb_of call_named other_verb number_within with_order with_limit with_cpus pool_named
     with_pool grant_named with_granted with_begin number_at number_of range_refusal add_refusal
-    grant_refusals with_grant run_act dump_act act_by arguments_from mode_at after_act may_add
+    grant_refusals with_grant read_act dump_act act_by arguments_from mode_at after_act may_add
     is_quiet hcall_of row_of run_line
 refused_dumps = refl
 
@@ -444,7 +247,7 @@ last_dump : may_add (replicate 15 (run_line 2 0 Dump)) Dump ≡ Ok tt
 unfolding trace_of after_lines after_line after_text after_words after_form form_of form_named
     run_form verb_of call_named other_verb number_within with_order with_limit with_cpus pool_named
     with_pool grant_named with_granted with_begin number_at number_of range_refusal add_refusal
-    grant_refusals with_grant run_act dump_act act_by arguments_from mode_at after_act may_add
+    grant_refusals with_grant read_act dump_act act_by arguments_from mode_at after_act may_add
     is_quiet hcall_of row_of run_line
 last_dump = refl
 
@@ -454,7 +257,7 @@ refused_quiet :
 unfolding trace_of after_lines after_line after_text after_words after_form form_of form_named
     run_form verb_of call_named other_verb number_within with_order with_limit with_cpus pool_named
     with_pool grant_named with_granted with_begin number_at number_of range_refusal add_refusal
-    grant_refusals with_grant run_act dump_act act_by arguments_from mode_at after_act may_add
+    grant_refusals with_grant read_act dump_act act_by arguments_from mode_at after_act may_add
     is_quiet hcall_of row_of run_line
 refused_quiet = refl
 
@@ -463,7 +266,7 @@ refused_quiet_dump :
 unfolding trace_of after_lines after_line after_text after_words after_form form_of form_named
     run_form verb_of call_named other_verb number_within with_order with_limit with_cpus pool_named
     with_pool grant_named with_granted with_begin number_at number_of range_refusal add_refusal
-    grant_refusals with_grant run_act dump_act act_by arguments_from mode_at after_act may_add
+    grant_refusals with_grant read_act dump_act act_by arguments_from mode_at after_act may_add
     is_quiet hcall_of row_of run_line
 refused_quiet_dump = refl
 
@@ -471,7 +274,7 @@ not_quiet : may_add (replicate 256 (run_line 2 0 (Call 0x36C [] false))) (Call 8
 unfolding trace_of after_lines after_line after_text after_words after_form form_of form_named
     run_form verb_of call_named other_verb number_within with_order with_limit with_cpus pool_named
     with_pool grant_named with_granted with_begin number_at number_of range_refusal add_refusal
-    grant_refusals with_grant run_act dump_act act_by arguments_from mode_at after_act may_add
+    grant_refusals with_grant read_act dump_act act_by arguments_from mode_at after_act may_add
     is_quiet hcall_of row_of run_line
 not_quiet = refl
 
@@ -480,7 +283,7 @@ refused_range : trace_of (codes "order 17\n") ≡ Err (1, whys.Range)
 unfolding trace_of after_lines after_line after_text after_words after_form form_of form_named
     run_form verb_of call_named other_verb number_within with_order with_limit with_cpus pool_named
     with_pool grant_named with_granted with_begin number_at number_of range_refusal add_refusal
-    grant_refusals with_grant run_act dump_act act_by arguments_from mode_at after_act may_add
+    grant_refusals with_grant read_act dump_act act_by arguments_from mode_at after_act may_add
     is_quiet hcall_of row_of
 refused_range = refl
 
@@ -488,7 +291,7 @@ refused_order_high : trace_of (codes "order 23\n") ≡ Err (1, whys.Range)
 unfolding trace_of after_lines after_line after_text after_words after_form form_of form_named
     run_form verb_of call_named other_verb number_within with_order with_limit with_cpus pool_named
     with_pool grant_named with_granted with_begin number_at number_of range_refusal add_refusal
-    grant_refusals with_grant run_act dump_act act_by arguments_from mode_at after_act may_add
+    grant_refusals with_grant read_act dump_act act_by arguments_from mode_at after_act may_add
     is_quiet hcall_of row_of
 refused_order_high = refl
 
@@ -496,7 +299,7 @@ refused_limit : trace_of (codes "order 20\nlimit 19\n") ≡ Err (2, whys.Range)
 unfolding trace_of after_lines after_line after_text after_words after_form form_of form_named
     run_form verb_of call_named other_verb number_within with_order with_limit with_cpus pool_named
     with_pool grant_named with_granted with_begin number_at number_of range_refusal add_refusal
-    grant_refusals with_grant run_act dump_act act_by arguments_from mode_at after_act may_add
+    grant_refusals with_grant read_act dump_act act_by arguments_from mode_at after_act may_add
     is_quiet hcall_of row_of
 refused_limit = refl
 
@@ -504,7 +307,7 @@ refused_limit_alone : trace_of (codes "limit 17\n") ≡ Err (1, whys.Range)
 unfolding trace_of after_lines after_line after_text after_words after_form form_of form_named
     run_form verb_of call_named other_verb number_within with_order with_limit with_cpus pool_named
     with_pool grant_named with_granted with_begin number_at number_of range_refusal add_refusal
-    grant_refusals with_grant run_act dump_act act_by arguments_from mode_at after_act may_add
+    grant_refusals with_grant read_act dump_act act_by arguments_from mode_at after_act may_add
     is_quiet hcall_of row_of
 refused_limit_alone = refl
 
@@ -512,7 +315,7 @@ refused_limit_high : trace_of (codes "limit 23\n") ≡ Err (1, whys.Range)
 unfolding trace_of after_lines after_line after_text after_words after_form form_of form_named
     run_form verb_of call_named other_verb number_within with_order with_limit with_cpus pool_named
     with_pool grant_named with_granted with_begin number_at number_of range_refusal add_refusal
-    grant_refusals with_grant run_act dump_act act_by arguments_from mode_at after_act may_add
+    grant_refusals with_grant read_act dump_act act_by arguments_from mode_at after_act may_add
     is_quiet hcall_of row_of
 refused_limit_high = refl
 
@@ -520,7 +323,7 @@ refused_cpus : trace_of (codes "cpus 0\n") ≡ Err (1, whys.Range)
 unfolding trace_of after_lines after_line after_text after_words after_form form_of form_named
     run_form verb_of call_named other_verb number_within with_order with_limit with_cpus pool_named
     with_pool grant_named with_granted with_begin number_at number_of range_refusal add_refusal
-    grant_refusals with_grant run_act dump_act act_by arguments_from mode_at after_act may_add
+    grant_refusals with_grant read_act dump_act act_by arguments_from mode_at after_act may_add
     is_quiet hcall_of row_of
 refused_cpus = refl
 
@@ -528,7 +331,7 @@ refused_cpus_high : trace_of (codes "cpus 65\n") ≡ Err (1, whys.Range)
 unfolding trace_of after_lines after_line after_text after_words after_form form_of form_named
     run_form verb_of call_named other_verb number_within with_order with_limit with_cpus pool_named
     with_pool grant_named with_granted with_begin number_at number_of range_refusal add_refusal
-    grant_refusals with_grant run_act dump_act act_by arguments_from mode_at after_act may_add
+    grant_refusals with_grant read_act dump_act act_by arguments_from mode_at after_act may_add
     is_quiet hcall_of row_of
 refused_cpus_high = refl
 
@@ -536,7 +339,7 @@ refused_pool_order : trace_of (codes "pool 0 35\n") ≡ Err (1, whys.Range)
 unfolding trace_of after_lines after_line after_text after_words after_form form_of form_named
     run_form verb_of call_named other_verb number_within with_order with_limit with_cpus pool_named
     with_pool grant_named with_granted with_begin number_at number_of range_refusal add_refusal
-    grant_refusals with_grant run_act dump_act act_by arguments_from mode_at after_act may_add
+    grant_refusals with_grant read_act dump_act act_by arguments_from mode_at after_act may_add
     is_quiet hcall_of row_of
 refused_pool_order = refl
 
@@ -544,7 +347,7 @@ refused_pool_place : trace_of (codes "pool 0x1000000000001000 18\n") ≡ Err (1,
 unfolding trace_of after_lines after_line after_text after_words after_form form_of form_named
     run_form verb_of call_named other_verb number_within with_order with_limit with_cpus pool_named
     with_pool grant_named with_granted with_begin number_at number_of range_refusal add_refusal
-    grant_refusals with_grant run_act dump_act act_by arguments_from mode_at after_act may_add
+    grant_refusals with_grant read_act dump_act act_by arguments_from mode_at after_act may_add
     is_quiet hcall_of row_of
 refused_pool_place = refl
 
@@ -552,7 +355,7 @@ refused_pool_end : trace_of (codes "pool 0x1000000000000000 18\n") ≡ Err (1, w
 unfolding trace_of after_lines after_line after_text after_words after_form form_of form_named
     run_form verb_of call_named other_verb number_within with_order with_limit with_cpus pool_named
     with_pool grant_named with_granted with_begin number_at number_of range_refusal add_refusal
-    grant_refusals with_grant run_act dump_act act_by arguments_from mode_at after_act may_add
+    grant_refusals with_grant read_act dump_act act_by arguments_from mode_at after_act may_add
     is_quiet hcall_of row_of
 refused_pool_end = refl
 
@@ -561,7 +364,7 @@ refused_empty : trace_of (codes "ram 0x800 0 0\n") ≡ Err (1, whys.Empty)
 unfolding trace_of after_lines after_line after_text after_words after_form form_of form_named
     run_form verb_of call_named other_verb number_within with_order with_limit with_cpus pool_named
     with_pool grant_named with_granted with_begin number_at number_of range_refusal add_refusal
-    grant_refusals with_grant run_act dump_act act_by arguments_from mode_at after_act may_add
+    grant_refusals with_grant read_act dump_act act_by arguments_from mode_at after_act may_add
     is_quiet hcall_of row_of
 refused_empty = refl
 
@@ -569,7 +372,7 @@ refused_unaligned : trace_of (codes "ram 0x800 0 0x1000\n") ≡ Err (1, whys.Una
 unfolding trace_of after_lines after_line after_text after_words after_form form_of form_named
     run_form verb_of call_named other_verb number_within with_order with_limit with_cpus pool_named
     with_pool grant_named with_granted with_begin number_at number_of range_refusal add_refusal
-    grant_refusals with_grant run_act dump_act act_by arguments_from mode_at after_act may_add
+    grant_refusals with_grant read_act dump_act act_by arguments_from mode_at after_act may_add
     is_quiet hcall_of row_of
 refused_unaligned = refl
 
@@ -577,7 +380,7 @@ refused_past : trace_of (codes "io 0 0xffffffffffff000 0x2000\n") ≡ Err (1, wh
 unfolding trace_of after_lines after_line after_text after_words after_form form_of form_named
     run_form verb_of call_named other_verb number_within with_order with_limit with_cpus pool_named
     with_pool grant_named with_granted with_begin number_at number_of range_refusal add_refusal
-    grant_refusals with_grant run_act dump_act act_by arguments_from mode_at after_act may_add
+    grant_refusals with_grant read_act dump_act act_by arguments_from mode_at after_act may_add
     is_quiet hcall_of row_of
 refused_past = refl
 
@@ -590,7 +393,7 @@ refused_many :
 unfolding trace_of after_lines after_line after_text after_words after_form form_of form_named
     run_form verb_of call_named other_verb number_within with_order with_limit with_cpus pool_named
     with_pool grant_named with_granted with_begin number_at number_of range_refusal add_refusal
-    grant_refusals with_grant run_act dump_act act_by arguments_from mode_at after_act may_add
+    grant_refusals with_grant read_act dump_act act_by arguments_from mode_at after_act may_add
     is_quiet hcall_of row_of
 refused_many = refl
 
@@ -598,7 +401,7 @@ refused_overlap : trace_of (codes "ram 0 0 0x1000\nio 0x1000 0 0x1000\n") ≡ Er
 unfolding trace_of after_lines after_line after_text after_words after_form form_of form_named
     run_form verb_of call_named other_verb number_within with_order with_limit with_cpus pool_named
     with_pool grant_named with_granted with_begin number_at number_of range_refusal add_refusal
-    grant_refusals with_grant run_act dump_act act_by arguments_from mode_at after_act may_add
+    grant_refusals with_grant read_act dump_act act_by arguments_from mode_at after_act may_add
     is_quiet hcall_of row_of
 refused_overlap = refl
 
@@ -606,7 +409,7 @@ refused_tables : trace_of (codes "ram 0 0x1000000000 0x1000\n") ≡ Err (1, whys
 unfolding trace_of after_lines after_line after_text after_words after_form form_of form_named
     run_form verb_of call_named other_verb number_within with_order with_limit with_cpus pool_named
     with_pool grant_named with_granted with_begin number_at number_of range_refusal add_refusal
-    grant_refusals with_grant run_act dump_act act_by arguments_from mode_at after_act may_add
+    grant_refusals with_grant read_act dump_act act_by arguments_from mode_at after_act may_add
     is_quiet hcall_of row_of
 refused_tables = refl
 
@@ -615,7 +418,7 @@ refused_small : trace_of (codes "order 20\npool 0x1000000000 19\nbegin\n") ≡ E
 unfolding trace_of after_lines after_line after_text after_words after_form form_of form_named
     run_form verb_of call_named other_verb number_within with_order with_limit with_cpus pool_named
     with_pool grant_named with_granted with_begin number_at number_of range_refusal add_refusal
-    grant_refusals with_grant run_act dump_act act_by arguments_from mode_at after_act may_add
+    grant_refusals with_grant read_act dump_act act_by arguments_from mode_at after_act may_add
     is_quiet hcall_of row_of
 refused_small = refl
 
@@ -624,7 +427,7 @@ refused_no_begin : trace_of (codes "order 18\n\n") ≡ Err (3, whys.Begin)
 unfolding trace_of after_lines after_line after_text after_words after_form form_of form_named
     run_form verb_of call_named other_verb number_within with_order with_limit with_cpus pool_named
     with_pool grant_named with_granted with_begin number_at number_of range_refusal add_refusal
-    grant_refusals with_grant run_act dump_act act_by arguments_from mode_at after_act may_add
+    grant_refusals with_grant read_act dump_act act_by arguments_from mode_at after_act may_add
     is_quiet hcall_of row_of
 refused_no_begin = refl
 
@@ -632,6 +435,6 @@ refused_nothing : trace_of [] ≡ Err (1, whys.Begin)
 unfolding trace_of after_lines after_line after_text after_words after_form form_of form_named
     run_form verb_of call_named other_verb number_within with_order with_limit with_cpus pool_named
     with_pool grant_named with_granted with_begin number_at number_of range_refusal add_refusal
-    grant_refusals with_grant run_act dump_act act_by arguments_from mode_at after_act may_add
+    grant_refusals with_grant read_act dump_act act_by arguments_from mode_at after_act may_add
     is_quiet hcall_of row_of
 refused_nothing = refl

@@ -1,5 +1,5 @@
 -- A line that is accepted is counted, whatever it gives.
-use Rattle.std.proofs.Common.{◌≡◌, ◌∙◌, ℕ, ◌+◌, ◌^◌, Bool, true, false, List, Result, Ok, Err, ap, sym, refl, ltb, if◌then◌else◌}
+use Rattle.std.proofs.Common.{◌≡◌, ◌∙◌, ℕ, ◌+◌, Bool, true, false, List, Result, Ok, Err, ap, sym, refl, ltb, if◌then◌else◌}
 use Rattle.std.specs.List.{list_all}
 use Rattle.trace_line.specs.declared.act.Act.{Act}
 use Rattle.trace_read.specs.declared.forms.Form.{Form}
@@ -8,7 +8,7 @@ use Rattle.trace_read.specs.declared.stage.Stage.{Stage}
 use Rattle.trace_read.specs.declared.stage.Stage.TheVariants as stages
 use Rattle.trace_read.specs.declared.why.Why.{Why}
 use Rattle.trace_read.specs.declared.why.Why.TheVariants as whys
-use Rattle.trace_read.specs.Acts.{run_act, dump_act}
+use Rattle.trace_read.specs.Acts.{read_act, dump_act}
 use Rattle.trace_read.specs.Configuration.{Configuration}
 use Rattle.trace_read.specs.Counts.{may_add}
 use Rattle.trace_read.specs.Entries.{with_entry}
@@ -62,7 +62,7 @@ form_taken (forms.Grant kind) r ws s e =
 form_taken forms.Entry r ws s e = set_taken r stages.Entries (with_entry r.config ws) s e
 form_taken forms.Window r ws s e = set_taken r stages.Windows (with_window r.config ws) s e
 form_taken forms.Begin r ws s e = set_taken r stages.Lines (with_begin r.config ws) s e
-form_taken (forms.Run verb) r ws s e = act_taken r (run_act r.config.cpus verb ws) s e
+form_taken (forms.Run verb) r ws s e = act_taken r (read_act r.config.cpus verb ws) s e
 form_taken forms.Dump r ws s e = act_taken r (dump_act ws) s e
 
 words_taken : (r : Reading) (ws : List (List ℕ)) (s : Reading)

@@ -75,8 +75,8 @@ act_by (verbs.SetMask name) ws = do
   Ok (acts.SetMask name value)
 
 -- The processor, and what it does.
-unfoldable pub run_act : ℕ → Option Verb → List (List ℕ) → Result (ℕ × Act) Why
-run_act cpus verb ws = do
+unfoldable pub read_act : ℕ → Option Verb → List (List ℕ) → Result (ℕ × Act) Why
+read_act cpus verb ws = do
   named ← required verb Count
   counted ← guard (takes named (length ws)) Count
   cpu ← number_at ws 0

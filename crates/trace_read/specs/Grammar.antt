@@ -9,7 +9,7 @@ use Rattle.trace_line.specs.declared.act.Act.{Act}
 use Rattle.trace_line.specs.declared.line.TraceLine.{TraceLine}
 use Rattle.trace_read.specs.declared.why.Why.{Why}
 use Rattle.trace_read.specs.declared.why.Why.TheVariants as whys
-use Rattle.trace_read.specs.Acts.{run_act, dump_act}
+use Rattle.trace_read.specs.Acts.{read_act, dump_act}
 use Rattle.trace_read.specs.Configuration.{Configuration, greatest_trace_order}
 use Rattle.trace_read.specs.Counts.{may_add}
 use Rattle.trace_read.specs.Forms.{form_of}
@@ -71,7 +71,7 @@ after_form (forms.Grant kind) r ws = set_to r stages.Grants (with_granted r.conf
 after_form forms.Entry r ws = set_to r stages.Entries (with_entry r.config ws)
 after_form forms.Window r ws = set_to r stages.Windows (with_window r.config ws)
 after_form forms.Begin r ws = set_to r stages.Lines (with_begin r.config ws)
-after_form (forms.Run verb) r ws = after_act r (run_act r.config.cpus verb ws)
+after_form (forms.Run verb) r ws = after_act r (read_act r.config.cpus verb ws)
 after_form forms.Dump r ws = after_act r (dump_act ws)
 
 -- The words of a line that is no remark: of a form, and in its place.

@@ -1,5 +1,5 @@
 -- Lines that are given with their numbers, and the whole input that has each of them at its number.
-use Rattle.std.specs.Prelude.{ℕ, ◌<◌, ◌≤◌, ◌-◌, ◌+◌, ◌^◌, List, [], ◌∷◌, ◌++◌, replicate, Result, Ok}
+use Rattle.std.specs.Prelude.{ℕ, ◌<◌, ◌≤◌, ◌-◌, ◌+◌, List, [], ◌∷◌, ◌++◌, replicate, Result, Ok}
 use Rattle.trace_read.specs.declared.why.Why.{Why}
 use Rattle.trace_read.specs.Grammar.{Reading, after_numbered, go_on, trace_at_end}
 use Rattle.trace_read.specs.Trace.{AcceptedTrace}

@@ -1,5 +1,5 @@
 -- The laws of lines that are given with their numbers.
-use Rattle.std.specs.Prelude.{◌≡◌, ◌<◌, ◌≤◌, ◌^◌, ℕ, true, List, [], ◌∷◌, ◌++◌, Ok}
+use Rattle.std.specs.Prelude.{◌≡◌, ◌<◌, ◌≤◌, ℕ, true, List, [], ◌∷◌, ◌++◌, Ok}
 use Rattle.std.specs.List.{list_all}
 use Rattle.trace_read.specs.Grammar.{Reading, reading_beside, after_text, after_numbered, after_lines, go_on, trace_at_end}
 use Rattle.trace_read.specs.Numbered.{AreNumbered, numbered, after_each, trace_given}

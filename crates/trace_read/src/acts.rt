@@ -1,7 +1,7 @@
 ghost use Rattle.std.specs.Prelude.{◌≡◌, ◌≤◌, ◌<◌, [], IfOk, slice_index_or};
 ghost use Rattle.trace_read.specs.Forms.{IsNamedVerb, IsNamedForm};
 ghost use Rattle.trace_read.specs.TextLines.{texts};
-ghost use Rattle.trace_read.specs.Acts.{number_at, arguments_from, mode_at, act_by, run_act, dump_act};
+ghost use Rattle.trace_read.specs.Acts.{number_at, arguments_from, mode_at, act_by, read_act, dump_act};
 ghost use Rattle.trace_line.specs.Lines.{IsSpelt};
 
 use crate::forms::{Form, is};
@@ -97,10 +97,10 @@ fn act(verb: Verb, words: &[&[u8]]) -> Result<Act, Why>
 }
 
 /// A run line: the processor, and what it does.
-#[tactic(auto, unfolding(crate::specs::Acts::run_act))]
-pub fn run_act(cpus: u32, verb: Option<Verb>, words: &[&[u8]]) -> Result<(u32, Act), Why>
+#[tactic(auto, unfolding(crate::specs::Acts::read_act))]
+pub fn read_act(cpus: u32, verb: Option<Verb>, words: &[&[u8]]) -> Result<(u32, Act), Why>
     requires { IsNamedForm (Form.Run verb) }
-    ensures line { result ≡ run_act cpus verb (texts words.now) }
+    ensures line { result ≡ read_act cpus verb (texts words.now) }
     ensures cpu { IfOk result (λ x. x.0 < cpus) }
     ensures spelt { IfOk result (λ x. IsSpelt x.1) }
 {

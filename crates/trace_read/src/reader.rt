@@ -1,6 +1,6 @@
 ghost use Rattle.std.specs.Prelude.{◌≡◌, ◌<◌, ◌≤◌, ◌^◌, true, false, length};
 ghost use Rattle.pool_range.specs.Ranges.{IsPoolRange};
-ghost use Rattle.trace_read.specs.Acts.{run_act, dump_act};
+ghost use Rattle.trace_read.specs.Acts.{read_act, dump_act};
 ghost use Rattle.trace_read.specs.Entries.{with_entry};
 ghost use Rattle.trace_read.specs.Forms.{form_of, IsNamedForm};
 ghost use Rattle.trace_read.specs.Givens.{given_by, given_if};
@@ -13,7 +13,7 @@ ghost use Rattle.trace_read.specs.Windows.{with_window};
 ghost use Rattle.trace_line.specs.Lines.{IsSpelt, most_lines};
 ghost use Rattle.trace_read.specs.Configuration.{IsTraceOrder};
 
-use crate::acts::{dump_act, run_act};
+use crate::acts::{dump_act, read_act};
 use crate::counted::CountedLines;
 use crate::forms::{Form, line_form};
 use crate::given::{Given, LineRefused};
@@ -176,95 +176,35 @@ impl Reader {
             self.new }
     {
         match form {
-            Form::Order => self.take_order(number, words),
-            Form::Limit => self.take_limit(number, words),
-            Form::Cpus => self.take_cpus(number, words),
-            Form::Pool => self.take_pool(number, words),
-            Form::Grant(kind) => self.take_grant(number, kind, words),
-            Form::Entry => self.take_entry(number, words),
-            Form::Window => self.take_window(number, words),
-            Form::Begin => self.take_begin(number, words),
-            Form::Run(verb) => self.take_run(number, verb, words),
-            Form::Dump => self.take_dump(number, words),
+            Form::Grant(kind) => return self.take_grant(number, kind, words),
+            Form::Begin => return self.take_begin(number, words),
+            Form::Run(verb) => return self.take_run(number, verb, words),
+            Form::Dump => return self.take_dump(number, words),
+            Form::Order => {
+                self.settings.take_order(words)?;
+                self.stage = Stage::Limit;
+            }
+            Form::Limit => {
+                self.settings.take_limit(words)?;
+                self.stage = Stage::Cpus;
+            }
+            Form::Cpus => {
+                self.settings.take_cpus(words)?;
+                self.stage = Stage::Pool;
+            }
+            Form::Pool => {
+                self.settings.take_pool(words)?;
+                self.stage = Stage::Grants;
+            }
+            Form::Entry => {
+                self.settings.take_entry(words)?;
+                self.stage = Stage::Entries;
+            }
+            Form::Window => {
+                self.settings.take_window(words)?;
+                self.stage = Stage::Windows;
+            }
         }
-    }
-
-    fn take_order(&mut self, number: u32, words: &[&[u8]]) -> Result<Given, Stop>
-        requires next { self.old.taken < number }
-        requires few { number ≤ most_lines }
-        requires place { is_first self.old.stage ≡ true }
-        ensures { ReadsTo
-            (set_to
-            (record self.old { taken = number })
-            Stage.Limit
-            (with_order self.old.config (texts words.now)))
-            Given.Setting
-            result
-            self.old
-            self.new }
-    {
-        self.settings.take_order(words)?;
-        self.stage = Stage::Limit;
-        self.taken = number;
-        Ok(Given::Setting)
-    }
-
-    fn take_limit(&mut self, number: u32, words: &[&[u8]]) -> Result<Given, Stop>
-        requires next { self.old.taken < number }
-        requires few { number ≤ most_lines }
-        requires place { may_have_entries self.old.stage ≡ false }
-        ensures { ReadsTo
-            (set_to
-            (record self.old { taken = number })
-            Stage.Cpus
-            (with_limit self.old.config (texts words.now)))
-            Given.Setting
-            result
-            self.old
-            self.new }
-    {
-        self.settings.take_limit(words)?;
-        self.stage = Stage::Cpus;
-        self.taken = number;
-        Ok(Given::Setting)
-    }
-
-    fn take_cpus(&mut self, number: u32, words: &[&[u8]]) -> Result<Given, Stop>
-        requires next { self.old.taken < number }
-        requires few { number ≤ most_lines }
-        requires place { may_have_entries self.old.stage ≡ false }
-        ensures { ReadsTo
-            (set_to
-            (record self.old { taken = number })
-            Stage.Pool
-            (with_cpus self.old.config (texts words.now)))
-            Given.Setting
-            result
-            self.old
-            self.new }
-    {
-        self.settings.take_cpus(words)?;
-        self.stage = Stage::Pool;
-        self.taken = number;
-        Ok(Given::Setting)
-    }
-
-    fn take_pool(&mut self, number: u32, words: &[&[u8]]) -> Result<Given, Stop>
-        requires next { self.old.taken < number }
-        requires few { number ≤ most_lines }
-        requires place { may_have_entries self.old.stage ≡ false }
-        ensures { ReadsTo
-            (set_to
-            (record self.old { taken = number })
-            Stage.Grants
-            (with_pool self.old.config (texts words.now)))
-            Given.Setting
-            result
-            self.old
-            self.new }
-    {
-        self.settings.take_pool(words)?;
-        self.stage = Stage::Grants;
         self.taken = number;
         Ok(Given::Setting)
     }
@@ -289,46 +229,6 @@ impl Reader {
         self.stage = Stage::Grants;
         self.taken = number;
         Ok(Given::Grant(grant))
-    }
-
-    fn take_entry(&mut self, number: u32, words: &[&[u8]]) -> Result<Given, Stop>
-        requires next { self.old.taken < number }
-        requires few { number ≤ most_lines }
-        requires place { may_have_windows self.old.stage ≡ false }
-        ensures { ReadsTo
-            (set_to
-            (record self.old { taken = number })
-            Stage.Entries
-            (with_entry self.old.config (texts words.now)))
-            Given.Setting
-            result
-            self.old
-            self.new }
-    {
-        self.settings.take_entry(words)?;
-        self.stage = Stage::Entries;
-        self.taken = number;
-        Ok(Given::Setting)
-    }
-
-    fn take_window(&mut self, number: u32, words: &[&[u8]]) -> Result<Given, Stop>
-        requires next { self.old.taken < number }
-        requires few { number ≤ most_lines }
-        requires place { is_running self.old.stage ≡ false }
-        ensures { ReadsTo
-            (set_to
-            (record self.old { taken = number })
-            Stage.Windows
-            (with_window self.old.config (texts words.now)))
-            Given.Setting
-            result
-            self.old
-            self.new }
-    {
-        self.settings.take_window(words)?;
-        self.stage = Stage::Windows;
-        self.taken = number;
-        Ok(Given::Setting)
     }
 
     fn take_begin(&mut self, number: u32, words: &[&[u8]]) -> Result<Given, Stop>
@@ -361,13 +261,13 @@ impl Reader {
         ensures { ReadsTo
             (after_act
             (record self.old { taken = number })
-            (run_act self.old.config.cpus verb (texts words.now)))
+            (read_act self.old.config.cpus verb (texts words.now)))
             Given.Run
             result
             self.old
             self.new }
     {
-        let (cpu, act) = run_act(self.settings.cpus(), verb, words)?;
+        let (cpu, act) = read_act(self.settings.cpus(), verb, words)?;
         self.add(number, cpu, act)
     }
 

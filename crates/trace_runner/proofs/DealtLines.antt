@@ -9,7 +9,8 @@ use Rattle.trace_line.specs.declared.act.Act.TheVariants.{Call}
 use Rattle.trace_runner.specs.Workers.{lines_of_cpu, count_with_lines, IsReadAt, AreOwn, AllNumbered}
 use Rattle.trace_runner.specs.DealtLines.{AreDealt, AllEmpty, count_with_own}
 use Rattle.trace_runner.proofs.Numbered.{all_set, all_weaker}
-use Rattle.trace_runner.proofs.WorkSteps.{own_more, own_same, not_eqb}
+use Rattle.run_model.proofs.StoreNumbers.{not_eqb}
+use Rattle.trace_runner.proofs.WorkSteps.{own_more, own_same}
 
 -- ---- lines at indices
 inside_push :

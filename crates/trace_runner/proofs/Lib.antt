@@ -1,4 +1,4 @@
-pub mod WindowPlaces
+pub mod WindowIndices
 pub mod RunSteps
 pub mod OpeningMachine
 pub mod WorkSteps
@@ -6,16 +6,18 @@ pub mod NewWorkers
 pub mod CountedReplies
 pub mod CountedWorkers
 pub mod JoinedWorkers
+pub mod ToldReplies
 pub mod MergedReplies
 pub mod Numbered
 pub mod DealtLines
 pub mod WorkerGroups
+pub mod ProcessorWork
 pub mod SectionWork
 pub mod SectionPromises
-pub mod SideBySide
-pub mod StoreNumbers
+pub mod DealtStores
 pub mod StoresRan
 pub mod QuietLines
+pub mod PartsOfLines
 pub mod SectionsRun
 pub mod ParallelAssured
 pub mod TextLogs

@@ -3,7 +3,7 @@ use Rattle.std.proofs.Common.{◌≡◌, ◌≢◌, ℕ, zero, suc, ◌+◌, ◌
 use Rattle.std.proofs.lemmas.Bool.{eq-eqb}
 use Rattle.std.specs.List.{AllByRecursion}
 use Rattle.trace_runner.specs.Workers.{AllNumbered}
-use Rattle.trace_runner.proofs.WorkSteps.{not_eqb}
+use Rattle.run_model.proofs.StoreNumbers.{not_eqb}
 
 pub all_append :
     {A : Type 0} (P : ℕ → A → Type 0) (n m : ℕ) (xs ys : List A)
@@ -88,6 +88,17 @@ all_later P Q n m [] f low h = tt
 all_later P Q n m (x ∷ xs) f low h =
     (f m x low h.0, all_later P Q n (suc m) xs f (omega (arith, low)) h.1)
 
+pub all_inside :
+    {A : Type 0} (P Q : ℕ → A → Type 0) (n : ℕ) (xs : List A)
+    → ((k : ℕ) (x : A) → k < n + length xs → P k x → Q k x)
+    → AllNumbered P n xs
+    → AllNumbered Q n xs
+all_inside P Q n [] f h = tt
+all_inside P Q n (x ∷ xs) f h = (
+  f n x (omega arith) h.0,
+  all_inside P Q (suc n) xs (λ k y low p. f k y (omega (arith, low)) p) h.1,
+)
+
 -- One of them is changed.
 pub all_set :
     {A : Type 0} (P Q : ℕ → A → Type 0) (n m i : ℕ) (xs : List A) (x y : A)
@@ -124,6 +135,20 @@ all_at P n m zero (y ∷ ys) x e low is h = let same :
     n ≡ m = omega (arith, e) in subst (λ k. P k x) same (subst (P n) (sym is) h.0)
 all_at P n m (suc i) (y ∷ ys) x e low is h =
     all_at P (suc n) m i ys x (omega (arith, e)) (omega (arith, low)) is h.1
+
+-- There is one of each number, with its fact.
+pub all_has :
+    {A : Type 0} (P : ℕ → A → Type 0) (n i : ℕ) (xs : List A)
+    → i < length xs
+    → AllNumbered P n xs
+    → (x : A) × P (n + i) x
+all_has P n i [] low h = absurd (omega (arith, low))
+all_has P n zero (x ∷ xs) low h = let e :
+    n ≡ n + 0 = omega arith in (x, subst (λ m. P m x) e h.0)
+all_has P n (suc i) (x ∷ xs) low h =
+    let e : suc n + i ≡ n + suc i = omega arith in
+    let rest = all_has P (suc n) i xs (omega (arith, low)) h.1 in
+    (rest.0, subst (λ m. P m rest.0) e rest.1)
 
 -- ---- what each has
 -- By its number one thing is picked for each, of which it has the fact.

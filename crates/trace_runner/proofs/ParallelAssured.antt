@@ -1,9 +1,8 @@
 -- What the parallel run of an accepted trace is and assures.
 use Rattle.std.specs.Prelude.{None}
 use Rattle.std.specs.List.{AllByRecursion}
-use Rattle.std.proofs.Common.{◌≡◌, ℕ, List, [], ◌∷◌, length, map, refl, sym, subst, Result, Ok, Err, IfOk, String, Global, string_bytes}
+use Rattle.std.proofs.Common.{◌≡◌, ℕ, List, refl, sym, subst, Result, Ok, Err, IfOk, String, Global, string_bytes}
 use Rattle.trace_line.specs.declared.line.TraceLine.{TraceLine}
-use Rattle.bus_window.specs.Windows.{BusWindow}
 use Rattle.trace_read.specs.Configuration.{Configuration, NumbersDiffer}
 use Rattle.trace_read.specs.Trace.{AcceptedTrace, IsAccepted}
 use Rattle.trace_reply.specs.ReplyList.{ReplyList}
@@ -20,12 +19,13 @@ use Rattle.run_model.specs.Stores.{Store, page_table, is_on}
 use Rattle.run_model.proofs.GoodAssured.{good_assures}
 use Rattle.run_model.proofs.OneGoodRun.{one_good_run}
 use Rattle.run_model.proofs.ParallelGood.{parallel_good}
+use Rattle.run_model.proofs.StoreNumbers.{windows_opened}
 use Rattle.run_model.proofs.WindowLines.{opened_all}
 use Rattle.trace_runner.specs.Workers.{Keeping}
-use Rattle.trace_runner.specs.Sectioned.{Runs, AreNamed, HasRunFrom}
+use Rattle.run_model.specs.StoreNumbers.{AreNamed}
+use Rattle.trace_runner.specs.Sectioned.{Runs, HasRunFrom}
 use Rattle.trace_runner.specs.TextLog.{HasText}
 use Rattle.trace_runner.specs.ParallelRun.{IsOutputOfRun, IsTextOfRun}
-use Rattle.trace_runner.proofs.WindowPlaces.{windows_opened}
 
 -- ---- the run from the opening stores
 opening_parallel :

@@ -1,6 +1,6 @@
 -- The lines of a section on one store, from what the calls that run them promise.
-use Rattle.std.specs.Prelude.{IsSomeAnd, IfSome, ◌≢◌, if◌then◌else◌}
-use Rattle.std.proofs.Common.{◌≡◌, ℕ, zero, suc, ◌+◌, ◌-◌, ◌*◌, ◌^◌, ◌<◌, ◌≤◌, List, [], ◌∷◌, ◌++◌, length, map, take, drop, get_or, ap, sym, ◌∙◌, refl, subst, inl, inr, Bool, true, false, eqb, arith, Option, Some, None}
+use Rattle.std.specs.Prelude.{IsSomeAnd, IfSome, ◌≢◌}
+use Rattle.std.proofs.Common.{◌≡◌, ℕ, zero, suc, ◌+◌, ◌-◌, ◌*◌, ◌^◌, ◌<◌, ◌≤◌, List, [], ◌∷◌, ◌++◌, length, map, take, drop, get_or, ap, sym, ◌∙◌, refl, subst, inl, inr, true, false, eqb, arith, Option, Some, None}
 use Rattle.std.specs.List.{AllByRecursion}
 use Rattle.std.proofs.lemmas.List.{length-map}
 use Rattle.entry_model.specs.State.{State}
@@ -20,6 +20,7 @@ use Rattle.run_model.specs.Histories.{lines_of_processor}
 use Rattle.run_model.specs.ParallelRun.{RunsApart}
 use Rattle.run_model.specs.Sections.{processors_after_lines}
 use Rattle.run_model.proofs.LinesByProcessor.{own_yes, own_processors}
+use Rattle.run_model.proofs.SerialParallel.{bits_few}
 use Rattle.run_model.proofs.SectionGood.{section_legal}
 use Rattle.trace_runner.specs.declared.worker.Worker.{Worker}
 use Rattle.run_model.specs.HeldLines.{AllHold}
@@ -28,7 +29,8 @@ use Rattle.trace_runner.specs.SectionRun.{HasNoOtherPass, pass_count, RanTogethe
 use Rattle.trace_runner.specs.StoreRuns.{AllKeep, HavePicked, RanStore, section_on}
 use Rattle.trace_runner.proofs.Numbered.{all_weaker, all_plain, all_both, all_picked}
 use Rattle.trace_runner.proofs.CountedWorkers.{some_worker}
-use Rattle.trace_runner.proofs.SectionWork.{DoneWith, IsPart, done_with, own_parts, all_hold, passes_counted, listed_inside, after_parts, ran_apart}
+use Rattle.trace_runner.proofs.ProcessorWork.{DoneWith, IsPart, done_with, all_hold, passes_counted}
+use Rattle.trace_runner.proofs.SectionWork.{own_parts, listed_inside, after_parts, ran_apart}
 use Rattle.trace_runner.proofs.NewWorkers.{holds_inside}
 
 -- ---- the list behind a slice that was written
@@ -266,11 +268,6 @@ module _ {L : Type 0} (keeps : Keeping L) (set : StoreContext) (opening : List S
       rw t.cpus held
 
 -- ---- a store with no line
-bits_few : (r c : Bool) → (if r then 1 else 0) + (if c then 1 else 0) ≤ 2
-bits_few true true = omega arith
-bits_few true false = omega arith
-bits_few false true = omega arith
-bits_few false false = omega arith
 
 front_of : (a : List State) (e : ℕ) → front_at (opening_fronts a) e ≤ pair_of (state_at a e)
 unfolding pair_of

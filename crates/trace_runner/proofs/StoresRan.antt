@@ -1,150 +1,40 @@
 -- The lines of a section that were run each on its store.
-use Rattle.std.specs.Prelude.{Vec, None}
-use Rattle.std.proofs.Common.{◌≡◌, ℕ, zero, suc, ◌+◌, ◌<◌, ◌≤◌, List, [], ◌∷◌, ◌++◌, length, replicate, get_or, ap, sym, ◌∙◌, refl, subst, append_assoc, append-nil, arith, Result, Ok, Err, IfOk}
+use Rattle.std.specs.Prelude.{Vec, None, insert, remove}
+use Rattle.std.proofs.Common.{◌≡◌, ◌≢◌, ℕ, zero, suc, ◌+◌, ◌<◌, ◌≤◌, List, [], ◌∷◌, ◌++◌, length, replicate, get_or, set, cond, eqb, ap, sym, ◌∙◌, refl, subst, arith}
+use Rattle.std.proofs.lemmas.Bool.{eq-eqb}
+use Rattle.std.proofs.lemmas.List.{length-append}
 use Rattle.bus_window.specs.Windows.{BusWindow}
-use Rattle.frame_grants.specs.declared.grant.Grant.{Grant}
 use Rattle.hpt_resize.specs.TableMemory.{with_states}
+use Rattle.entry_model.specs.State.{State}
 use Rattle.tlb_model.specs.Processor.{Processor, new_processor}
 use Rattle.trace_line.specs.declared.line.TraceLine.{TraceLine}
 use Rattle.trace_reply.specs.declared.reply.Reply.{Reply}
-use Rattle.entry_model.specs.State.{State}
-use Rattle.trace_reply.specs.Replies.{RepliedLine}
+use Rattle.trace_reply.specs.Replies.{RepliedLine, lines_with_replies}
+use Rattle.run_model.specs.AllStores.{WindowState, AllStores, as_store, windows_in}
 use Rattle.run_model.specs.ParallelRun.{RunsApart}
-use Rattle.run_model.specs.Stores.{Store, context_of, states_of}
-use Rattle.run_model.specs.AllStores.{WindowState, AllStores, windows_in}
 use Rattle.run_model.specs.StoreContexts.{window_context}
-use Rattle.trace_runner.specs.Stores.{lines_on_store, AreOnStores}
-use Rattle.trace_runner.specs.StoreRuns.{section_on, AllPaired, AllTripled, AllKeep, RunsWindow, RanWindow, RanWindows, RanTable, AddsWindows, RanStores, StoresKeep, IsMerged}
-use Rattle.trace_runner.specs.Sectioned.{section_lines, WindowSectioned, Sectioned, AddsReplies, RunsSection}
-use Rattle.trace_runner.specs.Workers.{Keeping}
-use Rattle.trace_runner.proofs.Numbered.{all_at}
-use Rattle.trace_runner.proofs.SideBySide.{tripled_weaker, tripled_paired, tripled_last, tripled_count, PickedThree, tripled_picked}
+use Rattle.run_model.specs.Stores.{Store, context_of, states_of, is_on, is_on_window, lines_on}
+use Rattle.run_model.proofs.WindowLines.{window_closes_on}
+use Rattle.run_model.specs.StoreNumbers.{store_at, lines_on_store}
+use Rattle.trace_runner.specs.StoreRuns.{section_on, AllKeep, HavePicked, RanStore, RunsOn, RanOn, RanBelow, RanStores, StoresKeep, IsMerged}
+use Rattle.trace_runner.specs.Sectioned.{Sectioned, AddsReplies, RunsSection}
+use Rattle.trace_runner.specs.Workers.{Keeping, AllNumbered}
+use Rattle.trace_runner.proofs.Numbered.{all_push, all_weaker, all_inside, all_has}
 use Rattle.trace_runner.proofs.SectionPromises.{store_idle}
-use Rattle.trace_runner.proofs.StoreNumbers.{lines_alone}
+use Rattle.run_model.proofs.StoreNumbers.{not_eqb, same_count, window_at, table_changed, window_changed, window_others, replied_numbered, lines_alone}
+use Rattle.trace_runner.proofs.WindowIndices.{windows_stay}
 
--- ---- one store more
-pub window_idle :
-    {L : Type 0} (keeps : Keeping L) (grants : List Grant) (cpus : ℕ) (v : WindowState)
-    → RanWindow keeps grants cpus [] v v []
-window_idle keeps grants cpus v =
-    let r = store_idle keeps (window_context grants v.window) v.states
-    (replicate cpus new_processor) in
-    (r.0, record { same = refl; processors = replicate cpus new_processor; ran = r.1 })
+-- One that is taken out and put back is set.
+pub put_back :
+    {A : Type 0} (xs : List A) (at : ℕ) (y : A)
+    → at < length xs
+    → insert (remove xs at) at y ≡ set xs at y
+put_back [] at y low = absurd (omega (arith, low))
+put_back (x ∷ xs) zero y low = refl
+put_back (x ∷ xs) (suc at) y low = ap (λ ys. x ∷ ys) (put_back xs at y (omega (arith, low)))
 
-pub paired_windows :
-    (n : ℕ) (vs us : List WindowState)
-    → AllPaired (λ store v u. u.window ≡ v.window) n vs us
-    → windows_in us ≡ windows_in vs
-paired_windows n [] [] h = refl
-paired_windows n [] (u ∷ us) h = absurd h
-paired_windows n (v ∷ vs) [] h = absurd h
-paired_windows n (v ∷ vs) (u ∷ us) h = λ j. h.0 j ∷ paired_windows (suc n) vs us h.1 j
-
-pub ran_windows_same :
-    {L Z : Type 0} (keeps : Keeping L) (grants : List Grant) (cpus : ℕ) (on : ℕ → List TraceLine)
-    (n : ℕ) (vs us : List WindowState) (logs : List (Vec L Z))
-    → RanWindows keeps grants cpus on n vs us logs
-    → windows_in us ≡ windows_in vs
-ran_windows_same {L = L} {Z = Z} keeps grants cpus on n vs us logs h =
-    paired_windows n vs us
-    (tripled_paired
-    (λ store v u (own : Vec L Z). RanWindow keeps grants cpus (on store) v u own.items)
-    (λ store v u. u.window ≡ v.window) n vs us logs (λ k v u own r. r.1.same) h)
-
--- ---- one window after the other
--- What completes the windows that are left completes all.
-pub record Windowing {L Y Z : Type 0} (keeps : Keeping L) (grants : List Grant) (cpus : ℕ)
-    (dealt : List (Vec TraceLine Y)) (k : ℕ) (vs rest later : List WindowState)
-    (old logs : List (Vec L Z)) :
-    Type 0 where
-  pub added : List (Vec L Z)
-  pub pushed : logs ≡ old ++ added
-  pub goes :
-      (ws : List BusWindow) (lines : List TraceLine) (us : List WindowState) (more : List (Vec L Z))
-      → AreOnStores ws lines dealt
-      → RanWindows keeps grants cpus (λ store. lines_on_store ws store lines) (1 + k) rest us more
-      → RanWindows keeps grants cpus (λ store. lines_on_store ws store lines) 1 vs (later ++ us)
-      (added ++ more)
-
-pub windowing_none :
-    {L Y Z : Type 0} (keeps : Keeping L) (grants : List Grant) (cpus : ℕ)
-    (dealt : List (Vec TraceLine Y)) (vs rest : List WindowState) (logs : List (Vec L Z))
-    → rest ≡ vs
-    → Windowing keeps grants cpus dealt 0 vs rest [] logs logs
-windowing_none {L = L} {Z = Z} keeps grants cpus dealt vs rest logs all = record {
-  added = [];
-  pushed = sym (append-nil logs);
-  goes =
-      λ ws lines us more on h.
-      subst
-      (λ zs. RanWindows keeps grants cpus (λ store. lines_on_store ws store lines) 1 zs us more)
-      all h;
-}
-
-pub windowing_more :
-    {L Y Z : Type 0} (keeps : Keeping L) (grants : List Grant) (cpus : ℕ)
-    (dealt : List (Vec TraceLine Y)) (k : ℕ) (vs rest left later : List WindowState)
-    (old logs : List (Vec L Z)) (v u : WindowState) (lines : Vec TraceLine Y) (own : Vec L Z)
-    → rest ≡ v ∷ left
-    → k + 1 < length dealt
-    → lines ≡ get_or dealt (k + 1) lines
-    → RanWindow keeps grants cpus lines.items v u own.items
-    → Windowing keeps grants cpus dealt k vs rest later old logs
-    → Windowing keeps grants cpus dealt (k + 1) vs left (later ++ u ∷ []) old (logs ++ own ∷ [])
-windowing_more {L = L} {Y = Y} {Z = Z} keeps grants cpus dealt k vs rest left later old logs v u
-    lines own cut inside read ran h =
-    record {
-      added = h.added ++ own ∷ [];
-      pushed = ap (λ zs. zs ++ own ∷ []) h.pushed ∙ append_assoc old h.added (own ∷ []);
-      goes = λ ws all us more on_stores next.
-          let on : ℕ → List TraceLine = λ store. lines_on_store ws store all in
-          let here : lines.items ≡ on (k + 1) = all_at
-          (λ store (w : Vec TraceLine Y). w.items ≡ on store) 0 (k + 1) (k + 1) dealt lines
-          (omega arith) inside read on_stores in
-          let place : k + 1 ≡ 1 + k = omega arith in
-          let behind : 1 + (k + 1) ≡ suc (1 + k) = omega arith in
-          let first : RanWindow keeps grants cpus (on (1 + k)) v u own.items = subst
-          (λ ls. RanWindow keeps grants cpus ls v u own.items) (here ∙ ap on place) ran in
-          let both : RanWindows keeps grants cpus on (1 + k) (v ∷ left) (u ∷ us) (own ∷ more) =
-          (first, subst (λ n. RanWindows keeps grants cpus on n left us more) behind next) in
-          let joined :
-          RanWindows keeps grants cpus on 1 vs (later ++ u ∷ us) (h.added ++ own ∷ more) =
-          h.goes ws all (u ∷ us) (own ∷ more) on_stores
-          (subst (λ zs. RanWindows keeps grants cpus on (1 + k) zs (u ∷ us) (own ∷ more)) (sym cut)
-          both) in
-          subst (λ zs. RanWindows keeps grants cpus on 1 vs zs ((h.added ++ own ∷ []) ++ more))
-          (sym (append_assoc later (u ∷ []) us))
-          (subst
-          (λ (zs : List (Vec L Z)). RanWindows keeps grants cpus on 1 vs (later ++ u ∷ us) zs)
-          (sym (append_assoc h.added (own ∷ []) more)) joined);
-    }
-
-pub windowing_all :
-    {L Y Z : Type 0} (keeps : Keeping L) (grants : List Grant) (cpus : ℕ)
-    (dealt : List (Vec TraceLine Y)) (k : ℕ) (vs rest later : List WindowState)
-    (old logs : List (Vec L Z))
-    → rest ≡ []
-    → Windowing keeps grants cpus dealt k vs rest later old logs
-    → (ws : List BusWindow) (lines : List TraceLine)
-    → AreOnStores ws lines dealt
-    → AddsWindows keeps grants cpus (λ store. lines_on_store ws store lines) vs later old logs
-windowing_all {L = L} {Z = Z} keeps grants cpus dealt k vs rest later old logs none h ws lines
-    on_stores =
-    let on : ℕ → List TraceLine = λ store. lines_on_store ws store lines in
-    let ended : RanWindows {L = L} {Z = Z} keeps grants cpus on (1 + k) rest [] [] = subst
-    (λ zs. RanWindows {L = L} {Z = Z} keeps grants cpus on (1 + k) zs [] []) (sym none) tt in
-    record {
-      rest = h.added;
-      pushed = h.pushed;
-      ran =
-          subst (λ zs. RanWindows keeps grants cpus on 1 vs zs h.added) (append-nil later)
-          (subst
-          (λ (zs : List (Vec L Z)). RanWindows keeps grants cpus on 1 vs (later ++ []) zs)
-          (append-nil h.added) (h.goes ws lines [] [] on_stores ended));
-    }
-
--- ---- all stores
--- The page table works as a store with its states and processors does.
+-- ---- a store
+-- A store works as one does that has its states and processors, and nothing else of it.
 apart_on :
     (s : Store) (ts : List RepliedLine) (b : List State)
     → RunsApart (section_on (context_of s) (states_of s) s.processors ts) b
@@ -162,173 +52,271 @@ apart_on s ts b h = record {
   quiet = tt;
 }
 
-pub stores_alone :
-    {L Z : Type 0} (keeps : Keeping L) (s later : AllStores) (lines : List TraceLine)
-    (logs : List (Vec L Z))
-    → s.windows ≡ []
-    → RanTable keeps s lines later [] logs
-    → RanStores keeps s lines later logs
-stores_alone {L = L} {Z = Z} keeps s later lines logs none r =
-    let whole : lines ≡ lines_on_store (windows_in s.windows) 0 lines = sym
-    (ap (λ vs. lines_on_store (windows_in vs) 0 lines) none ∙ lines_alone lines) in
-    let on : ℕ → List TraceLine = λ store. lines_on_store (windows_in s.windows) store lines in
-    let count = length s.table.processors in
-    let empty : RanWindows {L = L} {Z = Z} keeps s.table.grants count on 1 [] [] [] = tt in
-    record {
-      middle = later;
-      first = logs;
-      table = subst (λ ls. RanTable keeps s ls later [] logs) whole r;
-      same = refl;
-      windows = record {
-        rest = [];
-        pushed = sym (append-nil logs);
-        ran =
-            subst (λ vs. RanWindows {L = L} {Z = Z} keeps s.table.grants count on 1 s.windows vs [])
-            (sym (r.windows ∙ none))
-            (subst (λ vs. RanWindows {L = L} {Z = Z} keeps s.table.grants count on 1 vs [] [])
-            (sym none) empty);
+-- The store behind a section, with such states and processors.
+abbrev ended : Store → List State → List Processor → Store
+ended x states processors = record x {
+  memory = with_states x.memory states;
+  processors = processors;
+}
+
+runs_on :
+    {L : Type 0} (keeps : Keeping L) (ws : List BusWindow) (x y : Store) (lines : List TraceLine)
+    (closing : List State) (processors : List Processor) (logs : List L)
+    (r : RanStore keeps (context_of x) (states_of x) x.processors lines closing processors logs)
+    → y ≡ ended x closing processors
+    → RunsOn keeps ws lines r.0 x y logs
+runs_on keeps ws x y lines closing processors logs r e = record {
+  keep = r.1.keep;
+  leaves = λ ts own.
+      let us = lines_on (is_on ws x.window) ts in
+      record {
+        states = closing;
+        apart = apart_on x us closing (r.1.apart us own);
+        later = e ∙ ap (ended x closing) (r.1.after us own);
       };
-    }
+}
 
-pub ok_alone :
-    {L Z E : Type 0} (keeps : Keeping L) (s : AllStores) (lines : List TraceLine)
-    (old logs : List (Vec L Z)) (r : Result AllStores E)
-    → s.windows ≡ []
-    → old ≡ []
-    → IfOk r (λ later. RanTable keeps s lines later old logs)
-    → IfOk r (λ later. RanStores keeps s lines later logs)
-ok_alone {L = L} {Z = Z} keeps s lines old logs (Ok later) none new h =
-    stores_alone keeps s later lines logs none
-    (subst (λ (zs : List (Vec L Z)). RanTable keeps s lines later zs logs) new h)
-ok_alone keeps s lines old logs (Err e) none new h = tt
-
-pub stores_together :
-    {L Z : Type 0} (keeps : Keeping L) (s middle later : AllStores) (lines own : List TraceLine)
-    (old first logs : List (Vec L Z)) (grants : List Grant) (cpus : ℕ) (vs : List WindowState)
-    → old ≡ []
-    → own ≡ lines_on_store (windows_in s.windows) 0 lines
-    → RanTable keeps s own middle old first
-    → vs ≡ middle.windows
-    → grants ≡ middle.table.grants
-    → cpus ≡ length s.table.processors
-    → later.table ≡ middle.table
-    → AddsWindows keeps grants cpus (λ store. lines_on_store (windows_in s.windows) store lines) vs
-    later.windows first logs
-    → RanStores keeps s lines later logs
-stores_together {L = L} {Z = Z} keeps s middle later lines own old first logs grants cpus vs none is
-    r windows granted count same h =
-    let on : ℕ → List TraceLine = λ store. lines_on_store (windows_in s.windows) store lines in
-    let all_granted : grants ≡ s.table.grants = granted ∙ ap (λ (w : Store). w.grants) r.table in
+-- ---- one store of all
+pub none_ran :
+    {L : Type 0} (keeps : Keeping L) (s : AllStores) (number : ℕ)
+    → RanOn keeps s number [] s []
+none_ran keeps s number =
+    let x = store_at s number in
+    let r = store_idle keeps (context_of x) (states_of x) x.processors in
     record {
-      middle = middle;
-      first = first;
-      table =
-          subst (λ ls. RanTable keeps s ls middle [] first) is
-          (subst (λ (zs : List (Vec L Z)). RanTable keeps s own middle zs first) none r);
-      same = same;
-      windows =
-          subst
-          (λ us.
-          AddsWindows keeps s.table.grants (length s.table.processors) on us later.windows
-          first logs) (windows ∙ r.windows)
-          (subst (λ n. AddsWindows keeps s.table.grants n on vs later.windows first logs) count
-          (subst (λ g. AddsWindows keeps g cpus on vs later.windows first logs) all_granted
-          h));
+      picks = r.0;
+      ran =
+          runs_on keeps (windows_in s.windows) x x [] (states_of x) x.processors [] r refl;
+      others = λ other differ inside. refl;
+      stays = record { windows = refl; processors = refl; number = refl };
     }
 
+-- The page table.
+pub table_ran :
+    {L : Type 0} (keeps : Keeping L) (s later : AllStores) (lines : List TraceLine)
+    (closing : List State) (logs : List L)
+    → RanStore keeps (context_of s.table) (states_of s.table) s.table.processors lines closing
+    later.table.processors logs
+    → later.table ≡ ended s.table closing later.table.processors
+    → later.windows ≡ s.windows
+    → length later.table.processors ≡ length s.table.processors
+    → RanOn keeps s 0 lines later logs
+table_ran keeps s later lines closing logs r table windows size = record {
+  picks = r.0;
+  ran =
+      runs_on keeps (windows_in s.windows) s.table later.table lines closing
+      later.table.processors logs r table;
+  others =
+      table_changed s later windows (ap (λ (v : Store). v.grants) table) size;
+  stays =
+      record {
+        windows = ap windows_in windows;
+        processors = size;
+        number = ap (λ (v : Store). v.memory.table.number) table;
+      };
+}
+
+-- The window at an index.
+pub window_ran :
+    {L : Type 0} (keeps : Keeping L) (s later : AllStores) (at : ℕ) (lines : List TraceLine)
+    (v : WindowState) (closing : List State) (processors : List Processor) (logs : List L)
+    → at < length s.windows
+    → v ≡ get_or s.windows at v
+    → RanStore keeps (window_context s.table.grants v.window) v.states
+    (replicate (length s.table.processors) new_processor) lines closing processors logs
+    → later.table ≡ s.table
+    → later.windows ≡ set s.windows at (record v { states = closing })
+    → RanOn keeps s (at + 1) lines later logs
+window_ran {L = L} keeps s later at lines v closing processors logs inside is r table windows =
+    let behind : suc at ≡ at + 1 = omega arith in
+    subst (λ n. RanOn keeps s n lines later logs) behind (record {
+      picks = r.0;
+      ran =
+          subst (λ (z : Store). RunsOn keeps ws lines r.0 z (store_at later (suc at)) logs)
+          (sym before)
+          (subst (λ (z : Store). RunsOn keeps ws lines r.0 x z logs) (sym after) ran);
+      others = λ other differ low. window_others s later at u table windows other differ;
+      stays = record {
+        windows =
+            ap windows_in windows
+            ∙ windows_stay s.windows at u v inside (ap (λ (z : WindowState). z.window) is);
+        processors = ap (λ (z : Store). length z.processors) table;
+        number = ap (λ (z : Store). z.memory.table.number) table;
+      };
+    }) where
+      ws : List BusWindow
+      ws = windows_in s.windows
+
+      u : WindowState
+      u = record v { states = closing }
+
+      x : Store
+      x = as_store s.table v
+
+      before : store_at s (suc at) ≡ x
+      before =
+          let here = window_at s.table s.windows at inside in
+          here.store s.table ∙ ap (as_store s.table) (sym (is ∙ here.state v))
+
+      after : store_at later (suc at) ≡ as_store s.table u
+      after = window_changed s later at u table windows inside
+
+      ran : RunsOn keeps ws lines r.0 x (as_store s.table u) logs
+      ran = record {
+        keep = r.1.keep;
+        leaves = λ ts own.
+            let us = lines_on (is_on_window v.window) ts in
+            record {
+              states = closing;
+              apart = r.1.apart us own;
+              later =
+                  sym
+                  (window_closes_on s.table.grants (length s.table.processors) v.window v.states
+                  closing ts);
+            };
+      }
+
+-- ---- one store after the other
+pub below_none :
+    {L Z : Type 0} (keeps : Keeping L) (s : AllStores) (lines : List TraceLine)
+    (logs : List (Vec L Z))
+    → logs ≡ []
+    → RanBelow keeps s 0 lines s logs
+below_none {L = L} {Z = Z} keeps s lines logs none =
+    subst (λ (zs : List (Vec L Z)). RanBelow keeps s 0 lines s zs) (sym none) (record {
+      picks = λ number cpu. [];
+      size = refl;
+      ran = tt;
+      others = λ number low inside. refl;
+      stays = record { windows = refl; processors = refl; number = refl };
+    })
+
+pub below_more :
+    {L Z : Type 0} (keeps : Keeping L) (s mid later : AllStores) (k : ℕ)
+    (lines own_lines : List TraceLine) (logs : List (Vec L Z)) (own : Vec L Z)
+    → k ≤ length s.windows
+    → own_lines ≡ lines_on_store (windows_in s.windows) k lines
+    → RanBelow keeps s k lines mid logs
+    → RanOn keeps mid k own_lines later own.items
+    → RanBelow keeps s (k + 1) lines later (logs ++ own ∷ [])
+below_more {L = L} {Z = Z} keeps s mid later k lines own_lines logs own inside are h r = record {
+  picks = picks;
+  size = length-append logs (own ∷ []) ∙ ap (λ n. n + 1) h.size;
+  ran =
+      all_push (Runs picks later) 0 logs own earlier
+      (subst (λ n. Runs picks later n own) (omega (arith, h.size)) here);
+  others =
+      λ number low within.
+      next number (λ e. absurd (omega (arith, low, e))) within
+      ∙ h.others number (omega (arith, low)) within;
+  stays =
+      record {
+        windows = r.stays.windows ∙ h.stays.windows;
+        processors = r.stays.processors ∙ h.stays.processors;
+        number = r.stays.number ∙ h.stays.number;
+      };
+} where
+  ws : List BusWindow
+  ws = windows_in s.windows
+
+  picks : ℕ → ℕ → List Reply
+  picks number = cond (eqb number k) r.picks (h.picks number)
+
+  Runs : (ℕ → ℕ → List Reply) → AllStores → ℕ → Vec L Z → Type 0
+  Runs rs z number logs =
+      RunsOn keeps ws (lines_on_store ws number lines) (rs number) (store_at s number)
+      (store_at z number) logs.items
+
+  many : length mid.windows ≡ length s.windows
+  many = same_count mid.windows s.windows h.stays.windows
+
+  next :
+      (number : ℕ)
+      → number ≢ k
+      → number ≤ length s.windows
+      → store_at later number ≡ store_at mid number
+  next number differ within =
+      r.others number differ (subst (λ n. number ≤ n) (sym many) within)
+
+  earlier : AllNumbered (Runs picks later) 0 logs
+  earlier = all_inside (Runs h.picks mid) (Runs picks later) 0 logs stay h.ran where
+    stay :
+        (number : ℕ) (log : Vec L Z)
+        → number < 0 + length logs
+        → Runs h.picks mid number log
+        → Runs picks later number log
+    stay number log low p =
+        let below : number < k = omega (arith, low, h.size) in
+        let differ : number ≢ k = (λ e. absurd (omega (arith, below, e))) in
+        rw (not_eqb number k differ)
+        (subst
+        (λ (z : Store).
+        RunsOn keeps ws (lines_on_store ws number lines) (h.picks number) (store_at s number) z
+        log.items) (sym (next number differ (omega (arith, below, inside)))) p)
+
+  here : Runs picks later k own
+  here =
+      rw (eq-eqb k k refl)
+      (subst
+      (λ (z : Store).
+      RunsOn keeps ws (lines_on_store ws k lines) r.picks z (store_at later k) own.items)
+      (h.others k (omega arith) inside)
+      (subst
+      (λ ls. RunsOn keeps ws ls r.picks (store_at mid k) (store_at later k) own.items) are
+      (subst
+      (λ us. RunsOn keeps us own_lines r.picks (store_at mid k) (store_at later k) own.items)
+      h.stays.windows r.ran)))
+
+-- With no window all lines are on the page table.
+pub table_alone :
+    {L Z : Type 0} (keeps : Keeping L) (s later : AllStores) (lines : List TraceLine)
+    (logs : List (Vec L Z)) (own : Vec L Z)
+    → s.windows ≡ []
+    → logs ≡ []
+    → RanOn keeps s 0 lines later own.items
+    → RanStores keeps s lines later (logs ++ own ∷ [])
+table_alone {L = L} {Z = Z} keeps s later lines logs own none empty r =
+    subst (λ n. RanBelow keeps s (1 + n) lines later (logs ++ own ∷ [])) (sym (ap length none))
+    (below_more keeps s s later 0 lines lines logs own (omega arith)
+    (sym (ap (λ vs. lines_on_store (windows_in vs) 0 lines) none ∙ lines_alone lines))
+    (below_none keeps s lines logs empty) r)
+
+-- ---- their replies
 module _ {L Z : Type 0} (keeps : Keeping L) (s : AllStores) (lines : List TraceLine)
     (later : AllStores) (logs : List (Vec L Z)) (r : RanStores keeps s lines later logs) where
   abbrev pub ws : List BusWindow
   ws = windows_in s.windows
 
-  abbrev pub on : ℕ → List TraceLine
-  on store = lines_on_store ws store lines
+  abbrev Runs : ℕ → Vec L Z → Type 0
+  Runs number own =
+      RunsOn keeps ws (lines_on_store ws number lines) (r.picks number) (store_at s number)
+      (store_at later number) own.items
 
-  abbrev pub count : ℕ
-  count = length s.table.processors
-
-  abbrev pub Runs : ℕ → (ℕ → List Reply) → WindowState → WindowState → Vec L Z → Type 0
-  Runs store picks v u own = RunsWindow keeps s.table.grants count (on store) picks v u own.items
-
-  pub windowed : PickedThree Runs 1 s.windows later.windows r.windows.rest
-  windowed = tripled_picked Runs (λ cpu. []) 1 s.windows later.windows r.windows.rest r.windows.ran
-
-  -- The replies that are picked for the lines on each store.
-  abbrev pub picks_on : ℕ → ℕ → List Reply
-  picks_on zero = r.table.ran.0
-  picks_on (suc n) = windowed.pick (suc n)
-
-  windows_run :
-      AllTripled (λ store v u own. Runs store (picks_on store) v u own) 1 s.windows later.windows
-      r.windows.rest
-  windows_run =
-      tripled_weaker (λ store v u own. Runs store (windowed.pick store) v u own)
-      (λ store v u own. Runs store (picks_on store) v u own) 1 1 s.windows later.windows
-      r.windows.rest some (omega arith) windowed.all where
-        some :
-            (k : ℕ) (v u : WindowState) (own : Vec L Z)
-            → 1 ≤ k
-            → Runs k (windowed.pick k) v u own
-            → Runs k (picks_on k) v u own
-        some zero v u own low h = absurd (omega (arith, low))
-        some (suc k) v u own low h = h
-
-  logs_are : logs ≡ r.table.own ∷ r.windows.rest
-  logs_are = r.windows.pushed ∙ ap (λ zs. zs ++ r.windows.rest) r.table.pushed
-
-  pub stores_keep : StoresKeep keeps ws lines picks_on logs
+  stores_keep : StoresKeep keeps ws lines r.picks logs
   stores_keep =
-      subst (λ (zs : List (Vec L Z)). StoresKeep keeps ws lines picks_on zs) (sym logs_are) (
-        r.table.ran.1.keep,
-        tripled_last (λ store v u own. Runs store (picks_on store) v u own)
-            (λ store (own : Vec L Z). AllKeep keeps (on store) (picks_on store) own.items) 1
-            s.windows later.windows r.windows.rest (λ k v u own h. h.ran.keep) windows_run,
-      )
+      all_weaker Runs
+      (λ number (own : Vec L Z).
+      AllKeep keeps (lines_on_store ws number lines) (r.picks number) own.items)
+      0 logs (λ number own h. h.keep) r.ran
 
   pub stores_count : length logs ≡ 1 + length later.windows
   stores_count =
-      omega (
-        arith,
-        ap length logs_are,
-        tripled_count (λ store v u own. Runs store (picks_on store) v u own) 1 s.windows
-            later.windows r.windows.rest windows_run,
-      )
+      omega (arith, r.size, same_count later.windows s.windows r.stays.windows)
 
-  pub stores_same : windows_in later.windows ≡ ws
-  stores_same =
-      ran_windows_same keeps s.table.grants count on 1 s.windows later.windows r.windows.rest
-      r.windows.ran
-
-  pub stores_sectioned :
-      (news : List Reply) → IsMerged ws lines picks_on news → Sectioned s lines news later
-  stores_sectioned news m =
-      let own = m.own in
-      record {
-        kinds = m.kinds;
-        states = r.table.closing;
-        apart =
-            apart_on s.table (section_lines s lines news 0) r.table.closing
-            (r.table.ran.1.apart (section_lines s lines news 0) (own 0));
-        table =
-            r.same
-            ∙ r.table.table
-            ∙ ap
-            (λ (ps : List Processor).
-            record s.table {
-              memory = with_states s.table.memory r.table.closing;
-              processors = ps;
-            }) (r.table.ran.1.after (section_lines s lines news 0) (own 0));
-        windows =
-            tripled_paired (λ store v u own. Runs store (picks_on store) v u own)
-            (λ store v u.
-            WindowSectioned s.table.grants count (section_lines s lines news store) v u) 1
-            s.windows later.windows r.windows.rest
-            (λ k v u logs h.
-            record {
-              same = h.same;
-              apart = h.ran.apart (section_lines s lines news k) (own k);
-            }) windows_run;
-      }
+  stores_sectioned :
+      (news : List Reply) → IsMerged ws lines r.picks news → Sectioned s lines news later
+  stores_sectioned news m = record {
+    kinds = m.kinds;
+    leaves = λ named number inside.
+        let ts = lines_with_replies lines news in
+        let e : 0 + number ≡ number = omega arith in
+        let own = all_has Runs 0 number logs (omega (arith, inside, r.size)) r.ran in
+        (subst (λ n. Runs n own.0) e own.1).leaves ts
+        (subst (HavePicked (lines_on_store ws number lines) (r.picks number))
+        (replied_numbered s named number inside ts)
+        (m.own number));
+    stays = r.stays;
+  }
 
   pub section_ran :
       {O : Type 0} (has : Keeping O) (vs : List WindowState) (old new : O)
@@ -339,14 +327,14 @@ module _ {L Z : Type 0} (keeps : Keeping L) (s : AllStores) (lines : List TraceL
       → AddsReplies has (windows_in vs) lines picks old new)
       → RunsSection has s lines old new later
   section_ran has vs old new e merged =
-      let same : windows_in vs ≡ ws = ap windows_in e ∙ stores_same in
-      let a = merged picks_on
-      (subst (λ us. StoresKeep keeps us lines picks_on logs) (sym same) stores_keep) in
+      let same : windows_in vs ≡ ws = ap windows_in e ∙ r.stays.windows in
+      let a = merged r.picks
+      (subst (λ us. StoresKeep keeps us lines r.picks logs) (sym same) stores_keep) in
       record {
         news = a.news;
         grown = a.grown;
         sectioned =
-            stores_sectioned a.news (subst (λ us. IsMerged us lines picks_on a.news) same a.merged);
+            stores_sectioned a.news (subst (λ us. IsMerged us lines r.picks a.news) same a.merged);
       }
 
   pub section_keeps :
@@ -354,7 +342,7 @@ module _ {L Z : Type 0} (keeps : Keeping L) (s : AllStores) (lines : List TraceL
       → vs ≡ later.windows
       → (picks : ℕ → ℕ → List Reply) × StoresKeep keeps (windows_in vs) lines picks logs
   section_keeps vs e = (
-    picks_on,
-    subst (λ us. StoresKeep keeps us lines picks_on logs) (sym (ap windows_in e ∙ stores_same))
-        stores_keep,
+    r.picks,
+    subst (λ us. StoresKeep keeps us lines r.picks logs)
+        (sym (ap windows_in e ∙ r.stays.windows)) stores_keep,
   )

@@ -1,12 +1,11 @@
 -- A processor of a section, one line on.
-use Rattle.std.proofs.Common.{◌≡◌, ◌≢◌, ℕ, suc, ◌+◌, ◌-◌, ◌^◌, ◌<◌, List, [], ◌∷◌, ◌++◌, length, take, get_or, if◌then◌else◌, true, false, ap, sym, ◌∙◌, refl, subst, ◌⊎◌, inl, inr, eqb, append-nil, append_assoc, All, Some, None}
+use Rattle.std.proofs.Common.{◌≡◌, ℕ, suc, ◌+◌, ◌-◌, ◌^◌, ◌<◌, List, [], ◌∷◌, ◌++◌, length, take, get_or, if◌then◌else◌, true, false, ap, sym, ◌∙◌, refl, subst, inl, inr, eqb, append-nil, append_assoc, All, Some, None}
 use Rattle.std.proofs.lemmas.List.Elements.{All-head, All-tail}
 use Rattle.std.specs.Prelude.{IfSome}
 use Rattle.std.specs.List.{AllByRecursion}
 use Rattle.hpte_fields.specs.TableSize.{entry_count}
 use Rattle.entry_model.specs.CachedLines.{AllLater}
 use Rattle.run_model.specs.LineReplies.{IsCallReply, IsReplyToAccess}
-use Rattle.std.proofs.lemmas.Bool.{cases_Bool, eqb-true}
 use Rattle.std.proofs.lemmas.List.Elements.{filter_more}
 use Rattle.entry_model.specs.declared.receipt.Receipt.{Receipt}
 use Rattle.tlb_model.specs.Cache.{AllCached}
@@ -87,12 +86,6 @@ receipts_more (u ∷ us) t =
     ∙ sym (append_assoc (receipts_in u.reply) (receipts_by us) (receipts_in t.reply))
 
 -- ---- lines of one processor
-pub not_eqb : (a b : ℕ) → a ≢ b → eqb a b ≡ false
-not_eqb a b differ = at (cases_Bool (eqb a b)) where
-  at : (eqb a b ≡ true) ⊎ (eqb a b ≡ false) → eqb a b ≡ false
-  at (inl same) = absurd (differ (eqb-true a b same))
-  at (inr other) = other
-
 pub own_more :
     (cpu : ℕ) (lines : List TraceLine) (k : ℕ) (d : TraceLine)
     → k < length lines

@@ -1,9 +1,7 @@
-pub mod Windows
 pub mod MachineState
 pub mod Workers
 pub mod DealtLines
 pub mod SectionRun
-pub mod Stores
 pub mod StoreRuns
 pub mod Sectioned
 pub mod WorkerGroup

@@ -1,5 +1,5 @@
 -- What the machine that runs a trace carries: a partition, its processors and its windows.
-use Rattle.std.specs.Prelude.{◌≡◌, List, None}
+use Rattle.std.specs.Prelude.{◌≡◌, List}
 use Rattle.tlb_model.specs.Processor.{Processor}
 use Rattle.trace_read.specs.Configuration.{NumbersDiffer}
 use Rattle.partition.specs.PartitionState.{PartitionState, HasStates}
@@ -10,22 +10,6 @@ use Rattle.trace_line.specs.declared.line.TraceLine.{TraceLine}
 use Rattle.trace_reply.specs.declared.reply.Reply.{Reply}
 use Rattle.run_model.specs.SerialRun.{run_line, replies_from, stores_after, first_store}
 use Rattle.run_model.specs.AllStores.{windows_in}
-
--- The run state of a partition and its processors.
-abbrev pub run_state_of : PartitionState → List Processor → Store
-run_state_of partition processors = record {
-  grants = partition.granted.grants;
-  window = None;
-  memory = partition.memory;
-  processors = processors;
-}
-
--- All that the machine carries from line to line.
-abbrev pub stores_of : PartitionState → List Processor → List WindowState → AllStores
-stores_of partition processors windows = record {
-  table = run_state_of partition processors;
-  windows = windows;
-}
 
 -- The table has its states, all cached lines hold of them, and the numbers of the windows differ.
 pub record IsMachine

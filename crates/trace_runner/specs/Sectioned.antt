@@ -1,49 +1,22 @@
 -- The sections of a run on all stores, and the run that they are.
-use Rattle.std.specs.Prelude.{None}
-use Rattle.std.specs.Prelude.{◌≡◌, ℕ, ◌+◌, ◌≤◌, List, [], ◌∷◌, ◌++◌, length, replicate}
+use Rattle.std.specs.Prelude.{◌≡◌, ℕ, ◌+◌, ◌≤◌, List, [], ◌∷◌, ◌++◌, length}
 use Rattle.std.specs.List.{AllByRecursion}
 use Rattle.bus_window.specs.Windows.{BusWindow}
-use Rattle.frame_grants.specs.declared.grant.Grant.{Grant}
-use Rattle.entry_model.specs.State.{State}
-use Rattle.tlb_model.specs.Processor.{new_processor}
 use Rattle.trace_line.specs.declared.line.TraceLine.{TraceLine}
-use Rattle.trace_read.specs.Configuration.{NumbersDiffer}
 use Rattle.trace_reply.specs.declared.reply.Reply.{Reply}
 use Rattle.trace_reply.specs.Replies.{RepliedLine, AreReplies, lines_with_replies}
-use Rattle.run_model.specs.AllStores.{WindowState, AllStores, all_stores, windows_in}
-use Rattle.run_model.specs.ParallelRun.{RunsApart, RunsParallel}
+use Rattle.run_model.specs.AllStores.{AllStores, all_stores, windows_in}
+use Rattle.run_model.specs.ParallelRun.{RunsParallel}
 use Rattle.run_model.specs.Quiet.{cut}
-use Rattle.run_model.specs.Sections.{section_end_on}
-use Rattle.run_model.specs.StoreContexts.{window_context}
-use Rattle.run_model.specs.Stores.{Store, is_on}
+use Rattle.run_model.specs.StoreNumbers.{store_at, AreNamed, Stays}
+use Rattle.run_model.specs.Stores.{Store, is_on, lines_on}
 use Rattle.trace_runner.specs.MachineState.{RunsLine}
-use Rattle.trace_runner.specs.Stores.{replied_on_store}
-use Rattle.trace_runner.specs.StoreRuns.{AllPaired, IsMerged, section_on}
+use Rattle.trace_runner.specs.StoreRuns.{SectionLeaves, IsMerged}
 use Rattle.trace_runner.specs.Workers.{Keeping}
 
 -- ---- a section
--- The lines of a section with these replies, on the store of this number.
-abbrev pub section_lines : AllStores → List TraceLine → List Reply → ℕ → List RepliedLine
-section_lines s lines news store =
-    replied_on_store (windows_in s.windows) store (lines_with_replies lines news)
-
--- The window closed on what it has later.
-pub record WindowSectioned
-    (grants : List Grant)
-    (cpus : ℕ)
-    (ts : List RepliedLine)
-    (v later : WindowState)
-    : Type 0
-  where
-    pub same : later.window ≡ v.window
-    pub apart :
-        RunsApart
-        (section_on
-        (window_context grants v.window) v.states (replicate cpus new_processor) ts)
-        later.states
-
--- The replies to its lines: on each store each processor worked on its own, the store closed, and
--- the run goes on with what it closed on.
+-- The replies to its lines: where the stores are named, the lines on each store are a section of it
+-- with these.
 pub record Sectioned
     (s : AllStores)
     (lines : List TraceLine)
@@ -52,18 +25,17 @@ pub record Sectioned
     : Type 0
   where
     pub kinds : AreReplies lines news
-    pub states : List State
-    pub apart :
-        RunsApart
-        (record { before = s.table; replied_lines = section_lines s lines news 0; quiet = None })
-        states
-    pub table : later.table ≡ section_end_on s.table (section_lines s lines news 0) states
-    pub windows :
-        AllPaired
-        (λ store v u.
-        WindowSectioned
-        s.table.grants (length s.table.processors) (section_lines s lines news store) v u)
-        1 s.windows later.windows
+    pub leaves :
+        AreNamed s
+        → (number : ℕ)
+        → number ≤ length s.windows
+        → SectionLeaves
+        (lines_on
+        (is_on (windows_in s.windows) (store_at s number).window)
+        (lines_with_replies lines news))
+        (store_at s number)
+        (store_at later number)
+    pub stays : Stays s later
 
 -- ---- a run
 -- These lines with their replies are a run in which on each store each processor works on its own.
@@ -73,11 +45,6 @@ Runs s ts =
     AllByRecursion
     (λ (x : Store). RunsParallel (is_on (windows_in s.windows) x.window) x c.0 c.1)
     (all_stores s)
-
--- The first store is the page table, and the numbers of the windows differ.
-pub record AreNamed (s : AllStores) : Type 0 where
-  pub table : s.table.window ≡ None
-  pub differ : NumbersDiffer (windows_in s.windows)
 
 -- These replies to lines were put behind those of an output.
 abbrev pub HasGrown :

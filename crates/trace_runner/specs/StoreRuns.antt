@@ -1,50 +1,26 @@
 -- The stores of a section: what their processors did, and their replies in file order.
-use Rattle.std.specs.Prelude.{◌≡◌, ℕ, suc, ◌<◌, List, [], ◌∷◌, ◌++◌, length, slice_index_or, replicate, Vec, None}
+use Rattle.std.specs.Prelude.{◌≡◌, ◌≢◌, ℕ, ◌+◌, ◌<◌, ◌≤◌, List, length, slice_index_or, Vec, None}
 use Rattle.std.specs.List.{AllByRecursion}
 use Rattle.bus_window.specs.Windows.{BusWindow}
-use Rattle.frame_grants.specs.declared.grant.Grant.{Grant}
 use Rattle.entry_model.specs.State.{State}
-use Rattle.hpt_resize.specs.TableMemory.{with_states}
-use Rattle.tlb_model.specs.Processor.{Processor, new_processor}
+use Rattle.tlb_model.specs.Processor.{Processor}
 use Rattle.trace_line.specs.declared.line.TraceLine.{TraceLine}
 use Rattle.trace_reply.specs.declared.reply.Reply.{Reply}
 use Rattle.trace_reply.specs.Replies.{RepliedLine, AreReplies, lines_with_replies}
+use Rattle.run_model.specs.AllStores.{AllStores, windows_in}
 use Rattle.run_model.specs.Histories.{lines_of_processor}
 use Rattle.run_model.specs.ParallelRun.{RunsApart}
-use Rattle.run_model.specs.Stores.{context_of, states_of, plain_store}
-use Rattle.run_model.specs.Sections.{Section, processors_after_lines}
-use Rattle.run_model.specs.AllStores.{WindowState, AllStores, windows_in}
-use Rattle.run_model.specs.StoreContexts.{StoreContext, window_context}
-use Rattle.trace_runner.specs.Stores.{lines_on_store, replied_on_store}
-use Rattle.trace_runner.specs.Workers.{Keeping, NoneQuiet, AllNumbered, lines_of_cpu, replied_lines_of_cpu}
-
--- ---- lists side by side
--- They have the same length, and each two at the same place have a fact by their number from one
--- on.
-abbrev pub AllPaired :
-    {A B : Type 0} → (ℕ → A → B → Type 0) → ℕ → List A → List B → Type 0
-AllPaired P number [] [] = Unit {0}
-AllPaired P number (x ∷ xs) (y ∷ ys) = P number x y × AllPaired P (suc number) xs ys
-AllPaired P number xs ys = ⊥
-
--- The same of each three.
-abbrev pub AllTripled :
-    {A B C : Type 0}
-    → (ℕ → A → B → C → Type 0) → ℕ → List A → List B → List C → Type 0
-AllTripled P number [] [] [] = Unit {0}
-AllTripled P number (x ∷ xs) (y ∷ ys) (z ∷ zs) =
-    P number x y z × AllTripled P (suc number) xs ys zs
-AllTripled P number xs ys zs = ⊥
+use Rattle.run_model.specs.Sections.{Section, processors_after_lines, section_end_on}
+use Rattle.run_model.specs.StoreContexts.{StoreContext}
+use Rattle.run_model.specs.StoreNumbers.{store_at, Stays, lines_on_store, replied_on_store}
+use Rattle.run_model.specs.Stores.{Store, plain_store, is_on, lines_on}
+use Rattle.run_model.specs.Quiet.{NoneQuiet, AreOnProcessors}
+use Rattle.trace_runner.specs.Workers.{Keeping, AllNumbered, lines_of_cpu, replied_lines_of_cpu}
 
 -- ---- a store
 -- None of the lines is quiet, and each has one of so many processors.
 abbrev pub AreRunnable : ℕ → List TraceLine → Type 0
-AreRunnable cpus lines =
-    NoneQuiet lines × AllByRecursion (λ (l : TraceLine). l.cpu < cpus) lines
-
--- That holds of each list.
-abbrev pub AllRunnable : {Z : Type 0} → ℕ → List (Vec TraceLine Z) → Type 0
-AllRunnable cpus dealt = AllByRecursion (λ own. AreRunnable cpus own.items) dealt
+AreRunnable cpus lines = NoneQuiet lines × AreOnProcessors cpus lines
 
 -- The section of a store with these, and no quiet line.
 abbrev pub section_on :
@@ -113,108 +89,89 @@ RanStore keeps context opening processors lines closing later logs =
     (picks : ℕ → List Reply)
     × RunsStore keeps context opening processors lines picks closing later logs
 
--- ---- all stores
--- The lines on a window were run by new processors.
-pub record RunsWindow
+-- ---- a section of a store
+-- A section with these lines, in which each processor worked on its own, leaves of one store the
+-- other.
+pub record SectionLeaves (ts : List RepliedLine) (x y : Store) : Type 0 where
+  pub states : List State
+  pub apart : RunsApart (record { before = x; replied_lines = ts; quiet = None }) states
+  pub later : y ≡ section_end_on x ts states
+
+-- These lines were run on a store: its logs keep the replies that are picked for them, and where
+-- the lines on the store have those replies, their section leaves such a store.
+pub record RunsOn
     {L : Type 0}
     (keeps : Keeping L)
-    (grants : List Grant)
-    (cpus : ℕ)
+    (ws : List BusWindow)
     (lines : List TraceLine)
     (picks : ℕ → List Reply)
-    (v later : WindowState)
+    (x y : Store)
     (logs : List L)
     : Type 0
   where
-    pub same : later.window ≡ v.window
-    pub processors : List Processor
-    pub ran :
-        RunsStore
-        keeps (window_context grants v.window) v.states (replicate cpus new_processor)
-        lines picks later.states processors logs
+    pub keep : AllKeep keeps lines picks logs
+    pub leaves :
+        (ts : List RepliedLine)
+        → HavePicked lines picks (lines_on (is_on ws x.window) ts)
+        → SectionLeaves (lines_on (is_on ws x.window) ts) x y
 
--- The same for some picked replies.
-abbrev pub RanWindow :
+-- ---- all stores
+-- These lines were run on the store of this number, and the other stores stay.
+pub record RanOn
     {L : Type 0}
-    → Keeping L
-    → List Grant → ℕ → List TraceLine → WindowState → WindowState → List L → Type 0
-RanWindow keeps grants cpus lines v later logs =
-    (picks : ℕ → List Reply) × RunsWindow keeps grants cpus lines picks v later logs
-
--- Those on each window, the first as the store of this number.
-abbrev pub RanWindows :
-    {L Z : Type 0}
-    → Keeping L
-    → List Grant
-    → ℕ
-    → (ℕ → List TraceLine)
-    → ℕ → List WindowState → List WindowState → List (Vec L Z) → Type 0
-RanWindows keeps grants cpus on number vs us logs =
-    AllTripled
-    (λ store v u own. RanWindow keeps grants cpus (on store) v u own.items)
-    number vs us logs
-
--- Those on the page table were run by its processors. What these keep of the replies stands behind
--- the other logs.
-pub record RanTable
-    {L Z : Type 0}
     (keeps : Keeping L)
     (s : AllStores)
+    (number : ℕ)
     (lines : List TraceLine)
     (later : AllStores)
-    (old new : List (Vec L Z))
+    (logs : List L)
     : Type 0
   where
-    pub closing : List State
-    pub own : Vec L Z
-    pub pushed : new ≡ old ++ own ∷ []
+    pub picks : ℕ → List Reply
     pub ran :
-        RanStore
-        keeps (context_of s.table) (states_of s.table) s.table.processors
-        lines closing later.table.processors own.items
-    pub table :
-        later.table
-        ≡ record s.table {
-          memory = with_states s.table.memory closing;
-          processors = later.table.processors;
-        }
-    pub windows : later.windows ≡ s.windows
+        RunsOn
+        keeps (windows_in s.windows) lines picks
+        (store_at s number) (store_at later number) logs
+    pub others :
+        (other : ℕ)
+        → other ≢ number
+        → other ≤ length s.windows
+        → store_at later other ≡ store_at s other
+    pub stays : Stays s later
 
--- Those on the windows were run. The logs stand behind the others.
-pub record AddsWindows
-    {L Z : Type 0}
-    (keeps : Keeping L)
-    (grants : List Grant)
-    (cpus : ℕ)
-    (on : ℕ → List TraceLine)
-    (vs us : List WindowState)
-    (old new : List (Vec L Z))
-    : Type 0
-  where
-    pub rest : List (Vec L Z)
-    pub pushed : new ≡ old ++ rest
-    pub ran : RanWindows keeps grants cpus on 1 vs us rest
-
--- The lines were run each on its store. The logs of the page table's processors are the first.
-pub record RanStores
+-- Of these lines those on the stores with lower numbers than this were run, each on its store, and
+-- the stores from this number on stay. The logs are by the numbers of the stores.
+pub record RanBelow
     {L Z : Type 0}
     (keeps : Keeping L)
     (s : AllStores)
+    (end : ℕ)
     (lines : List TraceLine)
     (later : AllStores)
     (logs : List (Vec L Z))
     : Type 0
   where
-    pub middle : AllStores
-    pub first : List (Vec L Z)
-    pub table :
-        RanTable keeps s (lines_on_store (windows_in s.windows) 0 lines) middle [] first
-    pub same : later.table ≡ middle.table
-    pub windows :
-        AddsWindows
-        keeps s.table.grants (length s.table.processors)
-        (λ store. lines_on_store (windows_in s.windows) store lines)
-        s.windows later.windows first logs
+    pub picks : ℕ → ℕ → List Reply
+    pub size : length logs ≡ end
+    pub ran :
+        AllNumbered
+        (λ number own.
+        RunsOn
+        keeps (windows_in s.windows) (lines_on_store (windows_in s.windows) number lines)
+        (picks number) (store_at s number) (store_at later number) own.items)
+        0 logs
+    pub others :
+        (number : ℕ)
+        → end ≤ number
+        → number ≤ length s.windows
+        → store_at later number ≡ store_at s number
+    pub stays : Stays s later
+
+-- The lines were run each on its store.
+abbrev pub RanStores :
+    {L Z : Type 0}
+    → Keeping L → AllStores → List TraceLine → AllStores → List (Vec L Z) → Type 0
+RanStores keeps s lines later logs = RanBelow keeps s (1 + length s.windows) lines later logs
 
 -- ---- replies in file order
 -- For each store its logs keep the replies that are picked for its lines.

@@ -1,6 +1,6 @@
 -- The workers of a section: a processor each, with a pass of its own.
 use Rattle.std.specs.Prelude.{IsSomeAnd}
-use Rattle.std.specs.Prelude.{◌≡◌, ◌≢◌, ℕ, zero, suc, ◌+◌, ◌<◌, ◌≤◌, ◌==◌, ◌⊎◌, List, [], ◌∷◌, length, slice_index_or, filter, map, min, Option, None, false}
+use Rattle.std.specs.Prelude.{◌≡◌, ◌≢◌, ℕ, zero, suc, ◌+◌, ◌<◌, ◌≤◌, ◌==◌, ◌⊎◌, List, [], ◌∷◌, length, slice_index_or, filter, map, min, Option, None}
 use Rattle.std.specs.List.{AllByRecursion}
 use Rattle.hpte_fields.specs.TableSize.{entry_count}
 use Rattle.entry_model.specs.declared.line.Line.{Line}
@@ -13,7 +13,6 @@ use Rattle.entry_lock.specs.WaitingStore.{IsSeenInTable}
 use Rattle.run_model.specs.StoreContexts.{StoreContext}
 use Rattle.tlb_model.specs.Processor.{Processor}
 use Rattle.trace_line.specs.declared.line.TraceLine.{TraceLine}
-use Rattle.trace_line.specs.Lines.{is_quiet}
 use Rattle.trace_reply.specs.declared.reply.Reply.{Reply}
 use Rattle.trace_reply.specs.Replies.{RepliedLine, AreReplies, lines_with_replies}
 use Rattle.run_model.specs.Sections.{processor_after_lines}
@@ -25,10 +24,6 @@ use Rattle.run_model.specs.HeldLines.{Holding}
 -- A line with its reply.
 abbrev pub replied_line : TraceLine → Reply → RepliedLine
 replied_line line reply = record { line = line; reply = reply }
-
--- None of the lines is quiet.
-abbrev pub NoneQuiet : List TraceLine → Type 0
-NoneQuiet lines = AllByRecursion (λ (l : TraceLine). is_quiet l.act ≡ false) lines
 
 -- ---- the lines of one processor
 -- They are in file order.

@@ -1,20 +1,18 @@
 ghost use Rattle.std.specs.Prelude.{◌≡◌, ◌<◌, ◌≤◌, ◌+◌, ◌-◌, ◌^◌, length, true, false, Some, None, IfOk, OnOk};
 ghost use Rattle.trace_line.specs.Lines.{is_quiet};
 ghost use Rattle.run_model.specs.QuietLines.{run_quiet_line, run_resize, shown_of};
-ghost use Rattle.run_model.specs.AllStores.{opening_all};
+ghost use Rattle.run_model.specs.AllStores.{opening_all, windows_in};
 ghost use Rattle.run_model.specs.SerialRun.{run_on};
 ghost use Rattle.trace_runner.specs.MachineState.{RunsLine};
 ghost use Rattle.trace_reply.specs.Places.{reply_in};
-ghost use Rattle.trace_runner.specs.Windows.{place_from};
-ghost use Rattle.run_model.specs.AllStores.{windows_in};
+ghost use Rattle.run_model.specs.StoreNumbers.{index_from};
 
 use crate::act::run_alone;
-use crate::windows::place_of;
 use entry_model::HReply;
 use papr_codes::{Hcall, Rc};
 use papr_table::PlainTable;
 use partition::Partition;
-use run_model::{Surroundings, WindowEntries, open_windows};
+use run_model::{Surroundings, WindowEntries, open_windows, window_of};
 use std::alloc::{AllocError, Global};
 use std::marker::Model;
 use trace_line::{Act, TraceLine};
@@ -34,12 +32,12 @@ pub struct Machine {
 }
 
 impl Model for Machine {
-    ghost use Rattle.run_model.specs.AllStores.{AllStores};
-    ghost use Rattle.trace_runner.specs.MachineState.{stores_of, IsMachine};
+    ghost use Rattle.run_model.specs.AllStores.{AllStores, machine_stores};
+    ghost use Rattle.trace_runner.specs.MachineState.{IsMachine};
 
     ghost Value = { AllStores };
 
-    ghost view = { λ m. stores_of m.partition m.cpus.items m.windows.items };
+    ghost view = { λ m. machine_stores m.partition.granted.grants m.partition.memory m.cpus.items m.windows.items };
 
     ghost invariant = { λ m. IsMachine m.partition m.cpus.items m.windows.items };
 }
@@ -84,7 +82,7 @@ impl Machine {
         if line.act.is_quiet() {
             return self.quiet(alloc, &line.act, place);
         }
-        match place_of(self.windows.as_slice(), &line.act) {
+        match window_of(self.windows.as_slice(), &line.act) {
             Some(at) => self.run_on_window(at, line, place),
             None => self.run(line, place),
         }
@@ -97,14 +95,7 @@ impl Machine {
         ensures named { self.now.table.window ≡ None }
         ensures shown { IfOk result (λ shown. shown ≡ shown_of self.now.table.memory) }
     {
-        let order = self.partition.order();
-        Shown::of_table(
-            alloc,
-            self.partition.table(),
-            order,
-            self.partition.place(),
-            self.partition.states(),
-        )
+        self.partition.shown(alloc)
     }
 
     // A line that isn't quiet and names no window, by its processor.
@@ -128,9 +119,9 @@ impl Machine {
         self.partition.put_states(table.close());
     }
 
-    // A line on the window at this place, the first that it names.
+    // A line on the window at this index, the first that it names.
     fn run_on_window(&mut self, at: usize, line: &TraceLine, place: &mut ReplyPlace)
-        requires first { place_from 0 self.old.windows line.now.act ≡ Some at }
+        requires first { index_from 0 self.old.windows line.now.act ≡ Some at }
         ensures reply { RunsLine self.old line.now (reply_in place.new) self.new }
         ensures table { self.new.table ≡ self.old.table }
         ensures windows { windows_in self.new.windows ≡ windows_in self.old.windows }

@@ -6,8 +6,7 @@ ghost use Rattle.trace_runner.specs.StoreRuns.{StoresKeep};
 ghost use Rattle.trace_runner.specs.Sectioned.{AddsReplies};
 
 use crate::log::RunLog;
-use crate::stores::store_of;
-use run_model::WindowEntries;
+use run_model::{WindowEntries, store_of};
 use std::alloc::AllocError;
 use trace_line::TraceLine;
 

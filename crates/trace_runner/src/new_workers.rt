@@ -12,7 +12,7 @@ ghost use Rattle.trace_runner.specs.DealtLines.{AreDealt, count_with_own};
 ghost use Rattle.trace_runner.specs.Workers.{count_with_lines, processors_before, AreOwn, AreReady, IsFresh, IsReady, IsRest};
 ghost use Rattle.trace_read.specs.Configuration.{most_processors};
 
-use crate::dealing::{count_workers, deal_lines};
+use crate::dealt_processors::{count_workers, deal_lines};
 use crate::log::RunLog;
 use crate::worker::Worker;
 use entry_lock::{LockTable, Pass};

@@ -8,19 +8,19 @@ ghost use Rattle.run_model.specs.SerialRun.{serial_replies};
 ghost use Rattle.run_model.specs.GoodRun.{IsGoodRun};
 ghost use Rattle.run_model.specs.Assurances.{Assures};
 ghost use Rattle.run_model.specs.Laws.{HasOneProcessor};
-ghost use Rattle.trace_runner.specs.Workers.{NoneQuiet};
+ghost use Rattle.run_model.specs.Quiet.{NoneQuiet};
 ghost use Rattle.trace_runner.specs.Sectioned.{HasRunFrom, RunsSection, RunsToQuiet};
 ghost use Rattle.trace_runner.specs.ParallelRun.{IsOutputOfRun, IsTextOfRun};
 ghost use Rattle.trace_line.specs.Lines.{most_lines};
 ghost use Rattle.trace_read.specs.Configuration.{most_processors};
 
-use crate::all_stores::run_stores;
 use crate::gate::Gate;
 use crate::log::RunLog;
 use crate::machine::Machine;
 use crate::merging::merge_replies;
 use crate::opening::open_machine;
 use crate::queue_log::ReplyQueue;
+use crate::section_stores::run_stores;
 use crate::text_log::ReplyText;
 use std::alloc::{AllocError, Global};
 use std::sync::Wait;
@@ -47,8 +47,7 @@ fn section<R: Threads + Wait + Sync, G: Gate + Sync, L: RunLog>(
     ensures { IfOk result
         (λ later. RunsSection L.has machine lines.now output.old output.new later) }
 {
-    let mut logs = Vec::with_capacity(alloc, machine.windows.len() + 1)?;
-    let later = run_stores::<R, G, L>(rt, alloc, machine, gate, lines, &mut logs)?;
+    let (later, mut logs) = run_stores::<R, G, L>(rt, alloc, machine, gate, lines)?;
     merge_replies(later.windows.as_slice(), lines, &mut logs, output)?;
     Ok(later)
 }

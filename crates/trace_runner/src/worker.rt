@@ -9,7 +9,8 @@ ghost use Rattle.trace_reply.specs.Replies.{IsOfKind, receipts_in};
 ghost use Rattle.trace_reply.specs.Places.{reply_in};
 ghost use Rattle.run_model.specs.ParallelRun.{WorksLine};
 ghost use Rattle.run_model.specs.StoreContexts.{context_on};
-ghost use Rattle.trace_runner.specs.Workers.{replied_line, NoneQuiet, IsSeenBy, IsReady, IsDone};
+ghost use Rattle.run_model.specs.Quiet.{NoneQuiet};
+ghost use Rattle.trace_runner.specs.Workers.{replied_line, IsSeenBy, IsReady, IsDone};
 
 use crate::act::run_act;
 use crate::gate::{AtLine, Gate};

@@ -30,13 +30,14 @@ is_access_of line page mode of fits = (
   (λ i. has_base line.dword0 line.dword1 (sym of i).shift) ∙ fits.size,
 )
 
-decided_is_found : (answer : Answer) → is_decided answer ≡ true → not (is_no_match answer) ≡ true
+pub decided_is_found :
+    (answer : Answer) → is_decided answer ≡ true → not (is_no_match answer) ≡ true
 decided_is_found At h = refl
 decided_is_found Denied h = refl
 decided_is_found Masked h = refl
 decided_is_found other h = cc
 
-at_end : (goes : Bool) → MatchBool goes (Unit {0}) (let none : List Receipt = [] in none ≡ [])
+pub at_end : (goes : Bool) → MatchBool goes (Unit {0}) (let none : List Receipt = [] in none ≡ [])
 at_end true = tt
 at_end false = refl
 

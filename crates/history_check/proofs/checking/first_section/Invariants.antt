@@ -1,6 +1,6 @@
 use Rattle.std.proofs.Common.{take}
-use Rattle.history_check.specs.FoundSection.{ArePlain}
+use Rattle.run_model.specs.Quiet.{NoneQuiet}
 use Rattle.history_check.proofs.checking.first_section.Given as goal
 
 abbrev pub invariant-loop-i : goal.invariant-loop-i
-invariant-loop-i l = ArePlain (take l.i l.lines)
+invariant-loop-i l = NoneQuiet (take l.i l.lines)

@@ -1,4 +1,3 @@
-use Rattle.std.specs.Prelude.{None}
 use Rattle.std.proofs.Common.{◌≡◌, ◌∙◌, ◌-◌, ◌≤◌, [], ap, sym, arith, refl, drop, take, length, length-drop, List, ℕ}
 use Rattle.std.proofs.lemmas.List.{take_all, drop_all}
 use Rattle.run_model.specs.AllStores.{AllStores}

@@ -1,7 +1,7 @@
 use Rattle.std.proofs.Common.{◌∙◌, sym, ap, length, None}
 use Rattle.hpt_resize.specs.TableMemory.{with_states}
 use Rattle.partition.specs.PartitionState.{PartitionState, with_memory}
-use Rattle.history_check.specs.JudgedRun.{run_state_of}
+use Rattle.run_model.specs.AllStores.{table_store}
 use Rattle.history_check.proofs.JudgedRuns.{found_in_run, not_in_run, within_text}
 use Rattle.hpte_fields.proofs.TableSizes.{entries_few}
 use Rattle.history_check.proofs.judged_run.table_found.Goals as goal
@@ -25,8 +25,11 @@ returns-clause-some c =
     with_memory p (with_states p.memory c.section_found-found.new.states.items))
     c.take_states-states.ensures.out in
     let after = ap
-    (λ (p : PartitionState). run_state_of p c.section_found-found.new.processors.items) put in
-    found_in_run _ (run_state_of c.args.partition.now c.args.processors.now.items) _ _ _ _ _ _
+    (λ (p : PartitionState).
+    table_store p.granted.grants p.memory c.section_found-found.new.processors.items) put in
+    found_in_run _
+    (table_store c.args.partition.now.granted.grants c.args.partition.now.memory
+    c.args.processors.now.items) _ _ _ _ _ _
     (λ i.
     record {
       context = record { order = order i; grants = grants i; window = None };
@@ -40,7 +43,9 @@ returns-clause-none c =
     let grants = sym
     (ap (λ g. g.grants) c.grants.ensures
     ∙ ap (λ (p : PartitionState). p.granted.grants) c.take_states-states.ensures.out) in
-    not_in_run _ (run_state_of c.args.partition.now c.args.processors.now.items) _ _ _ _ _
+    not_in_run _
+    (table_store c.args.partition.now.granted.grants c.args.partition.now.memory
+    c.args.processors.now.items) _ _ _ _ _
     (λ i.
     record {
       context = record { order = order i; grants = grants i; window = None };

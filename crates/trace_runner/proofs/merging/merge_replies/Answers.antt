@@ -3,7 +3,7 @@ use Rattle.std.specs.Vec.{with_item}
 use Rattle.std.proofs.lemmas.List.{length-set}
 use Rattle.run_model.specs.AllStores.{windows_in}
 use Rattle.trace_runner.specs.Workers.{lines_of_cpu}
-use Rattle.trace_runner.specs.Stores.{store_of, lines_on_store}
+use Rattle.run_model.specs.StoreNumbers.{store_of, lines_on_store}
 use Rattle.trace_runner.proofs.DealtLines.{past}
 use Rattle.trace_runner.proofs.MergedReplies.{Merging, merging_none, merging_store, merging_first, merging_more, merging_all}
 use Rattle.trace_runner.proofs.merging.merge_replies.Given.{Over}

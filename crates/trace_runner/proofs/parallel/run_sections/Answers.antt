@@ -2,9 +2,10 @@ use Rattle.std.proofs.Common.{◌≡◌, ◌+◌, ◌++◌, ◌<◌, ◌≤◌, 
 use Rattle.std.specs.List.{AllByRecursion}
 use Rattle.trace_line.specs.declared.line.TraceLine.{TraceLine}
 use Rattle.trace_line.specs.declared.act.Act.TheVariants.{Call}
-use Rattle.trace_runner.specs.Workers.{NoneQuiet}
+use Rattle.run_model.specs.Quiet.{NoneQuiet}
 use Rattle.trace_runner.proofs.MergedReplies.{each_at}
-use Rattle.trace_runner.proofs.SectionsRun.{part, done_none, done_more, put_more, run_ended, no_quiet_more, no_quiet_yet, part_each, section_processors, section_number}
+use Rattle.trace_runner.proofs.PartsOfLines.{part, no_quiet_more, no_quiet_yet, part_each}
+use Rattle.trace_runner.proofs.SectionsRun.{done_none, done_more, put_more, run_ended}
 use Rattle.trace_runner.proofs.parallel.run_sections.Goals as goal
 use Rattle.trace_runner.proofs.parallel.run_sections.Goals.{then-is_quiet+in_ok-machine, else-is_quiet}
 use Rattle.trace_read.specs.Configuration.{most_processors}
@@ -56,16 +57,9 @@ loop-i-preserved g c =
             low = omega arith;
             none_quiet = no_quiet_yet c.args.lines.now (c.loop-i.i + 1);
             processors =
-                q.processors
-                ∙ section_processors c.loop-i.machine q.next _ _ e.sectioned
-                ∙ i.processors;
+                q.processors ∙ e.sectioned.stays.processors ∙ i.processors;
             number =
-                omega (
-                  arith,
-                  q.number,
-                  section_number c.loop-i.machine q.next _ _ e.sectioned,
-                  i.number,
-                );
+                omega (arith, q.number, e.sectioned.stays.number, i.number);
             replies = (i.replies ++ e.news) ++ q.reply ∷ [];
             put =
                 put_more g.L.RunLog.has c.args.lines.now c.loop-i.start c.loop-i.i d i.replies

@@ -1,7 +1,8 @@
 use Rattle.std.proofs.Common.{◌≡◌, ◌≤◌, List, length, take}
 use Rattle.trace_reply.specs.declared.reply.Reply.{Reply}
-use Rattle.trace_runner.specs.Workers.{NoneQuiet}
-use Rattle.trace_runner.proofs.SectionsRun.{part, Done}
+use Rattle.run_model.specs.Quiet.{NoneQuiet}
+use Rattle.trace_runner.proofs.PartsOfLines.{part}
+use Rattle.trace_runner.proofs.SectionsRun.{Done}
 use Rattle.trace_runner.proofs.parallel.run_sections.Given as goal
 
 abbrev pub invariant-loop-i : goal.invariant-loop-i

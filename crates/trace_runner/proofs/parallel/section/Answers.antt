@@ -9,20 +9,20 @@ merge_replies-requires-clause-stores g c κs within =
     omega (
       arith,
       stores_count g.L.ReplyLog.keeps c.args.machine c.args.lines.now c.in_ok-later.later
-          c.run_stores.new.logs.items c.in_ok-later.ensures,
+          c.in_ok-later.logs.items c.in_ok-later.ensures,
       ap length windows,
     )
 
 pub merge_replies-requires-clause-kept : goal.merge_replies-requires-clause-kept
 merge_replies-requires-clause-kept g c κs within =
     section_keeps g.L.ReplyLog.keeps c.args.machine c.args.lines.now c.in_ok-later.later
-    c.run_stores.new.logs.items c.in_ok-later.ensures c.as_slice.result.now
+    c.in_ok-later.logs.items c.in_ok-later.ensures c.as_slice.result.now
     (c.as_slice.ensures.value ∙ ap (λ (s : AllStores). s.windows) c.later.view_is)
 
 pub returns : goal.returns
 returns g c =
     section_ran g.L.ReplyLog.keeps c.args.machine c.args.lines.now c.in_ok-later.later
-    c.run_stores.new.logs.items c.in_ok-later.ensures g.L.RunLog.has c.as_slice.result.now
+    c.in_ok-later.logs.items c.in_ok-later.ensures g.L.RunLog.has c.as_slice.result.now
     c.args.output.now c.merge_replies.new.output
     (c.as_slice.ensures.value ∙ ap (λ (s : AllStores). s.windows) c.later.view_is)
     c.in_ok-merge_replies.ensures.merged

@@ -1,20 +1,15 @@
-use Rattle.std.proofs.Common.{◌≡◌, ◌<◌, sym, subst, length, arith}
+use Rattle.std.proofs.Common.{◌<◌, sym, subst, arith}
 use Rattle.trace_reply.specs.Places.{reply_in}
-use Rattle.trace_runner.proofs.SectionsRun.{section_processors, section_number}
 use Rattle.trace_runner.proofs.parallel.section_to_quiet.Goals as goal
 
 pub line-requires-clause-cpu : goal.line-requires-clause-cpu
 line-requires-clause-cpu g c =
-    let size : length c.in_ok-later.later.table.processors ≡ length c.args.machine.table.processors
-    = section_processors c.args.machine c.in_ok-later.later _ _ c.in_ok-later.ensures.sectioned
-    in
-    subst (λ n. c.args.quiet.now.cpu < n) (sym size) c.requires.cpu
+    subst (λ n. c.args.quiet.now.cpu < n)
+    (sym c.in_ok-later.ensures.sectioned.stays.processors) c.requires.cpu
 
 pub line-requires-clause-number : goal.line-requires-clause-number
 line-requires-clause-number g c =
-    let same = section_number c.args.machine c.in_ok-later.later _ _ c.in_ok-later.ensures.sectioned
-    in
-    omega (arith, same, c.requires.number)
+    omega (arith, c.in_ok-later.ensures.sectioned.stays.number, c.requires.number)
 
 pub returns : goal.returns
 returns g c =

@@ -1,98 +1,173 @@
-use Rattle.std.specs.Prelude.{None}
-use Rattle.std.proofs.Common.{◌≡◌, ◌≤◌, ◌<◌, ◌∙◌, false, ap, sym, subst, length, List, arith}
+use Rattle.std.specs.Prelude.{◌==◌, IfSome, IfNone, is_some, not}
+use Rattle.std.proofs.Common.{◌≡◌, ℕ, ◌+◌, ◌<◌, ◌≤◌, ◌∙◌, [], ◌∷◌, true, false, ap, sym, subst, refl, length, List, Option, Some, None, arith}
 use Rattle.std.proofs.lemmas.Grind.{common_steps}
-use Rattle.trace_line.specs.Lines.{is_quiet}
+use Rattle.trace_line.specs.Lines.{is_quiet, most_lines}
 use Rattle.trace_line.specs.declared.line.TraceLine.{TraceLine}
-use Rattle.run_model.specs.Stores.{is_on, trace_lines_on}
-use Rattle.run_model.specs.AllStores.{AllStores, windows_in}
-use Rattle.history_check.specs.FoundSection.{ArePlain, AreOnProcessors}
-use Rattle.history_check.specs.JudgedRun.{run_state_of}
-use Rattle.history_check.specs.PartedText.{part_text}
-use Rattle.history_check.proofs.WindowLoops.{own_each, own_few}
-use Rattle.history_check.proofs.JudgedStores.{table_alone, table_not_alone, not_on_windows, not_on_table, whole_found}
+use Rattle.run_model.specs.AllStores.{WindowState, AllStores, windows_in}
+use Rattle.run_model.specs.StoreNumbers.{store_of, lines_on_store}
+use Rattle.run_model.proofs.Each.{each_filter, filter_length}
+use Rattle.run_model.proofs.StoreNumbers.{same_count}
+use Rattle.run_model.specs.Quiet.{NoneQuiet, AreOnProcessors}
+use Rattle.history_check.specs.FoundStores.{windows_of, AreFound}
+use Rattle.history_check.specs.PartedText.{part_on_store}
+use Rattle.history_check.specs.StoreParts.{FoundBelow}
+use Rattle.history_check.proofs.FoundParts.{parts_found}
+use Rattle.history_check.proofs.JudgedStores.{below_more, below_not, ok_alone, ok_alone_not}
+use Rattle.history_check.proofs.judged_run.JudgedRun.section.Goals.{After-as_slice-in-loop-number}
 use Rattle.history_check.proofs.judged_run.JudgedRun.section.Goals as goal
+
+no_windows : (vs : List WindowState) → length vs ≡ 0 → vs ≡ []
+no_windows [] e = refl
+no_windows (v ∷ vs) e = absurd (omega (arith, e))
 
 pub returns-then-is_empty-clause-some : goal.returns-then-is_empty-clause-some
 returns-then-is_empty-clause-some c =
     let none : length c.self.inside.windows.items ≡ 0 = grind
     (arith, common_steps, c.is_empty.ensures, c.if-is_empty.true) in
-    table_alone c.args.lines.now c.args.text.now c.in_ok-found.found c.args.self.now
-    (run_state_of c.self.inside.partition c.self.inside.processors.items)
-    (run_state_of c.table_found.new.partition c.table_found.new.processors.items)
-    c.self.inside.windows.items c.self.view_is none c.in_ok-found.ensures.some
+    ok_alone c.args.self.now c.args.lines.now c.args.text.now
+    (sym (ap (λ (s : AllStores). s.table.window) c.self.view_is))
+    (sym (ap (λ (s : AllStores). s.windows) c.self.view_is)
+    ∙ no_windows c.self.inside.windows.items none)
+    c.found_on.new.self c.found_on.result c.found_on.ensures.some
 
 pub returns-then-is_empty-clause-none : goal.returns-then-is_empty-clause-none
 returns-then-is_empty-clause-none c =
     let none : length c.self.inside.windows.items ≡ 0 = grind
     (arith, common_steps, c.is_empty.ensures, c.if-is_empty.true) in
-    table_not_alone c.args.lines.now c.args.text.now c.in_ok-found.found c.args.self.now
-    (run_state_of c.self.inside.partition c.self.inside.processors.items)
-    c.self.inside.windows.items c.self.view_is none c.in_ok-found.ensures.none
+    ok_alone_not c.args.self.now c.args.lines.now c.args.text.now
+    (sym (ap (λ (s : AllStores). s.table.window) c.self.view_is))
+    (sym (ap (λ (s : AllStores). s.windows) c.self.view_is)
+    ∙ no_windows c.self.inside.windows.items none)
+    c.found_on.result c.found_on.ensures.none
 
-pub returns-then-not-branch-clause-none : goal.returns-then-not-branch-clause-none
-returns-then-not-branch-clause-none c =
-    let count : c.len-cpus.result ≡ length c.self.inside.processors.items = grind
-    (arith, common_steps, c.len-cpus.ensures) in
-    not_on_windows c.args.lines.now c.args.text.now c.args.self.now
-    (run_state_of c.self.inside.partition c.self.inside.processors.items)
-    c.self.inside.windows.items _ _ c.self.view_is (ap (λ g. g.grants) c.grants-grants.ensures)
-    count c.requires.plain (c.in_ok-windows_found.ensures.none c.if-not-branch.true)
+-- ---- the stores one after the other
+-- There is a store of the number, and its part is the one that is looked at.
+pub record IsDealt (c : After-as_slice-in-loop-number) : Type 0 where
+  pub inside : c.loop-number.number ≤ length c.args.self.now.windows
+  pub lines :
+      c.as_slice-own.result.now
+      ≡ lines_on_store (windows_of c.args.self.now) c.loop-number.number c.args.lines.now
+  pub text :
+      c.as_slice-in-loop-number.result.now
+      ≡ part_on_store (windows_of c.args.self.now) c.loop-number.number c.args.lines.now
+      c.args.text.now
 
-pub table_found-requires-2-clause-plain : goal.table_found-requires-2-clause-plain
-table_found-requires-2-clause-plain c =
-    subst ArePlain (sym (c.as_slice-2.ensures.value ∙ c.in_ok-part.ensures.lines))
-    (own_each (λ (l : TraceLine). is_quiet l.act ≡ false)
-    (is_on (windows_in c.as_slice.result.now) None) c.args.lines.now c.requires.plain)
+dealt : (c : After-as_slice-in-loop-number) → IsDealt c
+dealt c =
+    let number = c.loop-number.number in
+    let parts = c.in_ok-parts.parts.items in
+    let part = c.index-part.result.now in
+    let windows : c.as_slice.result.now ≡ c.args.self.now.windows = c.as_slice.ensures.value ∙ ap
+    (λ (s : AllStores). s.windows) c.self.view_is in
+    let low : number < length parts = omega
+    (arith, c.loop-number-test.true, c.len-number-end.ensures, c.in_ok-parts.parts.ok.0) in
+    let own = c.in_ok-parts.ensures.parts number part low in
+    record {
+      inside = omega (arith, low, c.in_ok-parts.ensures.size, ap length windows);
+      lines =
+          c.as_slice-own.ensures.value
+          ∙ ap (λ p. p.lines.items) c.index-part.ensures
+          ∙ own.lines
+          ∙ ap (λ vs. lines_on_store (windows_in vs) number c.args.lines.now) windows;
+      text =
+          c.as_slice-in-loop-number.ensures.value
+          ∙ ap (λ p. p.text.items) c.index-part.ensures
+          ∙ own.told
+          ∙ ap (λ vs. part_on_store (windows_in vs) number c.args.lines.now c.args.text.now)
+          windows;
+    }
 
-pub table_found-requires-2-clause-cpus : goal.table_found-requires-2-clause-cpus
-table_found-requires-2-clause-cpus c =
-    let count : length c.args.self.now.table.processors ≡ length c.self.inside.processors.items = ap
-    (λ (s : AllStores). length s.table.processors) (sym c.self.view_is) in
-    let own : AreOnProcessors (length c.self.inside.processors.items) c.args.lines.now = subst
-    (λ n. AreOnProcessors n c.args.lines.now) count c.requires.cpus in
-    subst (AreOnProcessors (length c.self.inside.processors.items))
-    (sym (c.as_slice-2.ensures.value ∙ c.in_ok-part.ensures.lines))
-    (own_each (λ (l : TraceLine). l.cpu < length c.self.inside.processors.items)
-    (is_on (windows_in c.as_slice.result.now) None) c.args.lines.now own)
+pub found_on-requires-in-loop-number-clause-plain :
+    goal.found_on-requires-in-loop-number-clause-plain
+found_on-requires-in-loop-number-clause-plain c =
+    let here = dealt
+    (goal.at.found_on-requires-in-loop-number-clause-plain c).After-as_slice-in-loop-number in
+    subst NoneQuiet (sym here.lines)
+    (each_filter (λ (l : TraceLine). is_quiet l.act ≡ false)
+    (λ (l : TraceLine). store_of (windows_of c.args.self.now) l.act == c.loop-number.number)
+    c.args.lines.now c.requires.plain)
 
-pub table_found-requires-2-clause-few : goal.table_found-requires-2-clause-few
-table_found-requires-2-clause-few c =
-    subst (λ (z : List TraceLine). length z ≤ 131072)
-    (sym (c.as_slice-2.ensures.value ∙ c.in_ok-part.ensures.lines))
+pub found_on-requires-in-loop-number-clause-cpus : goal.found_on-requires-in-loop-number-clause-cpus
+found_on-requires-in-loop-number-clause-cpus c =
+    let here = dealt
+    (goal.at.found_on-requires-in-loop-number-clause-cpus c).After-as_slice-in-loop-number in
+    let n = length c.args.self.now.table.processors in
+    subst (λ m. AreOnProcessors m c.as_slice-own.result.now)
+    (sym c.loop-number.invariant.found.stays.processors)
+    (subst (AreOnProcessors n) (sym here.lines)
+    (each_filter (λ (l : TraceLine). l.cpu < n)
+    (λ (l : TraceLine). store_of (windows_of c.args.self.now) l.act == c.loop-number.number)
+    c.args.lines.now c.requires.cpus))
+
+pub found_on-requires-in-loop-number-clause-few : goal.found_on-requires-in-loop-number-clause-few
+found_on-requires-in-loop-number-clause-few c =
+    let here = dealt
+    (goal.at.found_on-requires-in-loop-number-clause-few c).After-as_slice-in-loop-number in
+    subst (λ (ls : List TraceLine). length ls ≤ most_lines) (sym here.lines)
     (omega (
       arith,
       c.requires.few,
-      own_few (is_on (windows_in c.as_slice.result.now) None) c.args.lines.now,
+      filter_length
+          (λ (l : TraceLine).
+          store_of (windows_of c.args.self.now) l.act == c.loop-number.number)
+          c.args.lines.now,
     ))
 
-pub returns-in-None-clause-none : goal.returns-in-None-clause-none
-returns-in-None-clause-none c =
-    let ws = ap windows_in c.as_slice.ensures.value ∙ c.windows_found.ensures.windows in
-    let lines = c.as_slice-2.ensures.value ∙ c.in_ok-part.ensures.lines ∙ ap
-    (λ z. trace_lines_on (is_on z None) c.args.lines.now) ws in
-    let text = c.as_slice-3.ensures.value ∙ c.in_ok-part.ensures.text ∙ ap
-    (λ z. part_text (is_on z None) c.args.lines.now c.args.text.now) ws in
-    let none = rw c.in-None.is at c.in_ok-found-2.ensures.none in
-    not_on_table c.args.lines.now c.args.text.now c.args.self.now
-    (run_state_of c.self.inside.partition c.self.inside.processors.items)
-    c.self.inside.windows.items c.as_slice-2.result.now c.as_slice-3.result.now c.self.view_is
-    c.requires.plain lines text none
+none_of : (o : Option ℕ) (P : Type 0) → IfNone o P → is_some o ≡ false → P
+none_of None P h e = h
+none_of (Some n) P h e = absurd (let clash : true ≡ false = e in cc)
+
+some_of : (o : Option ℕ) (P : ℕ → Type 0) → IfSome o P → is_some o ≡ true → (n : ℕ) × P n
+some_of (Some n) P h e = (n, h)
+some_of None P h e = absurd (let clash : false ≡ true = e in cc)
+
+pub returns-then-is_none-clause-none : goal.returns-then-is_none-clause-none
+returns-then-is_none-clause-none c =
+    let here = dealt (goal.at.returns-then-is_none-clause-none c).After-as_slice-in-loop-number in
+    below_not c.args.self.now c.loop-number.self c.loop-number.number c.args.lines.now
+    c.as_slice-own.result.now c.args.text.now c.as_slice-in-loop-number.result.now
+    c.loop-number.invariant.named c.requires.plain here.inside here.lines here.text
+    c.loop-number.invariant.found
+    (none_of c.in_ok-found.found _ c.in_ok-found.ensures.none
+    (c.is_none.ensures ∙ ap not c.if-is_none.true))
+
+pub loop-number-preserved : goal.loop-number-preserved
+loop-number-preserved c =
+    let here = dealt (goal.at.loop-number-preserved c).After-as_slice-in-loop-number in
+    let some = some_of c.in_ok-found.found _ c.in_ok-found.ensures.some
+    (c.is_none.ensures ∙ ap not c.if-is_none.false) in
+    record {
+      named = c.loop-number.invariant.named;
+      found =
+          below_more c.args.self.now c.loop-number.self c.found_on-in-loop-number.new.self
+          c.loop-number.number c.args.lines.now c.as_slice-own.result.now c.args.text.now
+          c.as_slice-in-loop-number.result.now some.0 c.loop-number.invariant.named here.inside
+          here.lines here.text c.loop-number.invariant.found some.1
+          (same_count c.loop-number.self.windows c.args.self.now.windows
+          c.loop-number.invariant.found.stays.windows);
+    }
 
 pub returns-clause-some : goal.returns-clause-some
 returns-clause-some c =
-    let ws = ap windows_in c.as_slice.ensures.value ∙ c.windows_found.ensures.windows in
-    let lines = c.as_slice-2.ensures.value ∙ c.in_ok-part.ensures.lines ∙ ap
-    (λ z. trace_lines_on (is_on z None) c.args.lines.now) ws in
-    let text = c.as_slice-3.ensures.value ∙ c.in_ok-part.ensures.text ∙ ap
-    (λ z. part_text (is_on z None) c.args.lines.now c.args.text.now) ws in
-    let found = rw c.in-Some.is at c.in_ok-found-2.ensures.some in
-    let count : c.len-cpus.result ≡ length c.self.inside.processors.items = grind
-    (arith, common_steps, c.len-cpus.ensures) in
-    whole_found c.args.lines.now c.args.text.now c.args.self.now
-    (run_state_of c.self.inside.partition c.self.inside.processors.items)
-    (run_state_of c.table_found-2.new.partition c.table_found-2.new.processors.items)
-    c.self.inside.windows.items c.windows_found.new.windows.items _ _ c.as_slice-2.result.now
-    c.as_slice-3.result.now c.in-Some.field-0 c.lines_end.result c.self.view_is
-    (ap (λ g. g.grants) c.grants-grants.ensures) count c.requires.plain c.self.invariant.1
-    (c.in_ok-windows_found.ensures.some c.if-not-branch.false) lines text found
-    c.lines_end.ensures.behind
+    let s = c.args.self.now in
+    let windows : c.as_slice.result.now ≡ s.windows = c.as_slice.ensures.value ∙ ap
+    (λ (z : AllStores). z.windows) c.self.view_is in
+    let last : c.loop-number.number ≡ 1 + length s.windows = omega (
+      arith,
+      c.loop-number-test.false,
+      c.loop-number.auto.number-end,
+      c.len-number-end.ensures,
+      c.in_ok-parts.parts.ok.0,
+      c.in_ok-parts.ensures.size,
+      ap length windows,
+    ) in
+    let found = subst
+    (λ n. FoundBelow s n c.args.lines.now c.args.text.now c.loop-number.self) last
+    c.loop-number.invariant.found in
+    let all = parts_found s c.loop-number.self c.args.lines.now c.args.text.now c.requires.plain
+    c.loop-number.invariant.named found in (
+      all.0,
+      subst (λ z. AreFound s c.args.lines.now c.args.text.now all.0 z)
+          (sym c.lines_end.ensures.behind) all.1,
+      all.2,
+    )

@@ -1,4 +1,4 @@
-use Rattle.std.proofs.Common.{ℕ, ◌+◌, ◌≤◌, ◌^◌, ◌∙◌, ap, List, length, Ok, Err, sym, arith}
+use Rattle.std.proofs.Common.{ℕ, ◌+◌, ◌≤◌, ◌∙◌, ap, List, length, Ok, Err, sym, arith}
 use Rattle.std.proofs.lemmas.Result.{err_from_is_err_and}
 use Rattle.papr_edge.specs.declared.reason.Reason.TheVariants.{NoReplies}
 use Rattle.papr_edge.specs.InputLaws.{long_judged}

@@ -1,8 +1,8 @@
 use Rattle.std.proofs.Common.{◌≡◌, ◌∙◌, ap, sym, List, None}
 use Rattle.trace_reply.specs.Places.{reply_in}
 use Rattle.run_model.specs.AllStores.{WindowState, AllStores}
-use Rattle.trace_runner.specs.Windows.{place_from}
-use Rattle.trace_runner.proofs.WindowPlaces.{quiet_steps, steps_on_table}
+use Rattle.run_model.specs.StoreNumbers.{index_from}
+use Rattle.trace_runner.proofs.WindowIndices.{quiet_steps, steps_on_table}
 use Rattle.trace_runner.proofs.machine.Machine.line.Goals as goal
 
 pub returns-then-is_quiet-clause-reply : goal.returns-then-is_quiet-clause-reply
@@ -13,11 +13,11 @@ returns-then-is_quiet-clause-reply c =
 
 pub returns-in-None-clause-reply : goal.returns-in-None-clause-reply
 returns-in-None-clause-reply c =
-    let none : place_from 0 c.args.self.now.windows c.args.line.now.act ≡ None =
-    ap (λ (s : AllStores). place_from 0 s.windows c.args.line.now.act) (sym c.self.view_is)
-    ∙ ap (λ (vs : List WindowState). place_from 0 vs c.args.line.now.act)
+    let none : index_from 0 c.args.self.now.windows c.args.line.now.act ≡ None =
+    ap (λ (s : AllStores). index_from 0 s.windows c.args.line.now.act) (sym c.self.view_is)
+    ∙ ap (λ (vs : List WindowState). index_from 0 vs c.args.line.now.act)
     (sym c.as_slice.ensures.value)
-    ∙ sym c.place_of.ensures
+    ∙ sym c.window_of.ensures
     ∙ c.in-None.is in
     steps_on_table c.args.self.now c.run.new.self c.args.line.now (reply_in c.run.new.place)
     (sym (ap (λ (s : AllStores). s.table.window) c.self.view_is)) none c.run.ensures.reply

@@ -3,21 +3,22 @@ use Rattle.frame_grants.specs.Grants.{GrantedMemory}
 use Rattle.trace_read.specs.Configuration.{NumbersDiffer}
 use Rattle.trace_reply.specs.Places.{reply_in}
 use Rattle.tlb_model.specs.Processor.{new_processor}
-use Rattle.run_model.specs.AllStores.{WindowState, AllStores, windows_in}
+use Rattle.run_model.specs.AllStores.{WindowState, AllStores, windows_in, machine_stores}
 use Rattle.run_model.specs.SerialRun.{line_result}
 use Rattle.run_model.specs.StoreContexts.{window_context}
 use Rattle.run_model.specs.Stores.{is_on_window}
-use Rattle.trace_runner.specs.MachineState.{RunsLine, stores_of}
-use Rattle.trace_runner.specs.Windows.{place_from}
-use Rattle.trace_runner.proofs.WindowPlaces.{placed, windows_stay, steps_on_window}
+use Rattle.trace_runner.specs.MachineState.{RunsLine}
+use Rattle.run_model.specs.StoreNumbers.{index_from}
+use Rattle.trace_runner.proofs.WindowIndices.{placed, windows_stay, steps_on_window}
 use Rattle.trace_runner.proofs.machine.Machine.run_on_window.Goals as goal
 
 pub index_mut-requires : goal.index_mut-requires
 index_mut-requires c =
     let m = c.self.inside in
-    let s = stores_of m.partition m.cpus.items m.windows.items in
+    let s = machine_stores m.partition.granted.grants m.partition.memory m.cpus.items
+    m.windows.items in
     let first = subst
-    (λ (s : AllStores). place_from 0 s.windows c.args.line.now.act ≡ Some c.args.at)
+    (λ (s : AllStores). index_from 0 s.windows c.args.line.now.act ≡ Some c.args.at)
     (sym c.self.view_is) c.requires.first in
     let at = placed (windows_in s.windows) s.table c.args.line.now s.windows c.args.at first in
     omega (arith, at.inside, c.self.inside.windows.ok.0)
@@ -25,9 +26,10 @@ index_mut-requires c =
 pub line-requires : goal.line-requires
 line-requires c =
     let m = c.self.inside in
-    let s = stores_of m.partition m.cpus.items m.windows.items in
+    let s = machine_stores m.partition.granted.grants m.partition.memory m.cpus.items
+    m.windows.items in
     let first = subst
-    (λ (s : AllStores). place_from 0 s.windows c.args.line.now.act ≡ Some c.args.at)
+    (λ (s : AllStores). index_from 0 s.windows c.args.line.now.act ≡ Some c.args.at)
     (sym c.self.view_is) c.requires.first in
     let at = placed (windows_in s.windows) s.table c.args.line.now s.windows c.args.at first in
     record {
@@ -39,9 +41,10 @@ line-requires c =
 pub invariant_of-self : goal.invariant_of-self
 invariant_of-self c =
     let m = c.self.inside in
-    let s = stores_of m.partition m.cpus.items m.windows.items in
+    let s = machine_stores m.partition.granted.grants m.partition.memory m.cpus.items
+    m.windows.items in
     let first = subst
-    (λ (s : AllStores). place_from 0 s.windows c.args.line.now.act ≡ Some c.args.at)
+    (λ (s : AllStores). index_from 0 s.windows c.args.line.now.act ≡ Some c.args.at)
     (sym c.self.view_is) c.requires.first in
     let v = c.index_mut.result.now in
     let at = placed (windows_in s.windows) s.table c.args.line.now s.windows c.args.at first in
@@ -56,11 +59,12 @@ invariant_of-self c =
 pub returns-clause-reply : goal.returns-clause-reply
 returns-clause-reply c =
     let m = c.self.inside in
-    let s = stores_of m.partition m.cpus.items m.windows.items in
+    let s = machine_stores m.partition.granted.grants m.partition.memory m.cpus.items
+    m.windows.items in
     let act = c.args.line.now.act in
     let v = c.index_mut.result.now in
     let u = c.line.new.self in
-    let first = subst (λ (s : AllStores). place_from 0 s.windows act ≡ Some c.args.at)
+    let first = subst (λ (s : AllStores). index_from 0 s.windows act ≡ Some c.args.at)
     (sym c.self.view_is) c.requires.first in
     let ran : (reply_in c.line.new.place, u.states) ≡ line_result
     (window_context m.partition.granted.grants v.window) new_processor v.states act =
@@ -79,9 +83,10 @@ returns-clause-reply c =
 pub returns-clause-windows : goal.returns-clause-windows
 returns-clause-windows c =
     let m = c.self.inside in
-    let s = stores_of m.partition m.cpus.items m.windows.items in
+    let s = machine_stores m.partition.granted.grants m.partition.memory m.cpus.items
+    m.windows.items in
     let first = subst
-    (λ (s : AllStores). place_from 0 s.windows c.args.line.now.act ≡ Some c.args.at)
+    (λ (s : AllStores). index_from 0 s.windows c.args.line.now.act ≡ Some c.args.at)
     (sym c.self.view_is) c.requires.first in
     let v = c.index_mut.result.now in
     let at = placed (windows_in s.windows) s.table c.args.line.now s.windows c.args.at first in

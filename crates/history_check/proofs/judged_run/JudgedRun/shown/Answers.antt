@@ -1,8 +1,0 @@
-use Rattle.std.proofs.Common.{ap, ◌∙◌, length}
-use Rattle.hpte_fields.proofs.TableSizes.{entries_few}
-use Rattle.history_check.proofs.judged_run.JudgedRun.shown.Goals as goal
-
-pub of_table-requires : goal.of_table-requires
-of_table-requires c =
-    entries_few _ _ (ap length c.states.ensures ∙ c.self.invariant.0)
-    c.order-order.ensures.sound.order_fits

@@ -10,18 +10,24 @@ from typing import Callable, Iterator, Optional
 from schedule import Plan
 
 A_MINUTE = 60  # seconds
+FEW_MINUTES = 3  # below which the rest is told in seconds
+TEN = 10  # seconds, to which they are rounded
 COLUMNS = 80  # of a terminal that doesn't tell
 ENOUGH = 0.05  # of the whole, from which on the rest is estimated
+LATELY = 0.25  # of the whole: the proofs that ended last, by whose time the rest is estimated
 NEARLY = 0.05  # of a proof: what is left at least of one that is at work
 
 
 class Estimate:
-    """How long a build may still take, by the time of the proofs that ended and a plan of those to come."""
+    """How long a build may still take, by the time of the proofs that ended lately and a plan of those to come.
+
+    The machine may have had other work before, so that the proofs that ended first don't count for long.
+    """
 
     def __init__(self, plan: Plan, clock: Callable[[], float] = time.monotonic) -> None:
         self.plan, self.clock = plan.copy(), clock
         self.whole = sum(it.clock(1) for it in plan.efforts.values())
-        self.efforts = self.seconds = 0.0  # of the proofs that ended
+        self.ended: list[tuple[float, float]] = []  # the efforts and the seconds of the proofs that ended
         # The seconds of each proof at work; fewer by the clock's where processors were short.
         self.taken: dict[str, float] = {}
         self.at = clock()
@@ -38,8 +44,7 @@ class Estimate:
         """A proof ended."""
         with self.guard:
             self.pass_time()
-            self.efforts += self.plan.efforts[name].clock(self.plan.running[name])
-            self.seconds += self.taken.pop(name)
+            self.ended.append((self.plan.efforts[name].clock(self.plan.running[name]), self.taken.pop(name)))
             self.plan.end(name)
 
     def pass_time(self) -> None:
@@ -49,18 +54,34 @@ class Estimate:
         self.taken = {name: taken + passed for name, taken in self.taken.items()}
         self.at = now
 
+    def speed(self) -> Optional[float]:
+        """The effort of a second, by the proofs that ended lately, once enough ended to tell."""
+        efforts = seconds = 0.0
+        for effort, taken in reversed(self.ended):
+            efforts, seconds = efforts + effort, seconds + taken
+            if efforts >= LATELY * self.whole:
+                break
+        return efforts / seconds if seconds and efforts > ENOUGH * self.whole else None
+
     def left(self) -> Optional[float]:
         """The seconds that are left, once enough is proved to tell."""
         with self.guard:
             self.pass_time()
-            if not self.seconds or self.efforts <= ENOUGH * self.whole:
+            speed = self.speed()
+            if speed is None:
                 return None
-            speed = self.efforts / self.seconds
             at_work = {}
             for name, taken in self.taken.items():
                 effort = self.plan.efforts[name].clock(self.plan.running[name])
                 at_work[name] = max(effort - taken * speed, NEARLY * effort)
             return self.plan.left(at_work) / speed
+
+
+def in_words(left: float) -> str:
+    """A time that is left: in minutes, and the last few in tens of seconds."""
+    if left >= FEW_MINUTES * A_MINUTE:
+        return f"{round(left / A_MINUTE)} min"
+    return f"{max(TEN, round(left / TEN) * TEN)} s"
 
 
 class Progress:
@@ -91,7 +112,7 @@ class Progress:
         """The time since the start, in minutes and seconds, and how long it may still take."""
         minutes, seconds = divmod(int(time.monotonic() - self.start), 60)
         left = self.estimate.left() if len(self.done) < self.count else None
-        told = "" if left is None else f", about {max(1, round(left / A_MINUTE))} min left"
+        told = "" if left is None else f", about {in_words(left)} left"
         return f"{minutes} min {seconds:02} s{told}"
 
     def counts(self) -> str:

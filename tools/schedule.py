@@ -3,7 +3,7 @@
 from dataclasses import dataclass
 from typing import Mapping
 
-from crates import CRATES, is_program
+from crates import CRATES, is_program, is_static
 
 # A proof's jobs where others wait for it longest.
 JOBS = {"trace_read": 2, "trace_runner": 3, "history_check": 2}
@@ -13,10 +13,17 @@ JOBS_ALONE = 4  # of a proof that has nothing beside it
 SHARES = {1: 1.0, 2: 0.68, 3: 0.56, 4: 0.5}
 BUSY = {1: 1.0, 2: 1.7, 3: 2.2, 4: 2.6}
 # How long a proof takes goes by the length of its source. What each pays before the first thing of its own,
-# and compiling and linking the program, are as much as these bytes, and by one processor.
-STARTING, LINKING = 4_500, 30_000
+# and compiling and linking a program or a static library, are as much as these bytes, and by one processor.
+STARTING, LINKING = 4_500, 14_000
 # The long proofs that take more or less than their length tells, by what they take of it.
-WEIGHTS = {"trace_runner": 1.9, "reply_text": 1.5, "lpar_set": 1.4, "papr_top": 1.4, "entry_lock": 0.7}
+WEIGHTS = {
+    "trace_runner": 2.0,
+    "reply_text": 1.6,
+    "trace_read": 1.5,
+    "lpar_set": 1.1,
+    "entry_lock": 0.8,
+    "papr_c": 0.7,
+}
 ENDED = 1e-6  # what is left at most of a proof that has ended, against rounding
 
 
@@ -45,9 +52,10 @@ def effort_of(name: str, length: int, is_linked: bool) -> Effort:
     return Effort(STARTING + LINKING * is_linked, length * WEIGHTS.get(name, 1.0))
 
 
-def efforts_of(names: list[str]) -> dict[str, Effort]:
-    """What the proof of each crate takes."""
-    return {name: effort_of(name, length_of(name), is_program(name)) for name in names}
+def efforts_of(names: list[str], lines: Mapping[str, str]) -> dict[str, Effort]:
+    """What the proof of each crate takes, by their lines of crates.txt."""
+    linked = {name for name in names if is_program(name) or is_static(lines[name])}
+    return {name: effort_of(name, length_of(name), name in linked) for name in names}
 
 
 def length_of(name: str) -> int:

@@ -127,7 +127,7 @@ def prove_below() -> None:
         fcntl.flock(lock, fcntl.LOCK_EX)
         builder = Builder(toolchain(), lines, LOG, lock)
         anew = [name for name in order if not builder.is_kept(name)]
-        efforts = {**dict.fromkeys(order, NONE), **efforts_of(anew)}
+        efforts = {**dict.fromkeys(order, NONE), **efforts_of(anew, lines)}
         plan = Plan(uses, efforts, processors())
         progress = Progress(plan)
         progress.say(f"proving {len(anew)} of {len(order)} crates; log: {LOG}")

@@ -7,15 +7,15 @@ from .support import DATA, TOOLS, ToolTest
 
 sys.path.append(str(TOOLS))
 
-from progress import Estimate  # noqa: E402
+from progress import Estimate, in_words  # noqa: E402
 from schedule import NONE, Effort, Plan, effort_of  # noqa: E402
 
 PROGRAM = "papr_main"
 PROCESSORS = 4
 EVERY = 5.0  # seconds between two questions of how much is left
 # Of a proof's seconds, those before the first thing of its own, and of the program's, those of compiling and linking.
-STARTING, LINKING = 10, 65
-HALF_A_MINUTE = 30  # what is said are whole minutes
+STARTING, LINKING = 10, 30
+HALF_A_MINUTE = 30  # what is said are whole minutes until the last few
 
 
 @dataclass
@@ -146,11 +146,24 @@ class WhatIsLeft(ToolTest):
     def test_it_is_near_with_two_processors(self) -> None:
         self.assert_near(self.build(most=2))
 
+    def test_it_is_near_where_the_machine_had_other_work_at_first(self) -> None:
+        for name in [*self.recorded.seconds][:18]:
+            self.recorded.seconds[name] *= 1.2
+        self.assert_near(self.build())
+
     def test_a_proof_that_takes_much_longer_than_all_others_tell_is_told_as_nearly_done(self) -> None:
         """It is never told that nothing is left while a proof runs."""
         self.recorded.seconds["lpar_set"] = 900
         told = self.build()
         self.assertGreater(min(it.said for it in told), 0)
+
+
+class WhatIsSaid(ToolTest):
+    """The words for a time that is left."""
+
+    def test_minutes_and_the_last_few_in_tens_of_seconds(self) -> None:
+        for left, said in ((389, "6 min"), (181, "3 min"), (179, "180 s"), (114, "110 s"), (16, "20 s"), (1, "10 s")):
+            self.assertEqual(in_words(left), said)
 
 
 class TheOrder(ToolTest):

@@ -106,7 +106,7 @@ class WhatIsLeft(WrapperTest):
     def test_a_build_says_what_is_left(self) -> None:
         """As soon as it can tell; and the log says how long each proof took."""
         ran = self.checkout.papr("run", SLOW="0.7")
-        self.assertRegex(ran.err, r"(?m)crate 1 of 4: low \(0 min \d+ s, about \d+ min left\)$")
+        self.assertRegex(ran.err, r"(?m)crate 1 of 4: low \(0 min \d+ s, about \d+ (min|s) left\)$")
         self.assertRegex(ran.err, r"(?m)crate 4 of 4: papr_main \(0 min \d+ s\)$")
         self.assertEqual(len(re.findall(r"(?m)^status 0, [1-9]\d* s$", self.checkout.logged())), 4)
 
@@ -116,7 +116,7 @@ class WhatIsLeft(WrapperTest):
         self.checkout.papr("run")
         self.checkout.change("low", "/" * 99_999 + "\n")
         ran = self.checkout.papr("run", SLOW="0.7")
-        self.assertRegex(ran.err, r"(?m)crate 1 of 4: low \(.* min left\)$")
+        self.assertRegex(ran.err, r"(?m)crate 1 of 4: low \(.* (min|s) left\)$")
         self.checkout.change("papr_main")
         ran = self.checkout.papr("run", SLOW="0.7")
         self.assertRegex(ran.err, r"(?m)crate 3 of 4: [a-z_]* \(0 min \d+ s\)$")
